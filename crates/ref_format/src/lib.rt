@@ -1,0 +1,6 @@
+//! The reference format: bytes to program text.
+#![tactic(auto)]
+
+mod placed;
+
+pub use placed::Placed;
