@@ -1,7 +1,7 @@
 -- Laws of machines: how steps compose, and that a machine which another one simulates is tied to it.
 use Rattle.std.proofs.Common.{◌≡◌, ◌≢◌, ℕ, zero, suc, ◌+◌, ◌-◌, ◌*◌, ◌≤◌, refl, ap, sym, ◌∙◌, subst, arith, ◌⊎◌, inl, inr}
 use Rattle.runs.specs.Run.{Going, Run, IsOver, Covers}
-use Rattle.runs.specs.Tied.{Meaning, Steady, Tied, Paced, EndAlike}
+use Rattle.runs.specs.Tied.{Steady, Tied, Paced, ComesTo, ComesToWithin, EndAlike}
 use Rattle.runs.specs.Machine.{iterate, Reaches, ReachesWithin, Machine, meaning, Grows, Simulates}
 use Rattle.runs.proofs.Ties.{going_or_not, covers-refl, covers-trans, paced-tied, le_or}
 
@@ -75,15 +75,22 @@ module _ {World Event End State : Type 0} (m : Machine World Event End State) (g
         | inr lt ↦ reached-stays s u t g.0 h.0 over_u g.1 h.1 (omega arith)
       ]
 
-module _ {World Event End A B : Type 0} (a : Machine World Event End A) (b : Machine World Event End B) (R : A → B → Type 0) (grows_a : Grows a) (sim : Simulates a b R) where
-  -- after n steps of the first
-  record Followed (n : ℕ) (s : A) (t : B) : Type 0 where
-    steps : ℕ
-    related : R (iterate a.step n s) (iterate b.step steps t)
-    few : steps ≤ sim.most * n
-    many : (a.run (iterate a.step n s)).standing ≡ Going → n + sim.weight (iterate a.step n s) ≤ sim.weight s + (sim.growth + 1) * steps
+-- what a machine reaches its meaning comes to
+pub reaches-comes : {World Event End State : Type 0} (m : Machine World Event End State) (w : World) (s : State) → Reaches m.step (m.begun w) s → ComesTo (meaning m) w (m.run s)
+reaches-comes m w s h = (h.0, ap m.run h.1)
 
-  follow : (n : ℕ) (s : A) (t : B) → R s t → Followed n s t
+pub within-comes : {World Event End State : Type 0} (m : Machine World Event End State) (most : ℕ) (w : World) (s : State) → ReachesWithin most m.step (m.begun w) s → ComesToWithin most (meaning m) w (m.run s)
+within-comes m most w s h = (h.0, h.1, ap m.run h.2)
+
+module _ {World Event End A B : Type 0} (a : Machine World Event End A) (b : Machine World Event End B) (R : A → B → Type 0) (grows_a : Grows a) (sim : Simulates a b R) where
+  -- after n steps of the first, from related states
+  pub record Followed (n : ℕ) (s : A) (t : B) : Type 0 where
+    pub steps : ℕ
+    pub related : R (iterate a.step n s) (iterate b.step steps t)
+    pub few : steps ≤ sim.most * n
+    pub many : (a.run (iterate a.step n s)).standing ≡ Going → n + sim.weight (iterate a.step n s) ≤ sim.weight s + (sim.growth + 1) * steps
+
+  pub follow : (n : ℕ) (s : A) (t : B) → R s t → Followed n s t
   follow zero s t r = record { steps = 0; related = r; few = omega arith; many = λ h. omega arith }
   follow (suc n) s t r =
       elim (going_or_not (a.run s).standing) [
@@ -109,6 +116,12 @@ module _ {World Event End A B : Type 0} (a : Machine World Event End A) (b : Mac
   pace : (first weight growth k n later : ℕ) → weight ≤ first → n + later ≤ weight + (growth + 1) * k → n ≤ (first + growth + 1) * (k + 1)
   pace first weight growth k n later h g = omega (arith, h, g)
 
+  -- what the first reaches has a match that the second reaches
+  pub simulated-reaches : (s s' : A) (t : B) → R s t → Reaches a.step s s' → (t' : B) × Reaches b.step t t' × R s' t'
+  simulated-reaches s s' t r h =
+      let f = follow h.0 s t r in
+      (iterate b.step f.steps t, (f.steps, refl), subst (λ x. R x (iterate b.step f.steps t)) h.1 f.related)
+
   pub simulated-paced : Paced (meaning a) (meaning b)
   simulated-paced = record {
     there = sim.most;
@@ -120,3 +133,20 @@ module _ {World Event End A B : Type 0} (a : Machine World Event End A) (b : Mac
 
   pub simulated-tied : Grows b → Tied (meaning a) (meaning b)
   simulated-tied grows_b = paced-tied (meaning a) (meaning b) (machine-steady b grows_b) simulated-paced
+
+-- where each step is one step or more of the second machine, no weight is needed
+pub stepped-simulates : {World Event End A B : Type 0} (a : Machine World Event End A) (b : Machine World Event End B) (R : A → B → Type 0) (most : ℕ) →
+  ((w : World) → R (a.begun w) (b.begun w)) →
+  ((s : A) (t : B) → R s t → a.run s ≡ b.run t) →
+  ((s : A) (t : B) → R s t → (a.run s).standing ≡ Going → (j : ℕ) × R (a.step s) (iterate b.step j t) × (1 ≤ j) × (j ≤ most)) →
+  Simulates a b R
+stepped-simulates a b R most starts agree moves = record {
+  weight = λ s. 0;
+  first = 0;
+  most = most;
+  growth = 0;
+  light = λ w. omega arith;
+  starts = starts;
+  agree = agree;
+  moves = λ s t r going. let m = moves s t r going in (m.0, m.1, m.3, omega (arith, m.2));
+}

@@ -2,7 +2,7 @@
 use Rattle.std.proofs.Common.{◌≡◌, ◌≢◌, ℕ, zero, suc, ◌+◌, ◌*◌, ◌<◌, ◌≤◌, List, [], ◌∷◌, ◌++◌, refl, ap, sym, ◌∙◌, subst, append_assoc, append-nil, arith, ◌⊎◌, inl, inr}
 use Rattle.std.proofs.Math.Nat.{mul-le-mul_left}
 use Rattle.runs.specs.Run.{Standing, Going, Over, Run, IsOver, Begins, Covers}
-use Rattle.runs.specs.Tied.{Meaning, Steady, Tied, Paced, EndAlike}
+use Rattle.runs.specs.Tied.{Meaning, Steady, Tied, Paced, ComesTo, ComesToWithin, EndAlike}
 
 pub going_or_not : {End : Type 0} (s : Standing End) → (s ≡ Going) ⊎ (s ≢ Going)
 going_or_not Going = inl refl
@@ -109,3 +109,22 @@ module _ {World Event End : Type 0} where
       subst (Covers (b w n)) (sym (over-stays a sa w (h.whole w) p.0 k (h.over w) p.2 (past h.most n k p.0 le p.1)))
         (over-covers b sb w (h.whole w) q.0 n (h.over w) q.2);
   }
+
+  -- worlds may be renamed, or some of them left out
+  pub tied-at : {Other : Type 0} (world_of : Other → World) (a b : Meaning World Event End) → Tied a b → Tied {World = Other} (λ w. a (world_of w)) (λ w. b (world_of w))
+  tied-at world_of a b h = record {
+    there = h.there;
+    back = h.back;
+    covered = λ w. h.covered (world_of w);
+    covers = λ w. h.covers (world_of w);
+  }
+
+  -- what tied meanings have in common, without the numbers
+  pub tied-shows : (a b : Meaning World Event End) → Tied a b → (w : World) (n : ℕ) → (k : ℕ) × Begins (a w n).trace (b w k).trace
+  tied-shows a b h w n = (h.there * (n + 1), (h.covered w n (h.there * (n + 1)) (omega arith)).shows)
+
+  pub tied-comes : (a b : Meaning World Event End) → Tied a b → (w : World) (r : Run Event End) → IsOver r → ComesTo a w r → ComesTo b w r
+  tied-comes a b h w r over comes =
+      let n = comes.0 in
+      let k = h.there * (n + 1) in
+      (k, (h.covered w n k (omega arith)).ends (subst IsOver (sym comes.1) over) ∙ comes.1)

@@ -1,7 +1,8 @@
 //! When two meanings are tied.
 
-ghost use Rattle.runs.specs.Run.{Run, Covers};
-ghost use Rattle.runs.specs.Tied.{Meaning, Steady, Tied, Paced, EndAlike};
+ghost use Rattle.std.specs.Prelude.{ℕ, ◌↔◌};
+ghost use Rattle.runs.specs.Run.{Run, IsOver, Begins, Covers};
+ghost use Rattle.runs.specs.Tied.{Meaning, Steady, Tied, Paced, ComesTo, EndAlike};
 
 /// A run covers itself, and what covers a covering run covers the first one.
 pub fn covers_compose<Event, End>()
@@ -32,4 +33,25 @@ pub fn paced_is_tied<World, Event, End>()
 /// Two meanings are tied that in every world come to one run that is over, each within a number of steps fixed beforehand.
 pub fn ended_alike_is_tied<World, Event, End>()
     ensures { (a b : Meaning World Event End) → Steady a → Steady b → EndAlike a b → Tied a b }
+{}
+
+/// What tied meanings have in common, without the numbers: what one shows the other comes to show, and they come to the
+/// same runs that are over, or neither ends.
+pub fn tied_meanings_do_the_same<World, Event, End>()
+    ensures show {
+        (a b : Meaning World Event End) → Tied a b →
+        (world : World) (n : ℕ) → (k : ℕ) × Begins (a world n).trace (b world k).trace
+    }
+    ensures end {
+        (a b : Meaning World Event End) → Tied a b →
+        (world : World) (run : Run Event End) → IsOver run → ComesTo a world run ↔ ComesTo b world run
+    }
+{}
+
+/// Meanings stay tied where their world is made from another one.
+pub fn ties_hold_in_other_worlds<World, Event, End, Other>()
+    ensures {
+        (world_of : Other → World) (a b : Meaning World Event End) → Tied a b →
+        Tied {World = Other} (λ w. a (world_of w)) (λ w. b (world_of w))
+    }
 {}
