@@ -1,7 +1,7 @@
 -- Laws of machines: how steps compose, and that a machine which another one simulates is tied to it.
-use Rattle.std.proofs.Common.{◌≡◌, ◌≢◌, ℕ, zero, suc, ◌+◌, ◌-◌, ◌*◌, ◌≤◌, refl, ap, sym, ◌∙◌, subst, arith, ◌⊎◌, inl, inr}
-use Rattle.runs.specs.Run.{Going, Run, IsOver, Covers}
-use Rattle.runs.specs.Tied.{Steady, Tied, Paced, ComesTo, ComesToWithin, EndAlike}
+use Rattle.std.proofs.Common.{◌≡◌, ℕ, zero, suc, ◌+◌, ◌-◌, ◌*◌, ◌≤◌, refl, ap, sym, ◌∙◌, subst, arith, inl, inr}
+use Rattle.runs.specs.Run.{Going, IsOver, Covers}
+use Rattle.runs.specs.Tied.{Steady, Tied, Paced, ComesTo, ComesToWithin}
 use Rattle.runs.specs.Machine.{iterate, Reaches, ReachesWithin, Machine, meaning, Grows, Simulates}
 use Rattle.runs.proofs.Ties.{going_or_not, covers-refl, covers-trans, paced-tied, le_or}
 
@@ -54,8 +54,8 @@ module _ {World Event End State : Type 0} (m : Machine World Event End State) (g
   machine-steady w k n le =
       let e : k + (n - k) ≡ n = omega arith in
       subst (λ x. Covers (m.run (iterate m.step k (m.begun w))) (m.run (iterate m.step x (m.begun w)))) e
-        (subst (λ s. Covers (m.run (iterate m.step k (m.begun w))) (m.run s)) (sym (iterate-add m.step k (n - k) (m.begun w)))
-          (iterate-more (n - k) (iterate m.step k (m.begun w))))
+      (subst (λ s. Covers (m.run (iterate m.step k (m.begun w))) (m.run s)) (sym (iterate-add m.step k (n - k) (m.begun w)))
+      (iterate-more (n - k) (iterate m.step k (m.begun w))))
 
   -- what is reached shows all that was shown
   pub reaches-covers : (s t : State) → Reaches m.step s t → Covers (m.run s) (m.run t)
@@ -127,8 +127,8 @@ module _ {World Event End A B : Type 0} (a : Machine World Event End A) (b : Mac
     there = sim.most;
     back = sim.first + sim.growth + 1;
     paced = λ w n.
-      let f = follow n (a.begun w) (b.begun w) (sim.starts w) in
-      (f.steps, sim.agree (iterate a.step n (a.begun w)) (iterate b.step f.steps (b.begun w)) f.related, omega (arith, f.few), (λ h. pace sim.first (sim.weight (a.begun w)) sim.growth f.steps n (sim.weight (iterate a.step n (a.begun w))) (sim.light w) (f.many h)));
+        let f = follow n (a.begun w) (b.begun w) (sim.starts w) in
+        (f.steps, sim.agree (iterate a.step n (a.begun w)) (iterate b.step f.steps (b.begun w)) f.related, omega (arith, f.few), (λ h. pace sim.first (sim.weight (a.begun w)) sim.growth f.steps n (sim.weight (iterate a.step n (a.begun w))) (sim.light w) (f.many h)));
   }
 
   pub simulated-tied : Grows b → Tied (meaning a) (meaning b)
@@ -136,10 +136,10 @@ module _ {World Event End A B : Type 0} (a : Machine World Event End A) (b : Mac
 
 -- where each step is one step or more of the second machine, no weight is needed
 pub stepped-simulates : {World Event End A B : Type 0} (a : Machine World Event End A) (b : Machine World Event End B) (R : A → B → Type 0) (most : ℕ) →
-  ((w : World) → R (a.begun w) (b.begun w)) →
-  ((s : A) (t : B) → R s t → a.run s ≡ b.run t) →
-  ((s : A) (t : B) → R s t → (a.run s).standing ≡ Going → (j : ℕ) × R (a.step s) (iterate b.step j t) × (1 ≤ j) × (j ≤ most)) →
-  Simulates a b R
+    ((w : World) → R (a.begun w) (b.begun w)) →
+    ((s : A) (t : B) → R s t → a.run s ≡ b.run t) →
+    ((s : A) (t : B) → R s t → (a.run s).standing ≡ Going → (j : ℕ) × R (a.step s) (iterate b.step j t) × (1 ≤ j) × (j ≤ most)) →
+    Simulates a b R
 stepped-simulates a b R most starts agree moves = record {
   weight = λ s. 0;
   first = 0;

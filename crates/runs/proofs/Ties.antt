@@ -1,8 +1,8 @@
 -- Laws of covers and ties.
-use Rattle.std.proofs.Common.{◌≡◌, ◌≢◌, ℕ, zero, suc, ◌+◌, ◌*◌, ◌<◌, ◌≤◌, List, [], ◌∷◌, ◌++◌, refl, ap, sym, ◌∙◌, subst, append_assoc, append-nil, arith, ◌⊎◌, inl, inr}
+use Rattle.std.proofs.Common.{◌≡◌, ◌≢◌, ℕ, zero, suc, ◌+◌, ◌*◌, ◌<◌, ◌≤◌, [], ◌++◌, refl, ap, sym, ◌∙◌, subst, append_assoc, append-nil, arith, ◌⊎◌, inl, inr}
 use Rattle.std.proofs.Math.Nat.{mul-le-mul_left}
 use Rattle.runs.specs.Run.{Standing, Going, Over, Run, IsOver, Begins, Covers}
-use Rattle.runs.specs.Tied.{Meaning, Steady, Tied, Paced, ComesTo, ComesToWithin, EndAlike}
+use Rattle.runs.specs.Tied.{Meaning, Steady, Tied, Paced, ComesTo, EndAlike}
 
 pub going_or_not : {End : Type 0} (s : Standing End) → (s ≡ Going) ⊎ (s ≢ Going)
 going_or_not Going = inl refl
@@ -18,9 +18,9 @@ pub covers-trans : {Event End : Type 0} (a b c : Run Event End) → Covers a b �
 covers-trans a b c h g = record {
   shows = (h.shows.0 ++ g.shows.0, g.shows.1 ∙ ap (λ t. t ++ g.shows.0) h.shows.1 ∙ append_assoc a.trace h.shows.0 g.shows.0);
   ends = λ over.
-    let e : b ≡ a = h.ends over in
-    let still : IsOver b = subst IsOver (sym e) over in
-    g.ends still ∙ e;
+      let e : b ≡ a = h.ends over in
+      let still : IsOver b = subst IsOver (sym e) over in
+      g.ends still ∙ e;
 }
 
 pub le_or : (m n : ℕ) → (m ≤ n) ⊎ (n < m)
@@ -54,9 +54,9 @@ module _ {World Event End : Type 0} where
     there = g.there * (h.there + 1);
     back = h.back * (g.back + 1);
     covered = λ w n k le.
-      covers-trans (a w n) (b w (h.there * (n + 1))) (c w k) (h.covered w n (h.there * (n + 1)) (omega arith)) (g.covered w (h.there * (n + 1)) k (compose h.there g.there n k le));
+        covers-trans (a w n) (b w (h.there * (n + 1))) (c w k) (h.covered w n (h.there * (n + 1)) (omega arith)) (g.covered w (h.there * (n + 1)) k (compose h.there g.there n k le));
     covers = λ w n k le.
-      covers-trans (c w n) (b w (g.back * (n + 1))) (a w k) (g.covers w n (g.back * (n + 1)) (omega arith)) (h.covers w (g.back * (n + 1)) k (compose g.back h.back n k le));
+        covers-trans (c w n) (b w (g.back * (n + 1))) (a w k) (g.covers w n (g.back * (n + 1)) (omega arith)) (h.covers w (g.back * (n + 1)) k (compose g.back h.back n k le));
   }
 
   -- the run of the first at a large number of steps is the run of the second at one that is not below m, or it is over
@@ -75,11 +75,11 @@ module _ {World Event End : Type 0} where
     there = h.there;
     back = h.back + 1;
     covered = λ w n k le.
-      let p = h.paced w n in
-      covers-trans (a w n) (b w p.0) (b w k) (covers-is (a w n) (b w p.0) p.1) (steady w p.0 k (omega (arith, p.2, le)));
+        let p = h.paced w n in
+        covers-trans (a w n) (b w p.0) (b w k) (covers-is (a w n) (b w p.0) p.1) (steady w p.0 k (omega (arith, p.2, le)));
     covers = λ w m k le.
-      let p = h.paced w k in
-      back-covers b steady w (a w k) h.back m k p.0 le p.1 p.3 (le_or m p.0);
+        let p = h.paced w k in
+        back-covers b steady w (a w k) h.back m k p.0 le p.1 p.3 (le_or m p.0);
   }
 
   -- past the step where a run is over it is that run
@@ -99,14 +99,14 @@ module _ {World Event End : Type 0} where
     there = h.most;
     back = h.most;
     covered = λ w n k le.
-      let p = h.first w in
-      let q = h.second w in
-      subst (Covers (a w n)) (sym (over-stays b sb w (h.whole w) q.0 k (h.over w) q.2 (past h.most n k q.0 le q.1)))
+        let p = h.first w in
+        let q = h.second w in
+        subst (Covers (a w n)) (sym (over-stays b sb w (h.whole w) q.0 k (h.over w) q.2 (past h.most n k q.0 le q.1)))
         (over-covers a sa w (h.whole w) p.0 n (h.over w) p.2);
     covers = λ w n k le.
-      let p = h.first w in
-      let q = h.second w in
-      subst (Covers (b w n)) (sym (over-stays a sa w (h.whole w) p.0 k (h.over w) p.2 (past h.most n k p.0 le p.1)))
+        let p = h.first w in
+        let q = h.second w in
+        subst (Covers (b w n)) (sym (over-stays a sa w (h.whole w) p.0 k (h.over w) p.2 (past h.most n k p.0 le p.1)))
         (over-covers b sb w (h.whole w) q.0 n (h.over w) q.2);
   }
 

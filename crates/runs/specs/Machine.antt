@@ -39,4 +39,4 @@ pub record Simulates {World Event End A B : Type 0} (a : Machine World Event End
   pub starts : (world : World) → Related (a.begun world) (b.begun world)
   pub agree : (s : A) (t : B) → Related s t → a.run s ≡ b.run t
   pub moves : (s : A) (t : B) → Related s t → (a.run s).standing ≡ Going →
-    (j : ℕ) × Related (a.step s) (iterate b.step j t) × (j ≤ most) × (weight (a.step s) + 1 ≤ weight s + (growth + 1) * j)
+      (j : ℕ) × Related (a.step s) (iterate b.step j t) × (j ≤ most) × (weight (a.step s) + 1 ≤ weight s + (growth + 1) * j)

@@ -38,20 +38,14 @@ pub fn ended_alike_is_tied<World, Event, End>()
 /// What tied meanings have in common, without the numbers: what one shows the other comes to show, and they come to the
 /// same runs that are over, or neither ends.
 pub fn tied_meanings_do_the_same<World, Event, End>()
-    ensures show {
-        (a b : Meaning World Event End) → Tied a b →
-        (world : World) (n : ℕ) → (k : ℕ) × Begins (a world n).trace (b world k).trace
-    }
-    ensures end {
-        (a b : Meaning World Event End) → Tied a b →
-        (world : World) (run : Run Event End) → IsOver run → ComesTo a world run ↔ ComesTo b world run
-    }
+    ensures show { (a b : Meaning World Event End) → Tied a b →
+        (world : World) (n : ℕ) → (k : ℕ) × Begins (a world n).trace (b world k).trace }
+    ensures end { (a b : Meaning World Event End) → Tied a b →
+        (world : World) (run : Run Event End) → IsOver run → ComesTo a world run ↔ ComesTo b world run }
 {}
 
 /// Meanings stay tied where their world is made from another one.
 pub fn ties_hold_in_other_worlds<World, Event, End, Other>()
-    ensures {
-        (world_of : Other → World) (a b : Meaning World Event End) → Tied a b →
-        Tied {World = Other} (λ w. a (world_of w)) (λ w. b (world_of w))
-    }
+    ensures { (world_of : Other → World) (a b : Meaning World Event End) → Tied a b →
+        Tied {World = Other} (λ w. a (world_of w)) (λ w. b (world_of w)) }
 {}
