@@ -41,7 +41,7 @@ pub fn tied_meanings_do_the_same<World, Event, End>()
     ensures show { (a b : Meaning World Event End) → Tied a b →
         (world : World) (n : ℕ) → (k : ℕ) × Begins (a world n).trace (b world k).trace }
     ensures end { (a b : Meaning World Event End) → Tied a b →
-        (world : World) (run : Run Event End) → IsOver run → ComesTo a world run ↔ ComesTo b world run }
+        (world : World) (run : Run Event End) → IsOver run → (ComesTo a world run) ↔ (ComesTo b world run) }
 {}
 
 /// Meanings stay tied where their world is made from another one.
