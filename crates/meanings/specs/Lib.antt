@@ -1,0 +1,6 @@
+pub mod Language
+pub mod World
+pub mod Source
+pub mod Structural
+pub mod Same
+pub mod Rows
