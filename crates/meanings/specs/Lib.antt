@@ -3,4 +3,5 @@ pub mod World
 pub mod Source
 pub mod Structural
 pub mod Same
-pub mod Rows
+pub mod Laws
+pub mod Example

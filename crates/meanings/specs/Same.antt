@@ -11,7 +11,7 @@ pub record IsMatchedBy (first second : Run) : Type 0 where
   pub shown : Begins first.trace second.trace
   pub stopped : (how : How) (files : List File) → first.standing ≡ Over (Stopped how files) → (second.standing ≡ Over (Stopped how files)) × (second.trace ≡ first.trace)
 
--- each run of one is matched by a longer run of the other; by how much longer is chosen before the world and the lengths
+-- each run of one is matched by a run of the other, which takes so many times as long at most; the two numbers are chosen before the world and the lengths
 pub record SameBehaviour (program structured : tree.Program) : Type 0 where
   pub units_per_step : ℕ
   pub steps_per_unit : ℕ

@@ -4,7 +4,7 @@ use Rattle.runs.specs.Run.{Going, Over}
 use Rattle.runs.specs.Machine.{Machine, meaning}
 use Rattle.cob_tree.specs.declared.program.Program as tree
 use Rattle.meanings.specs.Language.{Stmt, Display, Go, StopRun, Paragraph, Program, Item, Do, SentenceEnd, items_of, paragraph_at, seen}
-use Rattle.meanings.specs.World.{World, Event, How, Normally, FlowFault, Overlap, Ending, Stopped, Faulty, Run, Standing, displayed}
+use Rattle.meanings.specs.World.{World, Event, How, Normally, FlowFault, Overlap, Ending, Stopped, Faulted, Run, Standing, displayed}
 use Rattle.meanings.specs.World as outside
 
 -- a return that is pending: the paragraph at whose end it is made, with the paragraph and the rest to go on with
@@ -58,7 +58,7 @@ end_step program state [] = falls program state (slice_get program.paragraphs (s
 end_step program state (top ∷ others) =
     if top.end == state.paragraph
     then record state { paragraph = top.paragraph; rest = top.rest; pending = others }
-    else (if ends_at state.paragraph others then comes_to (Faulty (Overlap state.paragraph)) state else falls program state (slice_get program.paragraphs (suc state.paragraph)))
+    else (if ends_at state.paragraph others then comes_to (Faulted (Overlap state.paragraph)) state else falls program state (slice_get program.paragraphs (suc state.paragraph)))
 
 abbrev pub rest_step : Program → SourceState → List Item → SourceState
 rest_step program state [] = end_step program state state.pending

@@ -22,14 +22,14 @@ pub data Event : Type 0 where
 pub data How : Type 0 where
   Normally : How
 
--- a return that can't be made: the end of this paragraph ends a pending range that isn't the innermost one
+-- a return that can't be made: a pending range ends at the end of this paragraph, and the innermost one doesn't
 pub data FlowFault : Type 0 where
   Overlap : (paragraph : ℕ) → FlowFault
 
--- what a run comes to: it stops, and leaves these files, or meets a fault
+-- what a run comes to: it stops, and leaves these files, or it met a fault
 pub data Ending : Type 0 where
   Stopped : (how : How) → (files : List File) → Ending
-  Faulty : (fault : FlowFault) → Ending
+  Faulted : (fault : FlowFault) → Ending
 
 -- what a run has shown so far, and how it stands
 abbrev pub Run : Type 0

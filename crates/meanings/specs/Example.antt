@@ -28,10 +28,10 @@ shown = event 49 ∷ event 51 ∷ []
 
 abbrev pub RunsAs : Type 0
 RunsAs = (world : World) →
-  (meaning (source_machine jumping) world 5 ≡ record { trace = shown; standing = Going })
-  × (meaning (source_machine jumping) world 6 ≡ record { trace = shown; standing = Over (Stopped Normally world.files) })
-  × (structural nested world 2 ≡ record { trace = shown; standing = Going })
-  × (structural nested world 3 ≡ record { trace = shown; standing = Over (Stopped Normally world.files) })
+    (meaning (source_machine jumping) world 5 ≡ record { trace = shown; standing = Going })
+    × (meaning (source_machine jumping) world 6 ≡ record { trace = shown; standing = Over (Stopped Normally world.files) })
+    × (structural nested world 2 ≡ record { trace = shown; standing = Going })
+    × (structural nested world 3 ≡ record { trace = shown; standing = Over (Stopped Normally world.files) })
 
 pub runs_as : RunsAs
 runs_as world = (refl, refl, refl, refl)

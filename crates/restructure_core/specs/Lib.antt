@@ -1,0 +1,9 @@
+pub mod Printed
+pub mod Plain
+pub mod Control
+pub mod Rendered
+pub mod Answers
+pub mod Draft
+pub mod Laws
+pub mod Reading
+pub mod Refusals

@@ -1,0 +1,103 @@
+//! Why a source isn't restructured.
+
+use cob_base::{Limit, NoMemory};
+use thiserror::Error;
+
+/// What isn't restructured yet.
+#[derive(Clone, Copy, Debug, PartialEq, Eq)]
+pub enum Later {
+    /// Another form than the plain one.
+    Form,
+    /// Control that comes to a paragraph a second time.
+    Loop,
+}
+
+/// Why a source was refused.
+#[derive(Clone, Copy, Debug, PartialEq, Eq, Error)]
+pub enum Refused {
+    #[error("not yet: {0:?}")]
+    NotYet(Later),
+    #[error("past a limit: {0:?}")]
+    Limit(Limit),
+    #[error("out of memory")]
+    NoMemory,
+}
+
+impl From<NoMemory> for Refused {
+    ghost use Rattle.std.specs.Prelude.{◌≡◌};
+    ghost use Rattle.restructure_core.specs.declared.fault.Refused.TheVariants as refused;
+
+    ghost from_gives = { λ _ e. e ≡ refused.NoMemory };
+
+    fn from(_: NoMemory) -> Refused {
+        Refused::NoMemory
+    }
+}
+
+impl From<PlainFault> for Refused {
+    ghost use Rattle.std.specs.Prelude.{◌≡◌};
+    ghost use Rattle.restructure_core.specs.Refusals.{of_plain_fault};
+
+    ghost from_gives = { λ fault e. e ≡ of_plain_fault fault };
+
+    fn from(fault: PlainFault) -> Refused {
+        match fault {
+            PlainFault::NotPlain => Refused::NotYet(Later::Form),
+            PlainFault::NoMemory => Refused::NoMemory,
+        }
+    }
+}
+
+impl From<FollowFault> for Refused {
+    ghost use Rattle.std.specs.Prelude.{◌≡◌};
+    ghost use Rattle.restructure_core.specs.Refusals.{of_follow_fault};
+
+    ghost from_gives = { λ fault e. e ≡ of_follow_fault fault };
+
+    fn from(fault: FollowFault) -> Refused {
+        match fault {
+            FollowFault::ComesBack => Refused::NotYet(Later::Loop),
+            FollowFault::NoMemory => Refused::NoMemory,
+        }
+    }
+}
+
+/// Why no plain program was read.
+#[derive(Clone, Copy, Debug, PartialEq, Eq, Error)]
+pub enum PlainFault {
+    #[error("no plain program has these bytes")]
+    NotPlain,
+    #[error("out of memory")]
+    NoMemory,
+}
+
+impl From<NoMemory> for PlainFault {
+    ghost use Rattle.std.specs.Prelude.{◌≡◌};
+    ghost use Rattle.restructure_core.specs.declared.fault.PlainFault.TheVariants.{NoMemory as Memory};
+
+    ghost from_gives = { λ _ e. e ≡ Memory };
+
+    fn from(_: NoMemory) -> PlainFault {
+        PlainFault::NoMemory
+    }
+}
+
+/// Why the way of control was not followed to its end.
+#[derive(Clone, Copy, Debug, PartialEq, Eq, Error)]
+pub enum FollowFault {
+    #[error("control comes to a paragraph a second time")]
+    ComesBack,
+    #[error("out of memory")]
+    NoMemory,
+}
+
+impl From<NoMemory> for FollowFault {
+    ghost use Rattle.std.specs.Prelude.{◌≡◌};
+    ghost use Rattle.restructure_core.specs.declared.fault.FollowFault.TheVariants.{NoMemory as Memory};
+
+    ghost from_gives = { λ _ e. e ≡ Memory };
+
+    fn from(_: NoMemory) -> FollowFault {
+        FollowFault::NoMemory
+    }
+}
