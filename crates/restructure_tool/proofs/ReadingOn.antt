@@ -1,0 +1,67 @@
+-- Bytes that are read piece by piece.
+use Rattle.std.proofs.Common.{◌≡◌, ℕ, ◌+◌, ◌-◌, ◌<◌, ◌≤◌, List, [], ◌∷◌, ◌++◌, length, take, drop, Option, Some, None, refl, ap, sym, ◌∙◌, subst, arith, append_assoc, append-nil}
+use Rattle.std.specs.Prelude.{min}
+use Rattle.std.proofs.lemmas.List.{take_all, length-take}
+use Rattle.std.proofs.Math.ListN.{drop_of_length-le}
+use Rattle.std.proofs.Math.Seq.{take-append_seam, drop-append_seam}
+use Rattle.cob_base.specs.Outside.{Takes}
+use Rattle.cob_base.specs.declared.source.Took.TheVariants as took
+use Rattle.restructure_core.specs.Answers.{source_limit}
+use Rattle.restructure_tool.specs.Calls.{IsRead}
+
+-- what was read is the front of what was left, and the rest of it is left
+abbrev pub SoFar : Option (List ℕ) → List ℕ → Option (List ℕ) → Type 0
+SoFar None text now = now ≡ None
+SoFar (Some bytes) text now = (rest : List ℕ) × (now ≡ Some rest) × (bytes ≡ text ++ rest)
+
+pub record ReadSoFar (told : Option (List ℕ)) (text : List ℕ) (now : Option (List ℕ)) (count count_now : ℕ) : Type 0 where
+  pub front : SoFar told text now
+  pub within : length text ≤ source_limit + 1
+  pub later : count ≤ count_now
+
+-- the end was reached within the limit
+read-whole : (bytes text : List ℕ) → length text ≤ source_limit + 1 → bytes ≡ text → (text ≡ take (source_limit + 1) bytes) × (Some [] ≡ Some (drop (source_limit + 1) bytes))
+read-whole bytes text short is =
+    let short' : length bytes ≤ source_limit + 1 = subst (λ t. length t ≤ source_limit + 1) (sym is) short in
+    (sym is ∙ sym (take_all (source_limit + 1) bytes short'), ap Some (sym (drop_of_length-le bytes short')))
+
+ended : (bytes text rest : List ℕ) → bytes ≡ text ++ rest → rest ≡ [] → bytes ≡ text
+ended bytes text rest is none = is ∙ ap (λ t. text ++ t) none ∙ append-nil text
+
+read-ended : (told mid now : Option (List ℕ)) (text old new : List ℕ) → SoFar told text mid → length text ≤ source_limit + 1 → Takes mid took.End old new now → IsRead told text now
+read-ended None mid now text old new h short g = subst (λ m. Takes m took.End old new now) h g
+read-ended (Some bytes) mid now text old new h short g =
+    let end = subst (λ m. Takes m took.End old new now) h.1 g in
+    let whole = read-whole bytes text short (ended bytes text h.0 h.2 end.0) in
+    (whole.0, end.1 ∙ whole.1)
+
+nothing-left : (rest old : List ℕ) → 0 < length old → (0 < length old → 0 < length rest → 0 < 0) → rest ≡ []
+nothing-left [] old some h = refl
+nothing-left (x ∷ xs) old some h = let more : 0 < length (x ∷ xs) = omega arith in absurd (let never : 0 < 0 = h some more in omega (arith, never))
+
+read-nothing : (told mid now : Option (List ℕ)) (text old new : List ℕ) → SoFar told text mid → length text ≤ source_limit + 1 → 0 < length old → Takes mid (took.Bytes 0) old new now → IsRead told text now
+read-nothing None mid now text old new h short some g = subst (λ m. Takes m (took.Bytes 0) old new now) h g
+read-nothing (Some bytes) mid now text old new h short some g =
+    let taken = subst (λ m. Takes m (took.Bytes 0) old new now) h.1 g in
+    let none = nothing-left h.0 old some taken.moves in
+    let whole = read-whole bytes text short (ended bytes text h.0 h.2 none) in
+    (whole.0, taken.left ∙ ap Some none ∙ whole.1)
+
+read-past : (told mid : Option (List ℕ)) (text : List ℕ) → SoFar told text mid → length text ≡ source_limit + 1 → IsRead told text mid
+read-past None mid text h long = h
+read-past (Some bytes) mid text h long =
+    let front : take (source_limit + 1) bytes ≡ text = ap (take (source_limit + 1)) h.2 ∙ ap (λ n. take n (text ++ h.0)) (sym long) ∙ take-append_seam text h.0 in
+    let behind : drop (source_limit + 1) bytes ≡ h.0 = ap (drop (source_limit + 1)) h.2 ∙ ap (λ n. drop n (text ++ h.0)) (sym long) ∙ drop-append_seam text h.0 in
+    (sym front, h.1 ∙ ap Some (sym behind))
+
+module _ (told mid : Option (List ℕ)) (text : List ℕ) (count count_now : ℕ) (so_far : ReadSoFar told text mid count count_now) where
+  pub is-read-ended : (now : Option (List ℕ)) (old new : List ℕ) → Takes mid took.End old new now → IsRead told text now
+  is-read-ended now old new g = read-ended told mid now text old new so_far.front so_far.within g
+
+  pub is-read-nothing : (now : Option (List ℕ)) (room : ℕ) (buffer new : List ℕ) (n : ℕ) → n ≡ 0 → 0 < room → 0 < length buffer → Takes mid (took.Bytes n) (take room buffer) new now → IsRead told text now
+  is-read-nothing now room buffer new n zero some long g =
+      let fits : length (take room buffer) ≡ min room (length buffer) = length-take room buffer in
+      read-nothing told mid now text (take room buffer) new so_far.front so_far.within (omega (arith, fits, some, long)) (subst (λ k. Takes mid (took.Bytes k) (take room buffer) new now) zero g)
+
+  pub is-read-past : source_limit < length text → IsRead told text mid
+  is-read-past long = read-past told mid text so_far.front (omega (arith, so_far.within, long))

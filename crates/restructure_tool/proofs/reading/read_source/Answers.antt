@@ -1,0 +1,15 @@
+use Rattle.std.proofs.Common.{◌<◌, length, arith}
+use Rattle.restructure_tool.proofs.ReadingOn.{is-read-ended, is-read-nothing, is-read-past}
+use Rattle.restructure_tool.proofs.reading.read_source.Goals as goal
+
+pub returns-in-End-clause-read : goal.returns-in-End-clause-read
+returns-in-End-clause-read g c = is-read-ended _ _ _ _ _ c.loop-buffer.invariant.1 _ _ _ c.in-End.ensures.told
+
+pub returns-in-Bytes-eq0-clause-read : goal.returns-in-Bytes-eq0-clause-read
+returns-in-Bytes-eq0-clause-read g c =
+    let room : 0 < c.min-room.result = omega (arith, c.min-room.ensures, c.len-in-loop-buffer.ensures.value, c.len.ensures.value, c.loop-buffer-test.true) in
+    let long : 0 < length c.loop-buffer.buffer = omega (arith, c.loop-buffer.invariant.0) in
+    is-read-nothing _ _ _ _ _ c.loop-buffer.invariant.1 _ _ _ _ _ c.in-Bytes-eq0.field-0-test room long c.in-Bytes-eq0.ensures.told
+
+pub returns-clause-read : goal.returns-clause-read
+returns-clause-read g c = is-read-past _ _ _ _ _ c.loop-buffer.invariant.1 (omega (arith, c.len.ensures.value))
