@@ -1,2 +1,5 @@
 -- The lemmas that the proofs share.
 pub mod Powers
+pub mod Order
+pub mod Scales
+pub mod Rounding

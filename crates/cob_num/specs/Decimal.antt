@@ -1,5 +1,5 @@
 -- What the arithmetic on decimal numbers gives. The number d stands for d.value / 10^d.scale.
-use Rattle.std.specs.Prelude.{◌≡◌, ℕ, ◌+◌, ◌-◌, ◌*◌, ◌/◌, ◌%◌, ◌^◌, ◌<◌, ◌≤◌, max, Bool, true, false, ℤ, pos, negsuc, neg_ℤ, ◌+ℤ◌, ◌-ℤ◌, ◌*ℤ◌, ◌<ℤ◌, unsigned_abs, nat_le, int_div, if◌then◌else◌, ◌≢◌}
+use Rattle.std.specs.Prelude.{◌≡◌, ℕ, ◌+◌, ◌-◌, ◌*◌, ◌/◌, ◌^◌, ◌≤◌, max, Bool, ℤ, pos, negsuc, neg_ℤ, ◌+ℤ◌, ◌-ℤ◌, ◌*ℤ◌, ◌<ℤ◌, unsigned_abs, int_div, if◌then◌else◌, ◌≢◌}
 use Rattle.std.specs.declared.cmp.Ordering.{Ordering}
 use Rattle.std.specs.Ordering.{int_cmp}
 use Rattle.cob_num.specs.declared.number.Dec.{Dec}
@@ -67,7 +67,29 @@ pub record CanDivide (a b : Dec) (scale : ℕ) : Type 0 where
   pub dividend_fits : FitsDigits (dividend a b scale)
   pub divisor_fits : FitsDigits (divisor a b scale)
 
--- c is a / b at that scale, truncated toward zero
-pub record IsQuotient (a b : Dec) (scale : ℕ) (c : Dec) : Type 0 where
-  pub scale : c.scale ≡ scale
-  pub value : c.value ≡ int_div (dividend a b scale) (divisor a b scale)
+-- c is a / b with that many decimal places, truncated toward zero
+pub record IsQuotient (a b : Dec) (places : ℕ) (c : Dec) : Type 0 where
+  pub scale : c.scale ≡ places
+  pub value : c.value ≡ int_div (dividend a b places) (divisor a b places)
+
+-- ---- storing
+
+-- |d| in units of 1 / 10^scale is numerator / denominator, of which one is multiplied by a power of ten
+abbrev pub numerator : Dec → ℕ → ℕ
+numerator d scale = unsigned_abs d.value * 10 ^ (scale - d.scale)
+
+abbrev pub denominator : Dec → ℕ → ℕ
+denominator d scale = 10 ^ (d.scale - scale)
+
+-- the whole number nearest to n / k, the larger one of two that are equally near
+abbrev pub nearest : ℕ → ℕ → ℕ
+nearest n k = (2 * n + k) / (2 * k)
+
+-- |d| in whole units of 1 / 10^scale: rounded, half away from zero, or cut off
+abbrev pub whole_units : Dec → ℕ → Bool → ℕ
+whole_units d scale rounded = if rounded then nearest (numerator d scale) (denominator d scale) else numerator d scale / denominator d scale
+
+-- the number of that size with the sign of z; zero has none
+abbrev pub with_sign : ℤ → ℕ → ℤ
+with_sign (pos _) size = pos size
+with_sign (negsuc _) size = neg_ℤ (pos size)

@@ -3,15 +3,16 @@
 
 mod number;
 mod scaling;
-
-pub use number::Dec;
+mod storing;
 
 ghost use Rattle.std.specs.Prelude.{◌≡◌, ◌+◌, ◌≤◌, ◌↔◌, ◌+ℤ◌, ◌-ℤ◌, ◌*ℤ◌, int_div, IsSome, IfSome};
 ghost use Rattle.cob_num.specs.Digits.{FitsDigits, scale_limit};
 ghost use Rattle.cob_num.specs.Decimal.{CanAlign, CanDivide, IsDifference, IsProduct, IsSum, IsQuotient, difference_units, order_of, sum_units};
 
-use scaling::{short_product, times_power, within};
+pub use number::Dec;
+use scaling::{at_scale, short_product, short_quotient, times_power, within};
 use std::cmp::Ordering;
+pub use storing::{Stored, store};
 
 const SCALE_LIMIT: u8 = 36;
 
@@ -23,8 +24,8 @@ pub fn add(a: Dec, b: Dec) -> Option<Dec>
     ensures sum { IfSome result (IsSum a b) }
 {
     let scale = a.scale.max(b.scale);
-    let left = times_power(a.value, scale - a.scale)?;
-    let right = times_power(b.value, scale - b.scale)?;
+    let left = at_scale(a, scale)?;
+    let right = at_scale(b, scale)?;
     within(left + right, scale)
 }
 
@@ -36,8 +37,8 @@ pub fn sub(a: Dec, b: Dec) -> Option<Dec>
     ensures difference { IfSome result (IsDifference a b) }
 {
     let scale = a.scale.max(b.scale);
-    let left = times_power(a.value, scale - a.scale)?;
-    let right = times_power(b.value, scale - b.scale)?;
+    let left = at_scale(a, scale)?;
+    let right = at_scale(b, scale)?;
     within(left - right, scale)
 }
 
@@ -69,9 +70,9 @@ pub fn quotient(a: Dec, b: Dec, scale: u8) -> Option<Dec>
         return None;
     }
     let places = scale + b.scale;
-    let dividend = times_power(a.value, places.saturating_sub(a.scale))?;
-    let divisor = times_power(b.value, a.scale.saturating_sub(places))?;
-    within(dividend / divisor, scale)
+    let dividend = times_power(a, places.saturating_sub(a.scale))?;
+    let divisor = times_power(b, a.scale.saturating_sub(places))?;
+    within(short_quotient(dividend, divisor), scale)
 }
 
 /// The order of the values, whatever their scales.
@@ -79,8 +80,8 @@ pub fn compare(a: Dec, b: Dec) -> Ordering
     ensures { result ≡ order_of a b }
 {
     let scale = a.scale.max(b.scale);
-    let left = times_power(a.value, scale - a.scale);
-    let right = times_power(b.value, scale - b.scale);
+    let left = at_scale(a, scale);
+    let right = at_scale(b, scale);
     // One of the two is at that scale already, and has at most 36 digits. So a number that has more
     // there is further from zero than the other, and its sign alone decides.
     match (left, right) {

@@ -1,6 +1,7 @@
 // Products with powers of ten, and the limit on digits.
-ghost use Rattle.std.specs.Prelude.{◌≡◌, ◌^◌, ◌≤◌, ◌↔◌, pos, ◌*ℤ◌, IsTrue, IsSome, IfSome};
+ghost use Rattle.std.specs.Prelude.{◌≡◌, ◌≢◌, ◌^◌, ◌<◌, ◌≤◌, ◌↔◌, pos, ◌*ℤ◌, int_div, IsTrue, IsSome, IfSome};
 ghost use Rattle.cob_num.specs.Digits.{FitsDigits, digit_limit, scale_limit};
+ghost use Rattle.cob_num.specs.Decimal.{units};
 
 use crate::number::Dec;
 
@@ -11,7 +12,8 @@ const TOO_LONG: u128 = 1_000_000_000_000_000_000_000_000_000_000_000_000;
 
 pub fn power_of_ten(exponent: u8) -> u128
     requires { exponent ≤ digit_limit }
-    ensures { result ≡ 10 ^ exponent }
+    ensures value { result ≡ 10 ^ exponent }
+    ensures positive { 0 < result }
 {
     10u128.pow(u32::from(exponent))
 }
@@ -40,6 +42,7 @@ pub fn within(value: i128, scale: u8) -> Option<Dec>
 pub fn short_product(a: i128, b: i128) -> Option<i128>
     ensures some { IsSome result ↔ FitsDigits (a *ℤ b) }
     ensures product { IfSome result (λ product. product ≡ a *ℤ b) }
+    ensures short { IfSome result FitsDigits }
 {
     let product = a.checked_mul(b)?;
     if fits_digits(product) {
@@ -49,17 +52,39 @@ pub fn short_product(a: i128, b: i128) -> Option<i128>
     }
 }
 
-// `value * 10^exponent`, where it has few enough digits. A power past the 36th has too many itself,
-// so only zero has a product with it.
-pub fn times_power(value: i128, exponent: u8) -> Option<i128>
-    ensures some { IsSome result ↔ FitsDigits (value *ℤ pos (10 ^ exponent)) }
-    ensures product { IfSome result (λ product. product ≡ value *ℤ pos (10 ^ exponent)) }
+// `number.value * 10^exponent`, where it has few enough digits. A power past the 36th has too many
+// itself, so only zero has a product with it.
+pub fn times_power(number: Dec, exponent: u8) -> Option<i128>
+    ensures some { IsSome result ↔ FitsDigits (number.value *ℤ pos (10 ^ exponent)) }
+    ensures product { IfSome result (λ product. product ≡ number.value *ℤ pos (10 ^ exponent)) }
+    ensures short { IfSome result FitsDigits }
 {
-    if value == 0 {
+    if number.value == 0 {
         Some(0)
     } else if exponent > DIGIT_LIMIT {
         None
     } else {
-        short_product(value, power_of_ten(exponent) as i128)
+        short_product(number.value, power_of_ten(exponent) as i128)
     }
+}
+
+// The number in units of `1 / 10^scale`, where it has few enough digits there.
+pub fn at_scale(number: Dec, scale: u8) -> Option<i128>
+    requires { number.scale ≤ scale }
+    ensures some { IsSome result ↔ FitsDigits (units number scale) }
+    ensures value { IfSome result (λ value. value ≡ units number scale) }
+    ensures short { IfSome result FitsDigits }
+{
+    times_power(number, scale - number.scale)
+}
+
+// The quotient, truncated toward zero: it is no longer than the dividend.
+pub fn short_quotient(dividend: i128, divisor: i128) -> i128
+    requires nonzero { divisor ≢ pos 0 }
+    requires dividend { FitsDigits dividend }
+    requires divisor { FitsDigits divisor }
+    ensures value { result ≡ int_div dividend divisor }
+    ensures short { FitsDigits result }
+{
+    dividend / divisor
 }
