@@ -3,3 +3,5 @@ pub mod Powers
 pub mod Order
 pub mod Scales
 pub mod Rounding
+pub mod Limits
+pub mod Sums

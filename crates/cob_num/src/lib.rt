@@ -8,6 +8,7 @@ mod storing;
 ghost use Rattle.std.specs.Prelude.{◌≡◌, ◌+◌, ◌≤◌, ◌↔◌, ◌+ℤ◌, ◌-ℤ◌, ◌*ℤ◌, int_div, IsSome, IfSome};
 ghost use Rattle.cob_num.specs.Digits.{FitsDigits, scale_limit};
 ghost use Rattle.cob_num.specs.Decimal.{CanAlign, CanDivide, IsDifference, IsProduct, IsSum, IsQuotient, difference_units, order_of, sum_units};
+ghost use Rattle.cob_num.specs.Exact.{difference_of, product_of, quotient_of, sum_of};
 
 pub use number::Dec;
 use scaling::{at_scale, short_product, short_quotient, times_power, within};
@@ -20,6 +21,7 @@ const SCALE_LIMIT: u8 = 36;
 ///
 /// `None` where a number has more than 36 digits at that scale, or the sum has.
 pub fn add(a: Dec, b: Dec) -> Option<Dec>
+    ensures exact { result ≡ sum_of a b }
     ensures some { IsSome result ↔ (CanAlign a b × FitsDigits (sum_units a b)) }
     ensures sum { IfSome result (IsSum a b) }
 {
@@ -33,6 +35,7 @@ pub fn add(a: Dec, b: Dec) -> Option<Dec>
 ///
 /// `None` where a number has more than 36 digits at that scale, or the difference has.
 pub fn sub(a: Dec, b: Dec) -> Option<Dec>
+    ensures exact { result ≡ difference_of a b }
     ensures some { IsSome result ↔ (CanAlign a b × FitsDigits (difference_units a b)) }
     ensures difference { IfSome result (IsDifference a b) }
 {
@@ -46,6 +49,7 @@ pub fn sub(a: Dec, b: Dec) -> Option<Dec>
 ///
 /// `None` where that scale passes 36, or the product has more than 36 digits.
 pub fn mul(a: Dec, b: Dec) -> Option<Dec>
+    ensures exact { result ≡ product_of a b }
     ensures some { IsSome result ↔ ((a.scale + b.scale ≤ scale_limit) × FitsDigits (a.value *ℤ b.value)) }
     ensures product { IfSome result (IsProduct a b) }
 {
@@ -63,6 +67,7 @@ pub fn mul(a: Dec, b: Dec) -> Option<Dec>
 /// more decimal places than the divisor and the quotient together, the divisor. `None` where `b` is
 /// zero, `scale` passes 36, or the value so multiplied has more than 36 digits.
 pub fn quotient(a: Dec, b: Dec, scale: u8) -> Option<Dec>
+    ensures exact { result ≡ quotient_of a b scale }
     ensures some { IsSome result ↔ CanDivide a b scale }
     ensures quotient { IfSome result (IsQuotient a b scale) }
 {

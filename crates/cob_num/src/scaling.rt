@@ -2,6 +2,7 @@
 ghost use Rattle.std.specs.Prelude.{◌≡◌, ◌≢◌, ◌^◌, ◌<◌, ◌≤◌, ◌↔◌, pos, ◌*ℤ◌, int_div, IsTrue, IsSome, IfSome};
 ghost use Rattle.cob_num.specs.Digits.{FitsDigits, digit_limit, scale_limit};
 ghost use Rattle.cob_num.specs.Decimal.{units};
+ghost use Rattle.cob_num.specs.Exact.{decimal};
 
 use crate::number::Dec;
 
@@ -27,6 +28,7 @@ fn fits_digits(value: i128) -> bool
 // The number `value / 10^scale`, where it has few enough digits.
 pub fn within(value: i128, scale: u8) -> Option<Dec>
     requires { scale ≤ scale_limit }
+    ensures exact { result ≡ decimal value scale }
     ensures some { IsSome result ↔ FitsDigits value }
     ensures value { IfSome result (λ d. d.value ≡ value) }
     ensures scale { IfSome result (λ d. d.scale ≡ scale) }
