@@ -5,3 +5,6 @@ pub mod Scales
 pub mod Rounding
 pub mod Limits
 pub mod Sums
+pub mod Values
+pub mod Commutes
+pub mod Kept

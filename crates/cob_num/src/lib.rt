@@ -1,6 +1,7 @@
 //! Exact decimal numbers of at most 36 digits.
 #![tactic(auto)]
 
+pub mod laws;
 mod number;
 mod scaling;
 mod storing;
