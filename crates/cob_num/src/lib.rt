@@ -96,3 +96,6 @@ pub fn compare(a: Dec, b: Dec) -> Ordering
         (_, None) => 0.cmp(&b.value),
     }
 }
+
+#[cfg(test)]
+mod tests;
