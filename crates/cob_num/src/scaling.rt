@@ -1,7 +1,7 @@
 // Products with powers of ten, and the limit on digits.
 ghost use Rattle.std.specs.Prelude.{◌≡◌, ◌≢◌, ◌^◌, ◌<◌, ◌≤◌, ◌↔◌, pos, ◌*ℤ◌, int_div, IsTrue, IsSome, IfSome};
 ghost use Rattle.cob_num.specs.Digits.{FitsDigits, digit_limit, scale_limit};
-ghost use Rattle.cob_num.specs.Decimal.{units};
+ghost use Rattle.cob_num.specs.Decimal.{common_scale, units};
 ghost use Rattle.cob_num.specs.Exact.{decimal};
 
 use crate::number::Dec;
@@ -68,6 +68,13 @@ pub fn times_power(number: Dec, exponent: u8) -> Option<i128>
     } else {
         short_product(number.value, power_of_ten(exponent) as i128)
     }
+}
+
+// The scale at which two numbers are added or compared.
+pub fn shared_scale(a: Dec, b: Dec) -> u8
+    ensures { result ≡ common_scale a b }
+{
+    a.scale.max(b.scale)
 }
 
 // The number in units of `1 / 10^scale`, where it has few enough digits there.
