@@ -1,0 +1,12 @@
+use Rattle.std.proofs.Common.{refl, sym, rules}
+use Rattle.cob_words.specs.Lists.{reserved_words}
+use Rattle.cob_words.proofs.ByLength.{row-of_length, of_length-none}
+use Rattle.cob_words.proofs.lists.reserved_of_length.Goals as goal
+
+pub returns-then-len-lt16 : goal.returns-then-len-lt16
+unfolding reserved_words
+returns-then-len-lt16 c = search (row-of_length, rules, c.if-len-lt16.true)
+
+pub returns-else-len-lt16 : goal.returns-else-len-lt16
+unfolding reserved_words
+returns-else-len-lt16 c = sym (of_length-none c.args.len c.if-len-lt16.false reserved_words refl)
