@@ -1,6 +1,16 @@
 //! The reference format: bytes to program text.
 #![tactic(auto)]
 
+mod columns;
+mod entries;
+mod fault;
+mod joining;
+mod lines;
 mod placed;
+mod reading;
+#[cfg(test)]
+mod tests;
 
+pub use fault::FormatFault;
 pub use placed::Placed;
+pub use reading::unfold;

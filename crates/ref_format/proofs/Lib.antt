@@ -1,0 +1,4 @@
+pub mod Ends
+pub mod Filling
+pub mod Fold
+pub mod Texts
