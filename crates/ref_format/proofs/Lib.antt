@@ -1,4 +1,5 @@
 pub mod Ends
 pub mod Filling
 pub mod Fold
+pub mod Standing
 pub mod Texts

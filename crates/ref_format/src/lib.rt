@@ -5,6 +5,7 @@ mod columns;
 mod entries;
 mod fault;
 mod joining;
+mod laws;
 mod lines;
 mod placed;
 mod reading;
@@ -12,5 +13,6 @@ mod reading;
 mod tests;
 
 pub use fault::FormatFault;
+pub use laws::{lines_rise, plain_lines, stands_on_kept_lines};
 pub use placed::Placed;
 pub use reading::unfold;
