@@ -20,7 +20,7 @@ split_some : (bs : List ℕ) → (x : List ℕ) × (xs : List (List ℕ)) × (sl
 split_some [] = ([], [], refl)
 split_some (b ∷ bs) = elim (ends b) as (λ t. (x : List ℕ) × (xs : List (List ℕ)) × (cond t ([] ∷ slice_split ends bs) (onto_first b (slice_split ends bs)) ≡ x ∷ xs)) [ true ↦ ([], slice_split ends bs, refl) | false ↦ onto_some b (slice_split ends bs) ]
 
-lines_split : (bs front rest : List ℕ) → slice_split ends bs ≡ front ∷ slice_split ends rest → lines bs ≡ strip_carriage_return front ∷ lines rest
+pub lines_split : (bs front rest : List ℕ) → slice_split ends bs ≡ front ∷ slice_split ends rest → lines bs ≡ strip_carriage_return front ∷ lines rest
 lines_split bs front rest e =
     let some = split_some rest in
     ap lines_of_parts (e ∙ ap (λ parts. front ∷ parts) some.2) ∙ ap (λ parts. strip_carriage_return front ∷ lines_of_parts parts) (sym some.2)
