@@ -1,14 +1,13 @@
 -- The kept lines, one after the other.
-use Rattle.std.proofs.Common.{◌≡◌, ℕ, ◌+◌, ◌||◌, ◌&&◌, not, Bool, true, false, cond, List, [], ◌∷◌, map, Option, Some, None, Result, Ok, Err, sym, ap, refl, ◌∙◌}
+use Rattle.std.proofs.Common.{◌≡◌, ℕ, ◌+◌, ◌||◌, ◌&&◌, not, Bool, true, false, List, [], ◌∷◌, map, Option, Some, None, Result, Ok, Err, sym, ap, refl, ◌∙◌}
 use Rattle.std.specs.Prelude.{if◌then◌else◌}
 use Rattle.std.specs.List.{list_any}
 use Rattle.std.specs.Str.Lines.{lines}
 use Rattle.ref_format.specs.declared.placed.Placed.{Placed}
 use Rattle.ref_format.specs.declared.fault.FormatFault.{FormatFault}
-use Rattle.ref_format.specs.declared.joining.Literal.{Literal}
 use Rattle.ref_format.specs.Columns.{card_of}
 use Rattle.ref_format.specs.Kept.{Line, is_division, is_comment_header, goes_on, is_without_text, in_entry, kept_behind, kept_lines}
-use Rattle.ref_format.specs.Joined.{joined, joined_or, fault_of, with_line, literal_at_end, program_text}
+use Rattle.ref_format.specs.Joined.{joined, fault_of, with_line, literal_at_end, program_text}
 use Rattle.ref_format.specs.Sound.{line_of}
 
 abbrev pub inside_behind : Bool → Bool → List ℕ → Bool

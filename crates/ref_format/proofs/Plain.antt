@@ -1,7 +1,7 @@
 -- Sources with nothing in them that the format treats in its own way.
-use Rattle.std.proofs.Common.{◌≡◌, ℕ, suc, ◌+◌, ◌-◌, ◌≤◌, ◌<◌, ◌==◌, ◌&&◌, ◌||◌, not, nat_le, nat_lt, Bool, true, false, cond, zero, List, [], ◌∷◌, ◌++◌, length, map, take, drop, replicate, get_or, Option, Some, None, Result, Ok, Err, inl, inr, sym, ap, refl, ◌∙◌, arith, append_assoc, append-nil}
-use Rattle.std.specs.Prelude.{All, if◌then◌else◌}
-use Rattle.std.specs.List.{list_all, list_any, slice_split, AllPass}
+use Rattle.std.proofs.Common.{◌≡◌, ℕ, suc, ◌+◌, ◌-◌, ◌≤◌, ◌==◌, ◌&&◌, nat_le, nat_lt, Bool, true, false, zero, List, [], ◌∷◌, ◌++◌, length, map, take, drop, replicate, get_or, Option, Some, None, Ok, sym, ap, refl, ◌∙◌, arith, append_assoc, append-nil}
+use Rattle.std.specs.Prelude.{All}
+use Rattle.std.specs.List.{list_all}
 use Rattle.std.specs.Str.Lines.{lines, strip_carriage_return}
 use Rattle.std.proofs.Math.Seq.{take-append-add}
 use Rattle.std.proofs.lemmas.Bool.Decides.{nat_tests}
@@ -11,10 +11,9 @@ use Rattle.std.proofs.lemmas.List.Folds.{list_all-append}
 use Rattle.std.proofs.lemmas.List.Splits.{slice_split_at}
 use Rattle.std.proofs.lemmas.List.Sums.{AllPass-from_list_all}
 use Rattle.ref_format.specs.declared.placed.Placed.{Placed}
-use Rattle.ref_format.specs.declared.fault.FormatFault.{FormatFault}
 use Rattle.ref_format.specs.Columns.{card_of, untabbed, columns, indicator, is_blank, has_control}
-use Rattle.ref_format.specs.Kept.{Line, is_comment, is_comment_header, is_division, goes_on, in_entry, is_without_text, is_dropped, kept_behind, kept_lines}
-use Rattle.ref_format.specs.Joined.{placed, literal_at_end, line_end, with_line, fault_of, joined, joined_or, program_text}
+use Rattle.ref_format.specs.Kept.{Line, goes_on, in_entry, is_without_text, is_dropped, kept_behind, kept_lines}
+use Rattle.ref_format.specs.Joined.{placed, literal_at_end, line_end, with_line, fault_of, joined, program_text}
 use Rattle.ref_format.specs.Laws.{IsPlain, plain_source, padded, laid, laid_behind}
 use Rattle.ref_format.specs.Sound.{line_of}
 use Rattle.ref_format.proofs.Ends.{ends, lines_split}
@@ -55,10 +54,10 @@ module _ (text : List ℕ) (plain : IsPlain text) where
       let whole : length (line_with text) ≡ 7 + length text = length-append (replicate 7 32) text in
       let room : 72 ≡ length (line_with text) + (65 - length text) = omega (arith, whole, plain.short) in
       ap (λ bytes. take 72 (bytes ++ replicate 72 32)) (untabbed-printable 0 (line_with text) plain.printable)
-          ∙ ap (λ n. take n (line_with text ++ replicate 72 32)) room
-          ∙ take-append-add (line_with text) (replicate 72 32) (65 - length text)
-          ∙ ap (λ more. line_with text ++ more) (take-replicate (65 - length text) 72 32 (omega arith))
-          ∙ append_assoc (replicate 7 32) text (replicate (65 - length text) 32)
+      ∙ ap (λ n. take n (line_with text ++ replicate 72 32)) room
+      ∙ take-append-add (line_with text) (replicate 72 32) (65 - length text)
+      ∙ ap (λ more. line_with text ++ more) (take-replicate (65 - length text) 72 32 (omega arith))
+      ∙ append_assoc (replicate 7 32) text (replicate (65 - length text) 32)
 
   length-padded : length (padded text) ≡ 65
   length-padded = length-append text (replicate (65 - length text) 32) ∙ ap (λ n. length text + n) (length-replicate (65 - length text) 32) ∙ omega (arith, plain.short)

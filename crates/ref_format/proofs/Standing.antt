@@ -1,20 +1,18 @@
 -- On which lines the bytes of a text stand.
-use Rattle.std.proofs.Common.{◌≡◌, ℕ, suc, ◌+◌, ◌-◌, ◌≤◌, ◌<◌, Bool, true, false, cond, List, [], ◌∷◌, ◌++◌, length, map, reverse, take, get_or, Option, Some, None, Result, Ok, Err, inl, inr, sym, ap, refl, ◌∙◌, arith, append_assoc, append-nil}
-use Rattle.std.specs.Prelude.{All, AllPairs, Contains, IfOk, if◌then◌else◌, ◌==◌}
+use Rattle.std.proofs.Common.{◌≡◌, ℕ, ◌+◌, ◌-◌, ◌≤◌, ◌<◌, true, false, cond, List, [], ◌∷◌, ◌++◌, length, map, reverse, take, get_or, Option, Some, None, inl, inr, sym, ap, refl, ◌∙◌, arith, append-nil}
+use Rattle.std.specs.Prelude.{All, AllPairs, Contains, IfOk, ◌==◌}
 use Rattle.std.proofs.lemmas.List.{reverse-append, reverse-reverse, length-append, length-map, get_or-append_right, get_or-map}
-use Rattle.std.proofs.lemmas.List.Elements.{All-nil, All-cons, All-head, All-tail, All-append, All-take, All-map, All-weaker}
+use Rattle.std.proofs.lemmas.List.Elements.{All-nil, All-cons, All-head, All-tail, All-append, All-take, All-weaker}
 use Rattle.std.proofs.lemmas.Bool.{cases_lt}
 use Rattle.std.proofs.Math.ListN.{get_or-append}
 use Rattle.std.proofs.Math.Seq.{take-append_seam}
 use Rattle.ref_format.specs.declared.placed.Placed.{Placed}
-use Rattle.ref_format.specs.declared.fault.FormatFault.{FormatFault}
 use Rattle.ref_format.specs.declared.joining.Literal.{Literal}
 use Rattle.ref_format.specs.declared.joining.Literal.TheVariants.{Closed, InQuotes, InApostrophes}
 use Rattle.std.specs.Str.Lines.{lines}
 use Rattle.ref_format.specs.Columns.{columns, card_of}
 use Rattle.ref_format.specs.Kept.{Line, is_continuation, is_dropped, kept_behind, kept_lines}
-use Rattle.ref_format.specs.Joined.{placed, literal_at_end, unspaced_front, unspaced_end, trimmed, continuing, line_end, with_line, fault_of, joined, joined_or, program_text}
-use Rattle.ref_format.proofs.Texts.{reverse-cons}
+use Rattle.ref_format.specs.Joined.{placed, literal_at_end, unspaced_front, trimmed, continuing, line_end, with_line, fault_of, joined, joined_or, program_text}
 
 -- what a trim takes off
 front_cut : (text : List Placed) → (off : List Placed) × (text ≡ off ++ unspaced_front text)
@@ -53,8 +51,9 @@ module _ (P : ℕ → Type 0) where
       let literal = literal_at_end text in
       let cut = trimmed_cut literal text in
       elim (is_continuation line.card) as (λ t. All (λ p. P p.line) (cond t (trimmed literal text ++ placed line.number (continuing literal line.card)) (text ++ line_end last ++ placed line.number (columns 8 72 line.card)))) [
-          true ↦ All-append (λ p. P p.line) (trimmed literal text) (placed line.number (continuing literal line.card)) (front_of_all (λ p. P p.line) (trimmed literal text) cut.0 text cut.1 all) (All-placed P line.number (continuing literal line.card) here)
-        | false ↦ All-append (λ p. P p.line) (text ++ line_end last) (placed line.number (columns 8 72 line.card)) (All-append (λ p. P p.line) text (line_end last) all (All-line_end last l)) (All-placed P line.number (columns 8 72 line.card) here) ]
+        | true ↦ All-append (λ p. P p.line) (trimmed literal text) (placed line.number (continuing literal line.card)) (front_of_all (λ p. P p.line) (trimmed literal text) cut.0 text cut.1 all) (All-placed P line.number (continuing literal line.card) here)
+        | false ↦ All-append (λ p. P p.line) (text ++ line_end last) (placed line.number (columns 8 72 line.card)) (All-append (λ p. P p.line) text (line_end last) all (All-line_end last l)) (All-placed P line.number (columns 8 72 line.card) here)
+      ]
 
   pub All-joined : (last : Option ℕ) (text : List Placed) (lines : List Line) → Last last → All (λ p. P p.line) text → All (λ line. P line.number) lines → IfOk (joined last text lines) (λ t. All (λ p. P p.line) t)
   All-joined last text [] l all here = all
@@ -70,8 +69,8 @@ stands bytes =
     let numbers : List ℕ = map (λ (line : Line). line.number) lines in
     let here : All (λ (line : Line). Contains numbers line.number) lines = λ k d h. (k, rw length-map h, number_at lines k d h) in
     All-joined (Contains numbers) None [] lines tt (All-nil (λ (p : Placed). Contains numbers p.line)) here where
-  number_at : (lines : List Line) (k : ℕ) (d : Line) → k < length lines → get_or (map (λ (line : Line). line.number) lines) k (get_or lines k d).number ≡ (get_or lines k d).number
-  number_at lines k d h = get_or-map (λ (line : Line). line.number) lines k d (get_or lines k d).number h
+      number_at : (lines : List Line) (k : ℕ) (d : Line) → k < length lines → get_or (map (λ (line : Line). line.number) lines) k (get_or lines k d).number ≡ (get_or lines k d).number
+      number_at lines k d h = get_or-map (λ (line : Line). line.number) lines k d (get_or lines k d).number h
 
 -- the lines of the kept ones rise, from `from` on
 abbrev pub RiseFrom : ℕ → List Line → Type 0
@@ -82,8 +81,9 @@ kept_rise : (from : ℕ) (before : List (List ℕ)) (number : ℕ) (cards : List
 kept_rise from before number [] h = tt
 kept_rise from before number (card ∷ cards) h =
     elim (is_dropped before card) as (λ t. RiseFrom from (cond t (kept_behind (card ∷ before) (number + 1) cards) (record { number = number; card = card } ∷ kept_behind (card ∷ before) (number + 1) cards))) [
-        true ↦ kept_rise from (card ∷ before) (number + 1) cards (omega (arith, h))
-      | false ↦ (h, kept_rise number (card ∷ before) (number + 1) cards (omega arith)) ]
+      | true ↦ kept_rise from (card ∷ before) (number + 1) cards (omega (arith, h))
+      | false ↦ (h, kept_rise number (card ∷ before) (number + 1) cards (omega arith))
+    ]
 
 abbrev Below : ℕ → List Placed → Type 0
 Below number text = All (λ p. p.line ≤ number) text
@@ -101,14 +101,15 @@ rising_append number front bytes rises below i j d less within =
     let most : Below number (front ++ rest) = Below-append number front bytes below in
     let long : j < length front + length rest = rw length-append at within in
     elim (cases_lt j (length front)) [
-        inl early ↦
-            let near : i < length front = omega (arith, less, early) in
-            rw (get_or-append front rest d i near, get_or-append front rest d j early) (rises i j d less early)
+      | inl early ↦
+          let near : i < length front = omega (arith, less, early) in
+          rw (get_or-append front rest d i near, get_or-append front rest d j early) (rises i j d less early)
       | inr late ↦
-            let least : All (λ p. number ≤ p.line) rest = All-placed (λ n. number ≤ n) number bytes (omega arith) in
-            let last : number ≤ (get_or rest (j - length front) d).line = least (j - length front) d (omega (arith, long, late)) in
-            let first : (get_or (front ++ rest) i d).line ≤ number = most i d (omega (arith, less, within)) in
-            rw (get_or-append_right front rest (length front) j d refl late) (omega (arith, first, last)) ]
+          let least : All (λ p. number ≤ p.line) rest = All-placed (λ n. number ≤ n) number bytes (omega arith) in
+          let last : number ≤ (get_or rest (j - length front) d).line = least (j - length front) d (omega (arith, long, late)) in
+          let first : (get_or (front ++ rest) i d).line ≤ number = most i d (omega (arith, less, within)) in
+          rw (get_or-append_right front rest (length front) j d refl late) (omega (arith, first, last))
+    ]
 
 Rising-front : (front off text : List Placed) → text ≡ front ++ off → Rising text → Rising front
 Rising-front front off text e rises i j d less within =
@@ -123,11 +124,12 @@ rises_with_line last text line l ended below rises =
     let cut = trimmed_cut literal text in
     let kept : List Placed = trimmed literal text in
     elim (is_continuation line.card) as (λ t. Rising (cond t (kept ++ placed line.number (continuing literal line.card)) (text ++ line_end last ++ placed line.number (columns 8 72 line.card)))) [
-        true ↦ rising_append line.number kept (continuing literal line.card) (Rising-front kept cut.0 text cut.1 rises) (front_of_all (λ p. p.line ≤ line.number) kept cut.0 text cut.1 below)
-      | false ↦ rising_append line.number (text ++ line_end last) (columns 8 72 line.card) (ending last ended rises) (All-append (λ p. p.line ≤ line.number) text (line_end last) below (All-line_end (λ n. n ≤ line.number) last l)) ] where
-  ending : (last' : Option ℕ) → ((n : ℕ) → last' ≡ Some n → Below n text) → Rising text → Rising (text ++ line_end last')
-  ending None e r = rw append-nil r
-  ending (Some n) e r = rising_append n text (10 ∷ []) r (e n refl)
+      | true ↦ rising_append line.number kept (continuing literal line.card) (Rising-front kept cut.0 text cut.1 rises) (front_of_all (λ p. p.line ≤ line.number) kept cut.0 text cut.1 below)
+      | false ↦ rising_append line.number (text ++ line_end last) (columns 8 72 line.card) (ending last ended rises) (All-append (λ p. p.line ≤ line.number) text (line_end last) below (All-line_end (λ n. n ≤ line.number) last l))
+    ] where
+      ending : (last' : Option ℕ) → ((n : ℕ) → last' ≡ Some n → Below n text) → Rising text → Rising (text ++ line_end last')
+      ending None e r = rw append-nil r
+      ending (Some n) e r = rising_append n text (10 ∷ []) r (e n refl)
 
 pub Rising-joined : (last : Option ℕ) (text : List Placed) (lines : List Line) (from : ℕ) → Last (λ n. n ≤ from) last → ((n : ℕ) → last ≡ Some n → Below n text) → Below from text → Rising text → RiseFrom from lines → IfOk (joined last text lines) Rising
 Rising-joined last text [] from l ended below rises rest = rises
@@ -140,9 +142,9 @@ Rising-joined last text (line ∷ lines) from l ended below rises rest =
     let now_rises : Rising next = rises_with_line last text line last_here ended here rises in
     let more = Rising-joined (Some number) next lines number (omega arith) (λ n e. All-weaker (λ p. p.line ≤ number) (λ p. p.line ≤ n) (λ p h. let same : number ≡ n = cc in omega (arith, h, same)) next now_below) now_below now_rises rest.1 in
     elim (fault_of last (literal_at_end text) line) as (λ o. IfOk (joined_or o (joined (Some number) next lines)) Rising) [ Some fault ↦ tt | None ↦ more ] where
-  last_weaker : (last' : Option ℕ) (m n : ℕ) → m ≤ n → Last (λ k. k ≤ m) last' → Last (λ k. k ≤ n) last'
-  last_weaker None m n h t = tt
-  last_weaker (Some k) m n h t = omega (arith, h, t)
+      last_weaker : (last' : Option ℕ) (m n : ℕ) → m ≤ n → Last (λ k. k ≤ m) last' → Last (λ k. k ≤ n) last'
+      last_weaker None m n h t = tt
+      last_weaker (Some k) m n h t = omega (arith, h, t)
 
 pub rise : (bytes : List ℕ) → IfOk (program_text bytes) Rising
 unfolding program_text kept_lines

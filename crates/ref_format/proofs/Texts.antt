@@ -1,11 +1,11 @@
 -- The literal at a text's end.
-use Rattle.std.proofs.Common.{◌≡◌, ℕ, ◌==◌, Bool, true, false, cond, eqb, List, [], ◌∷◌, ◌++◌, map, reverse, Option, None, Some, sym, ap, refl, ◌∙◌, append_assoc, arith, eq-eqb}
+use Rattle.std.proofs.Common.{◌≡◌, ℕ, ◌==◌, true, false, cond, List, [], ◌∷◌, ◌++◌, reverse, Option, None, Some, sym, ap, refl, ◌∙◌}
 use Rattle.std.proofs.lemmas.List.{reverse-append, reverse-reverse}
 use Rattle.std.proofs.lemmas.Bool.Decides.{Decides-eqb}
 use Rattle.ref_format.specs.declared.placed.Placed.{Placed}
 use Rattle.ref_format.specs.declared.joining.Literal.{Literal}
 use Rattle.ref_format.specs.declared.joining.Literal.TheVariants.{Closed, InQuotes, InApostrophes}
-use Rattle.ref_format.specs.Joined.{placed, bytes_of, behind, behind_byte, literal_at_end, unspaced_front, unspaced_end, trimmed, line_end}
+use Rattle.ref_format.specs.Joined.{placed, bytes_of, behind, behind_byte, literal_at_end, unspaced_front, trimmed, line_end}
 
 pub behind-append : (literal : Literal) (front rest : List ℕ) → behind literal (front ++ rest) ≡ behind (behind literal front) rest
 behind-append literal [] rest = refl

@@ -1,11 +1,11 @@
 -- Kept lines as one text.
-use Rattle.std.specs.Prelude.{ℕ, ◌==◌, nat_eq, ◌&&◌, ◌||◌, not, Bool, true, false, is_none, if◌then◌else◌, List, [], ◌∷◌, ◌++◌, map, drop, reverse, slice_index, Option, Some, None, Result, Ok, Err}
+use Rattle.std.specs.Prelude.{ℕ, ◌==◌, ◌&&◌, ◌||◌, not, Bool, false, is_none, if◌then◌else◌, List, [], ◌∷◌, ◌++◌, map, drop, reverse, slice_index, Option, Some, None, Result, Ok, Err}
 use Rattle.ref_format.specs.declared.placed.Placed.{Placed}
 use Rattle.ref_format.specs.declared.fault.FormatFault.{FormatFault}
 use Rattle.ref_format.specs.declared.fault.FormatFault.TheVariants.{BadIndicator, BadByte, BadContinuation}
 use Rattle.ref_format.specs.declared.joining.Literal.{Literal}
 use Rattle.ref_format.specs.declared.joining.Literal.TheVariants.{Closed, InQuotes, InApostrophes}
-use Rattle.ref_format.specs.Columns.{columns, is_blank, has_control, unspaced, indicator}
+use Rattle.ref_format.specs.Columns.{columns, is_blank, has_control, unspaced}
 use Rattle.ref_format.specs.Kept.{Line, is_ordinary, is_continuation, kept_lines}
 
 -- the bytes, all on one line

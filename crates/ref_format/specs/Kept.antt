@@ -37,7 +37,7 @@ division_headers = codes "ENVIRONMENT " ∷ codes "DATA " ∷ codes "PROCEDURE "
 unfoldable pub comment_headers : List (List ℕ)
 comment_headers =
     codes "AUTHOR." ∷ codes "INSTALLATION." ∷ codes "DATE-WRITTEN." ∷ codes "DATE-COMPILED."
-        ∷ codes "SECURITY." ∷ codes "REMARKS." ∷ []
+    ∷ codes "SECURITY." ∷ codes "REMARKS." ∷ []
 
 -- behind this line no comment entry begins
 abbrev pub is_division : List ℕ → Bool

@@ -1,10 +1,10 @@
 -- What holds of every program text.
-use Rattle.std.specs.Prelude.{ℕ, ◌+◌, ◌-◌, ◌≤◌, ◌≡◌, nat_le, Bool, true, false, List, [], ◌∷◌, ◌++◌, length, map, replicate, All, AllPairs, Contains, IfOk, Result}
+use Rattle.std.specs.Prelude.{ℕ, ◌+◌, ◌-◌, ◌≤◌, ◌≡◌, nat_le, true, false, List, [], ◌∷◌, ◌++◌, length, map, replicate, All, AllPairs, Contains}
 use Rattle.std.specs.List.{list_all}
 use Rattle.ref_format.specs.declared.placed.Placed.{Placed}
 use Rattle.ref_format.specs.Columns.{card_of, is_blank}
-use Rattle.ref_format.specs.Kept.{Line, kept_lines, is_comment_header}
-use Rattle.ref_format.specs.Joined.{program_text, placed}
+use Rattle.ref_format.specs.Kept.{kept_lines, is_comment_header}
+use Rattle.ref_format.specs.Joined.{placed}
 
 -- each byte stands on a kept line
 abbrev pub StandsOnKeptLines : List ℕ → List Placed → Type 0

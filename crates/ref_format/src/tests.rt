@@ -35,7 +35,10 @@ const TEXTS: [(&[u8], &[u8]); 13] = [
         b"           DISPLAY \"ABC\n      -    \"DEF\".\n",
         b"    DISPLAY \"ABC                                                 DEF\".",
     ),
-    (b"           DISP\n      -    LAY \"X\".\n", b"    DISPLAY \"X\"."),
+    (
+        b"           DISP\n      -    LAY \"X\".\n",
+        b"    DISPLAY \"X\".",
+    ),
     (b"       A.\r\n       B.\r\n", b"A.\nB."),
     (b"000\tA.\n123456 8\tB.", b" A.\n8        B."),
     (b"       A.", b"A."),

@@ -1,5 +1,5 @@
 use Rattle.std.proofs.Common.{◌≡◌, ℕ, suc, ◌==◌, false, ◌+◌, ◌-◌, ◌%◌, ◌<◌, ◌≤◌, List, [], ◌∷◌, ◌++◌, length, take, drop, set, get_or, replicate, refl, sym, ap, ◌∙◌, arith, append_assoc}
-use Rattle.std.proofs.lemmas.List.{drop_more, drop_all, length-drop, length-replicate, take_all}
+use Rattle.std.proofs.lemmas.List.{drop_more, drop_all, length-drop, length-replicate}
 use Rattle.std.proofs.lemmas.Bool.Decides.{nat_tests}
 use Rattle.ref_format.specs.Columns.{card_of, untabbed}
 use Rattle.ref_format.proofs.Filling.{spaces_step, spaces_left, byte_step, byte_left, filled_all}
@@ -39,11 +39,11 @@ module _ (line card target : List ℕ) (i before : ℕ) (h : i < length line) (s
       let opened : untabbed before (drop i line) ++ spaces ≡ replicate w 32 ++ (untabbed m rest ++ spaces) = ap (λ xs. untabbed before xs ++ spaces) here ∙ tabbed rest spaces before m e in
       let left : drop m card ≡ replicate k 32 = ap (λ n. drop n card) e ∙ spaces_left card before w k filled in
       let done : take m card ++ take k (untabbed m rest ++ spaces) ≡ target =
-          ap (λ n. take n card ++ take k (untabbed m rest ++ spaces)) e
-              ∙ sym (spaces_step card (untabbed m rest ++ spaces) before w k filled)
-              ∙ sym (ap (λ xs. take before card ++ take (w + k) xs) opened)
-              ∙ sym (ap (λ n. take before card ++ take n (untabbed before (drop i line) ++ spaces)) room)
-              ∙ turn.2 in
+      ap (λ n. take n card ++ take k (untabbed m rest ++ spaces)) e
+      ∙ sym (spaces_step card (untabbed m rest ++ spaces) before w k filled)
+      ∙ sym (ap (λ xs. take before card ++ take (w + k) xs) opened)
+      ∙ sym (ap (λ n. take before card ++ take n (untabbed before (drop i line) ++ spaces)) room)
+      ∙ turn.2 in
       (within, left, done)
 
   byte_turn : (m b : ℕ) → (get_or line i 0 ≡ 9 → ⊥) → b ≡ get_or line i 0 → m ≡ before + 1 → Turn line (set card before b) target (i + 1) m
@@ -62,11 +62,11 @@ module _ (line card target : List ℕ) (i before : ℕ) (h : i < length line) (s
       let opened : untabbed before (drop i line) ++ spaces ≡ b ∷ (untabbed m rest ++ spaces) = ap (λ xs. untabbed before xs ++ spaces) here ∙ plain rest spaces before b m not_tab e in
       let left : drop m (set card before b) ≡ replicate k 32 = ap (λ n. drop n (set card before b)) e ∙ byte_left card before k b filled in
       let done : take m (set card before b) ++ take k (untabbed m rest ++ spaces) ≡ target =
-          ap (λ n. take n (set card before b) ++ take k (untabbed m rest ++ spaces)) e
-              ∙ sym (byte_step card (untabbed m rest ++ spaces) before k b long)
-              ∙ sym (ap (λ xs. take before card ++ take (suc k) xs) opened)
-              ∙ sym (ap (λ n. take before card ++ take n (untabbed before (drop i line) ++ spaces)) room)
-              ∙ turn.2 in
+      ap (λ n. take n (set card before b) ++ take k (untabbed m rest ++ spaces)) e
+      ∙ sym (byte_step card (untabbed m rest ++ spaces) before k b long)
+      ∙ sym (ap (λ xs. take before card ++ take (suc k) xs) opened)
+      ∙ sym (ap (λ n. take before card ++ take n (untabbed before (drop i line) ++ spaces)) room)
+      ∙ turn.2 in
       (within, left, done)
 
 pub loop-byte-preserved : goal.loop-byte-preserved
@@ -79,12 +79,13 @@ loop-byte-preserved c =
     let before = c.loop-byte.before in
     let turn : Turn line card (card_of line) at before = (i.within, i.rest, i.done) in
     elim c.if-byte-eq9.branch [
-        then-byte-eq9 w ↦
-            let t = tab_turn line card (card_of line) at before c.loop-byte-test.true c.if-before-ge72.false turn c.if-byte-eq9.before w.if-byte-eq9.true w.before-is in
-            rw w.card-is record { within = t.0; rest = t.1; done = t.2 }
+      | then-byte-eq9 w ↦
+          let t = tab_turn line card (card_of line) at before c.loop-byte-test.true c.if-before-ge72.false turn c.if-byte-eq9.before w.if-byte-eq9.true w.before-is in
+          rw w.card-is record { within = t.0; rest = t.1; done = t.2 }
       | else-byte-eq9 w ↦
-            let t = byte_turn line card (card_of line) at before c.loop-byte-test.true c.if-before-ge72.false turn c.if-byte-eq9.before _ w.if-byte-eq9.false refl w.before-is in
-            rw w.card-is record { within = t.0; rest = t.1; done = t.2 } ]
+          let t = byte_turn line card (card_of line) at before c.loop-byte-test.true c.if-before-ge72.false turn c.if-byte-eq9.before _ w.if-byte-eq9.false refl w.before-is in
+          rw w.card-is record { within = t.0; rest = t.1; done = t.2 }
+    ]
 
 pub returns : goal.returns
 returns c =

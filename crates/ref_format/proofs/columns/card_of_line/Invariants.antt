@@ -1,4 +1,4 @@
-use Rattle.std.proofs.Common.{◌≡◌, ◌-◌, ◌≤◌, ◌++◌, length, take, drop, replicate}
+use Rattle.std.proofs.Common.{◌≡◌, ◌-◌, ◌≤◌, ◌++◌, take, drop, replicate}
 use Rattle.ref_format.specs.Columns.{card_of, untabbed}
 use Rattle.ref_format.proofs.columns.card_of_line.Given as goal
 

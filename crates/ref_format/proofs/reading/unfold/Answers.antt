@@ -1,9 +1,8 @@
-use Rattle.std.proofs.Common.{◌≡◌, ◌∷◌, ℕ, ◌+◌, ◌≤◌, List, [], length, Option, Some, None, Ok, Err, true, false, inl, inr, refl, sym, ap, ◌∙◌, arith}
+use Rattle.std.proofs.Common.{◌≡◌, ◌∷◌, ℕ, ◌+◌, List, [], length, inl, inr, refl, sym, ap, ◌∙◌, arith}
 use Rattle.std.proofs.lemmas.Result.{err_from_is_err_and}
 use Rattle.std.proofs.lemmas.Bool.Decides.{nat_tests}
-use Rattle.ref_format.specs.declared.fault.FormatFault.{FormatFault}
-use Rattle.ref_format.specs.Joined.{program_text, fault_of, literal_at_end}
-use Rattle.ref_format.specs.Sound.{IsSound, line_of}
+use Rattle.ref_format.specs.Joined.{fault_of}
+use Rattle.ref_format.specs.Sound.{line_of}
 use Rattle.ref_format.proofs.Fold.{text_behind, text_behind-all, text_behind-none, text_behind-dropped, text_behind-fault, text_behind-kept}
 use Rattle.ref_format.proofs.reading.unfold.Goals as goal
 
@@ -45,12 +44,13 @@ returns-in_err-add-clause-fault c =
     let p = err_from_is_err_and c.from_residual.result c.from_residual.ensures.1 in
     let fault = c.in_err-add.field-0.0 in
     rw (p.1, p.2)
-        (elim c.in_err-add.ensures.fault [
-            inl memory ↦ inl memory
-          | inr found ↦
-                let same = ap (λ l. fault_of last l (line_of number card)) (sym before.invariant.sound.open_at_end) ∙ found in
-                let failed = text_behind-fault _ _ _ _ _ number last text before.rest.now c.first_line.result.0.now c.first_line.result.1.now card c.first_line.ensures.first c.card_of_line-card.ensures c.drops.ensures.over c.drops.ensures.inside c.drops.ensures.answer fault c.if-drops.false same in
-                inr (sym before.invariant.text ∙ failed) ])
+    (elim c.in_err-add.ensures.fault [
+      | inl memory ↦ inl memory
+      | inr found ↦
+          let same = ap (λ l. fault_of last l (line_of number card)) (sym before.invariant.sound.open_at_end) ∙ found in
+          let failed = text_behind-fault _ _ _ _ _ number last text before.rest.now c.first_line.result.0.now c.first_line.result.1.now card c.first_line.ensures.first c.card_of_line-card.ensures c.drops.ensures.over c.drops.ensures.inside c.drops.ensures.answer fault c.if-drops.false same in
+          inr (sym before.invariant.text ∙ failed)
+    ])
 
 pub loop-rest-preserved-then-drops : goal.loop-rest-preserved-then-drops
 loop-rest-preserved-then-drops c =
@@ -70,4 +70,4 @@ returns-clause-text c =
     let joining = before.joining in
     let none : before.rest.now ≡ [] = nil_of_length before.rest.now (grind (arith, nat_tests, c.loop-rest-test.ensures)) in
     sym before.invariant.text ∙ ap (λ rest. text_behind before.entries.over before.entries.inside (before.number + 1) joining.last joining.text rest) none
-        ∙ text_behind-none before.entries.over before.entries.inside (before.number + 1) joining.last joining.text
+    ∙ text_behind-none before.entries.over before.entries.inside (before.number + 1) joining.last joining.text
