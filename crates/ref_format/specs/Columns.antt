@@ -6,7 +6,10 @@ use Rattle.std.specs.List.{list_all, list_any}
 -- 9, 17, 25 and so on
 abbrev pub untabbed : ℕ → List ℕ → List ℕ
 untabbed before [] = []
-untabbed before (b ∷ bs) = if b == 9 then replicate (8 - before % 8) 32 ++ untabbed (before + (8 - before % 8)) bs else b ∷ untabbed (before + 1) bs
+untabbed before (b ∷ bs) =
+    if b == 9
+    then replicate (8 - before % 8) 32 ++ untabbed (before + (8 - before % 8)) bs
+    else b ∷ untabbed (before + 1) bs
 
 -- the bytes in columns 1 to 72 of a line
 unfoldable pub card_of : List ℕ → List ℕ

@@ -53,20 +53,25 @@ abbrev pub line_end : Option ℕ → List Placed
 line_end None = []
 line_end (Some number) = placed number (10 ∷ [])
 
--- the text with a line behind it, and the kept line before it
+-- this text, whose last kept line is `last`, with a line behind it
 abbrev pub with_line : Option ℕ → List Placed → Line → List Placed
-with_line last text line = if is_continuation line.card then trimmed (literal_at_end text) text ++ placed line.number (continuing (literal_at_end text) line.card) else text ++ line_end last ++ placed line.number (columns 8 72 line.card)
+with_line last text line =
+    if is_continuation line.card
+    then trimmed (literal_at_end text) text ++ placed line.number (continuing (literal_at_end text) line.card)
+    else text ++ line_end last ++ placed line.number (columns 8 72 line.card)
 
--- the first byte of a continuation is not the mark of the open literal
+-- these bytes, with which a continuation begins, lack the mark of the open literal
 abbrev pub lacks_mark : Literal → List ℕ → Bool
 lacks_mark Closed bytes = false
 lacks_mark InQuotes bytes = not (slice_index bytes 0 == 34)
 lacks_mark InApostrophes bytes = not (slice_index bytes 0 == 39)
 
 abbrev pub is_bad_continuation : Option ℕ → Literal → List ℕ → Bool
-is_bad_continuation last literal card = is_none last || not (is_blank (columns 8 11 card)) || is_blank (columns 12 72 card) || lacks_mark literal (unspaced (columns 12 72 card))
+is_bad_continuation last literal card =
+    is_none last || not (is_blank (columns 8 11 card)) || is_blank (columns 12 72 card)
+    || lacks_mark literal (unspaced (columns 12 72 card))
 
--- the fault of a kept line, behind this text and this kept line
+-- the fault of a kept line, behind this kept line and within this literal
 abbrev pub fault_of : Option ℕ → Literal → Line → Option FormatFault
 fault_of last literal line =
     if not (is_ordinary line.card || is_continuation line.card) then Some (BadIndicator line.number)
@@ -74,11 +79,11 @@ fault_of last literal line =
     else if is_continuation line.card && is_bad_continuation last literal line.card then Some (BadContinuation line.number)
     else None
 
--- the text with these lines behind it, or the first fault of theirs
 abbrev pub joined_or : Option FormatFault → Result (List Placed) FormatFault → Result (List Placed) FormatFault
 joined_or (Some fault) rest = Err fault
 joined_or None rest = rest
 
+-- this text, whose last kept line is `last`, with these lines behind it, or the first fault of theirs
 abbrev pub joined : Option ℕ → List Placed → List Line → Result (List Placed) FormatFault
 joined last text [] = Ok text
 joined last text (line ∷ lines) = joined_or (fault_of last (literal_at_end text) line) (joined (Some line.number) (with_line last text line) lines)

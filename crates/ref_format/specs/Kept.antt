@@ -67,7 +67,10 @@ is_dropped before card = is_without_text card || in_entry (card ∷ before)
 -- the kept ones of the lines, which are numbered from `number`, where those stand before them
 abbrev pub kept_behind : List (List ℕ) → ℕ → List (List ℕ) → List Line
 kept_behind before number [] = []
-kept_behind before number (card ∷ cards) = if is_dropped before card then kept_behind (card ∷ before) (number + 1) cards else record { number = number; card = card } ∷ kept_behind (card ∷ before) (number + 1) cards
+kept_behind before number (card ∷ cards) =
+    if is_dropped before card
+    then kept_behind (card ∷ before) (number + 1) cards
+    else record { number = number; card = card } ∷ kept_behind (card ∷ before) (number + 1) cards
 
 -- the kept lines of a source
 unfoldable pub kept_lines : List ℕ → List Line
