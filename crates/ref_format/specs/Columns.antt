@@ -1,0 +1,35 @@
+-- The columns of a line.
+use Rattle.std.specs.Prelude.{ℕ, ◌+◌, ◌-◌, ◌%◌, ◌==◌, nat_lt, if◌then◌else◌, Bool, List, [], ◌∷◌, ◌++◌, take, drop, replicate, slice_index}
+use Rattle.std.specs.List.{list_all, list_any}
+
+-- a line that begins behind so many columns, with each tab as the spaces up to the next of columns
+-- 9, 17, 25 and so on
+abbrev pub untabbed : ℕ → List ℕ → List ℕ
+untabbed before [] = []
+untabbed before (b ∷ bs) =
+    if b == 9
+    then replicate (8 - before % 8) 32 ++ untabbed (before + (8 - before % 8)) bs
+    else b ∷ untabbed (before + 1) bs
+
+-- the bytes in columns 1 to 72 of a line
+unfoldable pub card_of : List ℕ → List ℕ
+card_of line = take 72 (untabbed 0 line ++ replicate 72 32)
+
+-- the bytes from one column to another, which count from 1
+abbrev pub columns : ℕ → ℕ → List ℕ → List ℕ
+columns from to card = take (to + 1 - from) (drop (from - 1) card)
+
+-- column 7
+abbrev pub indicator : List ℕ → ℕ
+indicator card = slice_index card 6
+
+abbrev pub is_blank : List ℕ → Bool
+is_blank bytes = list_all (λ b. b == 32) bytes
+
+abbrev pub has_control : List ℕ → Bool
+has_control bytes = list_any (λ b. nat_lt b 32) bytes
+
+-- from the first byte that is no space on
+abbrev pub unspaced : List ℕ → List ℕ
+unspaced [] = []
+unspaced (b ∷ bs) = if b == 32 then unspaced bs else b ∷ bs

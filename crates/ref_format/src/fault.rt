@@ -1,0 +1,33 @@
+//! Why a source isn't in the reference format.
+
+ghost use Rattle.std.specs.Prelude.{◌≡◌};
+
+use cob_base::NoMemory;
+use thiserror::Error;
+
+/// Why a source isn't in the reference format. The number is that of the line, from 1.
+#[derive(Debug, Drop, PartialEq, Eq, Error)]
+pub enum FormatFault {
+    /// Column 7 holds none of space, `-`, `*`, `/`, `D` and `d`.
+    #[error("a wrong indicator in line {0}")]
+    BadIndicator(u32),
+    /// A byte below 32 stands in columns 8 to 72.
+    #[error("a control character in line {0}")]
+    BadByte(u32),
+    /// A continuation has no line before it, something in columns 8 to 11, nothing from column
+    /// 12 on, or not the mark of the literal that it continues.
+    #[error("a wrong continuation in line {0}")]
+    BadContinuation(u32),
+    #[error("out of memory")]
+    NoMemory,
+}
+
+impl From<NoMemory> for FormatFault {
+    ghost use Rattle.ref_format.specs.declared.fault.FormatFault.TheVariants.{NoMemory as Memory};
+
+    ghost from_gives = { λ _ e. e ≡ Memory };
+
+    fn from(_: NoMemory) -> FormatFault {
+        FormatFault::NoMemory
+    }
+}

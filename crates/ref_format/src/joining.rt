@@ -1,0 +1,169 @@
+//! The text of the kept lines.
+
+ghost use Rattle.std.specs.Prelude.{◌≡◌, None, Some, OnOk, IfErr, ◌++◌, [], length};
+
+use crate::columns::{behind_spaces, blank, controls};
+use crate::fault::FormatFault;
+use crate::placed::Placed;
+use cob_base::{Items, NoMemory};
+use std::alloc::Global;
+
+/// The literal that is open where a text ends.
+#[derive(Clone, Copy)]
+pub enum Literal {
+    Closed,
+    InQuotes,
+    InApostrophes,
+}
+
+impl Literal {
+    ghost use Rattle.ref_format.specs.Joined.{behind_byte, lacks_mark as without_mark};
+
+    fn behind(self, byte: u8) -> Literal
+        ensures { result ≡ behind_byte self byte }
+    {
+        match (self, byte) {
+            (Literal::Closed, b'"') => Literal::InQuotes,
+            (Literal::Closed, b'\'') => Literal::InApostrophes,
+            (Literal::InQuotes, b'"' | b'\n') => Literal::Closed,
+            (Literal::InApostrophes, b'\'' | b'\n') => Literal::Closed,
+            _ => self,
+        }
+    }
+
+    /// Whether these bytes lack the mark by which they would go on with the literal.
+    fn lacks_mark(self, bytes: &[u8]) -> bool
+        ensures { result ≡ without_mark self bytes.now }
+    {
+        match self {
+            Literal::Closed => false,
+            Literal::InQuotes => !matches!(bytes, [b'"', ..]),
+            Literal::InApostrophes => !matches!(bytes, [b'\'', ..]),
+        }
+    }
+}
+
+/// The text of the lines so far.
+#[derive(Drop)]
+pub struct Joining {
+    pub text: Items<Placed>,
+    /// The line that was kept last.
+    pub last: Option<u32>,
+    pub literal: Literal,
+}
+
+impl Joining {
+    ghost use Rattle.std.specs.Prelude.{◌⊎◌};
+    ghost use Rattle.ref_format.specs.Joined.{placed, behind, unspaced_end, line_end, trimmed, continuing, with_line, fault_of, is_bad_continuation};
+    ghost use Rattle.ref_format.specs.declared.fault.FormatFault.TheVariants.{NoMemory as Memory};
+    ghost use Rattle.ref_format.specs.declared.joining.Literal.TheVariants.{Closed};
+    ghost use Rattle.ref_format.specs.Sound.{IsSound, line_of};
+
+    pub fn new(alloc: Global) -> Joining
+        ensures { result ≡ record { text = []; last = None; literal = Closed } }
+    {
+        Joining {
+            text: Items::new(alloc),
+            last: None,
+            literal: Literal::Closed,
+        }
+    }
+
+    /// Takes the next kept line.
+    pub fn add(&mut self, number: u32, card: &[u8; 72]) -> Result<(), FormatFault>
+        requires { IsSound self.old }
+        ensures sound { OnOk result (IsSound self.new) }
+        ensures last { OnOk result (self.new.last ≡ Some number) }
+        ensures text { OnOk result (self.new.text ≡ with_line self.old.last self.old.text (line_of number card.now)) }
+        ensures no_fault { OnOk result (fault_of self.old.last self.old.literal (line_of number card.now) ≡ None) }
+        ensures fault { IfErr result (λ e. (e ≡ Memory) ⊎ (fault_of self.old.last self.old.literal (line_of number card.now) ≡ Some e)) }
+    {
+        if let Some(fault) = self.fault(number, card) {
+            return Err(fault);
+        }
+        if card[6] == b'-' {
+            self.go_on(number, card)?;
+        } else {
+            self.end_line()?;
+            self.put(number, &card[7..])?;
+        }
+        self.last = Some(number);
+        Ok(())
+    }
+
+    fn fault(&self, number: u32, card: &[u8; 72]) -> Option<FormatFault>
+        ensures { result ≡ fault_of self.now.last self.now.literal (line_of number card.now) }
+    {
+        if card[6] != b' ' && card[6] != b'-' {
+            return Some(FormatFault::BadIndicator(number));
+        }
+        if controls(&card[7..]) {
+            return Some(FormatFault::BadByte(number));
+        }
+        if card[6] == b'-' && self.breaks_off(card) {
+            return Some(FormatFault::BadContinuation(number));
+        }
+        None
+    }
+
+    fn breaks_off(&self, card: &[u8; 72]) -> bool
+        ensures { result ≡ is_bad_continuation self.now.last self.now.literal card.now }
+    {
+        self.last.is_none()
+            || !blank(&card[7..11])
+            || blank(&card[11..])
+            || self.literal.lacks_mark(behind_spaces(&card[11..]))
+    }
+
+    /// Goes on with a continuation line.
+    fn go_on(&mut self, number: u32, card: &[u8; 72]) -> Result<(), NoMemory>
+        ensures text { OnOk result (self.new.text ≡ trimmed self.old.literal self.old.text ++ placed number (continuing self.old.literal card.now)) }
+        ensures literal { OnOk result (self.new.literal ≡ behind self.old.literal (continuing self.old.literal card.now)) }
+    {
+        let rest = behind_spaces(&card[11..]);
+        match (self.literal, rest) {
+            (Literal::Closed, _) => {
+                self.trim();
+                self.put(number, rest)
+            }
+            (_, [_, more @ ..]) => self.put(number, more),
+            (_, []) => Ok(()),
+        }
+    }
+
+    /// Ends the line that was kept last.
+    fn end_line(&mut self) -> Result<(), NoMemory>
+        ensures text { OnOk result (self.new.text ≡ self.old.text ++ line_end self.old.last) }
+        ensures literal { OnOk result (self.new.literal ≡ Closed) }
+    {
+        if let Some(line) = self.last {
+            self.text.push(Placed { byte: b'\n', line })?;
+        }
+        self.literal = Literal::Closed;
+        Ok(())
+    }
+
+    fn put(&mut self, line: u32, bytes: &[u8]) -> Result<(), NoMemory>
+        ensures text { OnOk result (self.new.text ≡ self.old.text ++ placed line bytes.now) }
+        ensures literal { OnOk result (self.new.literal ≡ behind self.old.literal bytes.now) }
+    {
+        for byte in bytes {
+            self.text.push(Placed { byte: *byte, line })?;
+            self.literal = self.literal.behind(*byte);
+        }
+        Ok(())
+    }
+
+    /// Drops the spaces at the text's end.
+    fn trim(&mut self)
+        ensures text { self.new.text ≡ unspaced_end self.old.text }
+        ensures literal { self.new.literal ≡ self.old.literal }
+    {
+        while let Some(last) = self.text.as_slice().last() {
+            if last.byte != b' ' {
+                return;
+            }
+            let _ = self.text.pop();
+        }
+    }
+}
