@@ -3,13 +3,9 @@ use Rattle.std.specs.Prelude.{ℕ, ◌+◌, Bool, ◌&&◌, ◌==◌, nat_le, Li
 use Rattle.cobol_lex.specs.declared.token.TokenKind.{TokenKind}
 use Rattle.cobol_lex.specs.declared.token.TokenKind.TheVariants as kind
 use Rattle.cobol_lex.specs.declared.cut.Cut.{Cut}
+use Rattle.cobol_lex.specs.declared.literal.Quoted.{Quoted}
 use Rattle.cobol_lex.specs.declared.fault.LexFault.{LexFault}
 use Rattle.cobol_lex.specs.declared.fault.LexFault.TheVariants as fault
-
--- the bytes of a literal, and how many bytes of the text they and the closing mark take
-pub record Quoted : Type 0 where
-  pub value : List ℕ
-  pub taken : ℕ
 
 -- one more byte in front, which takes that many in the text
 abbrev pub with_byte : ℕ → ℕ → Option Quoted → Option Quoted

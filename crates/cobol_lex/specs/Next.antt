@@ -27,16 +27,16 @@ mark_cut line b rest =
     else if is_mark b then Ok (record { kind = kind.Mark b; length = 1 })
     else Err (fault.BadWord line)
 
--- the token that begins with b where no picture comes, behind the byte before
-abbrev pub plain_cut : (before line b : ℕ) → List ℕ → Result Cut LexFault
-plain_cut before line b rest =
-    let bytes = b ∷ rest in
+-- the token that begins the text where no picture comes, behind the byte before
+abbrev pub plain_cut : (before line : ℕ) → List ℕ → Result Cut LexFault
+plain_cut before line [] = Err (fault.BadWord line)
+plain_cut before line (b ∷ rest) =
     if is_quote b then literal_cut line (quoted_by b rest)
-    else if begins_number before bytes then cut_of (length (number_run bytes)) (number_kind line (number_run bytes))
-    else if is_letter b then cut_of (length (word_run bytes)) (word_kind line (word_run bytes))
+    else if begins_number before (b ∷ rest) then cut_of (length (number_run (b ∷ rest))) (number_kind line (number_run (b ∷ rest)))
+    else if is_letter b then cut_of (length (word_run (b ∷ rest))) (word_kind line (word_run (b ∷ rest)))
     else mark_cut line b rest
 
--- the token that begins with b, behind the byte before and the tokens before
-abbrev pub next_cut : Awaits → (before line b : ℕ) → List ℕ → Result Cut LexFault
-next_cut awaits before line b rest =
-    if awaits_picture awaits (b ∷ rest) then picture_cut line (picture_run (b ∷ rest)) else plain_cut before line b rest
+-- the token that begins the text, behind the byte before and the tokens before
+abbrev pub next_cut : Awaits → (before line : ℕ) → List ℕ → Result Cut LexFault
+next_cut awaits before line bytes =
+    if awaits_picture awaits bytes then picture_cut line (picture_run bytes) else plain_cut before line bytes

@@ -35,7 +35,7 @@ digits_of bytes = filter (λ b. not (is_point b)) bytes
 
 -- digits with at most one period
 abbrev pub is_decimal : List ℕ → Bool
-is_decimal bytes = list_all is_digit (digits_of bytes) && nat_le (count_by is_point bytes) 1
+is_decimal bytes = list_all (λ b. is_digit b || is_point b) bytes && nat_le (count_by is_point bytes) 1
 
 -- the digits from the period on, which stand behind it
 abbrev pub decimals : List ℕ → List ℕ

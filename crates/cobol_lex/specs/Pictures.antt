@@ -19,9 +19,13 @@ ends_picture b = b == 46 || b == 44 || b == 59
 abbrev pub less_last : (ℕ → Bool) → List ℕ → List ℕ
 less_last kind run = if kind (slice_index run (length run - 1)) then take (length run - 1) run else run
 
--- the bytes up to a space or the end of the line, less one last `.`, `,` or `;`
+-- the bytes up to a space or the end of the line
+abbrev pub filled_run : List ℕ → List ℕ
+filled_run bytes = take_while (λ b. not (is_blank b)) bytes
+
+-- the same, less one last `.`, `,` or `;`
 abbrev pub picture_run : List ℕ → List ℕ
-picture_run bytes = less_last ends_picture (take_while (λ b. not (is_blank b)) bytes)
+picture_run bytes = less_last ends_picture (filled_run bytes)
 
 abbrev pub picture_cut : ℕ → List ℕ → Result Cut LexFault
 picture_cut line [] = Err (fault.BadWord line)

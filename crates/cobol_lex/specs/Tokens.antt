@@ -30,7 +30,7 @@ tokens_from taken awaits before [] = Ok []
 tokens_from (suc taken) awaits before (p ∷ rest) = tokens_from taken awaits p.byte rest
 tokens_from zero awaits before (p ∷ rest) =
     if is_separator p.byte then tokens_from 0 awaits p.byte rest
-    else after_cut (next_cut awaits before p.line p.byte (bytes_of rest)) (λ cut.
+    else after_cut (next_cut awaits before p.line (bytes_of (p ∷ rest))) (λ cut.
         with_token (record { kind = cut.kind; line = p.line })
             (tokens_from (cut.length - 1) (awaits_behind awaits cut.kind) p.byte rest))
 

@@ -1,10 +1,70 @@
 //! The token that begins a text.
 
+ghost use Rattle.std.specs.Prelude.{◌≡◌, ◌<◌, ◌≤◌, ◌∷◌, length, IfOk};
+ghost use Rattle.cobol_lex.specs.Answers.{Answers};
+ghost use Rattle.cobol_lex.specs.Next.{mark_cut, plain_cut, next_cut};
+
+use crate::awaits::{Awaits, awaits_picture};
+use crate::bytes::{is_letter, is_mark, is_quote};
+use crate::fault::LexFault;
+use crate::literal::literal_cut;
+use crate::numbers::{begins_number, number_kind, number_run};
+use crate::picture::{picture_cut, picture_run};
 use crate::token::TokenKind;
+use crate::words::{word_kind, word_run};
+use std::alloc::Global;
 
 /// What a token is, and how many bytes of the text it takes.
 #[derive(Debug, Drop)]
 pub struct Cut {
     pub kind: TokenKind,
     pub length: usize,
+}
+
+/// A period, a mark or a pair of marks.
+fn mark_cut(line: u32, b: u8, rest: &[u8]) -> Result<Cut, LexFault>
+    ensures { result ≡ mark_cut line b rest.now }
+{
+    let (kind, length) = match (b, rest) {
+        (b'.', _) => (TokenKind::Period, 1),
+        (b'*', [b'*', ..]) => (TokenKind::Power, 2),
+        (b'<', [b'=', ..]) => (TokenKind::LessEqual, 2),
+        (b'>', [b'=', ..]) => (TokenKind::GreaterEqual, 2),
+        _ if is_mark(b) => (TokenKind::Mark(b), 1),
+        _ => return Err(LexFault::BadWord(line)),
+    };
+    Ok(Cut { kind, length })
+}
+
+fn plain_cut(alloc: Global, before: u8, line: u32, bytes: &[u8]) -> Result<Cut, LexFault>
+    requires { 0 < length bytes.now }
+    ensures { Answers (plain_cut before line bytes.now) result }
+{
+    let b = bytes[0];
+    let rest = &bytes[1..];
+    if is_quote(b) {
+        literal_cut(alloc, line, b, rest)
+    } else if begins_number(before, bytes) {
+        let run = number_run(bytes);
+        let kind = number_kind(alloc, line, run)?;
+        Ok(Cut { kind, length: run.len() })
+    } else if is_letter(b) {
+        let run = word_run(bytes);
+        let kind = word_kind(line, run)?;
+        Ok(Cut { kind, length: run.len() })
+    } else {
+        mark_cut(line, b, rest)
+    }
+}
+
+/// The token that begins the text, behind the byte and the tokens before.
+pub fn next_cut(alloc: Global, awaits: Awaits, before: u8, line: u32, bytes: &[u8]) -> Result<Cut, LexFault>
+    requires { 0 < length bytes.now }
+    ensures value { Answers (next_cut awaits before line bytes.now) result }
+{
+    if awaits_picture(awaits, bytes) {
+        picture_cut(alloc, line, picture_run(bytes))
+    } else {
+        plain_cut(alloc, before, line, bytes)
+    }
 }

@@ -2,9 +2,16 @@
 #![tactic(auto)]
 
 mod awaits;
+mod bytes;
 mod cut;
 mod fault;
+mod literal;
+mod numbers;
+mod picture;
+mod scan;
 mod token;
+mod words;
 
 pub use fault::LexFault;
+pub use scan::tokens;
 pub use token::{Token, TokenKind};
