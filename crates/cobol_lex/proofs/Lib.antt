@@ -1,2 +1,5 @@
+pub mod Cuts
+pub mod CutLengths
+pub mod Quoting
 pub mod Runs
 pub mod Spelled

@@ -22,9 +22,14 @@ quoted_by mark (b ∷ c ∷ rest) =
     else if b == 10 then None
     else with_byte b 1 (quoted_by mark (c ∷ rest))
 
+-- the token of a literal, by what it has behind its opening mark
 abbrev pub literal_cut : ℕ → Option Quoted → Result Cut LexFault
 literal_cut line None = Err (fault.OpenLiteral line)
 literal_cut line (Some quoted) =
     if nat_le 1 (length quoted.value) && nat_le (length quoted.value) 160
     then Ok (record { kind = kind.Literal quoted.value; length = 1 + quoted.taken })
     else Err (fault.BadWord line)
+
+abbrev pub literal_at : ℕ → List ℕ → Result Cut LexFault
+literal_at line [] = Err (fault.OpenLiteral line)
+literal_at line (mark ∷ rest) = literal_cut line (quoted_by mark rest)

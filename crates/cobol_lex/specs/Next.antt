@@ -3,7 +3,7 @@ use Rattle.std.specs.Prelude.{ℕ, Bool, ◌&&◌, ◌==◌, List, [], ◌∷◌
 use Rattle.cobol_lex.specs.Bytes.{is_letter, is_quote, is_mark, is_point, begins}
 use Rattle.cobol_lex.specs.Words.{word_run, word_kind}
 use Rattle.cobol_lex.specs.Numbers.{begins_number, number_run, number_kind}
-use Rattle.cobol_lex.specs.Literals.{quoted_by, literal_cut}
+use Rattle.cobol_lex.specs.Literals.{literal_at}
 use Rattle.cobol_lex.specs.Pictures.{awaits_picture, picture_run, picture_cut}
 use Rattle.cobol_lex.specs.declared.token.TokenKind.{TokenKind}
 use Rattle.cobol_lex.specs.declared.token.TokenKind.TheVariants as kind
@@ -31,7 +31,7 @@ mark_cut line b rest =
 abbrev pub plain_cut : (before line : ℕ) → List ℕ → Result Cut LexFault
 plain_cut before line [] = Err (fault.BadWord line)
 plain_cut before line (b ∷ rest) =
-    if is_quote b then literal_cut line (quoted_by b rest)
+    if is_quote b then literal_at line (b ∷ rest)
     else if begins_number before (b ∷ rest) then cut_of (length (number_run (b ∷ rest))) (number_kind line (number_run (b ∷ rest)))
     else if is_letter b then cut_of (length (word_run (b ∷ rest))) (word_kind line (word_run (b ∷ rest)))
     else mark_cut line b rest

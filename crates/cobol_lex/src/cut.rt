@@ -1,8 +1,8 @@
 //! The token that begins a text.
 
-ghost use Rattle.std.specs.Prelude.{◌≡◌, ◌<◌, ◌≤◌, ◌∷◌, length, IfOk};
+ghost use Rattle.std.specs.Prelude.{◌≡◌};
 ghost use Rattle.cobol_lex.specs.Answers.{Answers};
-ghost use Rattle.cobol_lex.specs.Next.{mark_cut, plain_cut, next_cut};
+ghost use Rattle.cobol_lex.specs.Next.{cut_of, mark_cut, plain_cut, next_cut};
 
 use crate::awaits::{Awaits, awaits_picture};
 use crate::bytes::{is_letter, is_mark, is_quote};
@@ -36,31 +36,37 @@ fn mark_cut(line: u32, b: u8, rest: &[u8]) -> Result<Cut, LexFault>
     Ok(Cut { kind, length })
 }
 
+fn cut_of(length: usize, kind: Result<TokenKind, LexFault>) -> Result<Cut, LexFault>
+    ensures { result ≡ cut_of length kind }
+{
+    match kind {
+        Ok(kind) => Ok(Cut { kind, length }),
+        Err(fault) => Err(fault),
+    }
+}
+
 fn plain_cut(alloc: Global, before: u8, line: u32, bytes: &[u8]) -> Result<Cut, LexFault>
-    requires { 0 < length bytes.now }
     ensures { Answers (plain_cut before line bytes.now) result }
 {
-    let b = bytes[0];
-    let rest = &bytes[1..];
-    if is_quote(b) {
-        literal_cut(alloc, line, b, rest)
+    let [b, rest @ ..] = bytes else {
+        return Err(LexFault::BadWord(line));
+    };
+    if is_quote(*b) {
+        literal_cut(alloc, line, bytes)
     } else if begins_number(before, bytes) {
         let run = number_run(bytes);
-        let kind = number_kind(alloc, line, run)?;
-        Ok(Cut { kind, length: run.len() })
-    } else if is_letter(b) {
+        cut_of(run.len(), number_kind(alloc, line, run))
+    } else if is_letter(*b) {
         let run = word_run(bytes);
-        let kind = word_kind(line, run)?;
-        Ok(Cut { kind, length: run.len() })
+        cut_of(run.len(), word_kind(line, run))
     } else {
-        mark_cut(line, b, rest)
+        mark_cut(line, *b, rest)
     }
 }
 
 /// The token that begins the text, behind the byte and the tokens before.
 pub fn next_cut(alloc: Global, awaits: Awaits, before: u8, line: u32, bytes: &[u8]) -> Result<Cut, LexFault>
-    requires { 0 < length bytes.now }
-    ensures value { Answers (next_cut awaits before line bytes.now) result }
+    ensures { Answers (next_cut awaits before line bytes.now) result }
 {
     if awaits_picture(awaits, bytes) {
         picture_cut(alloc, line, picture_run(bytes))

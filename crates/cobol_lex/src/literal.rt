@@ -1,8 +1,8 @@
 //! Literals.
 
-ghost use Rattle.std.specs.Prelude.{◌≡◌, ◌<◌, ◌≤◌, length, IfOk};
+ghost use Rattle.std.specs.Prelude.{◌≡◌, IfOk};
 ghost use Rattle.cobol_lex.specs.Answers.{Answers};
-ghost use Rattle.cobol_lex.specs.Literals.{quoted_by, literal_cut};
+ghost use Rattle.cobol_lex.specs.Literals.{quoted_by, literal_at};
 
 use crate::cut::Cut;
 use crate::fault::LexFault;
@@ -42,11 +42,14 @@ fn quoted_by(alloc: Global, mark: u8, rest: &[u8]) -> Result<Option<Quoted>, NoM
     Ok(None)
 }
 
-/// The literal whose opening mark stands before `rest`.
-pub fn literal_cut(alloc: Global, line: u32, mark: u8, rest: &[u8]) -> Result<Cut, LexFault>
-    ensures { Answers (literal_cut line (quoted_by mark rest.now)) result }
+/// The literal that begins here.
+pub fn literal_cut(alloc: Global, line: u32, bytes: &[u8]) -> Result<Cut, LexFault>
+    ensures { Answers (literal_at line bytes.now) result }
 {
-    let Some(Quoted { value, taken }) = quoted_by(alloc, mark, rest)? else {
+    let [mark, rest @ ..] = bytes else {
+        return Err(LexFault::OpenLiteral(line));
+    };
+    let Some(Quoted { value, taken }) = quoted_by(alloc, *mark, rest)? else {
         return Err(LexFault::OpenLiteral(line));
     };
     if value.len() == 0 || value.len() > MOST_BYTES {
