@@ -1,11 +1,12 @@
 -- A token takes some bytes, and no more than there are.
 use Rattle.std.proofs.Common.{ℕ, ◌≡◌, ◌≢◌, ◌<◌, ◌≤◌, ◌+◌, ◌-◌, zero, suc, Bool, true, false, not, List, [], ◌∷◌, take, drop, length, get_or, slice_index, min, ap, sym, ◌∙◌, arith, refl, rules, tests, length-take, cond}
-use Rattle.std.specs.Prelude.{Result, Ok, Err, Option, Some, None, if◌then◌else◌, ◌==◌, ◌||◌, ◌&&◌, nat_le}
+use Rattle.cobol_lex.specs.Answers.{Answers}
+use Rattle.std.specs.Prelude.{IfOk, Result, Ok, Err, Option, Some, None, if◌then◌else◌, ◌==◌, ◌||◌, ◌&&◌, nat_le}
 use Rattle.std.specs.List.{take_while, prefix_len}
 use Rattle.std.proofs.lemmas.Grind.{common_steps}
 use Rattle.std.proofs.lemmas.List.Folds.{length-prefix_len}
 use Rattle.cob_base.specs.Spelling.{word_byte}
-use Rattle.cobol_lex.specs.Bytes.{is_quote, is_letter, is_digit, is_point, is_sign, is_mark, leads_sign, begins}
+use Rattle.cobol_lex.specs.Bytes.{is_quote, is_letter, is_digit, is_point, is_sign, is_mark, is_blank, leads_sign, begins}
 use Rattle.cobol_lex.specs.Numbers.{begins_unsigned, begins_number, number_run, number_kind, unsigned_length}
 use Rattle.cobol_lex.specs.Words.{word_run, word_kind}
 use Rattle.cobol_lex.specs.Literals.{quoted_by, literal_cut, literal_at}
@@ -97,25 +98,25 @@ unsigned_some b rest is =
     let inside : (word_byte b || is_point b && begins is_digit rest) ≡ true = either is in
     rw inside (omega arith)
   where
-    either : (is_digit b || is_point b && begins is_digit rest) ≡ true → (word_byte b || is_point b && begins is_digit rest) ≡ true
-    either h = or_word (is_point b && begins is_digit rest) (is_digit b) (digit_word b) h
     or_word : (y v : Bool) → (v ≡ true → word_byte b ≡ true) → (v || y) ≡ true → (word_byte b || y) ≡ true
     or_word y true word h = rw (word refl)
     or_word true false word h = elim (word_byte b) as (λ w. (w || true) ≡ true) [ true ↦ refl | false ↦ refl ]
     or_word false false word h = cc
+    either : (is_digit b || is_point b && begins is_digit rest) ≡ true → (word_byte b || is_point b && begins is_digit rest) ≡ true
+    either h = or_word (is_point b && begins is_digit rest) (is_digit b) (digit_word b) h
 
 number_some : (before b : ℕ) (rest : List ℕ) → begins_number before (b ∷ rest) ≡ true → 0 < length (number_run (b ∷ rest))
 number_some before b rest is =
-    let some : 0 < (if is_sign b then 1 + unsigned_length rest else unsigned_length (b ∷ rest)) = either (is_sign b) (unsigned_length rest) _ (λ no. unsigned_some b rest (plain (begins_unsigned (b ∷ rest)) (is_sign b) _ no is)) in
+    let some : 0 < (if is_sign b then 1 + unsigned_length rest else unsigned_length (b ∷ rest)) = either (is_sign b) (unsigned_length rest) _ (λ isnt. unsigned_some b rest (plain (begins_unsigned (b ∷ rest)) (is_sign b) _ isnt is)) in
     simp length-take (omega arith)
   where
     either : (v : Bool) (x y : ℕ) → (v ≡ false → 0 < y) → 0 < (if v then 1 + x else y)
     either true x y h = omega arith
     either false x y h = h refl
     plain : (u v w : Bool) → v ≡ false → (u || v && w && begins_unsigned rest) ≡ true → u ≡ true
-    plain true v w no h = refl
-    plain false true w no h = cc
-    plain false false w no h = cc
+    plain true v w isnt h = refl
+    plain false true w isnt h = cc
+    plain false false w isnt h = cc
 
 number_within : (bytes : List ℕ) → length (number_run bytes) ≤ length bytes
 number_within bytes = simp length-take (omega arith)
@@ -131,3 +132,8 @@ takes_plain before line (b ∷ rest) =
 pub takes_next : (awaits : Awaits) (before line : ℕ) (bytes : List ℕ) → Takes (length bytes) (next_cut awaits before line bytes)
 takes_next awaits before line bytes =
     takes_choice (awaits_picture awaits bytes) _ _ _ (λ _. takes_picture line _ (picture_run bytes) (picture_within bytes)) (λ _. takes_plain before line bytes)
+
+pub answer_takes : (awaits : Awaits) (before line : ℕ) (bytes : List ℕ) (answer : Result Cut LexFault) → Answers (next_cut awaits before line bytes) answer →
+    IfOk answer (λ cut. (0 < cut.length) × (cut.length ≤ length bytes))
+answer_takes awaits before line bytes (Ok cut) h = takes_next awaits before line bytes cut h
+answer_takes awaits before line bytes (Err fault) h = tt

@@ -2,4 +2,5 @@ pub mod Cuts
 pub mod CutLengths
 pub mod Quoting
 pub mod Runs
+pub mod Scanning
 pub mod Spelled

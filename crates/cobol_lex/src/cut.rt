@@ -1,6 +1,6 @@
 //! The token that begins a text.
 
-ghost use Rattle.std.specs.Prelude.{◌≡◌};
+ghost use Rattle.std.specs.Prelude.{◌≡◌, ◌<◌, ◌≤◌, length, IfOk};
 ghost use Rattle.cobol_lex.specs.Answers.{Answers};
 ghost use Rattle.cobol_lex.specs.Next.{cut_of, mark_cut, plain_cut, next_cut};
 
@@ -66,7 +66,8 @@ fn plain_cut(alloc: Global, before: u8, line: u32, bytes: &[u8]) -> Result<Cut, 
 
 /// The token that begins the text, behind the byte and the tokens before.
 pub fn next_cut(alloc: Global, awaits: Awaits, before: u8, line: u32, bytes: &[u8]) -> Result<Cut, LexFault>
-    ensures { Answers (next_cut awaits before line bytes.now) result }
+    ensures value { Answers (next_cut awaits before line bytes.now) result }
+    ensures within { IfOk result (λ cut. (0 < cut.length) × (cut.length ≤ length bytes.now)) }
 {
     if awaits_picture(awaits, bytes) {
         picture_cut(alloc, line, picture_run(bytes))

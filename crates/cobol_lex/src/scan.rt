@@ -26,16 +26,20 @@ pub fn tokens(alloc: Global, text: &[Placed]) -> Result<Items<Token>, LexFault>
     let mut before = 0;
     let mut at = 0;
     while at < text.len() {
-        if is_separator(bytes[at]) {
+        let placed = text[at];
+        if is_separator(placed.byte) {
+            before = placed.byte;
             at += 1;
-        } else {
-            let line = text[at].line;
-            let cut = next_cut(alloc, awaits, before, line, &bytes[at..])?;
-            awaits = awaits_behind(awaits, &cut.kind);
-            at += cut.length;
-            tokens.push(Token { kind: cut.kind, line })?;
+            continue;
         }
+        let cut = next_cut(alloc, awaits, before, placed.line, &bytes[at..])?;
+        awaits = awaits_behind(awaits, &cut.kind);
+        at += cut.length;
         before = bytes[at - 1];
+        tokens.push(Token {
+            kind: cut.kind,
+            line: placed.line,
+        })?;
     }
     Ok(tokens)
 }
