@@ -1,15 +1,14 @@
 -- A token takes some bytes, and no more than there are.
-use Rattle.std.proofs.Common.{ℕ, ◌≡◌, ◌≢◌, ◌<◌, ◌≤◌, ◌+◌, ◌-◌, zero, suc, Bool, true, false, not, List, [], ◌∷◌, take, drop, length, get_or, slice_index, min, ap, sym, ◌∙◌, arith, refl, rules, tests, length-take, cond}
+use Rattle.std.proofs.Common.{ℕ, ◌≡◌, ◌<◌, ◌≤◌, ◌+◌, ◌-◌, Bool, true, false, not, List, [], ◌∷◌, take, length, slice_index, arith, refl, rules, tests, length-take}
 use Rattle.cobol_lex.specs.Answers.{Answers}
 use Rattle.std.specs.Prelude.{IfOk, Result, Ok, Err, Option, Some, None, if◌then◌else◌, ◌==◌, ◌||◌, ◌&&◌, nat_le}
-use Rattle.std.specs.List.{take_while, prefix_len}
-use Rattle.std.proofs.lemmas.Grind.{common_steps}
+use Rattle.std.specs.List.{prefix_len}
 use Rattle.std.proofs.lemmas.List.Folds.{length-prefix_len}
 use Rattle.cob_base.specs.Spelling.{word_byte}
-use Rattle.cobol_lex.specs.Bytes.{is_quote, is_letter, is_digit, is_point, is_sign, is_mark, is_blank, leads_sign, begins}
-use Rattle.cobol_lex.specs.Numbers.{begins_unsigned, begins_number, number_run, number_kind, unsigned_length}
-use Rattle.cobol_lex.specs.Words.{word_run, word_kind}
-use Rattle.cobol_lex.specs.Literals.{quoted_by, literal_cut, literal_at}
+use Rattle.cobol_lex.specs.Bytes.{is_quote, is_letter, is_digit, is_point, is_sign, is_mark, is_blank, begins}
+use Rattle.cobol_lex.specs.Numbers.{begins_unsigned, begins_number, number_run, unsigned_length}
+use Rattle.cobol_lex.specs.Words.{word_run}
+use Rattle.cobol_lex.specs.Literals.{quoted_by, literal_cut}
 use Rattle.cobol_lex.specs.Pictures.{awaits_picture, ends_picture, less_last, filled_run, picture_run, picture_cut}
 use Rattle.cobol_lex.specs.Next.{cut_of, mark_cut, plain_cut, next_cut}
 use Rattle.cobol_lex.specs.declared.token.TokenKind.{TokenKind}

@@ -1,14 +1,12 @@
 -- The token that begins a text, case by case.
-use Rattle.std.proofs.Common.{ℕ, ◌≡◌, ◌≢◌, ◌<◌, ◌≤◌, ◌+◌, ◌-◌, zero, suc, Bool, true, false, List, [], ◌∷◌, take, drop, length, get_or, ap, sym, ◌∙◌, arith, refl, rules, tests}
+use Rattle.std.proofs.Common.{ℕ, ◌≡◌, ◌<◌, ◌-◌, true, false, List, [], ◌∷◌, take, drop, length, get_or, ap, arith, refl}
 use Rattle.std.proofs.lemmas.Grind.{common_steps}
-use Rattle.std.specs.Prelude.{Result, Ok, Err, if◌then◌else◌}
+use Rattle.std.specs.Prelude.{Result, Ok, Err}
 use Rattle.cobol_lex.specs.Answers.{Answers}
 use Rattle.cobol_lex.specs.Bytes.{is_quote, is_letter}
 use Rattle.cobol_lex.specs.Numbers.{begins_number, number_run, number_kind}
-use Rattle.cobol_lex.specs.Words.{word_run, word_kind}
-use Rattle.cobol_lex.specs.Next.{cut_of, mark_cut, plain_cut, next_cut}
+use Rattle.cobol_lex.specs.Next.{cut_of, mark_cut, plain_cut}
 use Rattle.cobol_lex.specs.declared.token.TokenKind.{TokenKind}
-use Rattle.cobol_lex.specs.declared.cut.Cut.{Cut}
 use Rattle.cobol_lex.specs.declared.fault.LexFault.{LexFault}
 
 -- what stands behind the first byte

@@ -1,6 +1,6 @@
 -- Runs at the front of a text.
-use Rattle.std.proofs.Common.{ℕ, ◌≡◌, ◌≤◌, ◌+◌, zero, suc, Bool, true, false, not, List, [], ◌∷◌, take, drop, length, filter, ap, arith, refl, rules, tests, cond}
-use Rattle.std.specs.List.{prefix_len, take_while}
+use Rattle.std.proofs.Common.{ℕ, ◌≡◌, ◌≤◌, zero, suc, Bool, true, false, List, [], ◌∷◌, take, drop, length, filter, ap, arith, cond}
+use Rattle.std.specs.List.{take_while}
 use Rattle.std.proofs.lemmas.Grind.{common_steps}
 use Rattle.std.proofs.lemmas.List.Folds.{length-prefix_len}
 use Rattle.std.proofs.lemmas.List.Sums.{prefix_len-le-length}

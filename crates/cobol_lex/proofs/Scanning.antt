@@ -1,13 +1,13 @@
 -- The tokens of a text, a token at a time.
-use Rattle.std.proofs.Common.{ℕ, ◌≡◌, ◌≢◌, ◌<◌, ◌≤◌, ◌+◌, ◌-◌, zero, suc, Bool, true, false, List, [], ◌∷◌, ◌++◌, map, take, drop, length, get_or, ap, sym, ◌∙◌, arith, refl, rules, tests, append_assoc, add-one, drop-cons, drop-drop}
+use Rattle.std.proofs.Common.{ℕ, ◌≡◌, ◌≢◌, ◌<◌, ◌≤◌, ◌+◌, ◌-◌, zero, suc, true, false, List, [], ◌∷◌, ◌++◌, take, drop, length, get_or, ap, sym, ◌∙◌, arith, refl, append_assoc, add-one, drop-cons, drop-drop}
 use Rattle.cobol_lex.specs.Answers.{Answers}
-use Rattle.std.specs.Prelude.{IsErrAnd, Result, Ok, Err, if◌then◌else◌}
+use Rattle.std.specs.Prelude.{IsErrAnd, Result, Ok, Err}
 use Rattle.std.proofs.lemmas.Grind.{common_steps}
 use Rattle.ref_format.specs.declared.placed.Placed.{Placed}
 use Rattle.cobol_lex.specs.Bytes.{is_separator}
 use Rattle.cobol_lex.specs.Pictures.{awaits_behind}
 use Rattle.cobol_lex.specs.Next.{next_cut}
-use Rattle.cobol_lex.specs.Tokens.{bytes_of, with_token, after_cut, tokens_from}
+use Rattle.cobol_lex.specs.Tokens.{bytes_of, with_token, tokens_from}
 use Rattle.cobol_lex.specs.declared.token.Token.{Token}
 use Rattle.cobol_lex.specs.declared.awaits.Awaits.{Awaits}
 use Rattle.cobol_lex.specs.declared.cut.Cut.{Cut}

@@ -1,7 +1,6 @@
 -- The test of a word and the fact.
-use Rattle.std.proofs.Common.{ℕ, ◌≡◌, ◌≢◌, ◌<◌, ◌≤◌, ◌-◌, Bool, true, false, IsTrue, not, nat_lt, nat_le, nat_eq, List, length, slice_index, refl, arith, rules, tests}
-use Rattle.std.specs.List.{list_all, All}
-use Rattle.std.proofs.lemmas.Grind.{common_steps}
+use Rattle.std.proofs.Common.{ℕ, ◌≡◌, Bool, true, false, List, refl, rules, tests}
+use Rattle.std.specs.List.{list_all}
 use Rattle.std.proofs.lemmas.List.Sums.{AllPass-from_list_all, list_all-from_AllPass}
 use Rattle.std.specs.Prelude.{Ok, Err, if◌then◌else◌}
 use Rattle.cob_base.specs.Spelling.{IsWord, word_byte, folded}

@@ -1,6 +1,5 @@
 -- Literals.
-use Rattle.std.specs.Prelude.{ℕ, ◌+◌, Bool, ◌&&◌, ◌==◌, nat_le, List, [], ◌∷◌, length, Option, Some, None, Result, Ok, Err, if◌then◌else◌}
-use Rattle.cobol_lex.specs.declared.token.TokenKind.{TokenKind}
+use Rattle.std.specs.Prelude.{ℕ, ◌+◌, ◌&&◌, ◌==◌, nat_le, List, [], ◌∷◌, length, Option, Some, None, Result, Ok, Err, if◌then◌else◌}
 use Rattle.cobol_lex.specs.declared.token.TokenKind.TheVariants as kind
 use Rattle.cobol_lex.specs.declared.cut.Cut.{Cut}
 use Rattle.cobol_lex.specs.declared.literal.Quoted.{Quoted}

@@ -1,5 +1,5 @@
 -- The token that begins a text.
-use Rattle.std.specs.Prelude.{ℕ, Bool, ◌&&◌, ◌==◌, List, [], ◌∷◌, length, Result, Ok, Err, if◌then◌else◌}
+use Rattle.std.specs.Prelude.{ℕ, ◌&&◌, ◌==◌, List, [], ◌∷◌, length, Result, Ok, Err, if◌then◌else◌}
 use Rattle.cobol_lex.specs.Bytes.{is_letter, is_quote, is_mark, is_point, begins}
 use Rattle.cobol_lex.specs.Words.{word_run, word_kind}
 use Rattle.cobol_lex.specs.Numbers.{begins_number, number_run, number_kind}

@@ -1,5 +1,5 @@
 -- Words.
-use Rattle.std.specs.Prelude.{ℕ, ◌-◌, Bool, ◌&&◌, ◌==◌, not, nat_le, nat_lt, List, [], ◌∷◌, length, slice_index, Result, Ok, Err, if◌then◌else◌}
+use Rattle.std.specs.Prelude.{ℕ, ◌-◌, Bool, ◌&&◌, ◌==◌, not, nat_le, nat_lt, List, length, slice_index, Result, Ok, Err, if◌then◌else◌}
 use Rattle.std.specs.List.{take_while, list_all}
 use Rattle.std.specs.Str.{bytes_eq}
 use Rattle.cob_base.specs.Spelling.{word_byte, folded}

@@ -10,6 +10,8 @@ mod numbers;
 mod picture;
 mod scan;
 mod token;
+#[cfg(test)]
+mod tests;
 mod words;
 
 pub use fault::LexFault;

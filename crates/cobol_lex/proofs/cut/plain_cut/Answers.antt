@@ -1,5 +1,4 @@
 use Rattle.std.proofs.Common.{sym, ◌∙◌, ap, length, get_or}
-use Rattle.cobol_lex.specs.Answers.{Answers}
 use Rattle.cobol_lex.specs.Numbers.{number_kind}
 use Rattle.cobol_lex.specs.Next.{cut_of, mark_cut}
 use Rattle.cobol_lex.proofs.Cuts.{plain_cut-number, plain_cut-mark, cut_answers, rest_whole, answers_along, answers_itself}

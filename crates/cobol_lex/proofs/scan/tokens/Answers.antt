@@ -1,4 +1,4 @@
-use Rattle.std.proofs.Common.{rules, sym, ◌≡◌, ◌∙◌, ◌+◌, ◌≤◌, arith, ap, length, length-drop, drop}
+use Rattle.std.proofs.Common.{rules, sym, ◌∙◌}
 use Rattle.std.proofs.lemmas.List.{get_or_read}
 use Rattle.cobol_lex.specs.Tokens.{tokens_of}
 use Rattle.cobol_lex.proofs.Scanning.{on_token, on_fault, bytes_left, fault_answer}

@@ -1,4 +1,4 @@
-use Rattle.std.proofs.Common.{length, map, ◌-◌, ◌≡◌, ◌≤◌, ℕ, drop}
+use Rattle.std.proofs.Common.{length, ◌-◌, ◌≡◌, ◌≤◌, drop}
 use Rattle.cobol_lex.specs.Tokens.{tokens_of, tokens_from, bytes_of}
 use Rattle.cobol_lex.proofs.Scanning.{tokens_behind}
 use Rattle.cobol_lex.proofs.scan.tokens.Given as goal
