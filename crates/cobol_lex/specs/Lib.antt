@@ -4,5 +4,6 @@ pub mod Literals
 pub mod Next
 pub mod Numbers
 pub mod Pictures
+pub mod Rising
 pub mod Tokens
 pub mod Words

@@ -5,6 +5,7 @@ mod awaits;
 mod bytes;
 mod cut;
 mod fault;
+mod laws;
 mod literal;
 mod numbers;
 mod picture;
@@ -15,5 +16,6 @@ mod tests;
 mod words;
 
 pub use fault::LexFault;
+pub use laws::token_lines_rise;
 pub use scan::tokens;
 pub use token::{Token, TokenKind};
