@@ -46,8 +46,9 @@ takes_picture line most (b ∷ rest) within = takes most _ _ (omega arith) withi
 less_last_within : (kind : ℕ → Bool) (run : List ℕ) → length (less_last kind run) ≤ length run
 less_last_within kind run =
     elim (kind (slice_index run (length run - 1))) as (λ v. length (if v then take (length run - 1) run else run) ≤ length run) [
-        true ↦ simp length-take (omega arith)
-      | false ↦ omega arith ]
+      | true ↦ simp length-take (omega arith)
+      | false ↦ omega arith
+    ]
 
 picture_within : (bytes : List ℕ) → length (picture_run bytes) ≤ length bytes
 picture_within bytes =
@@ -101,6 +102,7 @@ unsigned_some b rest is =
     or_word y true word h = rw (word refl)
     or_word true false word h = elim (word_byte b) as (λ w. (w || true) ≡ true) [ true ↦ refl | false ↦ refl ]
     or_word false false word h = cc
+
     either : (is_digit b || is_point b && begins is_digit rest) ≡ true → (word_byte b || is_point b && begins is_digit rest) ≡ true
     either h = or_word (is_point b && begins is_digit rest) (is_digit b) (digit_word b) h
 
@@ -112,6 +114,7 @@ number_some before b rest is =
     either : (v : Bool) (x y : ℕ) → (v ≡ false → 0 < y) → 0 < (if v then 1 + x else y)
     either true x y h = omega arith
     either false x y h = h refl
+
     plain : (u v w : Bool) → v ≡ false → (u || v && w && begins_unsigned rest) ≡ true → u ≡ true
     plain true v w isnt h = refl
     plain false true w isnt h = cc

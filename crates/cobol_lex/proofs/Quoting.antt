@@ -36,7 +36,7 @@ line_end_or_end true w found = refl
 line_end_or_end false true found = refl
 line_end_or_end false false found = refl
 
-quoted-cons : (mark b : ℕ) (rest : List ℕ) → quoted_by mark (b ∷ rest) ≡ quoted_step mark b rest
+pub quoted-cons : (mark b : ℕ) (rest : List ℕ) → quoted_by mark (b ∷ rest) ≡ quoted_step mark b rest
 quoted-cons mark b [] = line_end_or_end (b == mark) (b == 10) (Some (record { value = []; taken = 1 }))
 quoted-cons mark b (c ∷ rest) = refl
 
@@ -146,8 +146,8 @@ quoted_in mark [] = within_none 0
 quoted_in mark (b ∷ []) = within_choice (b == mark) _ _ _ (within_one _ (omega arith)) (within_none _)
 quoted_in mark (b ∷ c ∷ rest) =
     within_choice (b == mark) _ _ _
-        (within_choice (c == mark) _ _ _ (within_byte mark 2 (length rest) _ _ (omega arith) (quoted_in mark rest)) (within_one _ (omega arith)))
-        (within_choice (b == 10) _ _ _ (within_none _) (within_byte b 1 (length (c ∷ rest)) _ _ (omega arith) (quoted_in mark (c ∷ rest))))
+    (within_choice (c == mark) _ _ _ (within_byte mark 2 (length rest) _ _ (omega arith) (quoted_in mark rest)) (within_one _ (omega arith)))
+    (within_choice (b == 10) _ _ _ (within_none _) (within_byte b 1 (length (c ∷ rest)) _ _ (omega arith) (quoted_in mark (c ∷ rest))))
 
 -- a literal takes no more than there is
 pub quoted_within : (mark : ℕ) (bytes : List ℕ) (q : Quoted) → quoted_by mark bytes ≡ Some q → q.taken ≤ length bytes

@@ -44,10 +44,10 @@ rise (suc taken) awaits before least (p ∷ rest) h =
     rise_lower least p.line _ h.0 (rise taken awaits p.byte p.line rest h.1)
 rise zero awaits before least (p ∷ rest) h =
     rise_choice least (is_separator p.byte) _ _
-        (rise_lower least p.line _ h.0 (rise 0 awaits p.byte p.line rest h.1))
-        (rise_cut least (next_cut awaits before p.line (bytes_of (p ∷ rest))) _ (λ cut.
-            rise_token least (record { kind = cut.kind; line = p.line }) _ h.0
-                (rise (cut.length - 1) (awaits_behind awaits cut.kind) p.byte p.line rest h.1)))
+    (rise_lower least p.line _ h.0 (rise 0 awaits p.byte p.line rest h.1))
+    (rise_cut least (next_cut awaits before p.line (bytes_of (p ∷ rest))) _ (λ cut.
+    rise_token least (record { kind = cut.kind; line = p.line }) _ h.0
+    (rise (cut.length - 1) (awaits_behind awaits cut.kind) p.byte p.line rest h.1)))
 
 pub token_lines : TokenLinesRise
 token_lines text tokens is h = subst (Rise 0) is (rise 0 awaits.Any 0 0 text h)

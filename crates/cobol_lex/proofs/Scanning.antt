@@ -73,8 +73,8 @@ pub over_token : (awaits : Awaits) (before at : ℕ) (text : List Placed) (p : P
     at < length text → get_or text at p ≡ p → is_separator p.byte ≡ false →
     next_cut awaits before p.line (bytes_of (drop at text)) ≡ Ok cut → 0 < cut.length → cut.length ≤ length (drop at text) →
     tokens_behind front (tokens_from 0 awaits before (drop at text))
-        ≡ tokens_behind (front ++ record { kind = cut.kind; line = p.line } ∷ [])
-            (tokens_from 0 (awaits_behind awaits cut.kind) (get_or (bytes_of text) (at + cut.length - 1) 0) (drop (at + cut.length) text))
+    ≡ tokens_behind (front ++ record { kind = cut.kind; line = p.line } ∷ [])
+    (tokens_from 0 (awaits_behind awaits cut.kind) (get_or (bytes_of text) (at + cut.length - 1) 0) (drop (at + cut.length) text))
 over_token awaits before at text p front cut within is_p other next some most =
     let rest = drop (suc at) text in
     let begun : drop at text ≡ p ∷ rest = drop-cons text at p within ∙ ap (λ q. q ∷ rest) is_p in
@@ -86,13 +86,13 @@ over_token awaits before at text p front cut within is_p other next some most =
     let lengths : length (drop at text) ≡ suc (length rest) = ap length begun in
     let passed = passed_over more (awaits_behind awaits cut.kind) p rest (omega arith) in
     let last : get_or (bytes_of (p ∷ rest)) more 0 ≡ get_or (bytes_of text) (at + cut.length - 1) 0 =
-        ap (λ t. get_or (bytes_of t) more 0) (sym begun) ∙ byte_behind at more text ∙ ap (λ k. get_or (bytes_of text) k 0) place in
+    ap (λ t. get_or (bytes_of t) more 0) (sym begun) ∙ byte_behind at more text ∙ ap (λ k. get_or (bytes_of text) k 0) place in
     let left : drop more rest ≡ drop (at + cut.length) text = drop-drop more (suc at) text ∙ ap (λ k. drop k text) behind in
     let stepped : tokens_from 0 awaits before (p ∷ rest) ≡ with_token token (tokens_from more (awaits_behind awaits cut.kind) p.byte rest) = rw (other, here) in
     ap (λ t. tokens_behind front (tokens_from 0 awaits before t)) begun
-        ∙ ap (tokens_behind front) stepped
-        ∙ behind_token front token _
-        ∙ ap (tokens_behind (front ++ token ∷ [])) (passed ∙ ap (λ b. tokens_from 0 (awaits_behind awaits cut.kind) b (drop more rest)) last ∙ ap (tokens_from 0 (awaits_behind awaits cut.kind) _) left)
+    ∙ ap (tokens_behind front) stepped
+    ∙ behind_token front token _
+    ∙ ap (tokens_behind (front ++ token ∷ [])) (passed ∙ ap (λ b. tokens_from 0 (awaits_behind awaits cut.kind) b (drop more rest)) last ∙ ap (tokens_from 0 (awaits_behind awaits cut.kind) _) left)
 
 pub at_fault : (awaits : Awaits) (before at : ℕ) (text : List Placed) (p : Placed) (front : List Token) (fault : LexFault) →
     at < length text → get_or text at p ≡ p → is_separator p.byte ≡ false →

@@ -12,11 +12,12 @@ pub fits-IsWord : (run : List ℕ) → fits_word run ≡ true → IsWord run
 fits-IsWord run h =
     let spelled : list_all word_byte run ≡ true = search (rules, tests) in
     record {
-        begun = search (rules, tests);
-        short = search (rules, tests);
-        spelled = AllPass-from_list_all word_byte run spelled;
-        first = search (rules, tests);
-        last = search (rules, tests) }
+      begun = search (rules, tests);
+      short = search (rules, tests);
+      spelled = AllPass-from_list_all word_byte run spelled;
+      first = search (rules, tests);
+      last = search (rules, tests);
+    }
 
 pub IsWord-fits : (run : List ℕ) → IsWord run → fits_word run ≡ true
 IsWord-fits run w =

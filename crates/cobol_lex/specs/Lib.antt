@@ -6,4 +6,5 @@ pub mod Numbers
 pub mod Pictures
 pub mod Rising
 pub mod Tokens
+pub mod Written
 pub mod Words

@@ -17,7 +17,7 @@ quoted_by mark [] = None
 quoted_by mark (b ∷ []) = if b == mark then Some (record { value = []; taken = 1 }) else None
 quoted_by mark (b ∷ c ∷ rest) =
     if b == mark then
-        (if c == mark then with_byte mark 2 (quoted_by mark rest) else Some (record { value = []; taken = 1 }))
+    (if c == mark then with_byte mark 2 (quoted_by mark rest) else Some (record { value = []; taken = 1 }))
     else if b == 10 then None
     else with_byte b 1 (quoted_by mark (c ∷ rest))
 

@@ -31,8 +31,8 @@ tokens_from (suc taken) awaits before (p ∷ rest) = tokens_from taken awaits p.
 tokens_from zero awaits before (p ∷ rest) =
     if is_separator p.byte then tokens_from 0 awaits p.byte rest
     else after_cut (next_cut awaits before p.line (bytes_of (p ∷ rest))) (λ cut.
-        with_token (record { kind = cut.kind; line = p.line })
-            (tokens_from (cut.length - 1) (awaits_behind awaits cut.kind) p.byte rest))
+    with_token (record { kind = cut.kind; line = p.line })
+    (tokens_from (cut.length - 1) (awaits_behind awaits cut.kind) p.byte rest))
 
 -- the tokens of a text, or its first fault; before the text stands no byte that lets a sign count
 abbrev pub tokens_of : List Placed → Result (List Token) LexFault

@@ -16,7 +16,7 @@ word_run bytes = take_while word_byte bytes
 abbrev pub fits_word : List ℕ → Bool
 fits_word run =
     nat_lt 0 (length run) && nat_le (length run) 30 && list_all word_byte run
-        && not (slice_index run 0 == 45) && not (slice_index run (length run - 1) == 45)
+    && not (slice_index run 0 == 45) && not (slice_index run (length run - 1) == 45)
 
 -- the token of a run that is no number
 abbrev pub word_kind : ℕ → List ℕ → Result TokenKind LexFault

@@ -34,7 +34,8 @@ pub fn awaits_behind(awaits: Awaits, kind: &TokenKind) -> Awaits
     match kind {
         TokenKind::Word(word) => match awaits {
             Awaits::PictureOrIs => Awaits::Picture,
-            _ if word.as_slice() == b"PIC".as_slice() || word.as_slice() == b"PICTURE".as_slice() => Awaits::PictureOrIs,
+            _ if word.as_slice() == b"PIC".as_slice() || word.as_slice() == b"PICTURE".as_slice() =>
+                Awaits::PictureOrIs,
             _ => Awaits::Any,
         },
         _ => Awaits::Any,

@@ -65,7 +65,13 @@ fn plain_cut(alloc: Global, before: u8, line: u32, bytes: &[u8]) -> Result<Cut, 
 }
 
 /// The token that begins the text, behind the byte and the tokens before.
-pub fn next_cut(alloc: Global, awaits: Awaits, before: u8, line: u32, bytes: &[u8]) -> Result<Cut, LexFault>
+pub fn next_cut(
+    alloc: Global,
+    awaits: Awaits,
+    before: u8,
+    line: u32,
+    bytes: &[u8],
+) -> Result<Cut, LexFault>
     ensures value { Answers (next_cut awaits before line bytes.now) result }
     ensures within { IfOk result (λ cut. (0 < cut.length) × (cut.length ≤ length bytes.now)) }
 {

@@ -1,9 +1,23 @@
 //! What holds of the tokens of every text. These functions do nothing; their contracts are laws.
 
 ghost use Rattle.cobol_lex.specs.Rising.{TokenLinesRise};
+ghost use Rattle.cobol_lex.specs.Written.{TextReadsBack, TokenReadsBack};
 
 /// The lines of the tokens rise where those of the text do.
 pub fn token_lines_rise()
     ensures { TokenLinesRise }
+{
+}
+
+/// A token that is written behind a space, LF, `(`, `:`, `,` or `;` is read back, whatever follows
+/// that doesn't go on with it.
+pub fn token_reads_back()
+    ensures { TokenReadsBack }
+{
+}
+
+/// Tokens that are written with single spaces between them are read back.
+pub fn text_reads_back()
+    ensures { TextReadsBack }
 {
 }

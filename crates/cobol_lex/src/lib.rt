@@ -10,12 +10,12 @@ mod literal;
 mod numbers;
 mod picture;
 mod scan;
-mod token;
 #[cfg(test)]
 mod tests;
+mod token;
 mod words;
 
 pub use fault::LexFault;
-pub use laws::token_lines_rise;
+pub use laws::{text_reads_back, token_lines_rise, token_reads_back};
 pub use scan::tokens;
 pub use token::{Token, TokenKind};

@@ -30,7 +30,8 @@ fn begins_unsigned(bytes: &[u8]) -> bool
 pub fn begins_number(before: u8, bytes: &[u8]) -> bool
     ensures { result ≡ begins_number before bytes.now }
 {
-    begins_unsigned(bytes) || begins_sign(bytes) && leads_sign(before) && begins_unsigned(&bytes[1..])
+    begins_unsigned(bytes)
+        || begins_sign(bytes) && leads_sign(before) && begins_unsigned(&bytes[1..])
 }
 
 fn unsigned_length(bytes: &[u8]) -> usize
@@ -109,7 +110,11 @@ fn is_decimal(bytes: &[u8]) -> bool
 fn scale_of(bytes: &[u8]) -> usize
     ensures { result ≡ length (decimals bytes.now) }
 {
-    bytes.iter().skip_while(|b| **b != b'.').filter(|b| **b != b'.').count()
+    bytes
+        .iter()
+        .skip_while(|b| **b != b'.')
+        .filter(|b| **b != b'.')
+        .count()
 }
 
 #[tactic(auto, using(crate::proofs::Runs::decimals_within))]

@@ -138,14 +138,27 @@ fn reads_tokens(rt: HostRuntime) -> Result<(), Fail> {
         (b"<=>=", b"|1 <=|1 >="),
         (b"< =", b"|1 <|1 ="),
         (b"=> > */()", b"|1 =|1 >|1 >|1 *|1 /|1 (|1 )"),
-        (b"A123456789B123456789C123456789", b"|1 A123456789B123456789C123456789"),
+        (
+            b"A123456789B123456789C123456789",
+            b"|1 A123456789B123456789C123456789",
+        ),
     ];
     for (text, wanted) in cases {
         expect(&rt, rt.alloc(), &[text], wanted)?;
     }
-    expect(&rt, rt.alloc(), &[b"A123456789B123456789C123456789D"], b"BadWord(1)")?;
+    expect(
+        &rt,
+        rt.alloc(),
+        &[b"A123456789B123456789C123456789D"],
+        b"BadWord(1)",
+    )?;
     // A continued line ends without LF.
-    expect(&rt, rt.alloc(), &[b"DISP", b"LAY \"X\"."], b"|1 DISPLAY|2 \"X|2 .")?;
+    expect(
+        &rt,
+        rt.alloc(),
+        &[b"DISP", b"LAY \"X\"."],
+        b"|1 DISPLAY|2 \"X|2 .",
+    )?;
     expect(&rt, rt.alloc(), &[b"A DISP", b"LAY-"], b"BadWord(1)")
 }
 
@@ -156,7 +169,10 @@ fn measures_literals(rt: HostRuntime) -> Result<(), Fail> {
     let mut wanted = Text::new(alloc);
     show(&mut wanted, b"|1 DISPLAY|1 \"ABC", &spaces)?;
     show(&mut wanted, b"DEF", b"|2 .")?;
-    let parts: [&[u8]; 2] = [b"DISPLAY \"ABC                                                 ", b"DEF\"."];
+    let parts: [&[u8]; 2] = [
+        b"DISPLAY \"ABC                                                 ",
+        b"DEF\".",
+    ];
     expect(&rt, alloc, &parts, wanted.as_slice())?;
 
     let most = vec![in alloc; b'x'; 160]?;

@@ -8,10 +8,10 @@ pub returns-then-begins_number : goal.returns-then-begins_number
 returns-then-begins_number c =
     let run = c.number_run-run.result.now in
     answers_along _ _ _ _
-        (plain_cut-number c.args.before c.args.line c.args.bytes.now (sym c.is_quote.ensures ∙ c.if-is_quote.false) (sym c.begins_number.ensures ∙ c.if-begins_number.true)
-            ∙ ap (λ r. cut_of (length r) (number_kind c.args.line r)) (sym c.number_run-run.ensures))
-        c.cut_of.ensures
-        (cut_answers (length run) (number_kind c.args.line run) c.number_kind.result c.number_kind.ensures)
+    (plain_cut-number c.args.before c.args.line c.args.bytes.now (sym c.is_quote.ensures ∙ c.if-is_quote.false) (sym c.begins_number.ensures ∙ c.if-begins_number.true)
+    ∙ ap (λ r. cut_of (length r) (number_kind c.args.line r)) (sym c.number_run-run.ensures))
+    c.cut_of.ensures
+    (cut_answers (length run) (number_kind c.args.line run) c.number_kind.result c.number_kind.ensures)
 
 pub returns-else-is_letter : goal.returns-else-is_letter
 returns-else-is_letter c =

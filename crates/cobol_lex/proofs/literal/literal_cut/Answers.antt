@@ -9,6 +9,6 @@ overflow_add-result c =
     let bytes = c.args.bytes.now in
     let mark = get_or bytes 0 0 in
     let within : c.in-Some.field-0.taken ≤ length (drop 1 bytes) =
-        quoted_within mark (drop 1 bytes) c.in-Some.field-0 (sym (c.in_ok-value.ensures ∙ ap (quoted_by mark) (rest_whole bytes)) ∙ c.in-Some.is) in
+    quoted_within mark (drop 1 bytes) c.in-Some.field-0 (sym (c.in_ok-value.ensures ∙ ap (quoted_by mark) (rest_whole bytes)) ∙ c.in-Some.is) in
     let shorter : 1 + c.in-Some.field-0.taken ≤ length bytes = omega (arith, length-drop 1 bytes, c.in-len1-up.len_at_least) in
     search rules

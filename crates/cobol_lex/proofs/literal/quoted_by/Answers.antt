@@ -13,5 +13,6 @@ loop-at-preserved c =
     let at = c.loop-at.at in
     let pushed : c.push.new.self.items ≡ c.loop-at.value ++ get_or bytes at 0 ∷ [] = c.in_ok-push.ensures.items ∙ ap (λ v. v ++ get_or bytes at 0 ∷ []) c.value-in-loop-at.view_is in
     elim c.if-b-mark.branch [
-        then-b-mark+else-at-rest+else-rest-at w ↦ on_doubled c.args.mark bytes c.loop-at.value _ at _ _ c.loop-at.invariant pushed w.at-is (omega arith) w.if-b-mark.true w.if-rest-at.false
-      | else-b-mark+else-b-eq10 w ↦ on_other c.args.mark bytes c.loop-at.value _ at _ _ c.loop-at.invariant pushed w.at-is c.loop-at-test.true w.if-b-mark.false w.if-b-eq10.false ]
+      | then-b-mark+else-at-rest+else-rest-at w ↦ on_doubled c.args.mark bytes c.loop-at.value _ at _ _ c.loop-at.invariant pushed w.at-is (omega arith) w.if-b-mark.true w.if-rest-at.false
+      | else-b-mark+else-b-eq10 w ↦ on_other c.args.mark bytes c.loop-at.value _ at _ _ c.loop-at.invariant pushed w.at-is c.loop-at-test.true w.if-b-mark.false w.if-b-eq10.false
+    ]
