@@ -1,33 +1,34 @@
 -- A token that is written is read back.
 use Rattle.std.proofs.Common.{ℕ, ◌≡◌, ◌≢◌, ◌<◌, ◌≤◌, ◌+◌, ◌-◌, zero, suc, Bool, true, false, not, IsTrue, List, [], ◌∷◌, ◌++◌, map, take, drop, length, get_or, slice_index, filter, ap, sym, ◌∙◌, arith, refl, rules, tests, cond, append_assoc, append-nil, length-append, length-drop, subst}
-use Rattle.std.proofs.Math.Seq.{take-append_seam}
-use Rattle.std.specs.Prelude.{Result, Ok, Err, Option, Some, None, if◌then◌else◌, ◌==◌, ◌||◌, ◌&&◌, nat_le, nat_lt}
+use Rattle.std.proofs.Math.Seq.{take-append_seam, take-append-add}
+use Rattle.std.specs.Prelude.{Result, Ok, Err, Option, Some, None, if◌then◌else◌, ◌==◌, ◌||◌, ◌&&◌, nat_le, nat_lt, codes}
 use Rattle.std.specs.List.{list_any, list_all, prefix_len, count_by}
 use Rattle.std.proofs.lemmas.Grind.{common_steps}
-use Rattle.std.proofs.lemmas.List.{take-append-drop}
+use Rattle.std.proofs.lemmas.List.{take-append-drop, take-append-le}
 use Rattle.std.proofs.lemmas.List.Folds.{list_all-append}
-use Rattle.std.proofs.lemmas.List.Sums.{list_all-from_AllPass, length-filter}
+use Rattle.std.proofs.lemmas.List.Sums.{list_all-from_AllPass, length-filter, prefix_len-le-length}
 use Rattle.cob_base.specs.Spelling.{IsWord, IsCapitalWord, word_byte, folded}
-use Rattle.cobol_lex.specs.Bytes.{is_quote, is_letter, is_digit, is_point, is_sign, is_mark, is_separator, leads_sign, begins}
+use Rattle.cobol_lex.specs.Bytes.{is_quote, is_letter, is_digit, is_point, is_sign, is_mark, is_blank, is_separator, leads_sign, begins}
 use Rattle.cobol_lex.specs.Numbers.{begins_unsigned, begins_number, number_run, number_kind, digits_kind, decimal_kind, unsigned, unsigned_length, is_decimal, digits_of, decimals}
-use Rattle.cobol_lex.specs.Words.{word_run, word_kind, fits_word}
+use Rattle.cobol_lex.specs.Words.{word_run, word_kind, fits_word, spells}
 use Rattle.cobol_lex.specs.Literals.{quoted_by, literal_cut, literal_at, with_byte}
 use Rattle.cobol_lex.specs.Next.{cut_of, mark_cut, plain_cut, next_cut}
 use Rattle.cobol_lex.specs.Tokens.{bytes_of, tokens_from}
-use Rattle.cobol_lex.specs.Pictures.{awaits_behind}
+use Rattle.cobol_lex.specs.Pictures.{awaits_behind, awaits_picture, ends_picture, filled_run, less_last, picture_run, picture_cut}
 use Rattle.ref_format.specs.declared.placed.Placed.{Placed}
 use Rattle.cobol_lex.specs.declared.token.Token.{Token}
+use Rattle.cobol_lex.specs.declared.awaits.Awaits.{Awaits}
 use Rattle.cobol_lex.specs.declared.awaits.Awaits.TheVariants as awaits
 use Rattle.cobol_lex.specs.declared.fault.LexFault.TheVariants as fault
 use Rattle.cobol_lex.proofs.CutLengths.{takes_next}
-use Rattle.cobol_lex.specs.Written.{doubled, pointed, sign_of, written, AreDigits, IsPlain, ArePlain, goes_on, placed_on, written_text, TokenReadsBack, TextReadsBack}
+use Rattle.cobol_lex.specs.Written.{doubled, pointed, sign_of, written, AreDigits, IsPlain, IsPicture, IsLawful, AreLawful, goes_on, ends_picture_run, is_open, placed_on, written_text, TokenReadsBack, PictureReadsBack, TextReadsBack}
 use Rattle.cobol_lex.specs.declared.token.TokenKind.{TokenKind}
 use Rattle.cobol_lex.specs.declared.token.TokenKind.TheVariants as kind
 use Rattle.cobol_lex.specs.declared.literal.Quoted.{Quoted}
 use Rattle.cobol_lex.specs.declared.cut.Cut.{Cut}
 use Rattle.cobol_lex.specs.declared.fault.LexFault.{LexFault}
 use Rattle.cobol_lex.proofs.Quoting.{quoted-cons}
-use Rattle.cobol_lex.proofs.Spelled.{IsWord-fits, word_kind-word}
+use Rattle.cobol_lex.proofs.Spelled.{IsWord-fits, fits-IsWord, word_kind-word}
 
 or_left : (x y : Bool) → (x || y) ≡ false → x ≡ false
 or_left true y h = h
@@ -496,49 +497,160 @@ separator_begins_none before line b rest separates =
     rw (quote, number, letter) (rw (mark, point, star, less, more))
 
 -- the bytes of a token that is written are passed over
-pass_written : (line : ℕ) (w : List ℕ) (before : ℕ) (rest : List Placed) →
-    (last : ℕ) × (tokens_from (length w) awaits.Any before (map (placed_on line) w ++ rest) ≡ tokens_from 0 awaits.Any last rest)
-pass_written line [] before rest = (before, refl)
-pass_written line (b ∷ w) before rest = pass_written line w b rest
+pass_written : (line : ℕ) (w : List ℕ) (awaits : Awaits) (before : ℕ) (rest : List Placed) →
+    (last : ℕ) × (tokens_from (length w) awaits before (map (placed_on line) w ++ rest) ≡ tokens_from 0 awaits last rest)
+pass_written line [] awaits before rest = (before, refl)
+pass_written line (b ∷ w) awaits before rest = pass_written line w awaits b rest
 
-reads_first : (token : Token) (w : List ℕ) (rest : List Placed) (tokens : List Token) →
-    next_cut awaits.Any 32 token.line (w ++ bytes_of rest) ≡ Ok (record { kind = token.kind; length = length w }) → 0 < length w →
-    awaits_behind awaits.Any token.kind ≡ awaits.Any → ((before : ℕ) → tokens_from 0 awaits.Any before rest ≡ Ok tokens) →
-    tokens_from 0 awaits.Any 32 (map (placed_on token.line) w ++ rest) ≡ Ok (token ∷ tokens)
-reads_first token [] rest tokens first some any more = absurd (omega arith)
-reads_first token (b ∷ w) rest tokens first some any more =
-    let passed = pass_written token.line w b rest in
+reads_first : (awaits : Awaits) (token : Token) (w : List ℕ) (rest : List Placed) (tokens : List Token) →
+    next_cut awaits 32 token.line (w ++ bytes_of rest) ≡ Ok (record { kind = token.kind; length = length w }) → 0 < length w → is_separator (slice_index w 0) ≡ false →
+    ((before : ℕ) → tokens_from 0 (awaits_behind awaits token.kind) before rest ≡ Ok tokens) →
+    tokens_from 0 awaits 32 (map (placed_on token.line) w ++ rest) ≡ Ok (token ∷ tokens)
+reads_first awaits token [] rest tokens first some other more = absurd (omega arith)
+reads_first awaits token (b ∷ w) rest tokens first some other more =
+    let passed = pass_written token.line w (awaits_behind awaits token.kind) b rest in
     let all = bytes_written token.line (b ∷ w) rest in
-    let here : next_cut awaits.Any 32 token.line (bytes_of (map (placed_on token.line) (b ∷ w) ++ rest)) ≡ Ok (record { kind = token.kind; length = length (b ∷ w) }) =
-        ap (next_cut awaits.Any 32 token.line) all ∙ first in
+    let here : next_cut awaits 32 token.line (bytes_of (map (placed_on token.line) (b ∷ w) ++ rest)) ≡ Ok (record { kind = token.kind; length = length (b ∷ w) }) =
+        ap (next_cut awaits 32 token.line) all ∙ first in
     let one : suc (length w) - 1 ≡ length w = omega arith in
+    rw (other, here, one, passed.1, more passed.0)
+
+-- the first byte of a token is no separator
+begins_other : (w more : List ℕ) (cut : Cut) → plain_cut 32 0 (w ++ more) ≡ Ok cut → 0 < length w → is_separator (slice_index w 0) ≡ false
+begins_other [] more cut is some = absurd (omega arith)
+begins_other (b ∷ w) more cut is some =
     either_way (is_separator b) _
-        (λ separates. let none = separator_begins_none 32 token.line b (w ++ bytes_of rest) separates in cc)
-        (λ other. rw (other, here, one, any, passed.1, more passed.0))
+        (λ separates. let none = separator_begins_none 32 0 b (w ++ more) separates in absurd (differ cut (sym none ∙ is)))
+        (λ other. other)
+  where
+    differ : (cut : Cut) → ◌≡◌ {A = Result Cut LexFault} (Err (fault.BadWord 0)) (Ok cut) → ⊥
+    differ cut h = cc
 
 rest_stops : (tokens : List Token) → goes_on (bytes_of (written_text tokens)) ≡ false
 rest_stops [] = refl
 rest_stops (token ∷ tokens) = refl
 
-plain_awaits : (token : TokenKind) → IsPlain token → awaits_behind awaits.Any token ≡ awaits.Any
-plain_awaits (kind.Word word) plain = plain.2
-plain_awaits (kind.Digits digits) plain = refl
-plain_awaits (kind.Decimal number) plain = refl
-plain_awaits (kind.Literal value) plain = refl
-plain_awaits (kind.Picture picture) plain = absurd plain
-plain_awaits kind.Period plain = refl
-plain_awaits (kind.Mark b) plain = refl
-plain_awaits kind.LessEqual plain = refl
-plain_awaits kind.GreaterEqual plain = refl
-plain_awaits kind.Power plain = refl
+rest_ends_picture : (tokens : List Token) → ends_picture_run (bytes_of (written_text tokens)) ≡ true
+rest_ends_picture [] = refl
+rest_ends_picture (token ∷ tokens) = refl
 
-reads_text : (tokens : List Token) → ArePlain tokens → (before : ℕ) → tokens_from 0 awaits.Any before (written_text tokens) ≡ Ok tokens
-reads_text [] plain before = refl
-reads_text (token ∷ tokens) plain before =
+-- a picture
+filled_on : (w rest : List ℕ) → list_all (λ b. not (is_blank b)) w ≡ true → prefix_len (λ b. not (is_blank b)) (w ++ rest) ≡ length w + prefix_len (λ b. not (is_blank b)) rest
+filled_on [] rest h = zero_more _
+  where
+    zero_more : (n : ℕ) → n ≡ 0 + n
+    zero_more n = omega arith
+filled_on (b ∷ w) rest h =
+    let first : not (is_blank b) ≡ true = and_left _ _ h in
+    let more = filled_on w rest (and_right (not (is_blank b)) _ h) in
+    rw first (omega arith)
+
+filled_run-on : (w rest : List ℕ) (n : ℕ) → list_all (λ b. not (is_blank b)) w ≡ true → prefix_len (λ b. not (is_blank b)) rest ≡ n → filled_run (w ++ rest) ≡ w ++ take n rest
+filled_run-on w rest n h stops = ap (λ k. take k (w ++ rest)) (filled_on w rest h ∙ ap (λ k. length w + k) stops) ∙ take-append-add w rest n
+
+last_of : (w : List ℕ) (b : ℕ) → slice_index (w ++ b ∷ []) (length (w ++ b ∷ []) - 1) ≡ b
+last_of w b = grind (arith, common_steps)
+
+front_of : (w : List ℕ) (b : ℕ) → take (length (w ++ b ∷ []) - 1) (w ++ b ∷ []) ≡ w
+front_of w b =
+    let count : length (w ++ b ∷ []) - 1 ≡ length w = omega (arith, length-append w (b ∷ [])) in
+    ap (λ n. take n (w ++ b ∷ [])) count ∙ take-append_seam w (b ∷ [])
+
+less_none : (w : List ℕ) → ends_picture (slice_index w (length w - 1)) ≡ false → less_last ends_picture w ≡ w
+less_none w h = rw h
+
+less_one : (w : List ℕ) (b : ℕ) → ends_picture b ≡ true → less_last ends_picture (w ++ b ∷ []) ≡ w
+less_one w b h =
+    let ended : ends_picture (slice_index (w ++ b ∷ []) (length (w ++ b ∷ []) - 1)) ≡ true = ap ends_picture (last_of w b) ∙ h in
+    rw ended (front_of w b)
+
+blank_stops : (b : ℕ) (rest : List ℕ) → is_blank b ≡ true → prefix_len (λ c. not (is_blank c)) (b ∷ rest) ≡ 0
+blank_stops b rest blank = rw blank
+
+open_stops : (rest : List ℕ) → is_open rest ≡ true → prefix_len (λ c. not (is_blank c)) rest ≡ 0
+open_stops [] h = refl
+open_stops (b ∷ rest) h = blank_stops b rest h
+
+one_filled : (b : ℕ) (rest : List ℕ) → is_blank b ≡ false → prefix_len (λ c. not (is_blank c)) rest ≡ 0 → prefix_len (λ c. not (is_blank c)) (b ∷ rest) ≡ 1
+one_filled b rest filled stops = rw (filled, stops)
+
+picture_run-on : (w rest : List ℕ) → IsPicture w → ends_picture_run rest ≡ true → picture_run (w ++ rest) ≡ w
+picture_run-on w [] is ends =
+    ap (less_last ends_picture) (filled_run-on w [] 0 is.filled refl ∙ append-nil w) ∙ less_none w is.ended
+picture_run-on w (b ∷ rest) is ends =
+    either_way (is_blank b) _
+        (λ blank. ap (less_last ends_picture) (filled_run-on w (b ∷ rest) 0 is.filled (blank_stops b rest blank) ∙ append-nil w) ∙ less_none w is.ended)
+        (λ filled.
+            let behind : (ends_picture b && is_open rest) ≡ true = rw filled at ends in
+            ap (less_last ends_picture) (filled_run-on w (b ∷ rest) 1 is.filled (one_filled b rest filled (open_stops rest (and_right (ends_picture b) _ behind))))
+                ∙ less_one w b (and_left _ _ behind))
+
+picture_cut-is : (line : ℕ) (w : List ℕ) → 0 < length w → picture_cut line w ≡ Ok (record { kind = kind.Picture w; length = length w })
+picture_cut-is line [] some = absurd (omega arith)
+picture_cut-is line (b ∷ w) some = refl
+
+pub picture_reads_back : PictureReadsBack
+picture_reads_back picture awaits before line rest is comes ends =
+    let run = picture_run-on picture rest is ends in
+    rw (comes, run) (picture_cut-is line picture is.some)
+
+-- the word that a picture begins with is the same before what ends it
+same_prefix : (w rest : List ℕ) → begins word_byte rest ≡ false → prefix_len word_byte (w ++ rest) ≡ prefix_len word_byte w
+same_prefix [] [] stops = refl
+same_prefix [] (b ∷ rest) stops = rw stops
+same_prefix (b ∷ w) rest stops = ap (λ n. cond (word_byte b) (1 + n) 0) (same_prefix w rest stops)
+
+word_run-before : (w rest : List ℕ) → begins word_byte rest ≡ false → word_run (w ++ rest) ≡ word_run w
+word_run-before w rest stops =
+    let n = prefix_len word_byte w in
+    let within : n ≤ length w = prefix_len-le-length word_byte w in
+    ap (λ k. take k (w ++ rest)) (same_prefix w rest stops) ∙ take-append-le n w rest within
+
+-- a token is read back behind a space, and begins with no separator
+abbrev ReadsKind : Awaits → TokenKind → ℕ → List ℕ → Type 0
+ReadsKind awaits token line rest =
+    (next_cut awaits 32 line (written token ++ rest) ≡ Ok (record { kind = token; length = length (written token) })) × (is_separator (slice_index (written token) 0) ≡ false)
+
+reads_plain : (token : TokenKind) (line : ℕ) (rest : List ℕ) → IsPlain token → goes_on rest ≡ false → ReadsKind awaits.Any token line rest
+reads_plain token line rest plain stops =
+    let first = token_reads_back token 32 0 rest plain refl stops in
+    let some = (takes_next awaits.Any 32 0 (written token ++ rest) _ first).0 in
+    (token_reads_back token 32 line rest plain refl stops, begins_other (written token) rest _ first some)
+
+is_capital : IsCapitalWord (codes "IS")
+is_capital = record { word = fits-IsWord (codes "IS") refl; capital = refl }
+
+reads_is : (line : ℕ) (rest : List ℕ) → goes_on rest ≡ false → ReadsKind awaits.PictureOrIs (kind.Word (codes "IS")) line rest
+reads_is line rest stops =
+    let run : word_run (codes "IS" ++ rest) ≡ codes "IS" = word_run-on (codes "IS") rest refl (stop_word rest stops) in
+    let comes : awaits_picture awaits.PictureOrIs (codes "IS" ++ rest) ≡ false = ap (λ r. not (spells (codes "IS") r)) run in
+    let plain = reads_plain (kind.Word (codes "IS")) line rest (is_capital, refl) stops in
+    (rw comes plain.0, refl)
+
+reads_kind : (awaits : Awaits) (token : TokenKind) (line : ℕ) (rest : List ℕ) → IsLawful awaits token → goes_on rest ≡ false → ends_picture_run rest ≡ true → ReadsKind awaits token line rest
+reads_kind awaits.Any token line rest lawful stops ends = reads_plain token line rest lawful stops
+reads_kind awaits.PictureOrIs (kind.Word word) line rest lawful stops ends =
+    let P : List ℕ → Type 0 = λ w. ReadsKind awaits.PictureOrIs (kind.Word w) line rest in
+    subst P (sym lawful) (reads_is line rest stops)
+reads_kind awaits.PictureOrIs (kind.Picture picture) line rest lawful stops ends =
+    let run = word_run-before picture rest (stop_word rest stops) in
+    let comes : awaits_picture awaits.PictureOrIs (picture ++ rest) ≡ true = ap (λ r. not (spells (codes "IS") r)) run ∙ ap not lawful.1 in
+    (picture_reads_back picture awaits.PictureOrIs 32 line rest lawful.0 comes ends, lawful.0.begun)
+reads_kind awaits.Picture (kind.Picture picture) line rest lawful stops ends =
+    (picture_reads_back picture awaits.Picture 32 line rest lawful refl ends, lawful.begun)
+reads_kind _ _ line rest lawful stops ends = absurd lawful
+
+reads_any : (awaits : Awaits) (token : Token) (rest : List ℕ) → IsLawful awaits token.kind → goes_on rest ≡ false → ends_picture_run rest ≡ true →
+    (next_cut awaits 32 token.line (written token.kind ++ rest) ≡ Ok (record { kind = token.kind; length = length (written token.kind) })) × (is_separator (slice_index (written token.kind) 0) ≡ false)
+reads_any awaits token rest lawful stops ends = reads_kind awaits token.kind token.line rest lawful stops ends
+
+reads_text : (tokens : List Token) (awaits : Awaits) → AreLawful awaits tokens → (before : ℕ) → tokens_from 0 awaits before (written_text tokens) ≡ Ok tokens
+reads_text [] awaits lawful before = refl
+reads_text (token ∷ tokens) awaits lawful before =
     let rest = written_text tokens in
-    let first = token_reads_back token.kind 32 token.line (bytes_of rest) plain.0 refl (rest_stops tokens) in
-    let some = (takes_next awaits.Any 32 token.line (written token.kind ++ bytes_of rest) _ first).0 in
-    reads_first token (written token.kind) rest tokens first some (plain_awaits token.kind plain.0) (reads_text tokens plain.1)
+    let first = reads_any awaits token (bytes_of rest) lawful.0 (rest_stops tokens) (rest_ends_picture tokens) in
+    let some = (takes_next awaits 32 token.line (written token.kind ++ bytes_of rest) _ first.0).0 in
+    reads_first awaits token (written token.kind) rest tokens first.0 some first.1 (reads_text tokens (awaits_behind awaits token.kind) lawful.1)
 
 pub text_reads_back : TextReadsBack
-text_reads_back tokens plain = reads_text tokens plain 0
+text_reads_back tokens lawful = reads_text tokens awaits.Any lawful 0

@@ -1,7 +1,7 @@
 //! What holds of the tokens of every text. These functions do nothing; their contracts are laws.
 
 ghost use Rattle.cobol_lex.specs.Rising.{TokenLinesRise};
-ghost use Rattle.cobol_lex.specs.Written.{TextReadsBack, TokenReadsBack};
+ghost use Rattle.cobol_lex.specs.Written.{PictureReadsBack, TextReadsBack, TokenReadsBack};
 
 /// The lines of the tokens rise where those of the text do.
 pub fn token_lines_rise()
@@ -13,6 +13,13 @@ pub fn token_lines_rise()
 /// that doesn't go on with it.
 pub fn token_reads_back()
     ensures { TokenReadsBack }
+{
+}
+
+/// A picture that is written where one comes is read back, before a space, LF or the text's end, or
+/// a period, comma or semicolon before one of these.
+pub fn picture_reads_back()
+    ensures { PictureReadsBack }
 {
 }
 
