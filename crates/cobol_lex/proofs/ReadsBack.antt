@@ -1,18 +1,18 @@
 -- A token that is written is read back.
-use Rattle.std.proofs.Common.{ℕ, ◌≡◌, ◌≢◌, ◌<◌, ◌≤◌, ◌+◌, ◌-◌, zero, suc, Bool, true, false, not, IsTrue, List, [], ◌∷◌, ◌++◌, map, take, drop, length, get_or, slice_index, filter, ap, sym, ◌∙◌, arith, refl, rules, tests, cond, append_assoc, append-nil, length-append, length-drop, subst}
+use Rattle.std.proofs.Common.{ℕ, ◌≡◌, ◌≢◌, ◌<◌, ◌≤◌, ◌+◌, ◌-◌, suc, Bool, true, false, not, List, [], ◌∷◌, ◌++◌, map, take, drop, length, slice_index, filter, ap, sym, ◌∙◌, arith, refl, rules, tests, cond, append_assoc, append-nil, length-append, length-drop, subst}
 use Rattle.std.proofs.Math.Seq.{take-append_seam, take-append-add}
-use Rattle.std.specs.Prelude.{Result, Ok, Err, Option, Some, None, if◌then◌else◌, ◌==◌, ◌||◌, ◌&&◌, nat_le, nat_lt, codes}
+use Rattle.std.specs.Prelude.{Result, Ok, Err, Some, if◌then◌else◌, ◌==◌, ◌||◌, ◌&&◌, nat_le, nat_lt, codes}
 use Rattle.std.specs.List.{list_any, list_all, prefix_len, count_by}
 use Rattle.std.proofs.lemmas.Grind.{common_steps}
 use Rattle.std.proofs.lemmas.List.{take-append-drop, take-append-le}
 use Rattle.std.proofs.lemmas.List.Folds.{list_all-append}
 use Rattle.std.proofs.lemmas.List.Sums.{list_all-from_AllPass, length-filter, prefix_len-le-length}
-use Rattle.cob_base.specs.Spelling.{IsWord, IsCapitalWord, word_byte, folded}
+use Rattle.cob_base.specs.Spelling.{IsCapitalWord, word_byte}
 use Rattle.cobol_lex.specs.Bytes.{is_quote, is_letter, is_digit, is_point, is_sign, is_mark, is_blank, is_separator, leads_sign, begins}
-use Rattle.cobol_lex.specs.Numbers.{begins_unsigned, begins_number, number_run, number_kind, digits_kind, decimal_kind, unsigned, unsigned_length, is_decimal, digits_of, decimals}
-use Rattle.cobol_lex.specs.Words.{word_run, word_kind, fits_word, spells}
-use Rattle.cobol_lex.specs.Literals.{quoted_by, literal_cut, literal_at, with_byte}
-use Rattle.cobol_lex.specs.Next.{cut_of, mark_cut, plain_cut, next_cut}
+use Rattle.cobol_lex.specs.Numbers.{begins_unsigned, begins_number, number_run, number_kind, decimal_kind, unsigned_length, is_decimal, digits_of, decimals}
+use Rattle.cobol_lex.specs.Words.{word_run, word_kind, spells}
+use Rattle.cobol_lex.specs.Literals.{quoted_by}
+use Rattle.cobol_lex.specs.Next.{mark_cut, plain_cut, next_cut}
 use Rattle.cobol_lex.specs.Tokens.{bytes_of, tokens_from}
 use Rattle.cobol_lex.specs.Pictures.{awaits_behind, awaits_picture, ends_picture, filled_run, less_last, picture_run, picture_cut}
 use Rattle.ref_format.specs.declared.placed.Placed.{Placed}
@@ -28,7 +28,7 @@ use Rattle.cobol_lex.specs.declared.literal.Quoted.{Quoted}
 use Rattle.cobol_lex.specs.declared.cut.Cut.{Cut}
 use Rattle.cobol_lex.specs.declared.fault.LexFault.{LexFault}
 use Rattle.cobol_lex.proofs.Quoting.{quoted-cons}
-use Rattle.cobol_lex.proofs.Spelled.{IsWord-fits, fits-IsWord, word_kind-word}
+use Rattle.cobol_lex.proofs.Spelled.{fits-IsWord, word_kind-word}
 
 or_left : (x y : Bool) → (x || y) ≡ false → x ≡ false
 or_left true y h = h
@@ -168,13 +168,13 @@ reads_word before line (b ∷ w) rest is letter stops =
     let spelled : word_kind line (b ∷ w) ≡ Ok (kind.Word (b ∷ w)) = sym (word_kind-word line (b ∷ w) (b ∷ w) is.word (sym is.capital)) in
     let token_is : number_kind line (b ∷ w) ≡ Ok (kind.Word (b ∷ w)) = rw (sign, points, letter) spelled in
     let by_digit : is_digit b ≡ true → plain_cut before line (b ∷ w ++ rest) ≡ Ok (record { kind = kind.Word (b ∷ w); length = length (b ∷ w) }) =
-        λ digit. reads_number before line b w rest _ (or_true _ _ digit) quote sign (words_run (b ∷ w) words) (run_stops rest stops) token_is in
+    λ digit. reads_number before line b w rest _ (or_true _ _ digit) quote sign (words_run (b ∷ w) words) (run_stops rest stops) token_is in
     let by_letter : is_digit b ≡ false → plain_cut before line (b ∷ w ++ rest) ≡ Ok (record { kind = kind.Word (b ∷ w); length = length (b ∷ w) }) =
-        λ digit.
-            let is_letter_b : is_letter b ≡ true = grind (arith, tests) in
-            let number : begins_number before (b ∷ w ++ rest) ≡ false = rw (digit, point, sign) in
-            let run : word_run (b ∷ w ++ rest) ≡ b ∷ w = word_run-on (b ∷ w) rest words (stop_word rest stops) in
-            rw (quote, number, is_letter_b, run, spelled) in
+    λ digit.
+    let is_letter_b : is_letter b ≡ true = grind (arith, tests) in
+    let number : begins_number before (b ∷ w ++ rest) ≡ false = rw (digit, point, sign) in
+    let run : word_run (b ∷ w ++ rest) ≡ b ∷ w = word_run-on (b ∷ w) rest words (stop_word rest stops) in
+    rw (quote, number, is_letter_b, run, spelled) in
     either_way (is_digit b) _ by_digit by_letter
 
 not_false : (v : Bool) → not v ≡ true → v ≡ false
@@ -191,12 +191,12 @@ reads_quoted (b ∷ value) rest inside stops =
     let more = reads_quoted value rest (and_right (not (b == 10)) _ inside) stops in
     let byte : not (b == 10) ≡ true = and_left _ _ inside in
     either_way (b == 34) _
-        (λ is_quote_b.
-            let same : b ≡ 34 = search (rules, tests) in
-            rw is_quote_b (rw more (ap (λ q. Some q) (quoted_same 34 b _ _ _ (sym same) (omega arith)))))
-        (λ other.
-            let no_end : (b == 10) ≡ false = not_false (b == 10) byte in
-            rw other (quoted-cons 34 b (doubled value ++ 34 ∷ rest) ∙ rw (other, no_end, more) (ap (λ q. Some q) (quoted_same b b _ _ _ refl (omega arith)))))
+    (λ is_quote_b.
+    let same : b ≡ 34 = search (rules, tests) in
+    rw is_quote_b (rw more (ap (λ q. Some q) (quoted_same 34 b _ _ _ (sym same) (omega arith)))))
+    (λ other.
+    let no_end : (b == 10) ≡ false = not_false (b == 10) byte in
+    rw other (quoted-cons 34 b (doubled value ++ 34 ∷ rest) ∙ rw (other, no_end, more) (ap (λ q. Some q) (quoted_same b b _ _ _ refl (omega arith)))))
 
 and_no : (v : Bool) → (v && false) ≡ false
 and_no true = refl
@@ -324,53 +324,67 @@ digits_begin (b ∷ d) more some h =
 
 whole_body : (digits : List ℕ) → AreDigits digits → IsBody digits digits 0
 whole_body digits are = record {
-    covers = words_run digits (digits_are_words digits are.digits_only);
-    begun = λ rest. digits_begin digits rest are.some are.digits_only;
-    decimal = rw (or_points, points);
-    digits_are = same;
-    scale_is = ap length (ap (λ n. digits_of (drop n digits)) before ∙ ap digits_of none_left) }
+  covers = words_run digits (digits_are_words digits are.digits_only);
+  begun = λ rest. digits_begin digits rest are.some are.digits_only;
+  decimal = rw (or_points, points);
+  digits_are = same;
+  scale_is = ap length (ap (λ n. digits_of (drop n digits)) before ∙ ap digits_of none_left);
+}
   where
     alone : digits ++ [] ≡ digits
     alone = append-nil digits
+
     or_points : list_all (λ b. is_digit b || is_point b) digits ≡ true
     or_points = ap (list_all (λ b. is_digit b || is_point b)) (sym alone) ∙ or_points_on digits [] are.digits_only
+
     points : count_by is_point digits ≡ 0
     points = ap (count_by is_point) (sym alone) ∙ count_on digits [] are.digits_only
+
     same : digits_of digits ≡ digits
     same = ap digits_of (sym alone) ∙ digits_on digits [] are.digits_only ∙ alone
+
     before : prefix_len (λ b. not (is_point b)) digits ≡ length digits
     before = ap (prefix_len (λ b. not (is_point b))) (sym alone) ∙ before_point_on digits [] are.digits_only refl
+
     none_left : drop (length digits) digits ≡ []
     none_left = ap (drop (length digits)) (sym alone) ∙ drop_front digits []
 
 pointed_body : (a e : List ℕ) → list_all is_digit a ≡ true → list_all is_digit e ≡ true → 0 < length e → IsBody (a ++ 46 ∷ e) (a ++ e) (length e)
 pointed_body a e a_digits e_digits some = record {
-    covers = covers_on a (46 ∷ e) a_digits (point_covers e e_digits some);
-    begun = point_begins a a_digits;
-    decimal = rw (or_points_on a (46 ∷ e) a_digits, count_on a (46 ∷ e) a_digits, or_points, points);
-    digits_are = digits_on a (46 ∷ e) a_digits ∙ ap (λ t. a ++ t) same;
-    scale_is = ap length (ap (λ n. digits_of (drop n (a ++ 46 ∷ e))) (before_point_on a (46 ∷ e) a_digits refl) ∙ ap digits_of (drop_front a (46 ∷ e)) ∙ same) }
+  covers = covers_on a (46 ∷ e) a_digits (point_covers e e_digits some);
+  begun = point_begins a a_digits;
+  decimal = rw (or_points_on a (46 ∷ e) a_digits, count_on a (46 ∷ e) a_digits, or_points, points);
+  digits_are = digits_on a (46 ∷ e) a_digits ∙ ap (λ t. a ++ t) same;
+  scale_is = ap length (ap (λ n. digits_of (drop n (a ++ 46 ∷ e))) (before_point_on a (46 ∷ e) a_digits refl) ∙ ap digits_of (drop_front a (46 ∷ e)) ∙ same);
+}
   where
     alone : e ++ [] ≡ e
     alone = append-nil e
+
     or_points : list_all (λ b. is_digit b || is_point b) e ≡ true
     or_points = ap (list_all (λ b. is_digit b || is_point b)) (sym alone) ∙ or_points_on e [] e_digits
+
     points : count_by is_point (46 ∷ e) ≡ 1
     points = count_point e (ap (filter is_point) (sym alone) ∙ points_on e [] e_digits)
+
     same : digits_of e ≡ e
     same = ap digits_of (sym alone) ∙ digits_on e [] e_digits ∙ alone
+
     taken_if : (v : Bool) (n m : ℕ) → v ≡ true → n ≡ m → (if v then 1 + n else 0) ≡ suc m
     taken_if true n m h same_count = omega arith
     taken_if false n m h same_count = cc
+
     point_covers : (e : List ℕ) → list_all is_digit e ≡ true → 0 < length e → unsigned_length (46 ∷ e) ≡ length (46 ∷ e)
     point_covers [] h lt = absurd (omega arith)
     point_covers (b ∷ t) h lt =
         let digit : is_digit b ≡ true = and_left _ _ h in
         let longer = words_run (b ∷ t) (digits_are_words (b ∷ t) h) in
         taken_if (is_digit b) (unsigned_length (b ∷ t)) (length (b ∷ t)) digit longer
+
     digit_behind : (e rest : List ℕ) → list_all is_digit e ≡ true → 0 < length e → begins is_digit (e ++ rest) ≡ true
     digit_behind [] rest h lt = absurd (omega arith)
     digit_behind (b ∷ t) rest h lt = and_left _ _ h
+
     point_begins : (a : List ℕ) → list_all is_digit a ≡ true → (rest : List ℕ) → begins_unsigned ((a ++ 46 ∷ e) ++ rest) ≡ true
     point_begins [] h rest = digit_behind e rest e_digits some
     point_begins (b ∷ t) h rest =
@@ -418,11 +432,12 @@ reads_unsigned before line (b ∷ body) digits rest scale is few has stops =
 
 body_along : (body digits digits' : List ℕ) (scale scale' : ℕ) → digits ≡ digits' → scale ≡ scale' → IsBody body digits scale → IsBody body digits' scale'
 body_along body digits digits' scale scale' same_digits same_scale is = record {
-    covers = is.covers;
-    begun = is.begun;
-    decimal = is.decimal;
-    digits_are = is.digits_are ∙ same_digits;
-    scale_is = is.scale_is ∙ same_scale }
+  covers = is.covers;
+  begun = is.begun;
+  decimal = is.decimal;
+  digits_are = is.digits_are ∙ same_digits;
+  scale_is = is.scale_is ∙ same_scale;
+}
 
 point_in : (a e : List ℕ) → list_any is_point (a ++ 46 ∷ e) ≡ true
 point_in a e = has_point_on a (46 ∷ e) refl
@@ -433,17 +448,17 @@ written_body digits scale are fits =
     let before = length digits - scale in
     let whole : take before digits ++ drop before digits ≡ digits = take-append-drop before digits in
     let both : (list_all is_digit (take before digits) && list_all is_digit (drop before digits)) ≡ true =
-        sym (list_all-append is_digit (take before digits) (drop before digits)) ∙ ap (list_all is_digit) whole ∙ are.digits_only in
+    sym (list_all-append is_digit (take before digits) (drop before digits)) ∙ ap (list_all is_digit) whole ∙ are.digits_only in
     let behind : length (drop before digits) ≡ scale = omega (arith, length-drop before digits) in
     either_way (scale == 0) _
-        (λ none.
-            let is_zero : 0 ≡ scale = search (rules, tests) in
-            let P : ℕ → Type 0 = λ n. IsBody digits digits n in
-            rw none (subst P is_zero (whole_body digits are)))
-        (λ more.
-            let some : 0 < scale = search (rules, tests) in
-            let body = pointed_body (take before digits) (drop before digits) (and_left _ _ both) (and_right (list_all is_digit (take before digits)) _ both) (omega (arith, behind, some)) in
-            rw more (body_along _ _ _ _ _ whole behind body))
+    (λ none.
+    let is_zero : 0 ≡ scale = search (rules, tests) in
+    let P : ℕ → Type 0 = λ n. IsBody digits digits n in
+    rw none (subst P is_zero (whole_body digits are)))
+    (λ more.
+    let some : 0 < scale = search (rules, tests) in
+    let body = pointed_body (take before digits) (drop before digits) (and_left _ _ both) (and_right (list_all is_digit (take before digits)) _ both) (omega (arith, behind, some)) in
+    rw more (body_along _ _ _ _ _ whole behind body))
 
 -- a number that is written without a sign has a period
 has_pointed : (digits : List ℕ) (scale : ℕ) → (scale == 0) ≡ false → list_any is_point (pointed scale digits) ≡ true
@@ -453,13 +468,13 @@ has_pointed digits scale more =
 reads_positive : (before line : ℕ) (v : Bool) (body digits rest : List ℕ) (scale : ℕ) → IsBody body digits scale → length digits ≤ 18 → (v ≡ false → list_any is_point body ≡ true) →
     leads_sign before ≡ true → goes_on rest ≡ false →
     plain_cut before line (((if v then 43 ∷ [] else []) ++ body) ++ rest)
-        ≡ Ok (record { kind = kind.Decimal (record { negative = false; digits = digits; scale = scale }); length = length ((if v then 43 ∷ [] else []) ++ body) })
+    ≡ Ok (record { kind = kind.Decimal (record { negative = false; digits = digits; scale = scale }); length = length ((if v then 43 ∷ [] else []) ++ body) })
 reads_positive before line true body digits rest scale is few has leads stops = reads_signed before line 43 body digits rest scale false refl refl leads is few stops
 reads_positive before line false body digits rest scale is few has leads stops = reads_unsigned before line body digits rest scale is few (has refl) stops
 
 reads_decimal : (before line : ℕ) (negative : Bool) (digits rest : List ℕ) (scale : ℕ) → AreDigits digits → scale ≤ length digits → leads_sign before ≡ true → goes_on rest ≡ false →
     plain_cut before line ((sign_of (record { negative = negative; digits = digits; scale = scale }) ++ pointed scale digits) ++ rest)
-        ≡ Ok (record { kind = kind.Decimal (record { negative = negative; digits = digits; scale = scale }); length = length (sign_of (record { negative = negative; digits = digits; scale = scale }) ++ pointed scale digits) })
+    ≡ Ok (record { kind = kind.Decimal (record { negative = negative; digits = digits; scale = scale }); length = length (sign_of (record { negative = negative; digits = digits; scale = scale }) ++ pointed scale digits) })
 reads_decimal before line true digits rest scale are fits leads stops =
     reads_signed before line 45 (pointed scale digits) digits rest scale true refl refl leads (written_body digits scale are fits) are.few stops
 reads_decimal before line false digits rest scale are fits leads stops =
@@ -511,7 +526,7 @@ reads_first awaits token (b ∷ w) rest tokens first some other more =
     let passed = pass_written token.line w (awaits_behind awaits token.kind) b rest in
     let all = bytes_written token.line (b ∷ w) rest in
     let here : next_cut awaits 32 token.line (bytes_of (map (placed_on token.line) (b ∷ w) ++ rest)) ≡ Ok (record { kind = token.kind; length = length (b ∷ w) }) =
-        ap (next_cut awaits 32 token.line) all ∙ first in
+    ap (next_cut awaits 32 token.line) all ∙ first in
     let one : suc (length w) - 1 ≡ length w = omega arith in
     rw (other, here, one, passed.1, more passed.0)
 
@@ -520,8 +535,8 @@ begins_other : (w more : List ℕ) (cut : Cut) → plain_cut 32 0 (w ++ more) �
 begins_other [] more cut is some = absurd (omega arith)
 begins_other (b ∷ w) more cut is some =
     either_way (is_separator b) _
-        (λ separates. let none = separator_begins_none 32 0 b (w ++ more) separates in absurd (differ cut (sym none ∙ is)))
-        (λ other. other)
+    (λ separates. let none = separator_begins_none 32 0 b (w ++ more) separates in absurd (differ cut (sym none ∙ is)))
+    (λ other. other)
   where
     differ : (cut : Cut) → ◌≡◌ {A = Result Cut LexFault} (Err (fault.BadWord 0)) (Ok cut) → ⊥
     differ cut h = cc
@@ -579,11 +594,11 @@ picture_run-on w [] is ends =
     ap (less_last ends_picture) (filled_run-on w [] 0 is.filled refl ∙ append-nil w) ∙ less_none w is.ended
 picture_run-on w (b ∷ rest) is ends =
     either_way (is_blank b) _
-        (λ blank. ap (less_last ends_picture) (filled_run-on w (b ∷ rest) 0 is.filled (blank_stops b rest blank) ∙ append-nil w) ∙ less_none w is.ended)
-        (λ filled.
-            let behind : (ends_picture b && is_open rest) ≡ true = rw filled at ends in
-            ap (less_last ends_picture) (filled_run-on w (b ∷ rest) 1 is.filled (one_filled b rest filled (open_stops rest (and_right (ends_picture b) _ behind))))
-                ∙ less_one w b (and_left _ _ behind))
+    (λ blank. ap (less_last ends_picture) (filled_run-on w (b ∷ rest) 0 is.filled (blank_stops b rest blank) ∙ append-nil w) ∙ less_none w is.ended)
+    (λ filled.
+    let behind : (ends_picture b && is_open rest) ≡ true = rw filled at ends in
+    ap (less_last ends_picture) (filled_run-on w (b ∷ rest) 1 is.filled (one_filled b rest filled (open_stops rest (and_right (ends_picture b) _ behind))))
+    ∙ less_one w b (and_left _ _ behind))
 
 picture_cut-is : (line : ℕ) (w : List ℕ) → 0 < length w → picture_cut line w ≡ Ok (record { kind = kind.Picture w; length = length w })
 picture_cut-is line [] some = absurd (omega arith)

@@ -1,11 +1,11 @@
 -- The lines of the tokens rise.
-use Rattle.std.proofs.Common.{ℕ, ◌≡◌, ◌≤◌, ◌-◌, zero, suc, Bool, true, false, List, [], ◌∷◌, map, arith, refl, sym, subst}
+use Rattle.std.proofs.Common.{ℕ, ◌≤◌, ◌-◌, zero, suc, Bool, true, false, List, [], ◌∷◌, map, arith, subst}
 use Rattle.std.specs.Prelude.{Result, Ok, Err, if◌then◌else◌}
 use Rattle.ref_format.specs.declared.placed.Placed.{Placed}
 use Rattle.cobol_lex.specs.Bytes.{is_separator}
 use Rattle.cobol_lex.specs.Pictures.{awaits_behind}
 use Rattle.cobol_lex.specs.Next.{next_cut}
-use Rattle.cobol_lex.specs.Tokens.{bytes_of, with_token, after_cut, tokens_from, tokens_of}
+use Rattle.cobol_lex.specs.Tokens.{bytes_of, with_token, after_cut, tokens_from}
 use Rattle.cobol_lex.specs.Rising.{RisesFrom, TokenLinesRise}
 use Rattle.cobol_lex.specs.declared.token.Token.{Token}
 use Rattle.cobol_lex.specs.declared.awaits.Awaits.{Awaits}

@@ -6,25 +6,21 @@ ghost use Rattle.cobol_lex.specs.Written.{PictureReadsBack, TextReadsBack, Token
 /// The lines of the tokens rise where those of the text do.
 pub fn token_lines_rise()
     ensures { TokenLinesRise }
-{
-}
+{}
 
 /// A token that is written behind a space, LF, `(`, `:`, `,` or `;` is read back, whatever follows
 /// that doesn't go on with it.
 pub fn token_reads_back()
     ensures { TokenReadsBack }
-{
-}
+{}
 
 /// A picture that is written where one comes is read back, before a space, LF or the text's end, or
 /// a period, comma or semicolon before one of these.
 pub fn picture_reads_back()
     ensures { PictureReadsBack }
-{
-}
+{}
 
 /// Tokens that are written with single spaces between them are read back.
 pub fn text_reads_back()
     ensures { TextReadsBack }
-{
-}
+{}
