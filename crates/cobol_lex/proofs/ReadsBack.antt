@@ -21,7 +21,8 @@ use Rattle.cobol_lex.specs.declared.awaits.Awaits.{Awaits}
 use Rattle.cobol_lex.specs.declared.awaits.Awaits.TheVariants as awaits
 use Rattle.cobol_lex.specs.declared.fault.LexFault.TheVariants as fault
 use Rattle.cobol_lex.proofs.CutLengths.{takes_next}
-use Rattle.cobol_lex.specs.Written.{doubled, pointed, sign_of, written, AreDigits, IsPlain, IsPicture, IsLawful, AreLawful, goes_on, ends_picture_run, is_open, placed_on, written_text, TokenReadsBack, PictureReadsBack, TextReadsBack}
+use Rattle.cobol_lex.specs.Laid.{Laid, AreLaid, Ends, laid_text, last_byte, LaidReadsBack}
+use Rattle.cobol_lex.specs.Written.{SignCounts, doubled, pointed, sign_of, written, AreDigits, IsPlain, IsPicture, IsLawful, AreLawful, goes_on, ends_picture_run, is_open, placed_on, written_text, TokenReadsBack, PictureReadsBack, TextReadsBack}
 use Rattle.cobol_lex.specs.declared.token.TokenKind.{TokenKind}
 use Rattle.cobol_lex.specs.declared.token.TokenKind.TheVariants as kind
 use Rattle.cobol_lex.specs.declared.literal.Quoted.{Quoted}
@@ -531,15 +532,15 @@ reads_first awaits token (b ∷ w) rest tokens first some other more =
     rw (other, here, one, passed.1, more passed.0)
 
 -- the first byte of a token is no separator
-begins_other : (w more : List ℕ) (cut : Cut) → plain_cut 32 0 (w ++ more) ≡ Ok cut → 0 < length w → is_separator (slice_index w 0) ≡ false
-begins_other [] more cut is some = absurd (omega arith)
-begins_other (b ∷ w) more cut is some =
+begins_other : (before line : ℕ) (w more : List ℕ) (cut : Cut) → plain_cut before line (w ++ more) ≡ Ok cut → 0 < length w → is_separator (slice_index w 0) ≡ false
+begins_other before line [] more cut is some = absurd (omega arith)
+begins_other before line (b ∷ w) more cut is some =
     either_way (is_separator b) _
-    (λ separates. let none = separator_begins_none 32 0 b (w ++ more) separates in absurd (differ cut (sym none ∙ is)))
+    (λ separates. let none = separator_begins_none before line b (w ++ more) separates in absurd (differ line cut (sym none ∙ is)))
     (λ other. other)
   where
-    differ : (cut : Cut) → ◌≡◌ {A = Result Cut LexFault} (Err (fault.BadWord 0)) (Ok cut) → ⊥
-    differ cut h = cc
+    differ : (line : ℕ) (cut : Cut) → ◌≡◌ {A = Result Cut LexFault} (Err (fault.BadWord line)) (Ok cut) → ⊥
+    differ line cut h = cc
 
 rest_stops : (tokens : List Token) → goes_on (bytes_of (written_text tokens)) ≡ false
 rest_stops [] = refl
@@ -621,49 +622,152 @@ word_run-before w rest stops =
     let within : n ≤ length w = prefix_len-le-length word_byte w in
     ap (λ k. take k (w ++ rest)) (same_prefix w rest stops) ∙ take-append-le n w rest within
 
--- a token is read back behind a space, and begins with no separator
-abbrev ReadsKind : Awaits → TokenKind → ℕ → List ℕ → Type 0
-ReadsKind awaits token line rest =
-    (next_cut awaits 32 line (written token ++ rest) ≡ Ok (record { kind = token; length = length (written token) })) × (is_separator (slice_index (written token) 0) ≡ false)
+-- a token is read back behind that byte, and begins with no separator
+abbrev ReadsKind : Awaits → TokenKind → (before line : ℕ) → List ℕ → Type 0
+ReadsKind awaits token before line rest =
+    (next_cut awaits before line (written token ++ rest) ≡ Ok (record { kind = token; length = length (written token) })) × (is_separator (slice_index (written token) 0) ≡ false)
 
-reads_plain : (token : TokenKind) (line : ℕ) (rest : List ℕ) → IsPlain token → goes_on rest ≡ false → ReadsKind awaits.Any token line rest
-reads_plain token line rest plain stops =
-    let first = token_reads_back token 32 0 rest plain refl stops in
-    let some = (takes_next awaits.Any 32 0 (written token ++ rest) _ first).0 in
-    (token_reads_back token 32 line rest plain refl stops, begins_other (written token) rest _ first some)
+reads_plain : (token : TokenKind) (before line : ℕ) (rest : List ℕ) → IsPlain token → SignCounts before token → goes_on rest ≡ false → ReadsKind awaits.Any token before line rest
+reads_plain token before line rest plain signed stops =
+    let first = token_reads_back token before line rest plain signed stops in
+    let some = (takes_next awaits.Any before line (written token ++ rest) _ first).0 in
+    (first, begins_other before line (written token) rest _ first some)
 
 is_capital : IsCapitalWord (codes "IS")
 is_capital = record { word = fits-IsWord (codes "IS") refl; capital = refl }
 
-reads_is : (line : ℕ) (rest : List ℕ) → goes_on rest ≡ false → ReadsKind awaits.PictureOrIs (kind.Word (codes "IS")) line rest
-reads_is line rest stops =
+reads_is : (before line : ℕ) (rest : List ℕ) → goes_on rest ≡ false → ReadsKind awaits.PictureOrIs (kind.Word (codes "IS")) before line rest
+reads_is before line rest stops =
     let run : word_run (codes "IS" ++ rest) ≡ codes "IS" = word_run-on (codes "IS") rest refl (stop_word rest stops) in
     let comes : awaits_picture awaits.PictureOrIs (codes "IS" ++ rest) ≡ false = ap (λ r. not (spells (codes "IS") r)) run in
-    let plain = reads_plain (kind.Word (codes "IS")) line rest (is_capital, refl) stops in
+    let plain = reads_plain (kind.Word (codes "IS")) before line rest (is_capital, refl) tt stops in
     (rw comes plain.0, refl)
 
-reads_kind : (awaits : Awaits) (token : TokenKind) (line : ℕ) (rest : List ℕ) → IsLawful awaits token → goes_on rest ≡ false → ends_picture_run rest ≡ true → ReadsKind awaits token line rest
-reads_kind awaits.Any token line rest lawful stops ends = reads_plain token line rest lawful stops
-reads_kind awaits.PictureOrIs (kind.Word word) line rest lawful stops ends =
-    let P : List ℕ → Type 0 = λ w. ReadsKind awaits.PictureOrIs (kind.Word w) line rest in
-    subst P (sym lawful) (reads_is line rest stops)
-reads_kind awaits.PictureOrIs (kind.Picture picture) line rest lawful stops ends =
-    let run = word_run-before picture rest (stop_word rest stops) in
-    let comes : awaits_picture awaits.PictureOrIs (picture ++ rest) ≡ true = ap (λ r. not (spells (codes "IS") r)) run ∙ ap not lawful.1 in
-    (picture_reads_back picture awaits.PictureOrIs 32 line rest lawful.0 comes ends, lawful.0.begun)
-reads_kind awaits.Picture (kind.Picture picture) line rest lawful stops ends =
-    (picture_reads_back picture awaits.Picture 32 line rest lawful refl ends, lawful.begun)
-reads_kind _ _ line rest lawful stops ends = absurd lawful
+-- what ends a picture begins no word
+ends_no_word : (rest : List ℕ) → ends_picture_run rest ≡ true → begins word_byte rest ≡ false
+ends_no_word [] ends = refl
+ends_no_word (b ∷ rest) ends =
+    either_way (is_blank b) _ (λ blank. grind (arith, tests)) (λ filled.
+    let behind : (ends_picture b && is_open rest) ≡ true = rw filled at ends in
+    let ender : ends_picture b ≡ true = and_left _ _ behind in
+    grind (arith, tests))
 
-reads_any : (awaits : Awaits) (token : Token) (rest : List ℕ) → IsLawful awaits token.kind → goes_on rest ≡ false → ends_picture_run rest ≡ true →
-    (next_cut awaits 32 token.line (written token.kind ++ rest) ≡ Ok (record { kind = token.kind; length = length (written token.kind) })) × (is_separator (slice_index (written token.kind) 0) ≡ false)
-reads_any awaits token rest lawful stops ends = reads_kind awaits token.kind token.line rest lawful stops ends
+reads_picture : (picture : List ℕ) (before line : ℕ) (rest : List ℕ) → IsPicture picture → spells (codes "IS") (word_run picture) ≡ false → ends_picture_run rest ≡ true →
+    ReadsKind awaits.PictureOrIs (kind.Picture picture) before line rest
+reads_picture picture before line rest is other ends =
+    let run = word_run-before picture rest (ends_no_word rest ends) in
+    let comes : awaits_picture awaits.PictureOrIs (picture ++ rest) ≡ true = ap (λ r. not (spells (codes "IS") r)) run ∙ ap not other in
+    (picture_reads_back picture awaits.PictureOrIs before line rest is comes ends, is.begun)
+
+reads_kind : (awaits : Awaits) (token : TokenKind) (before line : ℕ) (rest : List Placed) → IsLawful awaits token → SignCounts before token → Ends token rest →
+    ReadsKind awaits token before line (bytes_of rest)
+reads_kind awaits.Any token before line rest lawful signed ends = reads_plain token before line (bytes_of rest) lawful signed (plain_ends token rest lawful ends)
+  where
+    plain_ends : (token : TokenKind) (rest : List Placed) → IsPlain token → Ends token rest → goes_on (bytes_of rest) ≡ false
+    plain_ends (kind.Picture picture) rest plain ends = absurd plain
+    plain_ends (kind.Word word) rest plain ends = ends
+    plain_ends (kind.Digits digits) rest plain ends = ends
+    plain_ends (kind.Decimal number) rest plain ends = ends
+    plain_ends (kind.Literal value) rest plain ends = ends
+    plain_ends kind.Period rest plain ends = ends
+    plain_ends (kind.Mark b) rest plain ends = ends
+    plain_ends kind.LessEqual rest plain ends = ends
+    plain_ends kind.GreaterEqual rest plain ends = ends
+    plain_ends kind.Power rest plain ends = ends
+reads_kind awaits.PictureOrIs (kind.Word word) before line rest lawful signed ends =
+    let P : List ℕ → Type 0 = λ w. ReadsKind awaits.PictureOrIs (kind.Word w) before line (bytes_of rest) in
+    subst P (sym lawful) (reads_is before line (bytes_of rest) ends)
+reads_kind awaits.PictureOrIs (kind.Picture picture) before line rest lawful signed ends = reads_picture picture before line (bytes_of rest) lawful.0 lawful.1 ends
+reads_kind awaits.Picture (kind.Picture picture) before line rest lawful signed ends =
+    (picture_reads_back picture awaits.Picture before line (bytes_of rest) lawful refl ends, lawful.begun)
+reads_kind _ _ before line rest lawful signed ends = absurd lawful
+
+-- separators are passed over
+gap_over : (gap : List Placed) (awaits : Awaits) (before : ℕ) (rest : List Placed) → list_all is_separator (bytes_of gap) ≡ true →
+    tokens_from 0 awaits before (gap ++ rest) ≡ tokens_from 0 awaits (last_byte before gap) rest
+gap_over [] awaits before rest apart = refl
+gap_over (p ∷ gap) awaits before rest apart =
+    let first : is_separator p.byte ≡ true = and_left _ _ apart in
+    rw first (gap_over gap awaits p.byte rest (and_right (is_separator p.byte) _ apart))
+
+gap_ends : (gap : List Placed) (awaits : Awaits) (before : ℕ) → list_all is_separator (bytes_of gap) ≡ true → tokens_from 0 awaits before gap ≡ Ok []
+gap_ends [] awaits before apart = refl
+gap_ends (p ∷ gap) awaits before apart =
+    let first : is_separator p.byte ≡ true = and_left _ _ apart in
+    rw first (gap_ends gap awaits p.byte (and_right (is_separator p.byte) _ apart))
+
+-- the bytes of a token are passed over
+piece_over : (piece : List Placed) (awaits : Awaits) (before : ℕ) (rest : List Placed) →
+    tokens_from (length piece) awaits before (piece ++ rest) ≡ tokens_from 0 awaits (last_byte before piece) rest
+piece_over [] awaits before rest = refl
+piece_over (p ∷ piece) awaits before rest = piece_over piece awaits p.byte rest
+
+bytes_of-append : (piece rest : List Placed) → bytes_of (piece ++ rest) ≡ bytes_of piece ++ bytes_of rest
+bytes_of-append [] rest = refl
+bytes_of-append (p ∷ piece) rest = ap (λ t. p.byte ∷ t) (bytes_of-append piece rest)
+
+length-bytes_of : (text : List Placed) → length (bytes_of text) ≡ length text
+length-bytes_of [] = refl
+length-bytes_of (p ∷ text) = ap suc (length-bytes_of text)
+
+reads_piece : (awaits : Awaits) (before : ℕ) (piece rest : List Placed) (token : Token) (tokens : List Token) → bytes_of piece ≡ written token.kind →
+    map (λ p. p.line) (take 1 piece) ≡ token.line ∷ [] → ReadsKind awaits token.kind before token.line (bytes_of rest) →
+    tokens_from 0 (awaits_behind awaits token.kind) (last_byte before piece) rest ≡ Ok tokens →
+    tokens_from 0 awaits before (piece ++ rest) ≡ Ok (token ∷ tokens)
+reads_piece awaits before [] rest token tokens spelled begun reads more = cc
+reads_piece awaits before (p ∷ piece) rest token tokens spelled begun reads more =
+    let line : p.line ≡ token.line = cc in
+    let all : bytes_of ((p ∷ piece) ++ rest) ≡ written token.kind ++ bytes_of rest = bytes_of-append (p ∷ piece) rest ∙ ap (λ w. w ++ bytes_of rest) spelled in
+    let here : next_cut awaits before p.line (bytes_of ((p ∷ piece) ++ rest)) ≡ Ok (record { kind = token.kind; length = length (written token.kind) }) =
+    ap (λ n. next_cut awaits before n (bytes_of ((p ∷ piece) ++ rest))) line ∙ ap (next_cut awaits before token.line) all ∙ reads.0 in
+    let other : is_separator p.byte ≡ false = ap (λ w. is_separator (slice_index w 0)) spelled ∙ reads.1 in
+    let count : length (written token.kind) - 1 ≡ length piece = omega (arith, ap length spelled, length-bytes_of (p ∷ piece)) in
+    rw (other, here, count, piece_over piece (awaits_behind awaits token.kind) p.byte rest, more) (ap (λ n. Ok (record { kind = token.kind; line = n } ∷ tokens)) line)
+
+reads_laid : (laid : List Laid) (end : List Placed) (awaits : Awaits) (before : ℕ) → AreLaid awaits before laid end →
+    tokens_from 0 awaits before (laid_text laid end) ≡ Ok (map (λ one. one.token) laid)
+reads_laid [] end awaits before are = gap_ends end awaits before are
+reads_laid (one ∷ more) end awaits before are =
+    let is = are.0 in
+    let rest = laid_text more end in
+    let behind = last_byte before one.gap in
+    gap_over one.gap awaits before (one.piece ++ rest) is.apart
+    ∙ reads_piece awaits behind one.piece rest one.token (map (λ one. one.token) more) is.spelled is.begun
+    (reads_kind awaits one.token.kind behind one.token.line rest is.lawful is.signed is.ended)
+    (reads_laid more end (awaits_behind awaits one.token.kind) (last_byte behind one.piece) are.1)
+
+pub laid_reads_back : LaidReadsBack
+laid_reads_back laid end are = reads_laid laid end awaits.Any 0 are
+
+behind_space : (token : TokenKind) → SignCounts 32 token
+behind_space (kind.Decimal number) = refl
+behind_space (kind.Picture picture) = tt
+behind_space (kind.Word word) = tt
+behind_space (kind.Digits digits) = tt
+behind_space (kind.Literal value) = tt
+behind_space kind.Period = tt
+behind_space (kind.Mark b) = tt
+behind_space kind.LessEqual = tt
+behind_space kind.GreaterEqual = tt
+behind_space kind.Power = tt
+
+text_ends : (token : TokenKind) (tokens : List Token) → Ends token (written_text tokens)
+text_ends (kind.Picture picture) tokens = rest_ends_picture tokens
+text_ends (kind.Decimal number) tokens = rest_stops tokens
+text_ends (kind.Word word) tokens = rest_stops tokens
+text_ends (kind.Digits digits) tokens = rest_stops tokens
+text_ends (kind.Literal value) tokens = rest_stops tokens
+text_ends kind.Period tokens = rest_stops tokens
+text_ends (kind.Mark b) tokens = rest_stops tokens
+text_ends kind.LessEqual tokens = rest_stops tokens
+text_ends kind.GreaterEqual tokens = rest_stops tokens
+text_ends kind.Power tokens = rest_stops tokens
 
 reads_text : (tokens : List Token) (awaits : Awaits) → AreLawful awaits tokens → (before : ℕ) → tokens_from 0 awaits before (written_text tokens) ≡ Ok tokens
 reads_text [] awaits lawful before = refl
 reads_text (token ∷ tokens) awaits lawful before =
     let rest = written_text tokens in
-    let first = reads_any awaits token (bytes_of rest) lawful.0 (rest_stops tokens) (rest_ends_picture tokens) in
+    let first = reads_kind awaits token.kind 32 token.line rest lawful.0 (behind_space token.kind) (text_ends token.kind tokens) in
     let some = (takes_next awaits 32 token.line (written token.kind ++ bytes_of rest) _ first.0).0 in
     reads_first awaits token (written token.kind) rest tokens first.0 some first.1 (reads_text tokens (awaits_behind awaits token.kind) lawful.1)
 

@@ -1,5 +1,6 @@
 pub mod Answers
 pub mod Bytes
+pub mod Laid
 pub mod Literals
 pub mod Next
 pub mod Numbers

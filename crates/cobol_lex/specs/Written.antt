@@ -78,10 +78,15 @@ IsLawful _ _ = ⊥
 abbrev pub goes_on : List ℕ → Bool
 goes_on rest = begins word_byte rest || begins (λ b. b == 34 || b == 61 || b == 42) rest || begins_unsigned rest
 
--- a token that is written where a sign counts is read back, whatever follows that doesn't go on with it
+-- a sign that this token may begin with counts behind this byte
+abbrev pub SignCounts : (before : ℕ) → TokenKind → Type 0
+SignCounts before (kind.Decimal number) = leads_sign before ≡ true
+SignCounts before _ = Unit {0}
+
+-- a token that is written is read back, whatever follows that doesn't go on with it
 abbrev pub TokenReadsBack : Type 0
 TokenReadsBack =
-    (token : TokenKind) (before line : ℕ) (rest : List ℕ) → IsPlain token → leads_sign before ≡ true → goes_on rest ≡ false →
+    (token : TokenKind) (before line : ℕ) (rest : List ℕ) → IsPlain token → SignCounts before token → goes_on rest ≡ false →
     next_cut awaits.Any before line (written token ++ rest) ≡ Ok (record { kind = token; length = length (written token) })
 
 -- a byte on this line

@@ -1,5 +1,6 @@
 //! What holds of the tokens of every text. These functions do nothing; their contracts are laws.
 
+ghost use Rattle.cobol_lex.specs.Laid.{LaidReadsBack};
 ghost use Rattle.cobol_lex.specs.Rising.{TokenLinesRise};
 ghost use Rattle.cobol_lex.specs.Written.{PictureReadsBack, TextReadsBack, TokenReadsBack};
 
@@ -8,8 +9,8 @@ pub fn token_lines_rise()
     ensures { TokenLinesRise }
 {}
 
-/// A token that is written behind a space, LF, `(`, `:`, `,` or `;` is read back, whatever follows
-/// that doesn't go on with it.
+/// A token that is written is read back, whatever follows that doesn't go on with it, where a sign
+/// that it has stands behind a space, LF, `(`, `:`, `,` or `;`.
 pub fn token_reads_back()
     ensures { TokenReadsBack }
 {}
@@ -23,4 +24,9 @@ pub fn picture_reads_back()
 /// Tokens that are written with single spaces between them are read back.
 pub fn text_reads_back()
     ensures { TextReadsBack }
+{}
+
+/// A text of tokens in any lay-out has these tokens, with the lines on which they begin.
+pub fn laid_reads_back()
+    ensures { LaidReadsBack }
 {}

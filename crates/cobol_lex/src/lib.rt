@@ -16,6 +16,8 @@ mod token;
 mod words;
 
 pub use fault::LexFault;
-pub use laws::{picture_reads_back, text_reads_back, token_lines_rise, token_reads_back};
+pub use laws::{
+    laid_reads_back, picture_reads_back, text_reads_back, token_lines_rise, token_reads_back,
+};
 pub use scan::tokens;
 pub use token::{Token, TokenKind};
