@@ -1,0 +1,11 @@
+pub mod Answers
+pub mod Bytes
+pub mod Laid
+pub mod Literals
+pub mod Next
+pub mod Numbers
+pub mod Pictures
+pub mod Rising
+pub mod Tokens
+pub mod Written
+pub mod Words

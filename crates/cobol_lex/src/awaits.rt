@@ -1,0 +1,43 @@
+//! What the tokens before say of the next one.
+
+ghost use Rattle.std.specs.Prelude.{◌≡◌};
+ghost use Rattle.cobol_lex.specs.Pictures.{awaits_picture, awaits_behind};
+
+use crate::token::TokenKind;
+use crate::words::{is_is, word_run};
+
+/// What the next token may be.
+#[derive(Clone, Copy, Debug, PartialEq, Eq)]
+pub enum Awaits {
+    Any,
+    /// Behind PIC or PICTURE.
+    PictureOrIs,
+    /// Behind the word IS that follows PIC or PICTURE.
+    Picture,
+}
+
+/// Whether the next token is a picture, where it begins with these bytes.
+pub fn awaits_picture(awaits: Awaits, bytes: &[u8]) -> bool
+    ensures { result ≡ awaits_picture awaits bytes.now }
+{
+    match awaits {
+        Awaits::Any => false,
+        Awaits::PictureOrIs => !is_is(word_run(bytes)),
+        Awaits::Picture => true,
+    }
+}
+
+/// What comes behind a token.
+pub fn awaits_behind(awaits: Awaits, kind: &TokenKind) -> Awaits
+    ensures { result ≡ awaits_behind awaits kind.now }
+{
+    match kind {
+        TokenKind::Word(word) => match awaits {
+            Awaits::PictureOrIs => Awaits::Picture,
+            _ if word.as_slice() == b"PIC".as_slice() || word.as_slice() == b"PICTURE".as_slice() =>
+                Awaits::PictureOrIs,
+            _ => Awaits::Any,
+        },
+        _ => Awaits::Any,
+    }
+}

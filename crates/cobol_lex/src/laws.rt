@@ -1,0 +1,32 @@
+//! What holds of the tokens of every text. These functions do nothing; their contracts are laws.
+
+ghost use Rattle.cobol_lex.specs.Laid.{LaidReadsBack};
+ghost use Rattle.cobol_lex.specs.Rising.{TokenLinesRise};
+ghost use Rattle.cobol_lex.specs.Written.{PictureReadsBack, TextReadsBack, TokenReadsBack};
+
+/// The lines of the tokens rise where those of the text do.
+pub fn token_lines_rise()
+    ensures { TokenLinesRise }
+{}
+
+/// A token that is written is read back, whatever follows that doesn't go on with it, where a sign
+/// that it has stands behind a space, LF, `(`, `:`, `,` or `;`.
+pub fn token_reads_back()
+    ensures { TokenReadsBack }
+{}
+
+/// A picture that is written where one comes is read back, before a space, LF or the text's end, or
+/// a period, comma or semicolon before one of these.
+pub fn picture_reads_back()
+    ensures { PictureReadsBack }
+{}
+
+/// Tokens that are written with single spaces between them are read back.
+pub fn text_reads_back()
+    ensures { TextReadsBack }
+{}
+
+/// A text of tokens in any lay-out has these tokens, with the lines on which they begin.
+pub fn laid_reads_back()
+    ensures { LaidReadsBack }
+{}

@@ -1,0 +1,56 @@
+//! Pictures.
+
+ghost use Rattle.std.specs.Prelude.{◌≡◌, length};
+ghost use Rattle.cobol_lex.specs.Answers.{Answers};
+ghost use Rattle.cobol_lex.specs.Pictures.{ends_picture, filled_run, picture_run, picture_cut};
+
+use crate::bytes::is_blank;
+use crate::cut::Cut;
+use crate::fault::LexFault;
+use crate::token::TokenKind;
+use cob_base::Text;
+use std::alloc::Global;
+
+fn ends_picture(b: u8) -> bool
+    ensures { result ≡ ends_picture b }
+{
+    b == b'.' || b == b',' || b == b';'
+}
+
+fn filled_length(bytes: &[u8]) -> usize
+    ensures { result ≡ length (filled_run bytes.now) }
+{
+    bytes.iter().take_while(|b| !is_blank(**b)).count()
+}
+
+/// The bytes up to a space or LF.
+#[tactic(auto, using(crate::proofs::Runs::run_at_front, crate::proofs::Runs::run_within))]
+fn filled_run(bytes: &[u8]) -> &[u8]
+    ensures { result.now ≡ filled_run bytes.now }
+{
+    &bytes[..filled_length(bytes)]
+}
+
+/// The bytes of the picture that begins here.
+pub fn picture_run(bytes: &[u8]) -> &[u8]
+    ensures { result.now ≡ picture_run bytes.now }
+{
+    let run = filled_run(bytes);
+    match run {
+        [front @ .., last] if ends_picture(*last) => front,
+        _ => run,
+    }
+}
+
+pub fn picture_cut(alloc: Global, line: u32, run: &[u8]) -> Result<Cut, LexFault>
+    ensures { Answers (picture_cut line run.now) result }
+{
+    if run.is_empty() {
+        return Err(LexFault::BadWord(line));
+    }
+    let bytes = Vec::from_slice(alloc, run)?;
+    Ok(Cut {
+        kind: TokenKind::Picture(Text { bytes }),
+        length: run.len(),
+    })
+}
