@@ -1,0 +1,57 @@
+-- A lawful form has one reading, and stops at its first fault.
+use Rattle.std.proofs.Common.{◌≡◌, List, [], ◌∷◌, ◌++◌, length, refl, sym, ap, subst, ◌∙◌, append_assoc, length-append, arith}
+use Rattle.cobol_lex.specs.declared.token.Token.{Token}
+use Rattle.grammar_forms.specs.declared.why.Why.{Why}
+use Rattle.grammar_forms.specs.Form.{Place, at, Outcome, Got, Stop, left, Form}
+use Rattle.grammar_forms.specs.Reading.{IsFirstFault, IsReader}
+use Rattle.grammar_forms.proofs.Lawful.{Lawful, behind, Extends, got_is}
+
+longer : (a b rest : List Token) (t : Token) → t ∷ a ++ (b ++ rest) ≡ rest → ⊥
+longer a b rest t e =
+    let n : length (t ∷ a ++ (b ++ rest)) ≡ length rest = ap length e in
+    omega (arith, n, length-append (t ∷ a) (b ++ rest), length-append b rest)
+
+left_behind : {A : Type 0} (more : List Token) (o : Outcome A) → left (behind more o) ≡ left o ++ more
+left_behind more (Got a r) = refl
+left_behind more (Stop why r) = refl
+
+module _ {A : Type 0} (f : Form A) (F : Lawful f) (p : Place) where
+  abbrev reads : List Token → Outcome A
+  reads ts = f.reads (at ts p)
+
+  all_cut : (front more rest : List Token) → left (reads (front ++ (more ++ rest))) ≡ rest → f.cut (at front p)
+  all_cut front more rest e = F.part (at front p) (go (left (reads front)) refl (F.extends (at front p) (more ++ rest)))
+    where
+      go : (r : List Token) → left (reads front) ≡ r → Extends (reads front) (reads (front ++ (more ++ rest))) (more ++ rest) r → left (reads front) ≡ []
+      go [] is h = is
+      go (t ∷ r) is h = absurd (longer r more rest t (sym (ap left h ∙ left_behind (more ++ rest) (reads front) ∙ ap (λ q. q ++ (more ++ rest)) is) ∙ e))
+
+  not_cut : (used : List Token) (t : Token) (more : List Token) → left (reads (used ++ t ∷ more)) ≡ t ∷ more → f.cut (at (used ++ t ∷ []) p) → ⊥
+  not_cut used t more e h =
+      let x = subst (Extends (reads (used ++ t ∷ [])) (reads ((used ++ t ∷ []) ++ more)) more) (F.whole (at (used ++ t ∷ []) p) h) (F.extends (at (used ++ t ∷ []) p) more) in
+      let same : (used ++ t ∷ []) ++ more ≡ used ++ t ∷ more = append_assoc used (t ∷ []) more in
+      let y : more ≡ x.0 ++ t ∷ more = x.1 ∙ ap (λ r. x.0 ++ r) (ap (λ r. left (reads r)) same ∙ e) in
+      let n : length more ≡ length (x.0 ++ t ∷ more) = ap length y in
+      omega (arith, n, length-append x.0 (t ∷ more))
+
+  first_fault : (why : Why) (rest : List Token) → f.reads p ≡ Stop why rest → IsFirstFault f p rest
+  first_fault why rest e =
+      let w = F.within p in
+      let here : left (f.reads p) ≡ rest = ap left e in
+      let parts : p.rest ≡ w.0 ++ rest = w.1 ∙ ap (λ r. w.0 ++ r) here in
+      record {
+        used = w.0;
+        parts = parts;
+        before = λ front more s. all_cut front more rest (ap (λ q. left (reads q)) (sym (append_assoc front more rest) ∙ ap (λ q. q ++ rest) (sym s) ∙ sym parts) ∙ here);
+        at_it = λ t more s. not_cut w.0 t more (ap (λ q. left (reads q)) (ap (λ q. w.0 ++ q) (sym s) ∙ sym parts) ∙ here ∙ s);
+      }
+
+pub reader : {A : Type 0} {f : Form A} → Lawful f → IsReader f
+reader {f = f} F = record {
+  sound = F.sound;
+  complete = F.complete;
+  unique = λ p a b q r s t. got_is a b q r (sym (F.complete p a q s) ∙ F.complete p b r t);
+  fault = λ p. first_fault f F p;
+  cut_whole = F.whole;
+  whole_cut = F.part;
+}

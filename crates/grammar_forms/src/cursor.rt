@@ -1,0 +1,286 @@
+//! A place in a list of tokens.
+
+ghost use Rattle.std.specs.Prelude.{◌≡◌, length, None};
+ghost use Rattle.std.specs.Option.{option_copied};
+ghost use Rattle.grammar_forms.specs.Form as form;
+ghost use Rattle.grammar_forms.specs.Parts as part;
+ghost use Rattle.grammar_forms.specs.Reading.{Reads};
+ghost use Rattle.grammar_forms.specs.Reading as reading;
+
+use crate::note::Note;
+use crate::why::{Refused, Why};
+use cob_base::{Text, Word};
+use cob_tree::Number;
+use cobol_lex::{Token, TokenKind};
+use std::marker::Model;
+
+/// A place in a list of tokens, and the first name fault before it.
+#[derive(Drop)]
+pub struct Cursor<'a> {
+    rest: &'a [Token],
+    fault: Option<Note>,
+}
+
+impl<'a> Model for Cursor<'a> {
+    ghost use Rattle.grammar_forms.specs.Form.{Place};
+
+    ghost Value = { Place };
+
+    ghost view = { λ c. record { rest = c.rest.now; fault = c.fault } };
+}
+
+impl<'a> Cursor<'a> {
+    /// The place before all these tokens, with no fault yet.
+    pub fn new(rest: &'a [Token]) -> Cursor<'a>
+        ensures tokens { result.rest ≡ rest.now }
+        ensures fault { result.fault ≡ None }
+    {
+        Cursor { rest, fault: None }
+    }
+
+    /// How many tokens are left.
+    pub fn left(&self) -> usize
+        ensures { result ≡ length self.now.rest }
+    {
+        self.rest.len()
+    }
+
+    /// The first name fault so far.
+    pub fn fault(&self) -> Option<Note>
+        ensures { result ≡ self.now.fault }
+    {
+        self.fault
+    }
+
+    /// What the next token is.
+    pub fn peek(&self) -> Option<&TokenKind>
+        ensures { option_copied result ≡ form.next self.now.rest }
+    {
+        match self.rest {
+            [] => None,
+            [token, ..] => Some(&token.kind),
+        }
+    }
+
+    /// Notes a name fault, where there is one, unless one was noted before.
+    pub fn note(&mut self, fault: Option<Note>)
+        ensures { self.new ≡ form.with_fault fault self.old }
+    {
+        if self.fault.is_none() {
+            self.fault = fault;
+        }
+    }
+
+    /// Whether the next token is this word, in capitals.
+    pub fn sees(&self, word: &[u8]) -> bool
+        ensures { result ≡ form.is_next (part.is_key word.now) self.now }
+    {
+        match self.rest {
+            [
+                Token {
+                    kind: TokenKind::Word(found),
+                    ..
+                },
+                ..,
+            ] => word == found.as_slice(),
+            _ => false,
+        }
+    }
+
+    pub fn sees_mark(&self, byte: u8) -> bool
+        ensures { result ≡ form.is_next (part.is_mark byte) self.now }
+    {
+        match self.rest {
+            [
+                Token {
+                    kind: TokenKind::Mark(found),
+                    ..
+                },
+                ..,
+            ] => byte == *found,
+            _ => false,
+        }
+    }
+
+    pub fn sees_period(&self) -> bool
+        ensures { result ≡ form.is_next part.is_period self.now }
+    {
+        match self.rest {
+            [
+                Token {
+                    kind: TokenKind::Period,
+                    ..
+                },
+                ..,
+            ] => true,
+            _ => false,
+        }
+    }
+
+    fn skip(&mut self)
+        ensures { self.new ≡ reading.behind_next self.old }
+    {
+        if let [_, rest @ ..] = self.rest {
+            self.rest = rest;
+        }
+    }
+
+    /// Takes this word, in capitals.
+    pub fn key(&mut self, word: &[u8]) -> Result<(), Refused>
+        ensures { Reads ((part.key word.now).reads self.old) result self.new }
+    {
+        if self.sees(word) {
+            self.skip();
+            Ok(())
+        } else {
+            Err(Refused::Stop(Why::Syntax))
+        }
+    }
+
+    pub fn mark(&mut self, byte: u8) -> Result<(), Refused>
+        ensures { Reads ((part.mark byte).reads self.old) result self.new }
+    {
+        if self.sees_mark(byte) {
+            self.skip();
+            Ok(())
+        } else {
+            Err(Refused::Stop(Why::Syntax))
+        }
+    }
+
+    pub fn period(&mut self) -> Result<(), Refused>
+        ensures { Reads (part.period.reads self.old) result self.new }
+    {
+        if self.sees_period() {
+            self.skip();
+            Ok(())
+        } else {
+            Err(Refused::Stop(Why::Syntax))
+        }
+    }
+
+    /// Takes this word, in capitals, where it is next.
+    pub fn maybe(&mut self, word: &[u8])
+        ensures { (part.maybe word.now).reads self.old ≡ form.Got tt self.new }
+    {
+        if self.sees(word) {
+            self.skip();
+        }
+    }
+
+    /// Takes a word, reserved or not, and gives it with its line.
+    pub fn word(&mut self) -> Result<(Word, u32), Refused>
+        ensures { Reads (part.word.reads self.old) result self.new }
+    {
+        match self.rest {
+            [
+                Token {
+                    kind: TokenKind::Word(word),
+                    line,
+                },
+                rest @ ..,
+            ] => {
+                self.rest = rest;
+                Ok((*word, *line))
+            }
+            _ => Err(Refused::Stop(Why::Syntax)),
+        }
+    }
+
+    /// Takes digits without sign and point, and gives them with their line.
+    pub fn digits(&mut self) -> Result<(Text, u32), Refused>
+        ensures { Reads (part.digits.reads self.old) result self.new }
+    {
+        match self.rest {
+            [
+                Token {
+                    kind: TokenKind::Digits(digits),
+                    line,
+                },
+                rest @ ..,
+            ] => {
+                self.rest = rest;
+                Ok((digits.copy()?, *line))
+            }
+            _ => Err(Refused::Stop(Why::Syntax)),
+        }
+    }
+
+    /// Takes a number with sign or point, and gives it with its line.
+    pub fn decimal(&mut self) -> Result<(Number, u32), Refused>
+        ensures { Reads (part.decimal.reads self.old) result self.new }
+    {
+        match self.rest {
+            [
+                Token {
+                    kind: TokenKind::Decimal(number),
+                    line,
+                },
+                rest @ ..,
+            ] => {
+                self.rest = rest;
+                Ok((number.copy()?, *line))
+            }
+            _ => Err(Refused::Stop(Why::Syntax)),
+        }
+    }
+
+    /// Takes a literal in quotation marks, and gives its bytes with its line.
+    pub fn literal(&mut self) -> Result<(Text, u32), Refused>
+        ensures { Reads (part.literal.reads self.old) result self.new }
+    {
+        match self.rest {
+            [
+                Token {
+                    kind: TokenKind::Literal(text),
+                    line,
+                },
+                rest @ ..,
+            ] => {
+                self.rest = rest;
+                Ok((text.copy()?, *line))
+            }
+            _ => Err(Refused::Stop(Why::Syntax)),
+        }
+    }
+
+    /// Takes the picture behind PIC, and gives it with its line.
+    pub fn picture(&mut self) -> Result<(Text, u32), Refused>
+        ensures { Reads (part.picture.reads self.old) result self.new }
+    {
+        match self.rest {
+            [
+                Token {
+                    kind: TokenKind::Picture(picture),
+                    line,
+                },
+                rest @ ..,
+            ] => {
+                self.rest = rest;
+                Ok((picture.copy()?, *line))
+            }
+            _ => Err(Refused::Stop(Why::Syntax)),
+        }
+    }
+
+    /// The line of a fault here, of these tokens: of the next token, or of the last of all where
+    /// none is left, or 1 where there is none at all.
+    pub fn fault_line(&self, tokens: &[Token]) -> u32
+        ensures { result ≡ reading.fault_line tokens.now self.now.rest }
+    {
+        match self.rest {
+            [token, ..] => token.line,
+            [] => last_line(tokens),
+        }
+    }
+}
+
+#[tactic(auto, using(std::proofs::lemmas::Option::slice_get_read, std::proofs::lemmas::Option::slice_get_past))]
+fn last_line(tokens: &[Token]) -> u32
+    ensures { result ≡ reading.last_line tokens.now }
+{
+    match tokens {
+        [.., last] => last.line,
+        [] => 1,
+    }
+}
