@@ -123,7 +123,7 @@ bind_part {A = A} f g F G ts e = go (f.reads ts) refl e
     go (Got a r) is e = inr (a, r, F.sound ts a r is, (G a).part r e)
     go (Stop why r) is e = inl (F.part ts (ap left is ∙ e))
 
-both_within : {A B : Type 0} (g : A → Form B) → ((a : A) → Lawful (g a)) → (o : Outcome A) (ts : List Token) → IsEnd ts (left o) → IsEnd ts (left (then_read o (λ a r. (g a).reads r)))
+pub both_within : {A B : Type 0} (g : A → Form B) → ((a : A) → Lawful (g a)) → (o : Outcome A) (ts : List Token) → IsEnd ts (left o) → IsEnd ts (left (then_read o (λ a r. (g a).reads r)))
 both_within g G (Got a r) ts h = end_then ts r.rest (left ((g a).reads r)) h ((G a).within r)
 both_within g G (Stop why r) ts h = h
 

@@ -1,3 +1,6 @@
 pub mod Lawful
 pub mod Turns
 pub mod Reader
+pub mod Laws
+pub mod ExampleLaws
+pub mod Deeper

@@ -1,3 +1,4 @@
 pub mod Form
 pub mod Parts
 pub mod Reading
+pub mod Example

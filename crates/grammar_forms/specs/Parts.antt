@@ -5,7 +5,9 @@ use Rattle.cobol_lex.specs.declared.token.Token.{Token}
 use Rattle.cobol_lex.specs.declared.token.TokenKind.{TokenKind}
 use Rattle.cobol_lex.specs.declared.token.TokenKind.TheVariants as kinds
 use Rattle.cob_tree.specs.declared.number.Number.{Number}
-use Rattle.grammar_forms.specs.Form.{Form, one, pure, where_next}
+use Rattle.grammar_forms.specs.declared.why.Why.{Why}
+use Rattle.grammar_forms.specs.declared.why.Why.TheVariants.{Syntax}
+use Rattle.grammar_forms.specs.Form.{Form, one, pure, refuse, where_next}
 
 abbrev pub when : Bool → Option (Unit {0})
 when holds = if holds then Some tt else None
@@ -82,3 +84,7 @@ literal = valued literal_of
 
 abbrev pub picture : Form (List ℕ × ℕ)
 picture = valued picture_of
+
+-- one of these that is nested too deep
+abbrev pub too_deep : {A : Type 0} → Why → (TokenKind → Bool) → Form A
+too_deep why begin = where_next begin (refuse why) (refuse Syntax)

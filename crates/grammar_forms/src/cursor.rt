@@ -117,7 +117,8 @@ impl<'a> Cursor<'a> {
         }
     }
 
-    fn skip(&mut self)
+    /// Takes the next token, where there is one.
+    pub fn skip(&mut self)
         ensures { self.new ≡ reading.behind_next self.old }
     {
         if let [_, rest @ ..] = self.rest {

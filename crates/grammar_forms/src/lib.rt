@@ -5,6 +5,7 @@
 #![tactic(auto)]
 
 mod cursor;
+pub mod example;
 mod note;
 mod why;
 

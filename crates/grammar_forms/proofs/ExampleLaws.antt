@@ -1,0 +1,92 @@
+-- Each form of the small grammar is lawful.
+use Rattle.std.proofs.Common.{ℕ, zero, suc, true, false, List, Option, Some, None}
+use Rattle.std.specs.Prelude.{codes}
+use Rattle.cobol_lex.specs.declared.token.TokenKind.{TokenKind}
+use Rattle.grammar_forms.specs.declared.example.Step.{Step}
+use Rattle.grammar_forms.specs.Form.{Form}
+use Rattle.grammar_forms.specs.Example as example
+use Rattle.grammar_forms.specs.Reading.{IsReader}
+use Rattle.grammar_forms.proofs.Laws.{Law, pure, refuse, note, token, by, where_next, loop, some, loose, maybe, too_deep, ◌>>=◌, ◌>>◌}
+use Rattle.grammar_forms.proofs.Reader.{reader}
+
+term_with : {inner : Form ℕ} → Law true inner → Law true (example.term_with inner)
+term_with I = where_next I token
+
+pub less : {term : Form ℕ} → Law true term → (left : ℕ) → Law true (example.less term left)
+less T left = do
+  token
+  right ← T
+  pure
+
+sum_with : {term : Form ℕ} → Law true term → Law true (example.sum_with term)
+sum_with T = T >>= (λ value. loop (less T))
+
+pub inner : (levels : ℕ) → Law true (example.inner levels)
+unfolding example.inner
+inner zero = too_deep
+inner (suc n) = do
+  token
+  value ← sum_with (term_with (inner n))
+  token
+  pure
+
+pub term : (levels : ℕ) → Law true (example.term levels)
+term levels = term_with (inner levels)
+
+pub sum : (levels : ℕ) → Law true (example.sum levels)
+sum levels = sum_with (term levels)
+
+show : (before : List Step) → Law true (example.show before)
+unfolding example.show
+show before = do
+  token
+  values ← some (sum example.max_parens)
+  pure
+
+name : (known : List (List ℕ)) → Law true (example.name known)
+unfolding example.name
+name known = do
+  found ← token
+  note
+  pure
+
+go : (known : List (List ℕ)) (before : List Step) → Law true (example.go known before)
+unfolding example.go
+go known before = do
+  token
+  maybe (codes "TO")
+  place ← name known
+  pure
+
+order_with : (known : List (List ℕ)) {repeat : List Step → Form (List Step)} → ((before : List Step) → Law true (repeat before)) → (before : List Step) → Law true (example.order_with known repeat before)
+order_with known R before = where_next (show before) (where_next (R before) (go known before))
+
+orders_with : (known : List (List ℕ)) {repeat : List Step → Form (List Step)} → ((before : List Step) → Law true (repeat before)) → (before : List Step) → Law true (example.orders_with known repeat before)
+orders_with known R before = order_with known R before >>= (λ found. loop (order_with known R))
+
+pub repeat : (known : List (List ℕ)) (levels : ℕ) (before : List Step) → Law true (example.repeat known levels before)
+unfolding example.repeat
+repeat known zero before = too_deep
+repeat known (suc n) before = do
+  token
+  body ← orders_with known (repeat known n) _
+  maybe (codes "END-REPEAT")
+  pure
+
+pub order : (known : List (List ℕ)) (levels : ℕ) (before : List Step) → Law true (example.order known levels before)
+order known levels = order_with known (repeat known levels)
+
+pub orders : (known : List (List ℕ)) (levels : ℕ) (before : List Step) → Law true (example.orders known levels before)
+orders known levels = orders_with known (repeat known levels)
+
+ended : (o : Option TokenKind) → Law false (example.ended_by o)
+ended None = pure
+ended (Some kind) = refuse
+
+pub text : (known : List (List ℕ)) → Law true (example.text known)
+unfolding example.text
+text known = do
+  found ← orders known example.max_nesting _
+  token
+  by ended
+  pure
