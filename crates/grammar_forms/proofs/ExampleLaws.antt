@@ -21,14 +21,17 @@ less T left = do
 sum_with : {term : Form ℕ} → Law true term → Law true (example.sum_with term)
 sum_with T = T >>= (λ value. loop (less T))
 
+in_parens_with : {inner : Form ℕ} → Law true inner → Law true (example.in_parens_with inner)
+in_parens_with I = do
+  token
+  value ← sum_with (term_with I)
+  token
+  pure
+
 pub inner : (levels : ℕ) → Law true (example.inner levels)
 unfolding example.inner
 inner zero = too_deep
-inner (suc n) = do
-  token
-  value ← sum_with (term_with (inner n))
-  token
-  pure
+inner (suc n) = in_parens_with (inner n)
 
 pub term : (levels : ℕ) → Law true (example.term levels)
 term levels = term_with (inner levels)
@@ -64,14 +67,17 @@ order_with known R before = where_next (show before) (where_next (R before) (go 
 orders_with : (known : List (List ℕ)) {repeat : List Step → Form (List Step)} → ((before : List Step) → Law true (repeat before)) → (before : List Step) → Law true (example.orders_with known repeat before)
 orders_with known R before = order_with known R before >>= (λ found. loop (order_with known R))
 
+repeated_with : (known : List (List ℕ)) {repeat : List Step → Form (List Step)} → ((before : List Step) → Law true (repeat before)) → (before : List Step) → Law true (example.repeated_with known repeat before)
+repeated_with known R before = do
+  token
+  body ← orders_with known R _
+  maybe (codes "END-REPEAT")
+  pure
+
 pub repeat : (known : List (List ℕ)) (levels : ℕ) (before : List Step) → Law true (example.repeat known levels before)
 unfolding example.repeat
 repeat known zero before = too_deep
-repeat known (suc n) before = do
-  token
-  body ← orders_with known (repeat known n) _
-  maybe (codes "END-REPEAT")
-  pure
+repeat known (suc n) before = repeated_with known (repeat known n) before
 
 pub order : (known : List (List ℕ)) (levels : ℕ) (before : List Step) → Law true (example.order known levels before)
 order known levels = order_with known (repeat known levels)

@@ -4,7 +4,7 @@ use Rattle.cobol_lex.specs.declared.token.Token.{Token}
 use Rattle.cobol_lex.specs.declared.token.TokenKind.{TokenKind}
 use Rattle.grammar_forms.specs.declared.note.Note.{Note}
 use Rattle.grammar_forms.specs.declared.why.Why.{Why}
-use Rattle.grammar_forms.specs.Form.{Place, at, note, with_fault, Outcome, Got, Stop, left, then_read, Form, pure, refuse, ◌>>=◌, one_spells, one_cut, taken, one_reads, one, next, by_cut, by}
+use Rattle.grammar_forms.specs.Form.{Place, at, note, with_fault, behind_fault, Outcome, Got, Stop, left, then_read, noted_before, Form, pure, refuse, ◌>>=◌, one_spells, one_cut, taken, one_reads, one, next, by_cut, by}
 
 abbrev pub behind : {A : Type 0} → List Token → Outcome A → Outcome A
 behind more (Got a p) = Got a (at (p.rest ++ more) p)
@@ -26,6 +26,7 @@ pub record Lawful {A : Type 0} (f : Form A) : Type 0 where
   pub part : (p : Place) → left (f.reads p) ≡ [] → f.cut p
   pub within : (p : Place) → IsEnd p.rest (left (f.reads p))
   pub extends : (p : Place) (more : List Token) → Extends (f.reads p) (f.reads (at (p.rest ++ more) p)) more (left (f.reads p))
+  pub noted : (p : Place) (earlier : Option Note) → f.reads (behind_fault earlier p) ≡ noted_before earlier (f.reads p)
 
 -- ---- small things
 
@@ -69,7 +70,12 @@ pure-lawful a = record {
   part = λ p h. h;
   within = λ p. end_all p.rest;
   extends = λ p more. got_extends a p p.rest more;
+  noted = λ p earlier. refl;
 }
+
+noted_twice : (earlier late : Option Note) (p : Place) → with_fault late (behind_fault earlier p) ≡ behind_fault earlier (with_fault late p)
+noted_twice (Some early) late p = refl
+noted_twice None late p = refl
 
 pub note-lawful : (fault : Option Note) → Lawful (note fault)
 note-lawful fault = record {
@@ -79,6 +85,7 @@ note-lawful fault = record {
   part = λ p h. h;
   within = λ p. end_all p.rest;
   extends = λ p more. got_extends tt (with_fault fault p) p.rest more;
+  noted = λ p earlier. ap (λ q. Got tt q) (noted_twice earlier fault p);
 }
 
 pub refuse-lawful : {A : Type 0} (why : Why) → Lawful (refuse {A = A} why)
@@ -89,6 +96,7 @@ refuse-lawful {A = A} why = record {
   part = λ p h. h;
   within = λ p. end_all p.rest;
   extends = λ p more. stopped_extends A why p.rest more;
+  noted = λ p earlier. refl;
 }
 
 -- ---- one after the other
@@ -141,6 +149,10 @@ both_extends g G (Got a v) p more h = then_extends g G a v v.rest p more h
 both_extends g G (Stop why []) p more h = both_within g G p more h
 both_extends g G (Stop why (t ∷ r)) p more h = ap (λ q. then_read q (λ a r. (g a).reads r)) h
 
+both_noted : {A B : Type 0} (g : A → Form B) → ((a : A) → Lawful (g a)) → (earlier : Option Note) (o : Outcome A) → then_read (noted_before earlier o) (λ a r. (g a).reads r) ≡ noted_before earlier (then_read o (λ a r. (g a).reads r))
+both_noted g G earlier (Got a q) = (G a).noted q earlier
+both_noted g G earlier (Stop why r) = refl
+
 pub bind-lawful : {A B : Type 0} (f : Form A) (g : A → Form B) → Lawful f → ((a : A) → Lawful (g a)) → Lawful (f >>= g)
 bind-lawful f g F G = record {
   sound = bind_sound f g F G;
@@ -149,6 +161,7 @@ bind-lawful f g F G = record {
   part = bind_part f g F G;
   within = λ ts. both_within g G (f.reads ts) ts.rest (F.within ts);
   extends = λ ts more. both_extends g G (f.reads ts) (f.reads (at (ts.rest ++ more) ts)) more (F.extends ts more);
+  noted = λ p earlier. ap (λ o. then_read o (λ a r. (g a).reads r)) (F.noted p earlier) ∙ both_noted g G earlier (f.reads p);
 }
 
 -- ---- one token
@@ -203,6 +216,14 @@ one_moved {A = A} test (t ∷ ts) more p = go (test t)
     go (Some b) = refl
     go None = refl
 
+one_noted : {A : Type 0} (test : Token → Option A) (ts : List Token) (p : Place) (earlier : Option Note) → one_reads test ts (behind_fault earlier p) ≡ noted_before earlier (one_reads test ts p)
+one_noted test [] p earlier = refl
+one_noted {A = A} test (t ∷ ts) p earlier = go (test t)
+  where
+    go : (o : Option A) → taken o t ts (behind_fault earlier p) ≡ noted_before earlier (taken o t ts p)
+    go (Some b) = refl
+    go None = refl
+
 pub one-lawful : {A : Type 0} (test : Token → Option A) → Lawful (one test)
 one-lawful test = record {
   sound = λ p. one_sound test p.rest p;
@@ -211,6 +232,7 @@ one-lawful test = record {
   part = λ p. one_part test p.rest p;
   within = λ p. one_within test p.rest p;
   extends = λ p more. subst (λ o. Extends (one_reads test p.rest p) o more (left (one_reads test p.rest p))) (sym (one_moved test (p.rest ++ more) (p.rest ++ more) p)) (one_extends test p.rest p more);
+  noted = λ p. one_noted test p.rest p;
 }
 
 -- ---- by the next token
@@ -236,4 +258,5 @@ by-lawful choice C = record {
   part = λ p. by_part choice C p.rest p;
   within = λ p. (C (next p.rest)).within p;
   extends = λ p more. by_extends choice C p.rest p more;
+  noted = λ p. (C (next p.rest)).noted p;
 }

@@ -4,3 +4,4 @@ pub mod Reader
 pub mod Laws
 pub mod ExampleLaws
 pub mod Deeper
+pub mod Loops

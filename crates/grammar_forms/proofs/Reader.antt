@@ -52,6 +52,6 @@ reader {f = f} F = record {
   complete = F.complete;
   unique = λ p a b q r s t. got_is a b q r (sym (F.complete p a q s) ∙ F.complete p b r t);
   fault = λ p. first_fault f F p;
-  cut_whole = F.whole;
-  whole_cut = F.part;
+  is_cut = λ p. (F.whole p, F.part p);
+  noted = F.noted;
 }

@@ -1,8 +1,9 @@
 -- A loop of lawful turns is lawful where each turn takes a token; and what one turn of it is.
-use Rattle.std.proofs.Common.{◌≡◌, ℕ, zero, suc, ◌<◌, ◌≤◌, Bool, true, false, if◌then◌else◌, inl, inr, List, [], ◌∷◌, ◌++◌, length, refl, sym, ap, subst, ◌∙◌, length-append, arith}
+use Rattle.std.proofs.Common.{◌≡◌, ℕ, zero, suc, ◌<◌, ◌≤◌, Bool, true, false, if◌then◌else◌, inl, inr, List, [], ◌∷◌, ◌++◌, length, Option, refl, sym, ap, subst, ◌∙◌, length-append, arith}
 use Rattle.cobol_lex.specs.declared.token.Token.{Token}
 use Rattle.cobol_lex.specs.declared.token.TokenKind.{TokenKind}
-use Rattle.grammar_forms.specs.Form.{Place, at, Outcome, Got, Stop, left, then_read, Form, is_next, loop_spells, loop_cut, loop_reads, loop}
+use Rattle.grammar_forms.specs.declared.note.Note.{Note}
+use Rattle.grammar_forms.specs.Form.{Place, at, behind_fault, Outcome, Got, Stop, left, then_read, noted_before, Form, is_next, loop_spells, loop_cut, loop_reads, loop}
 use Rattle.grammar_forms.proofs.Lawful.{Lawful, IsEnd, Extends, end_all, end_then, end_nil, got_is}
 
 -- what is read takes a token
@@ -172,6 +173,22 @@ module _ {S : Type 0} (begin : TokenKind → Bool) (step : S → Form S) (L : (s
       turn again true = item again ((step s).reads here) ((step s).reads (and_more here more)) refl ((L s).extends here more)
       turn again false = refl
 
+  noted : (n : ℕ) (s : S) (p : Place) (earlier : Option Note) → turns n s (behind_fault earlier p) ≡ noted_before earlier (turns n s p)
+  unfolding loop_reads
+  noted zero s p earlier = refl
+  noted (suc n) s p earlier = turn (λ x q. noted n x q earlier) (is_next begin p)
+    where
+      Again : Type 0
+      Again = (x : S) (q : Place) → turns n x (behind_fault earlier q) ≡ noted_before earlier (turns n x q)
+
+      item : Again → (o : Outcome S) → then_turns (noted_before earlier o) (turns n) ≡ noted_before earlier (then_turns o (turns n))
+      item again (Got x q) = again x q
+      item again (Stop why r) = refl
+
+      turn : Again → (b : Bool) → one_turn b (turns n) s (behind_fault earlier p) ≡ noted_before earlier (one_turn b (turns n) s p)
+      turn again true = ap (λ o. then_turns o (turns n)) ((L s).noted p earlier) ∙ item again ((step s).reads p)
+      turn again false = refl
+
   pub loop-lawful : (s : S) → Lawful (loop begin step s)
   loop-lawful s = record {
     sound = λ p last q e. sound (length p.rest) s p last q (omega arith) e;
@@ -180,4 +197,5 @@ module _ {S : Type 0} (begin : TokenKind → Bool) (step : S → Form S) (L : (s
     part = λ p e. part (length p.rest) s p (omega arith) e;
     within = λ p. within (length p.rest) s p;
     extends = λ p more. extends (length p.rest) s p p.rest more (omega arith);
+    noted = λ p. noted (length p.rest) s p;
   }

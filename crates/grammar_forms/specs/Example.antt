@@ -48,13 +48,16 @@ less term left = do
 abbrev pub sum_with : Form ℕ → Form ℕ
 sum_with term = term >>= loop (is_mark minus) (less term)
 
-unfoldable pub inner : ℕ → Form ℕ
-inner zero = too_deep Parens (is_mark opening)
-inner (suc n) = do
+abbrev pub in_parens_with : Form ℕ → Form ℕ
+in_parens_with inner = do
   mark opening
-  value ← sum_with (term_with (inner n))
+  value ← sum_with (term_with inner)
   mark closing
   pure value
+
+unfoldable pub inner : ℕ → Form ℕ
+inner zero = too_deep Parens (is_mark opening)
+inner (suc n) = in_parens_with (inner n)
 
 abbrev pub term : ℕ → Form ℕ
 term levels = term_with (inner levels)
@@ -62,16 +65,22 @@ term levels = term_with (inner levels)
 abbrev pub sum : ℕ → Form ℕ
 sum levels = sum_with (term levels)
 
+abbrev pub in_parens : ℕ → Form ℕ
+in_parens levels = in_parens_with (inner levels)
+
 -- ---- order = SHOW sum+ | GO [TO] name | REPEAT order+ [END-REPEAT], as a list of steps behind those before
 
 abbrev pub begins_sum : TokenKind → Bool
 begins_sum (Digits text) = true
 begins_sum kind = is_mark opening kind
 
+abbrev pub sum_list : Form (List ℕ)
+sum_list = some begins_sum (sum max_parens)
+
 unfoldable pub show : List Step → Form (List Step)
 show before = do
   key (codes "SHOW")
-  values ← some begins_sum (sum max_parens)
+  values ← sum_list
   pure (before ++ steps.Show values ∷ [])
 
 abbrev pub fault_at : Option ℕ → ℕ → Option Note
@@ -107,19 +116,25 @@ order_with known repeat before = where_next (is_key (codes "SHOW")) (show before
 abbrev pub orders_with : List (List ℕ) → (List Step → Form (List Step)) → List Step → Form (List Step)
 orders_with known repeat before = order_with known repeat before >>= loop begins_order (order_with known repeat)
 
-unfoldable pub repeat : List (List ℕ) → ℕ → List Step → Form (List Step)
-repeat known zero before = too_deep Nesting (is_key (codes "REPEAT"))
-repeat known (suc n) before = do
+abbrev pub repeated_with : List (List ℕ) → (List Step → Form (List Step)) → List Step → Form (List Step)
+repeated_with known repeat before = do
   key (codes "REPEAT")
-  body ← orders_with known (repeat known n) (before ++ steps.Repeat ∷ [])
+  body ← orders_with known repeat (before ++ steps.Repeat ∷ [])
   maybe (codes "END-REPEAT")
   pure (body ++ steps.End ∷ [])
+
+unfoldable pub repeat : List (List ℕ) → ℕ → List Step → Form (List Step)
+repeat known zero before = too_deep Nesting (is_key (codes "REPEAT"))
+repeat known (suc n) before = repeated_with known (repeat known n) before
 
 abbrev pub order : List (List ℕ) → ℕ → List Step → Form (List Step)
 order known levels = order_with known (repeat known levels)
 
 abbrev pub orders : List (List ℕ) → ℕ → List Step → Form (List Step)
 orders known levels = orders_with known (repeat known levels)
+
+abbrev pub repeated : List (List ℕ) → ℕ → List Step → Form (List Step)
+repeated known levels = repeated_with known (repeat known levels)
 
 -- ---- text = order+ .
 

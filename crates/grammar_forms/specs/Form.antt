@@ -23,6 +23,10 @@ or_first None late = late
 abbrev pub with_fault : Option Note → Place → Place
 with_fault fault p = record p { fault = or_first p.fault fault }
 
+-- the same place where this fault was noted earlier
+abbrev pub behind_fault : Option Note → Place → Place
+behind_fault fault p = record p { fault = or_first fault p.fault }
+
 -- a value and the place behind it, or why there is none and the tokens from the one that decides so
 pub data Outcome (A : Type 0) : Type 0 where
   Got : A → Place → Outcome A
@@ -35,6 +39,10 @@ left (Stop why rest) = rest
 abbrev pub then_read : {A B : Type 0} → Outcome A → (A → Place → Outcome B) → Outcome B
 then_read (Got a p) f = f a p
 then_read (Stop why rest) f = Stop why rest
+
+abbrev pub noted_before : {A : Type 0} → Option Note → Outcome A → Outcome A
+noted_before fault (Got a p) = Got a (behind_fault fault p)
+noted_before fault (Stop why rest) = Stop why rest
 
 pub record Form (A : Type 0) : Type 1 where
   -- from the first place on, tokens spell the value up to the second place

@@ -1,10 +1,12 @@
 -- What is promised of a form, and of a function that reads it.
-use Rattle.std.specs.Prelude.{◌≡◌, ℕ, ◌-◌, ◌<◌, ◌⊎◌, List, [], ◌∷◌, ◌++◌, length, slice_get, Option, Some, None, Result, Ok, Err}
+use Rattle.std.specs.Prelude.{◌≡◌, ℕ, Bool, if◌then◌else◌, ◌-◌, ◌<◌, ◌⊎◌, ◌↔◌, List, [], ◌∷◌, ◌++◌, length, slice_get, Option, Some, None, Result, Ok, Err}
 use Rattle.cobol_lex.specs.declared.token.Token.{Token}
+use Rattle.grammar_forms.specs.declared.note.Note.{Note}
 use Rattle.grammar_forms.specs.declared.why.Why.{Why}
+use Rattle.grammar_forms.specs.declared.why.Why.TheVariants.{Syntax}
 use Rattle.grammar_forms.specs.declared.why.Refused.{Refused}
 use Rattle.grammar_forms.specs.declared.why.Refused.TheVariants as refused
-use Rattle.grammar_forms.specs.Form.{Place, at, Outcome, Got, Stop, left, Form}
+use Rattle.grammar_forms.specs.Form.{Place, at, behind_fault, Outcome, Got, Stop, left, noted_before, Form}
 
 -- The tokens left begin with the first token such that the tokens up to it are not cut, or there are none left
 -- where more are needed.
@@ -20,14 +22,20 @@ pub record IsReader {A : Type 0} (f : Form A) : Type 0 where
   pub complete : (p : Place) (a : A) (q : Place) → f.spells p a q → f.reads p ≡ Got a q
   pub unique : (p : Place) (a b : A) (q r : Place) → f.spells p a q → f.spells p b r → (a ≡ b) × (q ≡ r)
   pub fault : (p : Place) (why : Why) (rest : List Token) → f.reads p ≡ Stop why rest → IsFirstFault f p rest
-  pub cut_whole : (p : Place) → f.cut p → left (f.reads p) ≡ []
-  pub whole_cut : (p : Place) → left (f.reads p) ≡ [] → f.cut p
+  -- the cut texts are those that are read to their end, with a value or for want of more
+  pub is_cut : (p : Place) → f.cut p ↔ (left (f.reads p) ≡ [])
+  -- a fault that was noted before stays, and changes nothing else
+  pub noted : (p : Place) (earlier : Option Note) → f.reads (behind_fault earlier p) ≡ noted_before earlier (f.reads p)
 
 -- With more levels the second reads what the first reads, and stops as it does, or goes on behind where the
 -- first stopped for want of levels.
 abbrev pub Deeper : {A : Type 0} → Why → Outcome A → Outcome A → Type 0
 Deeper want (Got a q) more = more ≡ Got a q
 Deeper want (Stop why rest) more = (more ≡ Stop why rest) ⊎ ((why ≡ want) × (length (left more) < length rest))
+
+-- at each place the second form only adds to what the first does
+abbrev pub OnlyAdds : {A : Type 0} → Why → Form A → Form A → Type 0
+OnlyAdds want f g = (p : Place) → Deeper want (f.reads p) (g.reads p)
 
 -- the outcome, unless memory ran out
 abbrev pub Reads : {A : Type 0} → Outcome A → Result A Refused → Place → Type 0
@@ -55,3 +63,6 @@ behind (t ∷ ts) = ts
 -- the place behind the next token, where there is one
 abbrev pub behind_next : Place → Place
 behind_next p = at (behind p.rest) p
+
+abbrev pub refused_where : Bool → Why → Refused
+refused_where begins why = refused.Stop (if begins then why else Syntax)

@@ -169,6 +169,14 @@ impl<'a> Cursor<'a> {
         }
     }
 
+    /// Why nothing is read here, where what begins with the next token, or doesn't, may not be
+    /// nested deeper.
+    pub fn too_deep(&self, why: Why, begins: bool) -> Refused
+        ensures { result ≡ reading.refused_where begins why }
+    {
+        Refused::Stop(if begins { why } else { Why::Syntax })
+    }
+
     /// Takes a word, reserved or not, and gives it with its line.
     pub fn word(&mut self) -> Result<(Word, u32), Refused>
         ensures { Reads (part.word.reads self.old) result self.new }

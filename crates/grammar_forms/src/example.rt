@@ -1,13 +1,259 @@
 //! A small grammar, at which the laws of every way to make a form are proved, and its parser.
 
-use cob_base::Items;
+ghost use Rattle.std.specs.Prelude.{◌≡◌, position};
+ghost use Rattle.std.specs.Str.{bytes_eq};
+ghost use Rattle.grammar_forms.specs.Form as form;
+ghost use Rattle.grammar_forms.specs.Reading.{Reads};
+ghost use Rattle.grammar_forms.specs.Example as example;
+
+use crate::cursor::Cursor;
+use crate::note::{NameKind, Note};
+use crate::why::{Refused, Why};
+use cob_base::{Items, Word};
+use cobol_lex::TokenKind;
+use std::alloc::Global;
 
 /// A part of an order. An order that repeats others stands as its beginning, those and its end.
 #[derive(Debug, Drop, PartialEq, Eq)]
 pub enum Step {
     Show(Items<u8>),
     /// The place of a name among those that are known, from 0.
-    Go(u32),
+    Go(usize),
     Repeat,
     End,
+}
+
+const MAX_PARENS: u32 = 2;
+
+const MAX_NESTING: u32 = 2;
+
+fn digit(cursor: &mut Cursor<'_>) -> Result<u8, Refused>
+    ensures { Reads (example.digit.reads cursor.old) result cursor.new }
+{
+    let digit = match cursor.peek() {
+        Some(TokenKind::Digits(text)) => match text.as_slice() {
+            [digit] => digit.saturating_sub(48),
+            _ => return Err(Refused::Stop(Why::Syntax)),
+        },
+        _ => return Err(Refused::Stop(Why::Syntax)),
+    };
+    cursor.skip();
+    Ok(digit)
+}
+
+#[cycle(sum)]
+fn term(cursor: &mut Cursor<'_>, levels: u32) -> Result<u8, Refused>
+    ensures { Reads ((example.term levels).reads cursor.old) result cursor.new }
+{
+    if cursor.sees_mark(b'(') {
+        inner(cursor, levels)
+    } else {
+        digit(cursor)
+    }
+}
+
+#[cycle(sum)]
+fn inner(cursor: &mut Cursor<'_>, levels: u32) -> Result<u8, Refused>
+    ensures { Reads ((example.inner levels).reads cursor.old) result cursor.new }
+{
+    if levels == 0 {
+        let begins = cursor.sees_mark(b'(');
+        return Err(cursor.too_deep(Why::Parens, begins));
+    }
+    in_parens(cursor, levels - 1)
+}
+
+#[cycle(sum)]
+fn in_parens(cursor: &mut Cursor<'_>, levels: u32) -> Result<u8, Refused>
+    ensures { Reads ((example.in_parens levels).reads cursor.old) result cursor.new }
+{
+    cursor.mark(b'(')?;
+    let value = sum(cursor, levels)?;
+    cursor.mark(b')')?;
+    Ok(value)
+}
+
+#[cycle(sum)]
+fn less(left: u8, cursor: &mut Cursor<'_>, levels: u32) -> Result<u8, Refused>
+    ensures { Reads ((example.less (example.term levels) left).reads cursor.old) result cursor.new }
+{
+    cursor.mark(b'-')?;
+    let right = term(cursor, levels)?;
+    Ok(left.saturating_sub(right))
+}
+
+#[cycle(sum)]
+fn sum(cursor: &mut Cursor<'_>, levels: u32) -> Result<u8, Refused>
+    ensures { Reads ((example.sum levels).reads cursor.old) result cursor.new }
+{
+    let mut value = term(cursor, levels)?;
+    'terms: while cursor.sees_mark(b'-') {
+        value = less(value, cursor, levels)?;
+    }
+    Ok(value)
+}
+
+fn at_sum(cursor: &Cursor<'_>) -> bool
+    ensures { result ≡ form.is_next example.begins_sum cursor.now }
+{
+    match cursor.peek() {
+        Some(TokenKind::Digits(_)) => true,
+        _ => cursor.sees_mark(b'('),
+    }
+}
+
+fn sum_list(alloc: Global, cursor: &mut Cursor<'_>) -> Result<Items<u8>, Refused>
+    ensures { Reads (example.sum_list.reads cursor.old) result cursor.new }
+{
+    let mut found = Items::new(alloc);
+    found.push(sum(cursor, MAX_PARENS)?)?;
+    'sums: while at_sum(cursor) {
+        found.push(sum(cursor, MAX_PARENS)?)?;
+    }
+    Ok(found)
+}
+
+#[tactic(auto, unfolding(crate::specs::Example::show))]
+fn show(
+    alloc: Global,
+    cursor: &mut Cursor<'_>,
+    mut found: Items<Step>,
+) -> Result<Items<Step>, Refused>
+    ensures { Reads ((example.show found).reads cursor.old) result cursor.new }
+{
+    cursor.key(b"SHOW")?;
+    let values = sum_list(alloc, cursor)?;
+    found.push(Step::Show(values))?;
+    Ok(found)
+}
+
+fn place_of(known: &[Word], word: &Word) -> Option<usize>
+    ensures { result ≡ position (bytes_eq word.now) known.now }
+{
+    known.iter().position(|name| word == name)
+}
+
+#[tactic(auto, unfolding(crate::specs::Example::name))]
+fn name(cursor: &mut Cursor<'_>, known: &[Word]) -> Result<usize, Refused>
+    ensures { Reads ((example.name known.now).reads cursor.old) result cursor.new }
+{
+    let (word, line) = cursor.word()?;
+    match place_of(known, &word) {
+        None => {
+            cursor.note(Some(Note {
+                kind: NameKind::Unknown,
+                line,
+            }));
+            Ok(0)
+        }
+        Some(place) => Ok(place),
+    }
+}
+
+#[tactic(auto, unfolding(crate::specs::Example::go))]
+fn go(
+    cursor: &mut Cursor<'_>,
+    known: &[Word],
+    mut found: Items<Step>,
+) -> Result<Items<Step>, Refused>
+    ensures { Reads ((example.go known.now found).reads cursor.old) result cursor.new }
+{
+    cursor.key(b"GO")?;
+    cursor.maybe(b"TO");
+    let place = name(cursor, known)?;
+    found.push(Step::Go(place))?;
+    Ok(found)
+}
+
+fn at_order(cursor: &Cursor<'_>) -> bool
+    ensures { result ≡ form.is_next example.begins_order cursor.now }
+{
+    cursor.sees(b"SHOW") || cursor.sees(b"GO") || cursor.sees(b"REPEAT")
+}
+
+#[cycle(order)]
+fn order(
+    alloc: Global,
+    cursor: &mut Cursor<'_>,
+    known: &[Word],
+    levels: u32,
+    found: Items<Step>,
+) -> Result<Items<Step>, Refused>
+    ensures { Reads ((example.order known.now levels found).reads cursor.old) result cursor.new }
+{
+    if cursor.sees(b"SHOW") {
+        show(alloc, cursor, found)
+    } else if cursor.sees(b"REPEAT") {
+        repeat(alloc, cursor, known, levels, found)
+    } else {
+        go(cursor, known, found)
+    }
+}
+
+#[cycle(order)]
+fn orders(
+    alloc: Global,
+    cursor: &mut Cursor<'_>,
+    known: &[Word],
+    levels: u32,
+    found: Items<Step>,
+) -> Result<Items<Step>, Refused>
+    ensures { Reads ((example.orders known.now levels found).reads cursor.old) result cursor.new }
+{
+    let mut found = order(alloc, cursor, known, levels, found)?;
+    'orders: while at_order(cursor) {
+        found = order(alloc, cursor, known, levels, found)?;
+    }
+    Ok(found)
+}
+
+#[cycle(order)]
+fn repeat(
+    alloc: Global,
+    cursor: &mut Cursor<'_>,
+    known: &[Word],
+    levels: u32,
+    found: Items<Step>,
+) -> Result<Items<Step>, Refused>
+    ensures { Reads ((example.repeat known.now levels found).reads cursor.old) result cursor.new }
+{
+    if levels == 0 {
+        let begins = cursor.sees(b"REPEAT");
+        return Err(cursor.too_deep(Why::Nesting, begins));
+    }
+    repeated(alloc, cursor, known, levels - 1, found)
+}
+
+#[cycle(order)]
+fn repeated(
+    alloc: Global,
+    cursor: &mut Cursor<'_>,
+    known: &[Word],
+    levels: u32,
+    mut found: Items<Step>,
+) -> Result<Items<Step>, Refused>
+    ensures { Reads ((example.repeated known.now levels found).reads cursor.old) result cursor.new }
+{
+    cursor.key(b"REPEAT")?;
+    found.push(Step::Repeat)?;
+    let mut body = orders(alloc, cursor, known, levels, found)?;
+    cursor.maybe(b"END-REPEAT");
+    body.push(Step::End)?;
+    Ok(body)
+}
+
+#[tactic(auto, unfolding(crate::specs::Example::text))]
+fn text(
+    alloc: Global,
+    cursor: &mut Cursor<'_>,
+    known: &[Word],
+) -> Result<Items<Step>, Refused>
+    ensures { Reads ((example.text known.now).reads cursor.old) result cursor.new }
+{
+    let found = orders(alloc, cursor, known, MAX_NESTING, Items::new(alloc))?;
+    cursor.period()?;
+    match cursor.peek() {
+        None => Ok(found),
+        Some(_) => Err(Refused::Stop(Why::Syntax)),
+    }
 }
