@@ -1,13 +1,16 @@
 -- Each form of the small grammar is lawful.
-use Rattle.std.proofs.Common.{ℕ, zero, suc, true, false, List, Option, Some, None}
+use Rattle.std.proofs.Common.{◌≡◌, ℕ, zero, suc, true, List, [], sym, ap, ◌∙◌}
 use Rattle.std.specs.Prelude.{codes}
 use Rattle.cobol_lex.specs.declared.token.TokenKind.{TokenKind}
 use Rattle.grammar_forms.specs.declared.example.Step.{Step}
-use Rattle.grammar_forms.specs.Form.{Form}
+use Rattle.grammar_forms.specs.Form.{Form, Place, Got, at}
+use Rattle.grammar_forms.specs.Parts.{period, ended}
 use Rattle.grammar_forms.specs.Example as example
-use Rattle.grammar_forms.specs.Reading.{IsReader}
-use Rattle.grammar_forms.proofs.Laws.{Law, pure, refuse, note, token, by, where_next, loop, some, loose, maybe, too_deep, ◌>>=◌, ◌>>◌}
-use Rattle.grammar_forms.proofs.Reader.{reader}
+use Rattle.grammar_forms.specs.Reading.{end}
+use Rattle.grammar_forms.proofs.Laws as laws
+use Rattle.grammar_forms.proofs.Laws.{Law, pure, note, token, where_next, loop, some, maybe, too_deep, ◌>>=◌, ◌>>◌}
+use Rattle.grammar_forms.proofs.Reader.{ended_rest}
+use Rattle.grammar_forms.proofs.Lawful.{then_got, got_is}
 
 term_with : {inner : Form ℕ} → Law true inner → Law true (example.term_with inner)
 term_with I = where_next I token
@@ -39,7 +42,7 @@ term levels = term_with (inner levels)
 pub sum : (levels : ℕ) → Law true (example.sum levels)
 sum levels = sum_with (term levels)
 
-show : (before : List Step) → Law true (example.show before)
+pub show : (before : List Step) → Law true (example.show before)
 unfolding example.show
 show before = do
   token
@@ -53,7 +56,7 @@ name known = do
   note
   pure
 
-go : (known : List (List ℕ)) (before : List Step) → Law true (example.go known before)
+pub go : (known : List (List ℕ)) (before : List Step) → Law true (example.go known before)
 unfolding example.go
 go known before = do
   token
@@ -85,14 +88,20 @@ order known levels = order_with known (repeat known levels)
 pub orders : (known : List (List ℕ)) (levels : ℕ) (before : List Step) → Law true (example.orders known levels before)
 orders known levels = orders_with known (repeat known levels)
 
-ended : (o : Option TokenKind) → Law false (example.ended_by o)
-ended None = pure
-ended (Some kind) = refuse
-
 pub text : (known : List (List ℕ)) → Law true (example.text known)
 unfolding example.text
 text known = do
   found ← orders known example.max_nesting _
   token
-  by ended
+  laws.ended
   pure
+
+-- no token is left behind a text
+pub text_ends : (known : List (List ℕ)) (p : Place) (found : List Step) (q : Place) → (example.text known).reads p ≡ Got found q → q ≡ end q.fault
+unfolding example.text
+text_ends known p found q e =
+    let a = then_got ((example.orders known example.max_nesting []).reads p) _ found q e in
+    let b = then_got (period.reads a.1) _ found q a.3 in
+    let c = then_got (ended.reads b.1) _ found q b.3 in
+    let last = (got_is a.0 found c.1 q c.3).1 in
+    ap (λ rest. at rest q) (ap (λ r. r.rest) (sym last) ∙ (ended_rest b.1 c.0 c.1 c.2).1)

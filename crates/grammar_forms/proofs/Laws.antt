@@ -111,5 +111,12 @@ f <$> P = P >>= (λ x. pure)
 pub maybe : (word : List ℕ) → Law false (parts.maybe word)
 maybe word = where_next (loose token) pure
 
+pub ended : Law false parts.ended
+ended = by go
+  where
+    go : (o : Option TokenKind) → Law false (parts.ended_by o)
+    go None = pure
+    go (Some kind) = refuse
+
 pub too_deep : {A : Type 0} {why : Why} {begin : TokenKind → Bool} → Law true (parts.too_deep {A = A} why begin)
 too_deep = where_next refuse refuse

@@ -5,3 +5,4 @@ pub mod Laws
 pub mod ExampleLaws
 pub mod Deeper
 pub mod Loops
+pub mod ExampleLevels

@@ -1,9 +1,12 @@
 -- A lawful form has one reading, and stops at its first fault.
-use Rattle.std.proofs.Common.{◌≡◌, List, [], ◌∷◌, ◌++◌, length, refl, sym, ap, subst, ◌∙◌, append_assoc, length-append, arith}
+use Rattle.std.proofs.Common.{◌≡◌, List, [], ◌∷◌, ◌++◌, length, Err, refl, sym, ap, subst, ◌∙◌, append_assoc, length-append, arith}
 use Rattle.cobol_lex.specs.declared.token.Token.{Token}
 use Rattle.grammar_forms.specs.declared.why.Why.{Why}
-use Rattle.grammar_forms.specs.Form.{Place, at, Outcome, Got, Stop, left, Form}
-use Rattle.grammar_forms.specs.Reading.{IsFirstFault, IsReader}
+use Rattle.grammar_forms.specs.declared.why.Refused.{Refused}
+use Rattle.grammar_forms.specs.declared.why.Refused.TheVariants as refused
+use Rattle.grammar_forms.specs.Form.{Place, at, Outcome, Got, Stop, left, next, Form}
+use Rattle.grammar_forms.specs.Parts.{ended, ended_by}
+use Rattle.grammar_forms.specs.Reading.{IsFirstFault, IsReader, Reads, Stops}
 use Rattle.grammar_forms.proofs.Lawful.{Lawful, behind, Extends, got_is}
 
 longer : (a b rest : List Token) (t : Token) → t ∷ a ++ (b ++ rest) ≡ rest → ⊥
@@ -45,6 +48,31 @@ module _ {A : Type 0} (f : Form A) (F : Lawful f) (p : Place) where
         before = λ front more s. all_cut front more rest (ap (λ q. left (reads q)) (sym (append_assoc front more rest) ∙ ap (λ q. q ++ rest) (sym s) ∙ sym parts) ∙ here);
         at_it = λ t more s. not_cut w.0 t more (ap (λ q. left (reads q)) (ap (λ q. w.0 ++ q) (sym s) ∙ sym parts) ∙ here ∙ s);
       }
+
+-- ---- what a function answers that reads from a start on
+
+module _ {A : Type 0} (f : Form A) (F : Lawful f) (p : Place) where
+  pub spelled : (a : A) (q made : Place) → made ≡ p → f.reads made ≡ Got a q → f.spells p a q
+  spelled a q made m e = F.sound p a q (ap f.reads (sym m) ∙ e)
+
+  pub the_only : (a b : A) (q r made : Place) → made ≡ p → f.reads made ≡ Got a q → f.spells p b r → (a ≡ b) × (q ≡ r)
+  the_only a b q r made m e s = got_is a b q r (sym e ∙ ap f.reads m ∙ F.complete p b r s)
+
+  pub stops : (e : Refused) (why : Why) (q made : Place) → made ≡ p → e ≡ refused.Stop why → Reads {A = A} (f.reads made) (Err e) q → Stops f p why q.rest
+  stops e why q made m is h =
+      let by_why : f.reads p ≡ Stop why q.rest = ap f.reads (sym m) ∙ subst (λ x. Reads {A = A} (f.reads made) (Err x) q) is h in
+      record { first = first_fault f F p why q.rest by_why; by_why = by_why }
+
+  pub none : (why : Why) (rest : List Token) (b : A) (r : Place) → Stops f p why rest → f.spells p b r → ⊥
+  none why rest b r h s = let x : Got b r ≡ Stop why rest = sym (F.complete p b r s) ∙ h.by_why in cc
+
+-- nothing is left behind the end
+pub ended_rest : (p : Place) (u : Unit {0}) (q : Place) → ended.reads p ≡ Got u q → (p ≡ q) × (q.rest ≡ [])
+ended_rest p u q e = go p.rest refl e
+  where
+    go : (ts : List Token) → p.rest ≡ ts → (ended_by (next ts)).reads p ≡ Got u q → (p ≡ q) × (q.rest ≡ [])
+    go [] is h = let same = (got_is tt u p q h).1 in (same, ap (λ r. r.rest) (sym same) ∙ is)
+    go (t ∷ ts) is h = absurd cc
 
 pub reader : {A : Type 0} {f : Form A} → Lawful f → IsReader f
 reader {f = f} F = record {

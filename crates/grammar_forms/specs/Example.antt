@@ -1,6 +1,7 @@
 -- A small grammar that uses each way to make a form, so that their laws are proved at it.
-use Rattle.std.specs.Prelude.{◌≡◌, ℕ, zero, suc, ◌-◌, Bool, true, false, ◌||◌, codes, List, [], ◌∷◌, ◌++◌, Option, Some, None, position}
+use Rattle.std.specs.Prelude.{◌≡◌, ℕ, zero, suc, ◌-◌, Bool, true, false, ◌||◌, codes, List, [], ◌∷◌, ◌++◌, Option, Some, None, Result, Ok, Err, position}
 use Rattle.std.specs.Str.{bytes_eq}
+use Rattle.cobol_lex.specs.declared.token.Token.{Token}
 use Rattle.cobol_lex.specs.declared.token.TokenKind.{TokenKind}
 use Rattle.cobol_lex.specs.declared.token.TokenKind.TheVariants.{Digits}
 use Rattle.grammar_forms.specs.declared.note.Note.{Note}
@@ -8,8 +9,11 @@ use Rattle.grammar_forms.specs.declared.note.NameKind.TheVariants.{Unknown}
 use Rattle.grammar_forms.specs.declared.why.Why.TheVariants.{Syntax, Parens, Nesting}
 use Rattle.grammar_forms.specs.declared.example.Step.{Step}
 use Rattle.grammar_forms.specs.declared.example.Step.TheVariants as steps
-use Rattle.grammar_forms.specs.Form.{Form, pure, refuse, note, one, ◌>>=◌, ◌>>◌, ◌<$>◌, by, loop, where_next, some}
-use Rattle.grammar_forms.specs.Parts.{key, mark, period, maybe, word, is_key, is_mark, too_deep}
+use Rattle.grammar_forms.specs.declared.example.Fault.{Fault}
+use Rattle.grammar_forms.specs.declared.example.Fault.TheVariants as faults
+use Rattle.grammar_forms.specs.Reading.{Stops, start, end, fault_line}
+use Rattle.grammar_forms.specs.Form.{Form, pure, note, one, ◌>>=◌, ◌>>◌, loop, where_next, some}
+use Rattle.grammar_forms.specs.Parts.{key, mark, period, maybe, word, ended, is_key, is_mark, too_deep}
 
 abbrev pub max_parens : ℕ
 max_parens = 2
@@ -138,13 +142,23 @@ repeated known levels = repeated_with known (repeat known levels)
 
 -- ---- text = order+ .
 
-abbrev pub ended_by : Option TokenKind → Form (Unit {0})
-ended_by None = pure tt
-ended_by (Some kind) = refuse Syntax
-
 unfoldable pub text : List (List ℕ) → Form (List Step)
 text known = do
   found ← orders known max_nesting []
   period
-  by ended_by
+  ended
   pure found
+
+-- ---- what its parser answers
+
+-- the steps, or the first name fault, unless memory ran out
+abbrev pub Gives : Result (List Step) Fault → List Step → Option Note → Type 0
+Gives (Ok found) spelled fault = (found ≡ spelled) × (fault ≡ None)
+Gives (Err (faults.Name noted)) spelled fault = fault ≡ Some noted
+Gives (Err (faults.Stop why line)) spelled fault = ⊥
+Gives (Err faults.NoMemory) spelled fault = Unit {0}
+
+abbrev pub IsFault : List (List ℕ) → List Token → Fault → Type 0
+IsFault known tokens (faults.Stop why line) = (rest : List Token) × Stops (text known) (start tokens) why rest × (line ≡ fault_line tokens rest)
+IsFault known tokens (faults.Name noted) = (spelled : List Step) × (text known).spells (start tokens) spelled (end (Some noted))
+IsFault known tokens faults.NoMemory = Unit {0}

@@ -7,7 +7,7 @@ use Rattle.cobol_lex.specs.declared.token.TokenKind.TheVariants as kinds
 use Rattle.cob_tree.specs.declared.number.Number.{Number}
 use Rattle.grammar_forms.specs.declared.why.Why.{Why}
 use Rattle.grammar_forms.specs.declared.why.Why.TheVariants.{Syntax}
-use Rattle.grammar_forms.specs.Form.{Form, one, pure, refuse, where_next}
+use Rattle.grammar_forms.specs.Form.{Form, one, by, pure, refuse, where_next}
 
 abbrev pub when : Bool → Option (Unit {0})
 when holds = if holds then Some tt else None
@@ -84,6 +84,14 @@ literal = valued literal_of
 
 abbrev pub picture : Form (List ℕ × ℕ)
 picture = valued picture_of
+
+abbrev pub ended_by : Option TokenKind → Form (Unit {0})
+ended_by None = pure tt
+ended_by (Some kind) = refuse Syntax
+
+-- no token is left
+abbrev pub ended : Form (Unit {0})
+ended = by ended_by
 
 -- one of these that is nested too deep
 abbrev pub too_deep : {A : Type 0} → Why → (TokenKind → Bool) → Form A

@@ -66,3 +66,16 @@ behind_next p = at (behind p.rest) p
 
 abbrev pub refused_where : Bool → Why → Refused
 refused_where begins why = refused.Stop (if begins then why else Syntax)
+
+-- before all these tokens, with no fault
+abbrev pub start : List Token → Place
+start tokens = record { rest = tokens; fault = None }
+
+-- behind all tokens
+abbrev pub end : Option Note → Place
+end fault = record { rest = []; fault = fault }
+
+-- The tokens left begin with the first fault, and this is why they are not read on.
+pub record Stops {A : Type 0} (f : Form A) (p : Place) (why : Why) (rest : List Token) : Type 0 where
+  pub first : IsFirstFault f p rest
+  pub by_why : f.reads p ≡ Stop why rest

@@ -1,6 +1,6 @@
 //! A place in a list of tokens.
 
-ghost use Rattle.std.specs.Prelude.{◌≡◌, length, None};
+ghost use Rattle.std.specs.Prelude.{◌≡◌, length};
 ghost use Rattle.std.specs.Option.{option_copied};
 ghost use Rattle.grammar_forms.specs.Form as form;
 ghost use Rattle.grammar_forms.specs.Parts as part;
@@ -32,8 +32,7 @@ impl<'a> Model for Cursor<'a> {
 impl<'a> Cursor<'a> {
     /// The place before all these tokens, with no fault yet.
     pub fn new(rest: &'a [Token]) -> Cursor<'a>
-        ensures tokens { result.rest ≡ rest.now }
-        ensures fault { result.fault ≡ None }
+        ensures { result ≡ reading.start rest.now }
     {
         Cursor { rest, fault: None }
     }
@@ -175,6 +174,16 @@ impl<'a> Cursor<'a> {
         ensures { result ≡ reading.refused_where begins why }
     {
         Refused::Stop(if begins { why } else { Why::Syntax })
+    }
+
+    /// Takes nothing, where no token is left.
+    pub fn ended(&self) -> Result<(), Refused>
+        ensures { Reads (part.ended.reads self.now) result self.now }
+    {
+        match self.rest {
+            [] => Ok(()),
+            _ => Err(Refused::Stop(Why::Syntax)),
+        }
     }
 
     /// Takes a word, reserved or not, and gives it with its line.

@@ -1,16 +1,19 @@
 //! A small grammar, at which the laws of every way to make a form are proved, and its parser.
 
-ghost use Rattle.std.specs.Prelude.{◌≡◌, position};
+ghost use Rattle.std.specs.Prelude.{◌≡◌, ◌≤◌, ℕ, List, None, Option, IfOk, IfErr, position};
 ghost use Rattle.std.specs.Str.{bytes_eq};
 ghost use Rattle.grammar_forms.specs.Form as form;
-ghost use Rattle.grammar_forms.specs.Reading.{Reads};
+ghost use Rattle.grammar_forms.specs.Reading.{Reads, IsReader, OnlyAdds, start, end};
+ghost use Rattle.grammar_forms.specs.declared.why.Why.TheVariants as why;
+ghost use Rattle.grammar_forms.specs.declared.note.Note.{Note};
+ghost use Rattle.grammar_forms.specs.declared.example.Step.{Step};
 ghost use Rattle.grammar_forms.specs.Example as example;
 
 use crate::cursor::Cursor;
 use crate::note::{NameKind, Note};
 use crate::why::{Refused, Why};
 use cob_base::{Items, Word};
-use cobol_lex::TokenKind;
+use cobol_lex::{Token, TokenKind};
 use std::alloc::Global;
 
 /// A part of an order. An order that repeats others stands as its beginning, those and its end.
@@ -21,6 +24,17 @@ pub enum Step {
     Go(usize),
     Repeat,
     End,
+}
+
+/// Why tokens are no text of the small grammar.
+#[derive(Clone, Copy, Debug, PartialEq, Eq)]
+pub enum Fault {
+    /// With the line of the token that decides it, or of the last token where more are needed, or
+    /// 1 where there is none.
+    Stop(Why, u32),
+    /// The first, of a text with no other fault.
+    Name(Note),
+    NoMemory,
 }
 
 const MAX_PARENS: u32 = 2;
@@ -252,8 +266,40 @@ fn text(
 {
     let found = orders(alloc, cursor, known, MAX_NESTING, Items::new(alloc))?;
     cursor.period()?;
-    match cursor.peek() {
-        None => Ok(found),
-        Some(_) => Err(Refused::Stop(Why::Syntax)),
+    cursor.ended()?;
+    Ok(found)
+}
+
+/// The steps that the tokens spell.
+pub fn read(alloc: Global, known: &[Word], tokens: &[Token]) -> Result<Items<Step>, Fault>
+    ensures found { IfOk result (λ steps. (example.text known.now).spells (start tokens.now) steps (end None)) }
+    ensures only { (steps : List Step) (fault : Option Note) → (example.text known.now).spells (start tokens.now) steps (end fault) → example.Gives result steps fault }
+    ensures fault { IfErr result (λ fault. example.IsFault known.now tokens.now fault) }
+{
+    let mut cursor = Cursor::new(tokens);
+    match text(alloc, &mut cursor, known) {
+        Ok(found) => match cursor.fault() {
+            None => Ok(found),
+            Some(note) => Err(Fault::Name(note)),
+        },
+        Err(Refused::Stop(why)) => Err(Fault::Stop(why, cursor.fault_line(tokens))),
+        Err(Refused::NoMemory) => Err(Fault::NoMemory),
     }
+}
+
+/// Each form of the small grammar reads what it spells and nothing else, and stops at the first
+/// token up to which the tokens aren't cut.
+pub fn forms_are_read()
+    ensures sums { (levels : ℕ) → IsReader (example.sum levels) }
+    ensures orders { (known : List (List ℕ)) (levels : ℕ) (before : List Step) → IsReader (example.orders known levels before) }
+    ensures text { (known : List (List ℕ)) → IsReader (example.text known) }
+{
+}
+
+/// More levels change neither what is read nor a fault of another kind, and go on behind what was
+/// nested too deep.
+pub fn levels_only_add()
+    ensures parens { (m n : ℕ) → m ≤ n → OnlyAdds why.Parens (example.sum m) (example.sum n) }
+    ensures nesting { (known : List (List ℕ)) (before : List Step) (m n : ℕ) → m ≤ n → OnlyAdds why.Nesting (example.orders known m before) (example.orders known n before) }
+{
 }
