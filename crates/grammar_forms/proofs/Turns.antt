@@ -23,7 +23,6 @@ module _ {S : Type 0} (begin : TokenKind → Bool) (step : S → Form S) (L : (s
   abbrev one_turn : Bool → (S → Place → Outcome S) → S → Place → Outcome S
   one_turn b f s p = if b then then_turns ((step s).reads p) f else Got s p
 
-
   none_begins : (p : Place) → length p.rest ≤ 0 → is_next begin p ≡ false
   none_begins p h = go p.rest h
     where

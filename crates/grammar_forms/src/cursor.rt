@@ -80,7 +80,7 @@ impl<'a> Cursor<'a> {
                     kind: TokenKind::Word(found),
                     ..
                 },
-                ..,
+                ..
             ] => word == found.as_slice(),
             _ => false,
         }
@@ -95,7 +95,7 @@ impl<'a> Cursor<'a> {
                     kind: TokenKind::Mark(found),
                     ..
                 },
-                ..,
+                ..
             ] => byte == *found,
             _ => false,
         }
@@ -110,7 +110,7 @@ impl<'a> Cursor<'a> {
                     kind: TokenKind::Period,
                     ..
                 },
-                ..,
+                ..
             ] => true,
             _ => false,
         }

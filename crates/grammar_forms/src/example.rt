@@ -257,11 +257,7 @@ fn repeated(
 }
 
 #[tactic(auto, unfolding(crate::specs::Example::text))]
-fn text(
-    alloc: Global,
-    cursor: &mut Cursor<'_>,
-    known: &[Word],
-) -> Result<Items<Step>, Refused>
+fn text(alloc: Global, cursor: &mut Cursor<'_>, known: &[Word]) -> Result<Items<Step>, Refused>
     ensures { Reads ((example.text known.now).reads cursor.old) result cursor.new }
 {
     let found = orders(alloc, cursor, known, MAX_NESTING, Items::new(alloc))?;
@@ -293,13 +289,11 @@ pub fn forms_are_read()
     ensures sums { (levels : ℕ) → IsReader (example.sum levels) }
     ensures orders { (known : List (List ℕ)) (levels : ℕ) (before : List Step) → IsReader (example.orders known levels before) }
     ensures text { (known : List (List ℕ)) → IsReader (example.text known) }
-{
-}
+{}
 
 /// More levels change neither what is read nor a fault of another kind, and go on behind what was
 /// nested too deep.
 pub fn levels_only_add()
     ensures parens { (m n : ℕ) → m ≤ n → OnlyAdds why.Parens (example.sum m) (example.sum n) }
     ensures nesting { (known : List (List ℕ)) (before : List Step) (m n : ℕ) → m ≤ n → OnlyAdds why.Nesting (example.orders known m before) (example.orders known n before) }
-{
-}
+{}

@@ -7,6 +7,8 @@
 mod cursor;
 pub mod example;
 mod note;
+#[cfg(test)]
+mod tests;
 mod why;
 
 pub use cursor::Cursor;

@@ -23,9 +23,11 @@ returns-in-Some-clause-only c = λ steps fault s.
 
 pub returns-in-Some-clause-fault : goal.returns-in-Some-clause-fault
 returns-in-Some-clause-fault c =
-    let at_end = laws.text_ends c.args.known.now _ c.in-Ok.found c.text.new.cursor c.in-Ok.ensures in
-    (c.in-Ok.found, subst (λ q. (example.text c.args.known.now).spells (start c.args.tokens.now) c.in-Ok.found q) (at_end ∙ ap end (sym c.in-Some.ensures))
-    (spelled (example.text c.args.known.now) (laws.text c.args.known.now).lawful (start c.args.tokens.now) c.in-Ok.found c.text.new.cursor _ c.new-cursor.ensures c.in-Ok.ensures))
+    let at_end = laws.text_ends c.args.known.now _ c.in-Ok.found c.text.new.cursor c.in-Ok.ensures in (
+      c.in-Ok.found,
+      subst (λ q. (example.text c.args.known.now).spells (start c.args.tokens.now) c.in-Ok.found q) (at_end ∙ ap end (sym c.in-Some.ensures))
+          (spelled (example.text c.args.known.now) (laws.text c.args.known.now).lawful (start c.args.tokens.now) c.in-Ok.found c.text.new.cursor _ c.new-cursor.ensures c.in-Ok.ensures),
+    )
 
 pub returns-in-Err-Stop-clause-only : goal.returns-in-Err-Stop-clause-only
 returns-in-Err-Stop-clause-only c = λ steps fault s.
