@@ -5,7 +5,7 @@ use Rattle.cobol_lex.specs.declared.token.TokenKind.{TokenKind}
 use Rattle.grammar_forms.specs.declared.why.Why.{Why}
 use Rattle.grammar_forms.specs.declared.why.Why.TheVariants.{Syntax}
 use Rattle.grammar_forms.specs.Form as form
-use Rattle.grammar_forms.specs.Form.{Place, at, Outcome, Got, Stop, left, then_read, Form, is_next, begins_by, chosen, loop_reads, taken, one_reads}
+use Rattle.grammar_forms.specs.Form.{Place, at, Outcome, Got, Stop, left, then_read, Form, is_next, begins_by, chosen, loop_reads, past, spot_of, taken_as, one_reads}
 use Rattle.grammar_forms.specs.Parts as parts
 use Rattle.grammar_forms.specs.Parts.{when}
 use Rattle.grammar_forms.specs.Reading.{Deeper}
@@ -99,14 +99,14 @@ some D = D >>= (λ x. loop (λ front. D >>= (λ y. same laws.pure)))
 
 -- what is nested too deep goes on where one level more takes the token that begins it
 pub one_more : {A : Type 0} (want : Why) (begin : TokenKind → Bool) {f : Form A} {b : Bool} → Law b f → Deepens want true (parts.too_deep want begin) (form.◌>>◌ (parts.sign begin) f)
-one_more {A = A} want begin {f = f} F = record { goes = λ p. go p p.rest; law = laws.◌>>◌ laws.token F }
+one_more {A = A} want begin {f = f} F = record { goes = λ p. go p p.rest; law = laws.◌>>◌ (laws.sign begin) F }
   where
     more : Place → List Token → Outcome A
-    more p ts = then_read (one_reads (λ t. when (begin t.kind)) ts p) (λ u q. f.reads q)
+    more p ts = then_read (one_reads (λ spot kind. when (begin kind) spot) ts p) (λ u q. f.reads q)
 
     begun : (p : Place) (t : Token) (ts : List Token) (test : Bool)
-        → Deeper want ((chosen test (form.refuse {A = A} want) (form.refuse Syntax)).reads (at (t ∷ ts) p)) (then_read (taken (when test) t ts p) (λ u q. f.reads q))
-    begun p t ts true = inr (refl, shorter ts (left (f.reads (at ts p))) (t ∷ ts) (F.lawful.within (at ts p)) (omega arith))
+        → Deeper want ((chosen test (form.refuse {A = A} want) (form.refuse Syntax)).reads (at (t ∷ ts) p)) (then_read (taken_as (when test (spot_of p t)) t ts p) (λ u q. f.reads q))
+    begun p t ts true = inr (refl, shorter ts (left (f.reads (past ts p))) (t ∷ ts) (F.lawful.within (past ts p)) (omega arith))
     begun p t ts false = inl refl
 
     go : (p : Place) (ts : List Token) → Deeper want ((parts.too_deep {A = A} want begin).reads (at ts p)) (more p ts)

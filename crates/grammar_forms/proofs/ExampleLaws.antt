@@ -3,21 +3,23 @@ use Rattle.std.proofs.Common.{◌≡◌, ℕ, zero, suc, true, List, [], sym, ap
 use Rattle.std.specs.Prelude.{codes}
 use Rattle.cobol_lex.specs.declared.token.TokenKind.{TokenKind}
 use Rattle.grammar_forms.specs.declared.example.Step.{Step}
-use Rattle.grammar_forms.specs.Form.{Form, Place, Got, at}
+use Rattle.grammar_forms.specs.Form.{Form, Place, Got}
 use Rattle.grammar_forms.specs.Parts.{period, ended}
 use Rattle.grammar_forms.specs.Example as example
-use Rattle.grammar_forms.specs.Reading.{end}
 use Rattle.grammar_forms.proofs.Laws as laws
-use Rattle.grammar_forms.proofs.Laws.{Law, pure, note, token, where_next, loop, some, maybe, too_deep, ◌>>=◌, ◌>>◌}
+use Rattle.grammar_forms.proofs.Laws.{Law, pure, note, one, key, mark, word, where_next, loop, some, maybe, too_deep, ◌>>=◌, ◌>>◌}
 use Rattle.grammar_forms.proofs.Reader.{ended_rest}
 use Rattle.grammar_forms.proofs.Lawful.{then_got, got_is}
 
+pub digit : Law true example.digit
+digit = one (λ spot kind. example.digit_of kind)
+
 term_with : {inner : Form ℕ} → Law true inner → Law true (example.term_with inner)
-term_with I = where_next I token
+term_with I = where_next I digit
 
 pub less : {term : Form ℕ} → Law true term → (left : ℕ) → Law true (example.less term left)
 less T left = do
-  token
+  mark example.minus
   right ← T
   pure
 
@@ -26,9 +28,9 @@ sum_with T = T >>= (λ value. loop (less T))
 
 in_parens_with : {inner : Form ℕ} → Law true inner → Law true (example.in_parens_with inner)
 in_parens_with I = do
-  token
+  mark example.opening
   value ← sum_with (term_with I)
-  token
+  mark example.closing
   pure
 
 pub inner : (levels : ℕ) → Law true (example.inner levels)
@@ -45,21 +47,21 @@ sum levels = sum_with (term levels)
 pub show : (before : List Step) → Law true (example.show before)
 unfolding example.show
 show before = do
-  token
+  key (codes "SHOW")
   values ← some (sum example.max_parens)
   pure
 
 name : (known : List (List ℕ)) → Law true (example.name known)
 unfolding example.name
 name known = do
-  found ← token
+  found ← word
   note
   pure
 
 pub go : (known : List (List ℕ)) (before : List Step) → Law true (example.go known before)
 unfolding example.go
 go known before = do
-  token
+  key (codes "GO")
   maybe (codes "TO")
   place ← name known
   pure
@@ -72,7 +74,7 @@ orders_with known R before = order_with known R before >>= (λ found. loop (orde
 
 repeated_with : (known : List (List ℕ)) {repeat : List Step → Form (List Step)} → ((before : List Step) → Law true (repeat before)) → (before : List Step) → Law true (example.repeated_with known repeat before)
 repeated_with known R before = do
-  token
+  key (codes "REPEAT")
   body ← orders_with known R _
   maybe (codes "END-REPEAT")
   pure
@@ -92,16 +94,15 @@ pub text : (known : List (List ℕ)) → Law true (example.text known)
 unfolding example.text
 text known = do
   found ← orders known example.max_nesting _
-  token
+  laws.period
   laws.ended
   pure
 
 -- no token is left behind a text
-pub text_ends : (known : List (List ℕ)) (p : Place) (found : List Step) (q : Place) → (example.text known).reads p ≡ Got found q → q ≡ end q.fault
+pub text_ends : (known : List (List ℕ)) (p : Place) (found : List Step) (q : Place) → (example.text known).reads p ≡ Got found q → q.rest ≡ []
 unfolding example.text
 text_ends known p found q e =
     let a = then_got ((example.orders known example.max_nesting []).reads p) _ found q e in
     let b = then_got (period.reads a.1) _ found q a.3 in
     let c = then_got (ended.reads b.1) _ found q b.3 in
-    let last = (got_is a.0 found c.1 q c.3).1 in
-    ap (λ rest. at rest q) (ap (λ r. r.rest) (sym last) ∙ (ended_rest b.1 c.0 c.1 c.2).1)
+    ap (λ r. r.rest) (sym (got_is a.0 found c.1 q c.3).1) ∙ (ended_rest b.1 c.0 c.1 c.2).1

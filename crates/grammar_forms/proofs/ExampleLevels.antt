@@ -7,7 +7,7 @@ use Rattle.grammar_forms.specs.declared.example.Step.{Step}
 use Rattle.grammar_forms.specs.Form.{Form}
 use Rattle.grammar_forms.specs.Parts.{is_key, is_mark}
 use Rattle.grammar_forms.specs.Example as example
-use Rattle.grammar_forms.proofs.Laws.{Law, pure, token, too_deep, maybe}
+use Rattle.grammar_forms.proofs.Laws.{Law, pure, key, mark, too_deep, maybe}
 use Rattle.grammar_forms.proofs.Laws as laws
 use Rattle.grammar_forms.proofs.Deeper.{Deepens, same, where_next, loop, one_more, ◌>>=◌, ◌>>◌}
 use Rattle.grammar_forms.proofs.ExampleLaws as law
@@ -15,11 +15,11 @@ use Rattle.grammar_forms.proofs.ExampleLaws as law
 -- ---- parentheses
 
 term_with : {want : Why} {f g : Form ℕ} → Deepens want true f g → Deepens want true (example.term_with f) (example.term_with g)
-term_with I = where_next I (same token)
+term_with I = where_next I (same law.digit)
 
 less : {want : Why} {f g : Form ℕ} → Deepens want true f g → (left : ℕ) → Deepens want true (example.less f left) (example.less g left)
 less T left = do
-  same token
+  same (mark example.minus)
   right ← T
   same pure
 
@@ -28,15 +28,15 @@ sum_with T = T >>= (λ value. loop (less T))
 
 in_parens_with : {want : Why} {f g : Form ℕ} → Deepens want true f g → Deepens want true (example.in_parens_with f) (example.in_parens_with g)
 in_parens_with I = do
-  same token
+  same (mark example.opening)
   value ← sum_with (term_with I)
-  same token
+  same (mark example.closing)
   same pure
 
 inner : (m n : ℕ) → m ≤ n → Deepens Parens true (example.inner m) (example.inner n)
 unfolding example.inner
 inner zero zero h = same too_deep
-inner zero (suc n) h = one_more Parens (is_mark example.opening) (laws.◌>>=◌ (law.sum n) (λ value. laws.◌>>◌ token pure))
+inner zero (suc n) h = one_more Parens (is_mark example.opening) (laws.◌>>=◌ (law.sum n) (λ value. laws.◌>>◌ (mark example.closing) pure))
 inner (suc m) zero h = absurd (omega (arith, h))
 inner (suc m) (suc n) h = in_parens_with (inner m n (omega (arith, h)))
 
@@ -56,7 +56,7 @@ orders_with known R before = order_with known R before >>= (λ found. loop (orde
 repeated_with : {want : Why} (known : List (List ℕ)) {f g : List Step → Form (List Step)} → ((before : List Step) → Deepens want true (f before) (g before))
     → (before : List Step) → Deepens want true (example.repeated_with known f before) (example.repeated_with known g before)
 repeated_with known R before = do
-  same token
+  same (key (codes "REPEAT"))
   body ← orders_with known R _
   same (maybe (codes "END-REPEAT"))
   same pure

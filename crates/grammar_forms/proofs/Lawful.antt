@@ -3,8 +3,11 @@ use Rattle.std.proofs.Common.{◌≡◌, inl, inr, List, [], ◌∷◌, ◌++◌
 use Rattle.cobol_lex.specs.declared.token.Token.{Token}
 use Rattle.cobol_lex.specs.declared.token.TokenKind.{TokenKind}
 use Rattle.grammar_forms.specs.declared.note.Note.{Note}
+use Rattle.grammar_forms.specs.declared.note.Spot.{Spot}
+use Rattle.grammar_forms.specs.Notes.{earliest}
+use Rattle.grammar_forms.proofs.Earliest.{earliest-assoc}
 use Rattle.grammar_forms.specs.declared.why.Why.{Why}
-use Rattle.grammar_forms.specs.Form.{Place, at, note, with_fault, behind_fault, Outcome, Got, Stop, left, then_read, noted_before, Form, pure, refuse, ◌>>=◌, one_spells, one_cut, taken, one_reads, one, next, by_cut, by}
+use Rattle.grammar_forms.specs.Form.{Place, at, note, with_fault, behind_fault, Outcome, Got, Stop, left, then_read, noted_before, Form, pure, refuse, ◌>>=◌, past, spot_of, one_spells, one_cut, taken_as, one_reads, one, next, by_cut, by}
 
 abbrev pub behind : {A : Type 0} → List Token → Outcome A → Outcome A
 behind more (Got a p) = Got a (at (p.rest ++ more) p)
@@ -74,8 +77,7 @@ pure-lawful a = record {
 }
 
 noted_twice : (earlier late : Option Note) (p : Place) → with_fault late (behind_fault earlier p) ≡ behind_fault earlier (with_fault late p)
-noted_twice (Some early) late p = refl
-noted_twice None late p = refl
+noted_twice earlier late p = ap (λ fault. record p { fault = fault }) (earliest-assoc earlier p.fault late)
 
 pub note-lawful : (fault : Option Note) → Lawful (note fault)
 note-lawful fault = record {
@@ -166,65 +168,65 @@ bind-lawful f g F G = record {
 
 -- ---- one token
 
-one_sound : {A : Type 0} (test : Token → Option A) (ts : List Token) (p : Place) (a : A) (q : Place) → one_reads test ts p ≡ Got a q → one_spells test ts p a q
+one_sound : {A : Type 0} (test : Spot → TokenKind → Option A) (ts : List Token) (p : Place) (a : A) (q : Place) → one_reads test ts p ≡ Got a q → one_spells test ts p a q
 one_sound test [] p a q e = absurd cc
-one_sound {A = A} test (t ∷ ts) p a q e = go (test t) refl e
+one_sound {A = A} test (t ∷ ts) p a q e = go (test (spot_of p t) t.kind) refl e
   where
-    go : (o : Option A) → test t ≡ o → taken o t ts p ≡ Got a q → (test t ≡ Some a) × (at ts p ≡ q)
-    go (Some b) is e = let h = got_is b a (at ts p) q e in (is ∙ ap (λ x. Some x) h.0, h.1)
+    go : (o : Option A) → test (spot_of p t) t.kind ≡ o → taken_as o t ts p ≡ Got a q → (test (spot_of p t) t.kind ≡ Some a) × (past ts p ≡ q)
+    go (Some b) is e = let h = got_is b a (past ts p) q e in (is ∙ ap (λ x. Some x) h.0, h.1)
     go None is e = absurd cc
 
-one_complete : {A : Type 0} (test : Token → Option A) (ts : List Token) (p : Place) (a : A) (q : Place) → one_spells test ts p a q → one_reads test ts p ≡ Got a q
+one_complete : {A : Type 0} (test : Spot → TokenKind → Option A) (ts : List Token) (p : Place) (a : A) (q : Place) → one_spells test ts p a q → one_reads test ts p ≡ Got a q
 one_complete test [] p a q h = absurd h
-one_complete test (t ∷ ts) p a q h = ap (λ o. taken o t ts p) h.0 ∙ ap (λ r. Got a r) h.1
+one_complete test (t ∷ ts) p a q h = ap (λ o. taken_as o t ts p) h.0 ∙ ap (λ r. Got a r) h.1
 
-one_whole : {A : Type 0} (test : Token → Option A) (ts : List Token) (p : Place) → one_cut test ts → left (one_reads test ts p) ≡ []
+one_whole : {A : Type 0} (test : Spot → TokenKind → Option A) (ts : List Token) (p : Place) → one_cut test ts p → left (one_reads test ts p) ≡ []
 one_whole test [] p h = refl
-one_whole test (t ∷ ts) p h = ap (λ o. left (taken o t ts p)) h.0.1 ∙ h.1
+one_whole test (t ∷ ts) p h = ap (λ o. left (taken_as o t ts p)) h.0.1 ∙ h.1
 
-one_part : {A : Type 0} (test : Token → Option A) (ts : List Token) (p : Place) → left (one_reads test ts p) ≡ [] → one_cut test ts
+one_part : {A : Type 0} (test : Spot → TokenKind → Option A) (ts : List Token) (p : Place) → left (one_reads test ts p) ≡ [] → one_cut test ts p
 one_part test [] p e = tt
-one_part {A = A} test (t ∷ ts) p e = go (test t) refl e
+one_part {A = A} test (t ∷ ts) p e = go (test (spot_of p t) t.kind) refl e
   where
-    go : (o : Option A) → test t ≡ o → left (taken o t ts p) ≡ [] → one_cut test (t ∷ ts)
+    go : (o : Option A) → test (spot_of p t) t.kind ≡ o → left (taken_as o t ts p) ≡ [] → one_cut test (t ∷ ts) p
     go (Some b) is e = ((b, is), e)
     go None is e = absurd cc
 
-one_within : {A : Type 0} (test : Token → Option A) (ts : List Token) (p : Place) → IsEnd ts (left (one_reads test ts p))
+one_within : {A : Type 0} (test : Spot → TokenKind → Option A) (ts : List Token) (p : Place) → IsEnd ts (left (one_reads test ts p))
 one_within test [] p = end_all []
-one_within {A = A} test (t ∷ ts) p = go (test t)
+one_within {A = A} test (t ∷ ts) p = go (test (spot_of p t) t.kind)
   where
-    go : (o : Option A) → IsEnd (t ∷ ts) (left (taken o t ts p))
+    go : (o : Option A) → IsEnd (t ∷ ts) (left (taken_as o t ts p))
     go (Some b) = (t ∷ [], refl)
     go None = end_all (t ∷ ts)
 
-one_extends : {A : Type 0} (test : Token → Option A) (ts : List Token) (p : Place) (more : List Token) → Extends (one_reads test ts p) (one_reads test (ts ++ more) p) more (left (one_reads test ts p))
+one_extends : {A : Type 0} (test : Spot → TokenKind → Option A) (ts : List Token) (p : Place) (more : List Token) → Extends (one_reads test ts p) (one_reads test (ts ++ more) p) more (left (one_reads test ts p))
 one_extends test [] p more = one_within test more p
-one_extends {A = A} test (t ∷ ts) p more = go (test t) ts
+one_extends {A = A} test (t ∷ ts) p more = go (test (spot_of p t) t.kind) ts
   where
-    go : (o : Option A) (ts : List Token) → Extends (taken o t ts p) (taken o t (ts ++ more) p) more (left (taken o t ts p))
+    go : (o : Option A) (ts : List Token) → Extends (taken_as o t ts p) (taken_as o t (ts ++ more) p) more (left (taken_as o t ts p))
     go (Some b) [] = end_all more
     go (Some b) (u ∷ us) = refl
     go None ts = refl
 
 -- the tokens that the place holds itself do not matter
-one_moved : {A : Type 0} (test : Token → Option A) (ts more : List Token) (p : Place) → one_reads test ts (at more p) ≡ one_reads test ts p
+one_moved : {A : Type 0} (test : Spot → TokenKind → Option A) (ts more : List Token) (p : Place) → one_reads test ts (at more p) ≡ one_reads test ts p
 one_moved test [] more p = refl
-one_moved {A = A} test (t ∷ ts) more p = go (test t)
+one_moved {A = A} test (t ∷ ts) more p = go (test (spot_of p t) t.kind)
   where
-    go : (o : Option A) → taken o t ts (at more p) ≡ taken o t ts p
+    go : (o : Option A) → taken_as o t ts (at more p) ≡ taken_as o t ts p
     go (Some b) = refl
     go None = refl
 
-one_noted : {A : Type 0} (test : Token → Option A) (ts : List Token) (p : Place) (earlier : Option Note) → one_reads test ts (behind_fault earlier p) ≡ noted_before earlier (one_reads test ts p)
+one_noted : {A : Type 0} (test : Spot → TokenKind → Option A) (ts : List Token) (p : Place) (earlier : Option Note) → one_reads test ts (behind_fault earlier p) ≡ noted_before earlier (one_reads test ts p)
 one_noted test [] p earlier = refl
-one_noted {A = A} test (t ∷ ts) p earlier = go (test t)
+one_noted {A = A} test (t ∷ ts) p earlier = go (test (spot_of p t) t.kind)
   where
-    go : (o : Option A) → taken o t ts (behind_fault earlier p) ≡ noted_before earlier (taken o t ts p)
+    go : (o : Option A) → taken_as o t ts (behind_fault earlier p) ≡ noted_before earlier (taken_as o t ts p)
     go (Some b) = refl
     go None = refl
 
-pub one-lawful : {A : Type 0} (test : Token → Option A) → Lawful (one test)
+pub one-lawful : {A : Type 0} (test : Spot → TokenKind → Option A) → Lawful (one test)
 one-lawful test = record {
   sound = λ p. one_sound test p.rest p;
   complete = λ p. one_complete test p.rest p;

@@ -3,9 +3,10 @@ use Rattle.std.proofs.Common.{◌≡◌, ℕ, ◌<◌, ◌≤◌, Bool, true, fa
 use Rattle.cobol_lex.specs.declared.token.Token.{Token}
 use Rattle.cobol_lex.specs.declared.token.TokenKind.{TokenKind}
 use Rattle.grammar_forms.specs.declared.note.Note.{Note}
+use Rattle.grammar_forms.specs.declared.note.Spot.{Spot}
 use Rattle.grammar_forms.specs.declared.why.Why.{Why}
 use Rattle.grammar_forms.specs.Form as form
-use Rattle.grammar_forms.specs.Form.{Place, Outcome, Got, Stop, left, Form, one, one_reads, taken, begins_by, chosen}
+use Rattle.grammar_forms.specs.Form.{Place, Outcome, Got, Stop, left, Form, one_reads, taken_as, begins_by, chosen}
 use Rattle.grammar_forms.specs.Parts as parts
 use Rattle.grammar_forms.proofs.Lawful as lawful
 use Rattle.grammar_forms.proofs.Lawful.{Lawful, then_got, got_is}
@@ -61,19 +62,19 @@ infixl 10 ◌>>◌
 pub ◌>>◌ : {A B : Type 0} {b c : Bool} {f : Form A} {g : Form B} → Law b f → Law c g → Law (b || c) (form.◌>>◌ f g)
 F >> G = F >>= (λ _. G)
 
-one_consumes : {A : Type 0} (test : Token → Option A) → Consumes (one test)
+one_consumes : {A : Type 0} (test : Spot → TokenKind → Option A) → Consumes (form.one test)
 one_consumes {A = A} test = record { less = λ p. go p p.rest }
   where
-    by_test : (p : Place) (o : Option A) (t : Token) (ts : List Token) (a : A) (q : Place) → taken o t ts p ≡ Got a q → length q.rest < length (t ∷ ts)
-    by_test p (Some x) t ts a q e = let n : length ts ≡ length q.rest = ap (λ r. length r.rest) (got_is x a (form.at ts p) q e).1 in omega (arith, n)
+    by_test : (p : Place) (o : Option A) (t : Token) (ts : List Token) (a : A) (q : Place) → taken_as o t ts p ≡ Got a q → length q.rest < length (t ∷ ts)
+    by_test p (Some x) t ts a q e = let n : length ts ≡ length q.rest = ap (λ r. length r.rest) (got_is x a (form.past ts p) q e).1 in omega (arith, n)
     by_test p None t ts a q e = absurd cc
 
     go : (p : Place) (ts : List Token) (a : A) (q : Place) → one_reads test ts p ≡ Got a q → length q.rest < length ts
     go p [] a q e = absurd cc
-    go p (t ∷ ts) a q e = by_test p (test t) t ts a q e
+    go p (t ∷ ts) a q e = by_test p (test (form.spot_of p t) t.kind) t ts a q e
 
-pub token : {A : Type 0} {test : Token → Option A} → Law true (one test)
-token {test = test} = record { lawful = lawful.one-lawful test; consumes = λ h. one_consumes test }
+pub one : {A : Type 0} (test : Spot → TokenKind → Option A) → Law true (form.one test)
+one test = record { lawful = lawful.one-lawful test; consumes = λ h. one_consumes test }
 
 pub by : {A : Type 0} {b : Bool} {choice : Option TokenKind → Form A} → ((o : Option TokenKind) → Law b (choice o)) → Law b (form.by choice)
 by {choice = choice} C = record {
@@ -107,9 +108,41 @@ infixr 11 ◌<$>◌
 pub ◌<$>◌ : {A B : Type 0} {b : Bool} {p : Form A} → (f : A → B) → Law b p → Law (b || false) (form.◌<$>◌ f p)
 f <$> P = P >>= (λ x. pure)
 
+-- ---- parts that are one token
+
+pub sign : (test : TokenKind → Bool) → Law true (parts.sign test)
+sign test = one (λ spot kind. parts.when (test kind) spot)
+
+pub key : (word : List ℕ) → Law true (parts.key word)
+key word = sign (parts.is_key word)
+
+pub mark : (byte : ℕ) → Law true (parts.mark byte)
+mark byte = sign (parts.is_mark byte)
+
+pub period : Law true parts.period
+period = sign parts.is_period
+
+pub valued : {A : Type 0} (test : TokenKind → Option A) → Law true (parts.valued test)
+valued test = one (λ spot kind. parts.with_spot spot (test kind))
+
+pub word : Law true parts.word
+word = valued parts.word_of
+
+pub digits : Law true parts.digits
+digits = valued parts.digits_of
+
+pub decimal : Law true parts.decimal
+decimal = valued parts.decimal_of
+
+pub literal : Law true parts.literal
+literal = valued parts.literal_of
+
+pub picture : Law true parts.picture
+picture = valued parts.picture_of
+
 -- a word that may be left out
 pub maybe : (word : List ℕ) → Law false (parts.maybe word)
-maybe word = where_next (loose token) pure
+maybe word = where_next (loose (key word >> pure)) pure
 
 pub ended : Law false parts.ended
 ended = by go

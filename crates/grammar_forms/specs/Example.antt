@@ -5,13 +5,14 @@ use Rattle.cobol_lex.specs.declared.token.Token.{Token}
 use Rattle.cobol_lex.specs.declared.token.TokenKind.{TokenKind}
 use Rattle.cobol_lex.specs.declared.token.TokenKind.TheVariants.{Digits}
 use Rattle.grammar_forms.specs.declared.note.Note.{Note}
+use Rattle.grammar_forms.specs.declared.note.Spot.{Spot}
 use Rattle.grammar_forms.specs.declared.note.NameKind.TheVariants.{Unknown}
 use Rattle.grammar_forms.specs.declared.why.Why.TheVariants.{Syntax, Parens, Nesting}
 use Rattle.grammar_forms.specs.declared.example.Step.{Step}
 use Rattle.grammar_forms.specs.declared.example.Step.TheVariants as steps
 use Rattle.grammar_forms.specs.declared.example.Fault.{Fault}
 use Rattle.grammar_forms.specs.declared.example.Fault.TheVariants as faults
-use Rattle.grammar_forms.specs.Reading.{Stops, start, end, fault_line}
+use Rattle.grammar_forms.specs.Reading.{Stops, AllSpell, start, fault_line}
 use Rattle.grammar_forms.specs.Form.{Form, pure, note, one, ◌>>=◌, ◌>>◌, loop, where_next, some}
 use Rattle.grammar_forms.specs.Parts.{key, mark, period, maybe, word, ended, is_key, is_mark, too_deep}
 
@@ -37,7 +38,7 @@ digit_of (Digits (b ∷ [])) = Some (b - 48)
 digit_of _ = None
 
 abbrev pub digit : Form ℕ
-digit = one (λ t. digit_of t.kind)
+digit = one (λ spot kind. digit_of kind)
 
 abbrev pub term_with : Form ℕ → Form ℕ
 term_with inner = where_next (is_mark opening) inner digit
@@ -87,16 +88,16 @@ show before = do
   values ← sum_list
   pure (before ++ steps.Show values ∷ [])
 
-abbrev pub fault_at : Option ℕ → ℕ → Option Note
-fault_at None line = Some (record { kind = Unknown; line = line })
-fault_at (Some place) line = None
+abbrev pub fault_at : Option ℕ → Spot → Option Note
+fault_at None spot = Some (record { kind = Unknown; spot = spot })
+fault_at (Some place) spot = None
 
 abbrev pub place_or_0 : Option ℕ → ℕ
 place_or_0 None = 0
 place_or_0 (Some place) = place
 
-abbrev pub name_at : Option ℕ → ℕ → Form ℕ
-name_at place line = note (fault_at place line) >> pure (place_or_0 place)
+abbrev pub name_at : Option ℕ → Spot → Form ℕ
+name_at place spot = note (fault_at place spot) >> pure (place_or_0 place)
 
 -- the place of a known name, or 0 and a fault
 unfoldable pub name : List (List ℕ) → Form ℕ
@@ -160,5 +161,5 @@ Gives (Err faults.NoMemory) spelled fault = Unit {0}
 
 abbrev pub IsFault : List (List ℕ) → List Token → Fault → Type 0
 IsFault known tokens (faults.Stop why line) = (rest : List Token) × Stops (text known) (start tokens) why rest × (line ≡ fault_line tokens rest)
-IsFault known tokens (faults.Name noted) = (spelled : List Step) × (text known).spells (start tokens) spelled (end (Some noted))
+IsFault known tokens (faults.Name noted) = (spelled : List Step) × AllSpell (text known) tokens spelled (Some noted)
 IsFault known tokens faults.NoMemory = Unit {0}

@@ -6,7 +6,7 @@ use Rattle.grammar_forms.specs.declared.why.Why.{Why}
 use Rattle.grammar_forms.specs.declared.why.Why.TheVariants.{Syntax}
 use Rattle.grammar_forms.specs.declared.why.Refused.{Refused}
 use Rattle.grammar_forms.specs.declared.why.Refused.TheVariants as refused
-use Rattle.grammar_forms.specs.Form.{Place, at, behind_fault, Outcome, Got, Stop, left, noted_before, Form}
+use Rattle.grammar_forms.specs.Form.{Place, at, past, behind_fault, Outcome, Got, Stop, left, noted_before, Form}
 
 -- The tokens left begin with the first token such that the tokens up to it are not cut, or there are none left
 -- where more are needed.
@@ -56,24 +56,24 @@ abbrev pub fault_line : List Token → List Token → ℕ
 fault_line tokens [] = last_line tokens
 fault_line tokens (t ∷ rest) = t.line
 
-abbrev pub behind : List Token → List Token
-behind [] = []
-behind (t ∷ ts) = ts
-
 -- the place behind the next token, where there is one
+abbrev pub skip_from : List Token → Place → Place
+skip_from [] p = p
+skip_from (t ∷ ts) p = past ts p
+
 abbrev pub behind_next : Place → Place
-behind_next p = at (behind p.rest) p
+behind_next p = skip_from p.rest p
 
 abbrev pub refused_where : Bool → Why → Refused
 refused_where begins why = refused.Stop (if begins then why else Syntax)
 
 -- before all these tokens, with no fault
 abbrev pub start : List Token → Place
-start tokens = record { rest = tokens; fault = None }
+start tokens = record { rest = tokens; taken = 0; fault = None }
 
--- behind all tokens
-abbrev pub end : Option Note → Place
-end fault = record { rest = []; fault = fault }
+-- All the tokens together spell the value, and this is the first name fault.
+abbrev pub AllSpell : {A : Type 0} → Form A → List Token → A → Option Note → Type 0
+AllSpell f tokens value fault = (q : Place) × f.spells (start tokens) value q × (q.rest ≡ []) × (q.fault ≡ fault)
 
 -- The tokens left begin with the first fault, and this is why they are not read on.
 pub record Stops {A : Type 0} (f : Form A) (p : Place) (why : Why) (rest : List Token) : Type 0 where

@@ -1,13 +1,13 @@
 //! A place in a list of tokens.
 
-ghost use Rattle.std.specs.Prelude.{◌≡◌, length};
+ghost use Rattle.std.specs.Prelude.{◌≡◌, ◌+◌, ◌<◌, ◌^◌, length};
 ghost use Rattle.std.specs.Option.{option_copied};
 ghost use Rattle.grammar_forms.specs.Form as form;
 ghost use Rattle.grammar_forms.specs.Parts as part;
 ghost use Rattle.grammar_forms.specs.Reading.{Reads};
 ghost use Rattle.grammar_forms.specs.Reading as reading;
 
-use crate::note::Note;
+use crate::note::{Note, Spot};
 use crate::why::{Refused, Why};
 use cob_base::{Text, Word};
 use cob_tree::Number;
@@ -18,6 +18,7 @@ use std::marker::Model;
 #[derive(Drop)]
 pub struct Cursor<'a> {
     rest: &'a [Token],
+    taken: usize,
     fault: Option<Note>,
 }
 
@@ -26,7 +27,11 @@ impl<'a> Model for Cursor<'a> {
 
     ghost Value = { Place };
 
-    ghost view = { λ c. record { rest = c.rest.now; fault = c.fault } };
+    ghost view = { λ c. record { rest = c.rest.now; taken = c.taken; fault = c.fault } };
+
+    ghost use Rattle.std.specs.Prelude.{◌+◌, ◌<◌, ◌^◌, length};
+
+    ghost invariant = { λ c. c.taken + length c.rest.now < 2 ^ 63 };
 }
 
 impl<'a> Cursor<'a> {
@@ -34,7 +39,11 @@ impl<'a> Cursor<'a> {
     pub fn new(rest: &'a [Token]) -> Cursor<'a>
         ensures { result ≡ reading.start rest.now }
     {
-        Cursor { rest, fault: None }
+        Cursor {
+            rest,
+            taken: 0,
+            fault: None,
+        }
     }
 
     /// How many tokens are left.
@@ -61,12 +70,16 @@ impl<'a> Cursor<'a> {
         }
     }
 
-    /// Notes a name fault, where there is one, unless one was noted before.
+    /// Notes a name fault, where there is one. Of all that are noted the first in the order of
+    /// tokens is kept.
     pub fn note(&mut self, fault: Option<Note>)
         ensures { self.new ≡ form.with_fault fault self.old }
     {
-        if self.fault.is_none() {
-            self.fault = fault;
+        if let Some(late) = fault {
+            self.fault = match self.fault {
+                Some(early) if !late.precedes(early) => Some(early),
+                _ => Some(late),
+            };
         }
     }
 
@@ -121,41 +134,83 @@ impl<'a> Cursor<'a> {
         ensures { self.new ≡ reading.behind_next self.old }
     {
         if let [_, rest @ ..] = self.rest {
-            self.rest = rest;
+            self.move_to(rest);
         }
     }
 
-    /// Takes this word, in capitals.
-    pub fn key(&mut self, word: &[u8]) -> Result<(), Refused>
+    fn spot(&self, line: u32) -> Spot
+        ensures { result ≡ record { place = self.now.taken; line = line } }
+    {
+        Spot {
+            place: self.taken,
+            line,
+        }
+    }
+
+    /// Goes on behind one token, to these that are left.
+    fn move_to(&mut self, rest: &'a [Token])
+        requires { self.old.taken + 1 + length rest.now < 2 ^ 63 }
+        ensures { self.new ≡ form.past rest.now self.old }
+    {
+        self.rest = rest;
+        self.taken += 1;
+    }
+
+    /// Takes this word, in capitals, and gives its spot.
+    pub fn key(&mut self, word: &[u8]) -> Result<Spot, Refused>
         ensures { Reads ((part.key word.now).reads self.old) result self.new }
     {
-        if self.sees(word) {
-            self.skip();
-            Ok(())
-        } else {
-            Err(Refused::Stop(Why::Syntax))
+        match self.rest {
+            [
+                Token {
+                    kind: TokenKind::Word(found),
+                    line,
+                },
+                rest @ ..,
+            ] if word == found.as_slice() => {
+                let spot = self.spot(*line);
+                self.move_to(rest);
+                Ok(spot)
+            }
+            _ => Err(Refused::Stop(Why::Syntax)),
         }
     }
 
-    pub fn mark(&mut self, byte: u8) -> Result<(), Refused>
+    pub fn mark(&mut self, byte: u8) -> Result<Spot, Refused>
         ensures { Reads ((part.mark byte).reads self.old) result self.new }
     {
-        if self.sees_mark(byte) {
-            self.skip();
-            Ok(())
-        } else {
-            Err(Refused::Stop(Why::Syntax))
+        match self.rest {
+            [
+                Token {
+                    kind: TokenKind::Mark(found),
+                    line,
+                },
+                rest @ ..,
+            ] if byte == *found => {
+                let spot = self.spot(*line);
+                self.move_to(rest);
+                Ok(spot)
+            }
+            _ => Err(Refused::Stop(Why::Syntax)),
         }
     }
 
-    pub fn period(&mut self) -> Result<(), Refused>
+    pub fn period(&mut self) -> Result<Spot, Refused>
         ensures { Reads (part.period.reads self.old) result self.new }
     {
-        if self.sees_period() {
-            self.skip();
-            Ok(())
-        } else {
-            Err(Refused::Stop(Why::Syntax))
+        match self.rest {
+            [
+                Token {
+                    kind: TokenKind::Period,
+                    line,
+                },
+                rest @ ..,
+            ] => {
+                let spot = self.spot(*line);
+                self.move_to(rest);
+                Ok(spot)
+            }
+            _ => Err(Refused::Stop(Why::Syntax)),
         }
     }
 
@@ -186,8 +241,8 @@ impl<'a> Cursor<'a> {
         }
     }
 
-    /// Takes a word, reserved or not, and gives it with its line.
-    pub fn word(&mut self) -> Result<(Word, u32), Refused>
+    /// Takes a word, reserved or not, and gives it with its spot.
+    pub fn word(&mut self) -> Result<(Word, Spot), Refused>
         ensures { Reads (part.word.reads self.old) result self.new }
     {
         match self.rest {
@@ -198,15 +253,16 @@ impl<'a> Cursor<'a> {
                 },
                 rest @ ..,
             ] => {
-                self.rest = rest;
-                Ok((*word, *line))
+                let spot = self.spot(*line);
+                self.move_to(rest);
+                Ok((*word, spot))
             }
             _ => Err(Refused::Stop(Why::Syntax)),
         }
     }
 
-    /// Takes digits without sign and point, and gives them with their line.
-    pub fn digits(&mut self) -> Result<(Text, u32), Refused>
+    /// Takes digits without sign and point, and gives them with their spot.
+    pub fn digits(&mut self) -> Result<(Text, Spot), Refused>
         ensures { Reads (part.digits.reads self.old) result self.new }
     {
         match self.rest {
@@ -217,15 +273,16 @@ impl<'a> Cursor<'a> {
                 },
                 rest @ ..,
             ] => {
-                self.rest = rest;
-                Ok((digits.copy()?, *line))
+                let spot = self.spot(*line);
+                self.move_to(rest);
+                Ok((digits.copy()?, spot))
             }
             _ => Err(Refused::Stop(Why::Syntax)),
         }
     }
 
-    /// Takes a number with sign or point, and gives it with its line.
-    pub fn decimal(&mut self) -> Result<(Number, u32), Refused>
+    /// Takes a number with sign or point, and gives it with its spot.
+    pub fn decimal(&mut self) -> Result<(Number, Spot), Refused>
         ensures { Reads (part.decimal.reads self.old) result self.new }
     {
         match self.rest {
@@ -236,15 +293,16 @@ impl<'a> Cursor<'a> {
                 },
                 rest @ ..,
             ] => {
-                self.rest = rest;
-                Ok((number.copy()?, *line))
+                let spot = self.spot(*line);
+                self.move_to(rest);
+                Ok((number.copy()?, spot))
             }
             _ => Err(Refused::Stop(Why::Syntax)),
         }
     }
 
-    /// Takes a literal in quotation marks, and gives its bytes with its line.
-    pub fn literal(&mut self) -> Result<(Text, u32), Refused>
+    /// Takes a literal in quotation marks, and gives its bytes with its spot.
+    pub fn literal(&mut self) -> Result<(Text, Spot), Refused>
         ensures { Reads (part.literal.reads self.old) result self.new }
     {
         match self.rest {
@@ -255,15 +313,16 @@ impl<'a> Cursor<'a> {
                 },
                 rest @ ..,
             ] => {
-                self.rest = rest;
-                Ok((text.copy()?, *line))
+                let spot = self.spot(*line);
+                self.move_to(rest);
+                Ok((text.copy()?, spot))
             }
             _ => Err(Refused::Stop(Why::Syntax)),
         }
     }
 
-    /// Takes the picture behind PIC, and gives it with its line.
-    pub fn picture(&mut self) -> Result<(Text, u32), Refused>
+    /// Takes the picture behind PIC, and gives it with its spot.
+    pub fn picture(&mut self) -> Result<(Text, Spot), Refused>
         ensures { Reads (part.picture.reads self.old) result self.new }
     {
         match self.rest {
@@ -274,8 +333,9 @@ impl<'a> Cursor<'a> {
                 },
                 rest @ ..,
             ] => {
-                self.rest = rest;
-                Ok((picture.copy()?, *line))
+                let spot = self.spot(*line);
+                self.move_to(rest);
+                Ok((picture.copy()?, spot))
             }
             _ => Err(Refused::Stop(Why::Syntax)),
         }

@@ -3,7 +3,7 @@
 ghost use Rattle.std.specs.Prelude.{◌≡◌, ◌≤◌, ℕ, List, None, Option, IfOk, IfErr, position};
 ghost use Rattle.std.specs.Str.{bytes_eq};
 ghost use Rattle.grammar_forms.specs.Form as form;
-ghost use Rattle.grammar_forms.specs.Reading.{Reads, IsReader, OnlyAdds, start, end};
+ghost use Rattle.grammar_forms.specs.Reading.{Reads, IsReader, OnlyAdds, AllSpell};
 ghost use Rattle.grammar_forms.specs.declared.why.Why.TheVariants as why;
 ghost use Rattle.grammar_forms.specs.declared.note.Note.{Note};
 ghost use Rattle.grammar_forms.specs.declared.example.Step.{Step};
@@ -151,12 +151,12 @@ fn place_of(known: &[Word], word: &Word) -> Option<usize>
 fn name(cursor: &mut Cursor<'_>, known: &[Word]) -> Result<usize, Refused>
     ensures { Reads ((example.name known.now).reads cursor.old) result cursor.new }
 {
-    let (word, line) = cursor.word()?;
+    let (word, spot) = cursor.word()?;
     match place_of(known, &word) {
         None => {
             cursor.note(Some(Note {
                 kind: NameKind::Unknown,
-                line,
+                spot,
             }));
             Ok(0)
         }
@@ -268,8 +268,8 @@ fn text(alloc: Global, cursor: &mut Cursor<'_>, known: &[Word]) -> Result<Items<
 
 /// The steps that the tokens spell.
 pub fn read(alloc: Global, known: &[Word], tokens: &[Token]) -> Result<Items<Step>, Fault>
-    ensures found { IfOk result (λ steps. (example.text known.now).spells (start tokens.now) steps (end None)) }
-    ensures only { (steps : List Step) (fault : Option Note) → (example.text known.now).spells (start tokens.now) steps (end fault) → example.Gives result steps fault }
+    ensures found { IfOk result (λ steps. AllSpell (example.text known.now) tokens.now steps None) }
+    ensures only { (steps : List Step) (fault : Option Note) → AllSpell (example.text known.now) tokens.now steps fault → example.Gives result steps fault }
     ensures fault { IfErr result (λ fault. example.IsFault known.now tokens.now fault) }
 {
     let mut cursor = Cursor::new(tokens);

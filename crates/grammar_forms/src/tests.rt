@@ -1,6 +1,6 @@
 use crate::cursor::Cursor;
 use crate::example::{Step, read};
-use crate::note::{NameKind, Note};
+use crate::note::{NameKind, Note, Spot};
 use cob_base::{Text, Word};
 use cob_tree::Number;
 use cobol_lex::{Token, TokenKind};
@@ -79,7 +79,7 @@ fn answer_of(alloc: Global, known: &str, text: &str) -> Result<String, Fail> {
 
 #[test]
 fn reads_the_small_grammar(rt: HostRuntime) -> Result<(), Fail> {
-    let unknown = "Name(Note { kind: Unknown, line: 1 })";
+    let unknown = "Name(Note { kind: Unknown, spot: Spot { place: 1, line: 1 } })";
     for (text, want) in [
         // a keyword and a list of one or more
         ("SHOW 7 .", "show 7; "),
@@ -99,7 +99,10 @@ fn reads_the_small_grammar(rt: HostRuntime) -> Result<(), Fail> {
         // an optional word, and names
         ("GO TO B GO A .", "go 1; go 0; "),
         ("GO C\nGO D .", unknown),
-        ("GO TO TO\n.", unknown),
+        (
+            "GO TO TO\n.",
+            "Name(Note { kind: Unknown, spot: Spot { place: 2, line: 1 } })",
+        ),
         ("GO C\nSHOW .", "Stop(Syntax, 2)"),
         ("GO 1 .", "Stop(Syntax, 1)"),
         // a choice by the next token
@@ -143,28 +146,43 @@ fn takes_each_kind_of_token(rt: HostRuntime) -> Result<(), Fail> {
     }
     let mut cursor = Cursor::new(&tokens);
     assert_eq!(rt; cursor.left(), 5);
-    assert_eq!(rt; cursor.digits(), Ok((text_of(alloc, b"12")?, 1)));
+    assert_eq!(rt;
+        cursor.digits(),
+        Ok((text_of(alloc, b"12")?, Spot { place: 0, line: 1 }))
+    );
     assert_eq!(rt; cursor.sees_period(), true);
-    assert_eq!(rt; cursor.period(), Ok(()));
-    cursor.note(Some(Note {
-        kind: NameKind::Level,
-        line: 2,
-    }));
-    assert_eq!(rt; cursor.literal(), Ok((text_of(alloc, b"a b")?, 3)));
-    assert_eq!(rt; cursor.picture(), Ok((text_of(alloc, b"9(2)")?, 3)));
+    assert_eq!(rt; cursor.period(), Ok(Spot { place: 1, line: 2 }));
+    let third = Spot { place: 2, line: 3 };
+    assert_eq!(rt; cursor.literal(), Ok((text_of(alloc, b"a b")?, third)));
+    let fourth = Spot { place: 3, line: 3 };
+    assert_eq!(rt; cursor.picture(), Ok((text_of(alloc, b"9(2)")?, fourth)));
     let number = Number {
         negative: true,
         digits: text_of(alloc, b"15")?,
         scale: 1,
     };
-    assert_eq!(rt; cursor.decimal(), Ok((number, 3)));
+    assert_eq!(rt; cursor.decimal(), Ok((number, Spot { place: 4, line: 3 })));
     assert_eq!(rt; cursor.ended(), Ok(()));
-    assert_eq!(rt;
-        cursor.fault(),
-        Some(Note {
-            kind: NameKind::Level,
-            line: 2
-        })
-    );
+    // the first in the order of tokens counts, and at one token the first kind
+    for (kind, spot, kept) in [
+        (NameKind::Value, fourth, NameKind::Value),
+        (NameKind::Usage, third, NameKind::Usage),
+        (NameKind::Level, third, NameKind::Level),
+        (NameKind::Picture, third, NameKind::Level),
+        (NameKind::Unknown, fourth, NameKind::Level),
+    ] {
+        cursor.note(Some(Note { kind, spot }));
+        assert_eq!(rt;
+            cursor.fault(),
+            Some(Note {
+                kind: kept,
+                spot: if kept == NameKind::Value {
+                    fourth
+                } else {
+                    third
+                }
+            })
+        );
+    }
     Ok(())
 }
