@@ -1,5 +1,5 @@
 -- The three readings of a form belong together, and each way to make a form keeps that.
-use Rattle.std.proofs.Common.{◌≡◌, inl, inr, List, [], ◌∷◌, ◌++◌, length, Option, Some, None, refl, sym, ap, subst, ◌∙◌, append_assoc, length-append, arith}
+use Rattle.std.proofs.Common.{◌≡◌, ℕ, ◌+◌, inl, inr, List, [], ◌∷◌, ◌++◌, length, Option, Some, None, refl, sym, ap, subst, ◌∙◌, append_assoc, length-append, arith}
 use Rattle.cobol_lex.specs.declared.token.Token.{Token}
 use Rattle.cobol_lex.specs.declared.token.TokenKind.{TokenKind}
 use Rattle.grammar_forms.specs.declared.note.Note.{Note}
@@ -30,6 +30,11 @@ pub record Lawful {A : Type 0} (f : Form A) : Type 0 where
   pub within : (p : Place) → IsEnd p.rest (left (f.reads p))
   pub extends : (p : Place) (more : List Token) → Extends (f.reads p) (f.reads (at (p.rest ++ more) p)) more (left (f.reads p))
   pub noted : (p : Place) (earlier : Option Note) → f.reads (behind_fault earlier p) ≡ noted_before earlier (f.reads p)
+  pub counted : (p : Place) (a : A) (q : Place) → f.reads p ≡ Got a q → q.taken + length q.rest ≡ p.taken + length p.rest
+
+-- how many tokens there are before a place and behind it
+abbrev pub total : Place → ℕ
+total p = p.taken + length p.rest
 
 -- ---- small things
 
@@ -74,6 +79,7 @@ pure-lawful a = record {
   within = λ p. end_all p.rest;
   extends = λ p more. got_extends a p p.rest more;
   noted = λ p earlier. refl;
+  counted = λ p b q e. ap total (sym (got_is a b p q e).1);
 }
 
 noted_twice : (earlier late : Option Note) (p : Place) → with_fault late (behind_fault earlier p) ≡ behind_fault earlier (with_fault late p)
@@ -88,6 +94,7 @@ note-lawful fault = record {
   within = λ p. end_all p.rest;
   extends = λ p more. got_extends tt (with_fault fault p) p.rest more;
   noted = λ p earlier. ap (λ q. Got tt q) (noted_twice earlier fault p);
+  counted = λ p b q e. ap total (sym (got_is tt b (with_fault fault p) q e).1);
 }
 
 pub refuse-lawful : {A : Type 0} (why : Why) → Lawful (refuse {A = A} why)
@@ -99,6 +106,7 @@ refuse-lawful {A = A} why = record {
   within = λ p. end_all p.rest;
   extends = λ p more. stopped_extends A why p.rest more;
   noted = λ p earlier. refl;
+  counted = λ p b q e. absurd cc;
 }
 
 -- ---- one after the other
@@ -164,6 +172,7 @@ bind-lawful f g F G = record {
   within = λ ts. both_within g G (f.reads ts) ts.rest (F.within ts);
   extends = λ ts more. both_extends g G (f.reads ts) (f.reads (at (ts.rest ++ more) ts)) more (F.extends ts more);
   noted = λ p earlier. ap (λ o. then_read o (λ a r. (g a).reads r)) (F.noted p earlier) ∙ both_noted g G earlier (f.reads p);
+  counted = λ p b q e. let s = then_got (f.reads p) (λ a r. (g a).reads r) b q e in (G s.0).counted s.1 b q s.3 ∙ F.counted p s.0 s.1 s.2;
 }
 
 -- ---- one token
@@ -226,6 +235,14 @@ one_noted {A = A} test (t ∷ ts) p earlier = go (test (spot_of p t) t.kind)
     go (Some b) = refl
     go None = refl
 
+one_counted : {A : Type 0} (test : Spot → TokenKind → Option A) (ts : List Token) (p : Place) (a : A) (q : Place) → one_reads test ts p ≡ Got a q → q.taken + length q.rest ≡ p.taken + length ts
+one_counted test [] p a q e = absurd cc
+one_counted {A = A} test (t ∷ ts) p a q e = go (test (spot_of p t) t.kind) e
+  where
+    go : (o : Option A) → taken_as o t ts p ≡ Got a q → q.taken + length q.rest ≡ p.taken + length (t ∷ ts)
+    go (Some b) e = let same : q.taken + length q.rest ≡ (p.taken + 1) + length ts = ap total (sym (got_is b a (past ts p) q e).1) in omega (arith, same)
+    go None e = absurd cc
+
 pub one-lawful : {A : Type 0} (test : Spot → TokenKind → Option A) → Lawful (one test)
 one-lawful test = record {
   sound = λ p. one_sound test p.rest p;
@@ -235,6 +252,7 @@ one-lawful test = record {
   within = λ p. one_within test p.rest p;
   extends = λ p more. subst (λ o. Extends (one_reads test p.rest p) o more (left (one_reads test p.rest p))) (sym (one_moved test (p.rest ++ more) (p.rest ++ more) p)) (one_extends test p.rest p more);
   noted = λ p. one_noted test p.rest p;
+  counted = λ p. one_counted test p.rest p;
 }
 
 -- ---- by the next token
@@ -261,4 +279,5 @@ by-lawful choice C = record {
   within = λ p. (C (next p.rest)).within p;
   extends = λ p more. by_extends choice C p.rest p more;
   noted = λ p. (C (next p.rest)).noted p;
+  counted = λ p. (C (next p.rest)).counted p;
 }

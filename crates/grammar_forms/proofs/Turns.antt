@@ -4,7 +4,7 @@ use Rattle.cobol_lex.specs.declared.token.Token.{Token}
 use Rattle.cobol_lex.specs.declared.token.TokenKind.{TokenKind}
 use Rattle.grammar_forms.specs.declared.note.Note.{Note}
 use Rattle.grammar_forms.specs.Form.{Place, at, behind_fault, Outcome, Got, Stop, left, then_read, noted_before, Form, is_next, loop_spells, loop_cut, loop_reads, loop}
-use Rattle.grammar_forms.proofs.Lawful.{Lawful, IsEnd, Extends, end_all, end_then, end_nil, got_is}
+use Rattle.grammar_forms.proofs.Lawful.{Lawful, total, IsEnd, Extends, end_all, end_then, end_nil, got_is}
 
 -- what is read takes a token
 pub record Consumes {A : Type 0} (f : Form A) : Type 0 where
@@ -188,6 +188,22 @@ module _ {S : Type 0} (begin : TokenKind → Bool) (step : S → Form S) (L : (s
       turn again true = ap (λ o. then_turns o (turns n)) ((L s).noted p earlier) ∙ item again ((step s).reads p)
       turn again false = refl
 
+  counted : (n : ℕ) (s : S) (p : Place) (last : S) (q : Place) → turns n s p ≡ Got last q → total q ≡ total p
+  unfolding loop_reads
+  counted zero s p last q e = ap total (sym (got_is s last p q e).1)
+  counted (suc n) s p last q e = turn (λ x r k. counted n x r last q k) (is_next begin p) e
+    where
+      Again : Type 0
+      Again = (x : S) (r : Place) → turns n x r ≡ Got last q → total q ≡ total r
+
+      item : Again → (o : Outcome S) → (step s).reads p ≡ o → then_turns o (turns n) ≡ Got last q → total q ≡ total p
+      item again (Got x r) is e = again x r e ∙ (L s).counted p x r is
+      item again (Stop why r) is e = absurd cc
+
+      turn : Again → (b : Bool) → one_turn b (turns n) s p ≡ Got last q → total q ≡ total p
+      turn again true e = item again ((step s).reads p) refl e
+      turn again false e = ap total (sym (got_is s last p q e).1)
+
   pub loop-lawful : (s : S) → Lawful (loop begin step s)
   loop-lawful s = record {
     sound = λ p last q e. sound (length p.rest) s p last q (omega arith) e;
@@ -197,4 +213,5 @@ module _ {S : Type 0} (begin : TokenKind → Bool) (step : S → Form S) (L : (s
     within = λ p. within (length p.rest) s p;
     extends = λ p more. extends (length p.rest) s p p.rest more (omega arith);
     noted = λ p. noted (length p.rest) s p;
+    counted = λ p last q e. counted (length p.rest) s p last q e;
   }
