@@ -1,7 +1,6 @@
 -- Each form of the small grammar is lawful.
 use Rattle.std.proofs.Common.{◌≡◌, ℕ, zero, suc, true, List, [], sym, ap, ◌∙◌}
 use Rattle.std.specs.Prelude.{codes}
-use Rattle.cobol_lex.specs.declared.token.TokenKind.{TokenKind}
 use Rattle.grammar_forms.specs.declared.example.Step.{Step}
 use Rattle.grammar_forms.specs.Form.{Form, Place, Got}
 use Rattle.grammar_forms.specs.Parts.{period, ended}

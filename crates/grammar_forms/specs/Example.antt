@@ -1,5 +1,5 @@
 -- A small grammar that uses each way to make a form, so that their laws are proved at it.
-use Rattle.std.specs.Prelude.{◌≡◌, ℕ, zero, suc, ◌-◌, Bool, true, false, ◌||◌, codes, List, [], ◌∷◌, ◌++◌, Option, Some, None, Result, Ok, Err, position}
+use Rattle.std.specs.Prelude.{◌≡◌, ℕ, zero, suc, ◌-◌, Bool, true, ◌||◌, codes, List, [], ◌∷◌, ◌++◌, Option, Some, None, Result, Ok, Err, position}
 use Rattle.std.specs.Str.{bytes_eq}
 use Rattle.cobol_lex.specs.declared.token.Token.{Token}
 use Rattle.cobol_lex.specs.declared.token.TokenKind.{TokenKind}
@@ -7,7 +7,7 @@ use Rattle.cobol_lex.specs.declared.token.TokenKind.TheVariants.{Digits}
 use Rattle.grammar_forms.specs.declared.note.Note.{Note}
 use Rattle.grammar_forms.specs.declared.note.Spot.{Spot}
 use Rattle.grammar_forms.specs.declared.note.NameKind.TheVariants.{Unknown}
-use Rattle.grammar_forms.specs.declared.why.Why.TheVariants.{Syntax, Parens, Nesting}
+use Rattle.grammar_forms.specs.declared.why.Why.TheVariants.{Parens, Nesting}
 use Rattle.grammar_forms.specs.declared.example.Step.{Step}
 use Rattle.grammar_forms.specs.declared.example.Step.TheVariants as steps
 use Rattle.grammar_forms.specs.declared.example.Fault.{Fault}

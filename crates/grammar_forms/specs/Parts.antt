@@ -7,7 +7,7 @@ use Rattle.cob_tree.specs.declared.number.Number.{Number}
 use Rattle.grammar_forms.specs.declared.note.Spot.{Spot}
 use Rattle.grammar_forms.specs.declared.why.Why.{Why}
 use Rattle.grammar_forms.specs.declared.why.Why.TheVariants.{Syntax}
-use Rattle.grammar_forms.specs.Form.{Form, one, by, pure, refuse, ◌>>=◌, ◌>>◌, where_next}
+use Rattle.grammar_forms.specs.Form.{Form, one, by, pure, refuse, ◌>>◌, where_next}
 
 abbrev pub when : {A : Type 0} → Bool → A → Option A
 when holds a = if holds then Some a else None
