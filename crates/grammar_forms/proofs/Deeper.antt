@@ -94,6 +94,9 @@ loop {want = want} {begin = begin} {f = f} {g = g} {s = s} D = record {
   law = laws.loop (λ x. (D x).law);
 }
 
+pub many : {A : Type 0} {want : Why} {begin : TokenKind → Bool} {f g : Form A} → Deepens want true f g → Deepens want false (form.many begin f) (form.many begin g)
+many D = loop (λ front. D >>= (λ y. same laws.pure))
+
 pub some : {A : Type 0} {want : Why} {begin : TokenKind → Bool} {f g : Form A} → Deepens want true f g → Deepens want true (form.some begin f) (form.some begin g)
 some D = D >>= (λ x. loop (λ front. D >>= (λ y. same laws.pure)))
 
