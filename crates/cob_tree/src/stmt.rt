@@ -31,7 +31,10 @@ impl Copied for Operand {
 #[derive(Debug, Drop, PartialEq, Eq)]
 pub enum Stmt {
     /// DISPLAY; `advance` is false with NO ADVANCING.
-    Display { items: Items<Operand>, advance: bool },
+    Display {
+        items: Items<Operand>,
+        advance: bool,
+    },
     /// GO TO a paragraph, by its place among the paragraphs, from 0.
     Go(u32),
     /// STOP RUN.

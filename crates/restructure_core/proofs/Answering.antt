@@ -1,23 +1,22 @@
 -- What reading tells of the bytes.
-use Rattle.std.proofs.Common.{◌≡◌, ℕ, suc, ◌+◌, ◌<◌, ◌≤◌, List, [], ◌∷◌, ◌++◌, length, map, Err, refl, ap, sym, ◌∙◌, subst, arith, ◌⊎◌, inl, inr}
-use Rattle.std.specs.Prelude.{All, IsOk, Result}
+use Rattle.std.proofs.Common.{◌≡◌, ℕ, ◌+◌, ◌≤◌, List, [], ◌∷◌, ◌++◌, length, Err, refl, ap, sym, ◌∙◌, subst, arith, ◌⊎◌, inr}
+use Rattle.std.specs.Prelude.{IsOk, Result}
 use Rattle.std.specs.List.{flat_map}
 use Rattle.std.proofs.lemmas.List.{length-append, length-map}
 use Rattle.cob_tree.specs.declared.program.Program.{Program}
-use Rattle.cob_tree.specs.Structured.{IsStructured}
 use Rattle.restructure_core.specs.declared.draft.DraftParagraph.{DraftParagraph}
 use Rattle.restructure_core.specs.declared.draft.Draft.{Draft}
 use Rattle.restructure_core.specs.declared.fault.FollowFault.{FollowFault}
 use Rattle.restructure_core.specs.declared.fault.FollowFault.TheVariants as follow
 use Rattle.restructure_core.specs.declared.fault.Refused.{Refused}
 use Rattle.restructure_core.specs.declared.fault.Refused.TheVariants as refused
-use Rattle.restructure_core.specs.Printed.{line, ended, headers, paragraph_names, printed}
+use Rattle.restructure_core.specs.Printed.{headers, paragraph_names, printed}
 use Rattle.restructure_core.specs.Plain.{IsPlain, Reads}
 use Rattle.restructure_core.specs.Control.{ComesBack}
 use Rattle.restructure_core.specs.Rendered.{rendered}
 use Rattle.restructure_core.specs.Draft.{draft_stmt_printed, draft_paragraph_printed, draft_printed, IsDraft, draft_paragraph, draft_of}
 use Rattle.restructure_core.specs.Refusals.{of_follow_fault}
-use Rattle.restructure_core.specs.Answers.{source_limit, IsLooping, IsRestructured}
+use Rattle.restructure_core.specs.Answers.{source_limit, IsRestructured}
 use Rattle.restructure_core.proofs.Paragraphs.{draft-same}
 use Rattle.restructure_core.proofs.Drafting.{draft-printed, draft-plain, reads-one}
 use Rattle.restructure_core.proofs.Structured.{rendering-structured}

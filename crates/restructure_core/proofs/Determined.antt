@@ -1,20 +1,17 @@
 -- A spelling determines what is spelled.
-use Rattle.std.proofs.Common.{◌≡◌, ◌≢◌, ℕ, ◌+◌, ◌<◌, Bool, true, List, [], ◌∷◌, ◌++◌, length, get_or, nat_eq, refl, ap, sym, ◌∙◌, subst, arith, append_assoc, append-nil}
+use Rattle.std.proofs.Common.{◌≡◌, ℕ, ◌<◌, true, List, [], ◌∷◌, ◌++◌, refl, ap, sym, ◌∙◌, subst, arith, append_assoc}
 use Rattle.std.specs.Prelude.{All, codes}
 use Rattle.std.specs.List.{flat_map}
 use mathlib.Core.Bool.{true≢false}
-use Rattle.std.proofs.lemmas.Bool.Decides.{nat_tests}
-use Rattle.std.proofs.lemmas.List.{append_cancel_left, length-append}
-use Rattle.std.proofs.lemmas.List.Elements.{All-head, All-tail, All-append, All-cons, All-nil}
+use Rattle.std.proofs.lemmas.List.{append_cancel_left}
+use Rattle.std.proofs.lemmas.List.Elements.{All-head, All-tail}
 use Rattle.cob_base.specs.Spelling.{word_byte, IsCapitalWord}
 use Rattle.restructure_core.specs.declared.draft.DraftStmt.{DraftStmt}
 use Rattle.restructure_core.specs.declared.draft.DraftStmt.TheVariants.{Display, Go, StopRun}
 use Rattle.restructure_core.specs.declared.draft.DraftParagraph.{DraftParagraph}
-use Rattle.restructure_core.specs.declared.draft.Draft.{Draft}
-use Rattle.restructure_core.specs.Plain.{IsPlainText}
-use Rattle.restructure_core.specs.Printed.{line, ended, headers}
-use Rattle.restructure_core.specs.Draft.{draft_stmt_printed, draft_paragraph_printed, draft_printed, IsDraftStmt, IsDraftParagraph, IsDraft}
-use Rattle.restructure_core.specs.Reading.{HasStmt, NoStmt, HasName, NoName, HasStmts, HasParagraph, NoParagraph, HasParagraphs}
+use Rattle.restructure_core.specs.Printed.{line, ended}
+use Rattle.restructure_core.specs.Draft.{draft_stmt_printed, draft_paragraph_printed, IsDraftStmt, IsDraftParagraph}
+use Rattle.restructure_core.specs.Reading.{HasStmt, NoStmt, HasName}
 use Rattle.restructure_core.proofs.Splitting.{split-same, word-no_period, text-no_mark}
 use Rattle.restructure_core.proofs.Lines.{display_start, go_start, stop_line, display-line, go-line, name-line, display-go, display-stop, go-stop}
 

@@ -1,11 +1,10 @@
 -- A plain program is spelled as its draft is, and is its draft's only program.
-use Rattle.std.proofs.Common.{◌≡◌, ◌≢◌, ℕ, suc, ◌+◌, ◌<◌, ◌≤◌, Bool, true, false, List, [], ◌∷◌, ◌++◌, length, map, Option, Some, None, refl, ap, sym, ◌∙◌, subst, arith, append_assoc, append-nil}
-use Rattle.std.specs.Prelude.{All, AllPairs, codes, slice_get, unwrap_or}
+use Rattle.std.proofs.Common.{◌≡◌, ◌≢◌, ℕ, ◌<◌, Bool, true, false, List, [], ◌∷◌, ◌++◌, length, map, Option, Some, None, refl, ap, sym, ◌∙◌, subst, arith, append-nil}
+use Rattle.std.specs.Prelude.{All, AllPairs, codes, unwrap_or}
 use Rattle.std.specs.List.{flat_map}
-use Rattle.std.proofs.Common.{get_or, ◌⊎◌, inl, inr}
+use Rattle.std.proofs.Common.{get_or, inl, inr}
 use Rattle.std.proofs.lemmas.List.{length-map}
 use Rattle.std.proofs.lemmas.Option.{unwrap_or-slice_get}
-use Rattle.std.proofs.lemmas.List.Folds.{flat_map-map}
 use Rattle.std.proofs.lemmas.List.Elements.{All-head, All-tail, All-map, All-weaker}
 use Rattle.cob_tree.specs.declared.stmt.Operand.{Operand}
 use Rattle.cob_tree.specs.declared.stmt.Operand.TheVariants.{Text}
@@ -14,12 +13,11 @@ use Rattle.cob_tree.specs.declared.stmt.Stmt.TheVariants as tree
 use Rattle.cob_tree.specs.declared.program.Sentence.{Sentence}
 use Rattle.cob_tree.specs.declared.program.Paragraph.{Paragraph}
 use Rattle.cob_tree.specs.declared.program.Program.{Program}
-use Rattle.restructure_core.specs.declared.draft.DraftStmt.{DraftStmt}
 use Rattle.restructure_core.specs.declared.draft.DraftStmt.TheVariants.{Display, Go, StopRun}
 use Rattle.restructure_core.specs.declared.draft.DraftParagraph.{DraftParagraph}
 use Rattle.restructure_core.specs.declared.draft.Draft.{Draft}
 use Rattle.restructure_core.specs.Printed.{line, ended, headers, name_of, paragraph_names, name_at, stmt_text, stmts_printed, sentence_printed, paragraph_printed, printed}
-use Rattle.restructure_core.specs.Plain.{IsPlainText, IsPlainStmt, IsPlainSentence, IsPlainName, IsPlainParagraph, IsPlain, Reads}
+use Rattle.restructure_core.specs.Plain.{IsPlainStmt, IsPlainSentence, IsPlainName, IsPlainParagraph, IsPlain, Reads}
 use Rattle.restructure_core.specs.Draft.{draft_stmt_text, draft_stmt_printed, draft_paragraph_printed, draft_printed, IsDraftStmt, IsDraftParagraph, IsDraft, draft_stmt, draft_sentence, draft_paragraph, draft_of}
 use Rattle.cob_base.specs.Spelling.{IsCapitalWord}
 use Rattle.runs.proofs.Ties.{le_or}

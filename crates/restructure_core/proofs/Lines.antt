@@ -7,7 +7,7 @@ use Rattle.std.proofs.lemmas.List.{append_cancel_left, length-append}
 use Rattle.std.proofs.lemmas.List.Concat.{flat_map-append}
 use Rattle.restructure_core.specs.declared.draft.DraftStmt.{DraftStmt}
 use Rattle.restructure_core.specs.declared.draft.DraftStmt.TheVariants.{Display, Go, StopRun}
-use Rattle.restructure_core.specs.Printed.{line, ended, headers}
+use Rattle.restructure_core.specs.Printed.{line, ended}
 use Rattle.restructure_core.specs.Draft.{draft_stmt_printed}
 use Rattle.restructure_core.specs.Reading.{HasWord, NoWord, HasName, NoName, HasStmt, NoStmt, NoDisplay, HasDisplay, HasGo}
 

@@ -1,18 +1,18 @@
 -- Paragraphs and headers at the front of the bytes.
-use Rattle.std.proofs.Common.{◌≡◌, ◌≢◌, ℕ, ◌+◌, ◌<◌, Bool, true, false, List, [], ◌∷◌, ◌++◌, length, refl, ap, sym, ◌∙◌, subst, arith, append_assoc, append-nil}
+use Rattle.std.proofs.Common.{◌≡◌, ◌≢◌, ℕ, ◌<◌, Bool, true, false, List, [], ◌∷◌, ◌++◌, length, refl, ap, sym, ◌∙◌, subst, arith, append_assoc, append-nil}
 use Rattle.std.specs.Prelude.{All, codes, ◌==◌}
 use Rattle.std.proofs.lemmas.Bool.Decides.{nat_tests}
 use Rattle.std.specs.List.{flat_map}
-use Rattle.std.proofs.lemmas.List.{append_cancel_left, length-append}
+use Rattle.std.proofs.lemmas.List.{append_cancel_left}
 use Rattle.std.proofs.lemmas.List.Concat.{flat_map-append}
-use Rattle.std.proofs.lemmas.List.Elements.{All-head, All-tail, All-push}
+use Rattle.std.proofs.lemmas.List.Elements.{All-head, All-tail}
 use Rattle.cob_base.specs.Spelling.{IsCapitalWord}
 use Rattle.restructure_core.specs.declared.draft.DraftStmt.{DraftStmt}
 use Rattle.restructure_core.specs.declared.draft.DraftParagraph.{DraftParagraph}
 use Rattle.restructure_core.specs.declared.draft.Draft.{Draft}
 use Rattle.restructure_core.specs.Printed.{line, ended, headers}
 use Rattle.restructure_core.specs.Draft.{draft_stmt_printed, draft_paragraph_printed, draft_printed, IsDraftStmt, IsDraftParagraph, IsDraft}
-use Rattle.restructure_core.specs.Reading.{IsSplit, HasWord, NoWord, HasStmt, NoStmt, HasName, NoName, HasStmts, HasParagraph, NoParagraph, HasParagraphs, HasHeaders, NoHeaders}
+use Rattle.restructure_core.specs.Reading.{IsSplit, HasName, NoName, HasStmts, HasParagraph, NoParagraph, HasParagraphs, HasHeaders, NoHeaders}
 use Rattle.restructure_core.proofs.Splitting.{split-same, no-split, word-no_period}
 use Rattle.restructure_core.proofs.Determined.{name-same, paragraph-same, paragraphs-same, paragraphs-no_stmt}
 

@@ -13,7 +13,7 @@ use Rattle.cob_tree.specs.declared.program.Sentence.{Sentence}
 use Rattle.cob_tree.specs.declared.program.Paragraph.{Paragraph}
 use Rattle.cob_tree.specs.declared.program.Program.{Program}
 use Rattle.restructure_core.specs.declared.draft.DraftStmt.{DraftStmt}
-use Rattle.restructure_core.specs.declared.draft.DraftStmt.TheVariants.{Display, Go, StopRun}
+use Rattle.restructure_core.specs.declared.draft.DraftStmt.TheVariants.{Go}
 use Rattle.restructure_core.specs.declared.draft.DraftParagraph.{DraftParagraph}
 use Rattle.restructure_core.specs.declared.draft.Draft.{Draft}
 use Rattle.restructure_core.specs.Printed.{name_of, paragraph_names, name_at}

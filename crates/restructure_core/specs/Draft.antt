@@ -1,12 +1,10 @@
 -- The plain form before names are looked up: how it is spelled, and which program it is.
-use Rattle.std.specs.Prelude.{ℕ, ◌≡◌, ◌<◌, Bool, true, false, Any, List, [], ◌∷◌, ◌++◌, length, map, All, codes}
+use Rattle.std.specs.Prelude.{ℕ, ◌<◌, List, [], ◌∷◌, ◌++◌, length, map, All, codes}
 use Rattle.std.specs.List.{flat_map}
 use Rattle.cob_base.specs.Spelling.{IsCapitalWord}
-use Rattle.cob_tree.specs.declared.stmt.Operand.{Operand}
 use Rattle.cob_tree.specs.declared.stmt.Operand.TheVariants.{Text}
 use Rattle.cob_tree.specs.declared.stmt.Stmt.{Stmt}
 use Rattle.cob_tree.specs.declared.stmt.Stmt.TheVariants as tree
-use Rattle.cob_tree.specs.declared.program.Sentence.{Sentence}
 use Rattle.cob_tree.specs.declared.program.Paragraph.{Paragraph}
 use Rattle.cob_tree.specs.declared.program.Program.{Program}
 use Rattle.restructure_core.specs.declared.draft.DraftStmt.{DraftStmt}
@@ -14,7 +12,7 @@ use Rattle.restructure_core.specs.declared.draft.DraftStmt.TheVariants.{Display,
 use Rattle.restructure_core.specs.declared.draft.DraftParagraph.{DraftParagraph}
 use Rattle.restructure_core.specs.declared.draft.Draft.{Draft}
 use Rattle.restructure_core.specs.Printed.{line, ended, headers, name_of, paragraph_names, name_at}
-use Rattle.restructure_core.specs.Plain.{IsPlainText, IsLetter}
+use Rattle.restructure_core.specs.Plain.{IsPlainText}
 
 abbrev pub draft_stmt_text : DraftStmt → List ℕ
 draft_stmt_text (Display bytes) = codes "DISPLAY \"" ++ bytes ++ 34 ∷ []

@@ -1,7 +1,6 @@
 -- The plain form: what is read so far.
-use Rattle.std.specs.Prelude.{ℕ, ◌≡◌, ◌≢◌, ◌<◌, ◌≤◌, Bool, true, false, ◌||◌, nat_le, IsTrue, Any, List, [], ◌∷◌, length, map, All, AllPairs, Option, Some, None}
+use Rattle.std.specs.Prelude.{ℕ, ◌≡◌, ◌≢◌, ◌<◌, ◌≤◌, true, false, Any, List, [], ◌∷◌, length, All, AllPairs, Option, Some, None}
 use Rattle.cob_base.specs.Spelling.{IsCapitalWord}
-use Rattle.cob_tree.specs.declared.stmt.Operand.{Operand}
 use Rattle.cob_tree.specs.declared.stmt.Operand.TheVariants.{Text}
 use Rattle.cob_tree.specs.declared.stmt.Stmt.{Stmt}
 use Rattle.cob_tree.specs.declared.stmt.Stmt.TheVariants.{Display, Go, StopRun}

@@ -1,5 +1,5 @@
 -- How a program is printed: lines of seven spaces, a text and a line feed.
-use Rattle.std.specs.Prelude.{ℕ, Bool, if◌then◌else◌, List, [], ◌∷◌, ◌++◌, map, codes, replicate, slice_get, Option, Some, None, unwrap_or}
+use Rattle.std.specs.Prelude.{ℕ, if◌then◌else◌, List, [], ◌∷◌, ◌++◌, map, codes, replicate, slice_get, unwrap_or}
 use Rattle.std.specs.List.{flat_map}
 use Rattle.cob_tree.specs.declared.stmt.Operand.{Operand}
 use Rattle.cob_tree.specs.declared.stmt.Operand.TheVariants.{Text}

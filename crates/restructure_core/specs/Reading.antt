@@ -1,9 +1,9 @@
 -- What stands at the front of the bytes.
-use Rattle.std.specs.Prelude.{ℕ, ◌≡◌, ◌≢◌, List, [], ◌∷◌, ◌++◌, All}
+use Rattle.std.specs.Prelude.{ℕ, ◌≡◌, ◌≢◌, List, ◌∷◌, ◌++◌, All}
 use Rattle.std.specs.List.{flat_map}
 use Rattle.cob_base.specs.Spelling.{IsCapitalWord}
 use Rattle.restructure_core.specs.declared.draft.DraftStmt.{DraftStmt}
-use Rattle.restructure_core.specs.declared.draft.DraftStmt.TheVariants.{Display, Go, StopRun}
+use Rattle.restructure_core.specs.declared.draft.DraftStmt.TheVariants.{Display, Go}
 use Rattle.restructure_core.specs.declared.draft.DraftParagraph.{DraftParagraph}
 use Rattle.restructure_core.specs.Plain.{IsPlainText}
 use Rattle.restructure_core.specs.Printed.{line, ended, headers}

@@ -1,5 +1,5 @@
 -- How the parts of the top call make its end.
-use Rattle.std.proofs.Common.{◌≡◌, ℕ, ◌+◌, ◌<◌, ◌≤◌, Bool, true, nat_eq, get_or, List, [], ◌∷◌, ◌++◌, length, take, drop, Option, Some, None, IfSome, refl, ap, sym, ◌∙◌, subst, arith, ◌⊎◌, inl, inr}
+use Rattle.std.proofs.Common.{◌≡◌, ℕ, ◌+◌, ◌<◌, ◌≤◌, Bool, true, nat_eq, get_or, List, [], ◌∷◌, length, take, Option, Some, None, IfSome, refl, ap, sym, ◌∙◌, subst, arith, ◌⊎◌, inl, inr}
 use Rattle.std.specs.Prelude.{min, map}
 use Rattle.std.specs.Bool.{Decides}
 use Rattle.std.specs.Cmp.Lexicographic.{pointwise, bytes_decides}
@@ -17,7 +17,7 @@ use Rattle.restructure_tool.specs.declared.status.Status.{Status}
 use Rattle.restructure_tool.specs.declared.status.Status.TheVariants as status
 use Rattle.restructure_tool.specs.Lines.{line_of, status_of}
 use Rattle.restructure_tool.specs.Refusals.{of_refused}
-use Rattle.restructure_tool.specs.Calls.{AsksRestructure, IsRead, Gained, GainedFront, SourceCall, SinkCall, Takes, Keeps, IsAllRead, IsReadPast, Answers, IsRefused, Notes, Writes, IsDone, IsWriteFault, IsNoted, Ends, IsOneOf}
+use Rattle.restructure_tool.specs.Calls.{AsksRestructure, IsRead, GainedFront, SourceCall, SinkCall, Takes, Keeps, IsAllRead, IsReadPast, Answers, IsRefused, Notes, Writes, Ends, IsOneOf}
 
 -- what was read within the limit is all
 

@@ -1,5 +1,5 @@
 -- What a call leaves, and what each status tells.
-use Rattle.std.specs.Prelude.{ℕ, ◌≡◌, ◌+◌, ◌<◌, ◌≤◌, ◌⊎◌, List, [], ◌∷◌, ◌++◌, map, length, take, drop, codes, Option, Some, None, IfSome}
+use Rattle.std.specs.Prelude.{ℕ, ◌≡◌, ◌+◌, ◌⊎◌, List, [], ◌∷◌, ◌++◌, take, drop, codes, Option, Some, None, IfSome}
 use Rattle.cob_base.specs.Outside.{Rose}
 use Rattle.restructure_core.specs.Answers.{source_limit, IsTooLong, IsNotPlain, IsLooping, IsRestructured}
 use Rattle.restructure_tool.specs.declared.refusal.Refusal.{Refusal}

@@ -1,4 +1,4 @@
-use Rattle.restructure_core.proofs.Lines.{stmt-none, display-none, go-none, display-found, go-found}
+use Rattle.restructure_core.proofs.Lines.{stmt-none}
 use Rattle.restructure_core.proofs.read.next_stmt.Goals as goal
 
 pub returns-in-None-clause-none : goal.returns-in-None-clause-none

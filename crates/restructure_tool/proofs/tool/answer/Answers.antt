@@ -1,6 +1,6 @@
-use Rattle.std.proofs.Common.{rules, ap, subst, sym, ◌≡◌, length}
+use Rattle.std.proofs.Common.{rules, subst, sym}
 use Rattle.restructure_core.specs.Answers.{IsRestructured, HasCause}
-use Rattle.restructure_tool.specs.Calls.{AsksRestructure, IsRefused}
+use Rattle.restructure_tool.specs.Calls.{IsRefused}
 use Rattle.restructure_tool.proofs.Ending.{answers, refused-cause}
 use Rattle.restructure_tool.proofs.tool.answer.Goals as goal
 

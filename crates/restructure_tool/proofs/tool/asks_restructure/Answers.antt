@@ -1,6 +1,4 @@
-use Rattle.std.proofs.Common.{ap, ◌∙◌, List, ℕ}
 use Rattle.std.specs.Prelude.{codes, string_bytes}
-use Rattle.std.specs.Cmp.Lexicographic.{bytes_decides}
 use Rattle.restructure_tool.proofs.Ending.{asked-by, tested}
 use Rattle.restructure_tool.proofs.tool.asks_restructure.Goals as goal
 
