@@ -35,7 +35,7 @@ reserved_words =
     codes "WHEN" ∷ codes "WITH" ∷ codes "WORKING-STORAGE" ∷ codes "WRITE" ∷ codes "ZERO" ∷
     codes "ZEROES" ∷ codes "ZEROS" ∷ []
 
--- the words of the standard's other facilities, which no program may use
+-- words that no program may use as its own either, of what is left out of the language
 unfoldable pub left_out_words : List (List ℕ)
 left_out_words =
     codes "ACCEPT" ∷ codes "ALL" ∷ codes "ALSO" ∷ codes "ALTER" ∷ codes "BINARY" ∷ codes "BLANK" ∷

@@ -9,8 +9,8 @@ pub fn token_lines_rise()
     ensures { TokenLinesRise }
 {}
 
-/// A token that is written is read back, whatever follows that doesn't go on with it, where a sign
-/// that it has stands behind a space, LF, `(`, `:`, `,` or `;`.
+/// A token in its own spelling is read back, whatever follows that doesn't go on with it; a number
+/// with a sign or a period stands behind a space, LF, `(`, `:`, `,` or `;`.
 pub fn token_reads_back()
     ensures { TokenReadsBack }
 {}
@@ -26,7 +26,8 @@ pub fn text_reads_back()
     ensures { TextReadsBack }
 {}
 
-/// A text of tokens in any lay-out has these tokens, with the lines on which they begin.
+/// A text of tokens in their own spelling, with any separators between them, has these tokens, with
+/// the lines on which they begin.
 pub fn laid_reads_back()
     ensures { LaidReadsBack }
 {}

@@ -14,8 +14,8 @@ pub enum FormatFault {
     /// A byte below 32 stands in columns 8 to 72.
     #[error("a control character in line {0}")]
     BadByte(u32),
-    /// A continuation has no line before it, something in columns 8 to 11, nothing from column
-    /// 12 on, or not the mark of the literal that it continues.
+    /// A continuation has no line before it that is kept, something in columns 8 to 11, nothing
+    /// from column 12 on, or not the mark of the literal that it continues.
     #[error("a wrong continuation in line {0}")]
     BadContinuation(u32),
     #[error("out of memory")]

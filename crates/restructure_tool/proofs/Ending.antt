@@ -1,10 +1,11 @@
 -- How the parts of the top call make its end.
-use Rattle.std.proofs.Common.{◌≡◌, ℕ, ◌+◌, ◌<◌, ◌≤◌, Bool, true, nat_eq, get_or, List, [], ◌∷◌, length, take, Option, Some, None, IfSome, refl, ap, sym, ◌∙◌, subst, arith, ◌⊎◌, inl, inr}
+use Rattle.std.proofs.Common.{◌≡◌, ℕ, ◌+◌, ◌<◌, ◌≤◌, Bool, true, nat_eq, get_or, List, [], ◌∷◌, length, take, drop, Option, Some, None, IfSome, refl, ap, sym, ◌∙◌, subst, arith, ◌⊎◌, inl, inr}
 use Rattle.std.specs.Prelude.{min, map}
 use Rattle.std.specs.Bool.{Decides}
 use Rattle.std.specs.Cmp.Lexicographic.{pointwise, bytes_decides}
 use Rattle.std.proofs.lemmas.List.{take_all, length-take}
 use Rattle.std.proofs.Math.ListN.{drop_of_length-le}
+use Rattle.std.proofs.Math.Seq.{drop-length}
 use Rattle.restructure_core.specs.declared.fault.Later.TheVariants.{Form, Loop}
 use Rattle.restructure_core.specs.declared.fault.Refused.{Refused}
 use Rattle.restructure_core.specs.declared.fault.Refused.TheVariants as refused
@@ -17,7 +18,7 @@ use Rattle.restructure_tool.specs.declared.status.Status.{Status}
 use Rattle.restructure_tool.specs.declared.status.Status.TheVariants as status
 use Rattle.restructure_tool.specs.Lines.{line_of, status_of}
 use Rattle.restructure_tool.specs.Refusals.{of_refused}
-use Rattle.restructure_tool.specs.Calls.{AsksRestructure, IsRead, GainedFront, SourceCall, SinkCall, Takes, Keeps, IsAllRead, IsReadPast, Answers, IsRefused, Notes, Writes, Ends, IsOneOf}
+use Rattle.restructure_tool.specs.Calls.{AsksRestructure, IsRead, GainedFront, SourceCall, SinkCall, Takes, Keeps, IsAllRead, IsReadPast, IsReadWithin, IsLeftWithin, Answers, IsRefused, Notes, Writes, Ends, IsOneOf}
 
 -- what was read within the limit is all
 
@@ -47,6 +48,10 @@ read-past : (told left : Option (List ℕ)) (text : List ℕ) (count count_now :
 read-past None left text count count_now read = tt
 read-past (Some bytes) left text count count_now read = read.1
 
+read-within : (told left : Option (List ℕ)) (text : List ℕ) → IsRead told text left → IsLeftWithin told left
+read-within None left text read = tt
+read-within (Some bytes) left text read = (source_limit + 1, omega arith, read.1)
+
 pub refused-cause : (words : List (List ℕ)) (told left : Option (List ℕ)) (text : List ℕ) (count count_now : ℕ) → AsksRestructure words → IsRead told text left → (r : Refused) → HasCause text r → IsRefused words (record { told = told; left = left; count = count; count_now = count_now }) (of_refused r)
 refused-cause words told left text count count_now asks read (refused.NotYet Form) h =
     (asks, told-short IsNotPlain told left text read h.within h, all-read told left text count count_now read h.within)
@@ -54,7 +59,7 @@ refused-cause words told left text count count_now asks read (refused.NotYet Loo
     (asks, told-short IsLooping told left text read h.within h, all-read told left text count count_now read h.within)
 refused-cause words told left text count count_now asks read (refused.Limit limit) h =
     (asks, told-long told left text read h.0, read-past told left text count count_now read)
-refused-cause words told left text count count_now asks read refused.NoMemory h = tt
+refused-cause words told left text count count_now asks read refused.NoMemory h = read-within told left text read
 
 pub answers : (words : List (List ℕ)) (told left : Option (List ℕ)) (bytes text : List ℕ) (count count_now : ℕ) → AsksRestructure words → IsRead told bytes left → IsRestructured bytes text → Answers words (record { told = told; left = left; count = count; count_now = count_now }) text
 answers words told left bytes text count count_now asks read h = record {
@@ -85,11 +90,39 @@ refused-ends words source out notes refusal.NotYetLoop h kept noted = inr (recor
 refused-ends words source out notes refusal.PastSource h kept noted = record { cause = h; kept = kept; noted = noted }
 refused-ends words source out notes refusal.ReadFault h kept noted = record { cause = h; kept = kept; noted = noted }
 refused-ends words source out notes refusal.WriteFault h kept noted = absurd h
-refused-ends words source out notes refusal.NoMemory h kept noted = (kept, inl noted)
+refused-ends words source out notes refusal.NoMemory h kept noted = (kept, inl noted, h)
+
+-- what is left of the source, whatever the refusal
+
+drop-zero : (bytes : List ℕ) → drop 0 bytes ≡ bytes
+drop-zero bytes = refl
+
+within-short : (P : List ℕ → Type 0) → ((bytes : List ℕ) → P bytes → length bytes ≤ source_limit) → (source : SourceCall) → IfSome source.told P → IsAllRead source → IsReadWithin source
+within-short P short source h read = all-within P short source.told source.left h read where
+  all-within : (P : List ℕ → Type 0) → ((bytes : List ℕ) → P bytes → length bytes ≤ source_limit) → (told left : Option (List ℕ)) → IfSome told P → IfSome told (λ bytes. left ≡ Some []) → IsLeftWithin told left
+  all-within P short None left h read = tt
+  all-within P short (Some bytes) left h read = let few : length bytes ≤ source_limit = short bytes h in (length bytes, omega (arith, few), read ∙ ap Some (sym (drop-length bytes)))
+
+within-past : (told left : Option (List ℕ)) → IfSome told (λ bytes. left ≡ Some (drop (source_limit + 1) bytes)) → IsLeftWithin told left
+within-past None left read = tt
+within-past (Some bytes) left read = (source_limit + 1, omega arith, read)
+
+within-unread : (told left : Option (List ℕ)) → left ≡ told → IsLeftWithin told left
+within-unread None left same = tt
+within-unread (Some bytes) left same = (0, omega arith, same ∙ ap Some (sym (drop-zero bytes)))
+
+refused-within : (words : List (List ℕ)) (source : SourceCall) (r : Refusal) → IsRefused words source r → IsReadWithin source
+refused-within words source refusal.Usage h = within-unread source.told source.left h.1
+refused-within words source refusal.NotYetForm h = within-short IsNotPlain (λ bytes plain. plain.within) source h.1 h.2
+refused-within words source refusal.NotYetLoop h = within-short IsLooping (λ bytes looping. looping.within) source h.1 h.2
+refused-within words source refusal.PastSource h = within-past source.told source.left h.2
+refused-within words source refusal.ReadFault h = h.2
+refused-within words source refusal.WriteFault h = absurd h
+refused-within words source refusal.NoMemory h = h
 
 pub refusing-ends : (words : List (List ℕ)) (source : SourceCall) (out notes : SinkCall) (r : Refusal) (answer : Status) → IsRefused words source r → Keeps out → Notes r notes answer → Ends words source out notes answer
 refusing-ends words source out notes r answer h kept (inl noted) = subst (Ends words source out notes) (sym noted.0) (refused-ends words source out notes r h kept noted.1)
-refusing-ends words source out notes r answer h kept (inr noted) = subst (Ends words source out notes) (sym noted.0) (kept, inr noted.1)
+refusing-ends words source out notes r answer h kept (inr noted) = subst (Ends words source out notes) (sym noted.0) (kept, inr noted.1, refused-within words source r h)
 
 -- Where each end comes: the causes exclude each other.
 
@@ -223,7 +256,7 @@ written-ends words source out notes text status.NotSubset h g = absurd g
 written-ends words source out notes text status.Limit h g = absurd g
 written-ends words source out notes text status.ReadFault h g = absurd g
 written-ends words source out notes text status.WriteFault h g = record { text = text; answers = h; rose = g.0; written = g.1; noted = g.2 }
-written-ends words source out notes text status.NoMemory h g = g
+written-ends words source out notes text status.NoMemory h g = (g.0, g.1, within-short (λ bytes. IsRestructured bytes text) (λ bytes done. done.within) source h.restructured h.read)
 
 -- the one word, by a test of it
 pub asked-by : {Word : Type 0} (bytes_of : Word → List ℕ) (words : List Word) (word : Word) (asked : List ℕ) (b : Bool) → 1 ≤ length words → length words < 2 → word ≡ get_or words 0 word → Decides b (bytes_of word ≡ asked) → (b ≡ true → map bytes_of words ≡ asked ∷ []) × (map bytes_of words ≡ asked ∷ [] → b ≡ true)

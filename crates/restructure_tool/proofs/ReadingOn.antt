@@ -1,13 +1,13 @@
 -- Bytes that are read piece by piece.
-use Rattle.std.proofs.Common.{◌≡◌, ℕ, ◌+◌, ◌<◌, ◌≤◌, List, [], ◌∷◌, ◌++◌, length, take, drop, Option, Some, None, refl, ap, sym, ◌∙◌, subst, arith, append-nil}
+use Rattle.std.proofs.Common.{◌≡◌, ℕ, ◌+◌, ◌<◌, ◌≤◌, List, [], ◌∷◌, ◌++◌, length, take, drop, Option, Some, None, refl, ap, sym, ◌∙◌, subst, arith, append-nil, add-zero}
 use Rattle.std.specs.Prelude.{min}
 use Rattle.std.proofs.lemmas.List.{take_all, length-take}
 use Rattle.std.proofs.Math.ListN.{drop_of_length-le}
-use Rattle.std.proofs.Math.Seq.{take-append_seam, drop-append_seam}
+use Rattle.std.proofs.Math.Seq.{take-append_seam, drop-append_seam, drop-append-add}
 use Rattle.cob_base.specs.Outside.{Takes}
 use Rattle.cob_base.specs.declared.source.Took.TheVariants as took
 use Rattle.restructure_core.specs.Answers.{source_limit}
-use Rattle.restructure_tool.specs.Calls.{IsRead}
+use Rattle.restructure_tool.specs.Calls.{IsRead, IsLeftWithin}
 
 -- what was read is the front of what was left, and the rest of it is left
 abbrev pub SoFar : Option (List ℕ) → List ℕ → Option (List ℕ) → Type 0
@@ -65,3 +65,29 @@ module _ (told mid : Option (List ℕ)) (text : List ℕ) (count count_now : ℕ
 
   pub is-read-past : source_limit < length text → IsRead told text mid
   is-read-past long = read-past told mid text so_far.front (omega (arith, so_far.within, long))
+
+-- what is left after a fault, or where the text has no room for what was taken
+
+front-within : (bytes text rest : List ℕ) (n : ℕ) → bytes ≡ text ++ rest → drop n rest ≡ drop (length text + n) bytes
+front-within bytes text rest n is = sym (ap (drop (length text + n)) is ∙ drop-append-add text rest n)
+
+left-failed : (told mid now : Option (List ℕ)) (text old new : List ℕ) → SoFar told text mid → length text ≤ source_limit + 1 → Takes mid took.Failed old new now → IsLeftWithin told now
+left-failed None mid now text old new h short g = tt
+left-failed (Some bytes) mid now text old new h short g =
+    let kept = subst (λ m. Takes m took.Failed old new now) h.1 g in
+    (length text, short, kept ∙ ap Some (front-within bytes text h.0 0 h.2 ∙ ap (λ n. drop n bytes) (add-zero (length text))))
+
+left-taken : (told mid now : Option (List ℕ)) (text old new : List ℕ) (n : ℕ) → SoFar told text mid → length text + n ≤ source_limit + 1 → Takes mid (took.Bytes n) old new now → IsLeftWithin told now
+left-taken None mid now text old new n h short g = tt
+left-taken (Some bytes) mid now text old new n h short g =
+    let taken = subst (λ m. Takes m (took.Bytes n) old new now) h.1 g in
+    (length text + n, short, taken.left ∙ ap Some (front-within bytes text h.0 n h.2))
+
+module _ (told mid : Option (List ℕ)) (text : List ℕ) (count count_now : ℕ) (so_far : ReadSoFar told text mid count count_now) where
+  pub is-left-failed : (now : Option (List ℕ)) (old new : List ℕ) → Takes mid took.Failed old new now → IsLeftWithin told now
+  is-left-failed now old new g = left-failed told mid now text old new so_far.front so_far.within g
+
+  pub is-left-taken : (now : Option (List ℕ)) (room : ℕ) (buffer new : List ℕ) (n : ℕ) → length text + room ≤ source_limit + 1 → n ≤ length (take room buffer) → Takes mid (took.Bytes n) (take room buffer) new now → IsLeftWithin told now
+  is-left-taken now room buffer new n short few g =
+      let fits : length (take room buffer) ≡ min room (length buffer) = length-take room buffer in
+      left-taken told mid now text (take room buffer) new n so_far.front (omega (arith, fits, short, few)) g

@@ -1,5 +1,5 @@
 -- What a call leaves, and what each status tells.
-use Rattle.std.specs.Prelude.{ℕ, ◌≡◌, ◌+◌, ◌⊎◌, List, [], ◌∷◌, ◌++◌, take, drop, codes, Option, Some, None, IfSome}
+use Rattle.std.specs.Prelude.{ℕ, ◌≡◌, ◌+◌, ◌≤◌, ◌⊎◌, List, [], ◌∷◌, ◌++◌, take, drop, codes, Option, Some, None, IfSome}
 use Rattle.cob_base.specs.Outside.{Rose}
 use Rattle.restructure_core.specs.Answers.{source_limit, IsTooLong, IsNotPlain, IsLooping, IsRestructured}
 use Rattle.restructure_tool.specs.declared.refusal.Refusal.{Refusal}
@@ -16,6 +16,10 @@ AsksRestructure words = words ≡ codes "restructure" ∷ []
 abbrev pub IsRead : Option (List ℕ) → List ℕ → Option (List ℕ) → Type 0
 IsRead None text now = now ≡ None
 IsRead (Some bytes) text now = (text ≡ take (source_limit + 1) bytes) × (now ≡ Some (drop (source_limit + 1) bytes))
+
+-- no more was read than up to the first byte past the limit
+abbrev pub IsLeftWithin : Option (List ℕ) → Option (List ℕ) → Type 0
+IsLeftWithin told now = IfSome told (λ bytes. (n : ℕ) × (n ≤ source_limit + 1) × (now ≡ Some (drop n bytes)))
 
 -- what is held then is what was held, and these bytes
 abbrev pub Gained : List ℕ → Option (List ℕ) → Option (List ℕ) → Type 0
@@ -53,6 +57,9 @@ Keeps sink = sink.now ≡ sink.held
 abbrev pub IsAllRead : SourceCall → Type 0
 IsAllRead source = IfSome source.told (λ bytes. source.left ≡ Some [])
 
+abbrev pub IsReadWithin : SourceCall → Type 0
+IsReadWithin source = IsLeftWithin source.told source.left
+
 -- the source was read to the first byte past the limit
 abbrev pub IsReadPast : SourceCall → Type 0
 IsReadPast source = IfSome source.told (λ bytes. source.left ≡ Some (drop (source_limit + 1) bytes))
@@ -69,9 +76,9 @@ IsRefused words source refusal.Usage = (AsksRestructure words → ⊥) × (sourc
 IsRefused words source refusal.NotYetForm = AsksRestructure words × IfSome source.told IsNotPlain × IsAllRead source
 IsRefused words source refusal.NotYetLoop = AsksRestructure words × IfSome source.told IsLooping × IsAllRead source
 IsRefused words source refusal.PastSource = AsksRestructure words × IfSome source.told IsTooLong × IsReadPast source
-IsRefused words source refusal.ReadFault = AsksRestructure words × Rose source.count source.count_now
+IsRefused words source refusal.ReadFault = AsksRestructure words × Rose source.count source.count_now × IsReadWithin source
 IsRefused words source refusal.WriteFault = ⊥
-IsRefused words source refusal.NoMemory = Unit {0}
+IsRefused words source refusal.NoMemory = IsReadWithin source
 
 -- the line of the refusal went to the notes; where there was no room for it, memory was wanted
 abbrev pub Notes : Refusal → SinkCall → Status → Type 0
@@ -112,7 +119,7 @@ Ends words source out notes status.NotSubset = IsNoted words source out notes re
 Ends words source out notes status.Limit = IsNoted words source out notes refusal.PastSource
 Ends words source out notes status.ReadFault = IsNoted words source out notes refusal.ReadFault
 Ends words source out notes status.WriteFault = IsWriteFault words source out notes
-Ends words source out notes status.NoMemory = Keeps out × (Takes (line_of refusal.NoMemory) notes ⊎ Keeps notes)
+Ends words source out notes status.NoMemory = Keeps out × (Takes (line_of refusal.NoMemory) notes ⊎ Keeps notes) × IsReadWithin source
 
 -- Where each status comes.
 

@@ -1,6 +1,10 @@
 //! The command line: standard input to standard output, and what went wrong to standard error.
 #![tactic(auto)]
 
+ghost use Rattle.std.specs.Prelude.{◌≡◌};
+ghost use Rattle.std.specs.Process.{exit_status};
+ghost use Rattle.restructure_tool.specs.Lines.{status_number};
+
 mod reading;
 mod refusal;
 mod status;
@@ -30,7 +34,13 @@ Exit statuses: 0 done, 1 USAGE, 2 NOT YET FORM or NOT YET LOOP, 4 LIMIT,
 const VERSION: &str = "restructure_tool 0.1.0\n";
 
 fn main(rt: HostRuntime) -> ExitCode {
-    ExitCode::from(run(&rt).number())
+    exit_code(run(&rt))
+}
+
+fn exit_code(status: Status) -> ExitCode
+    ensures { exit_status result ≡ status_number status }
+{
+    ExitCode::from(status.number())
 }
 
 fn run(rt: &HostRuntime) -> Status {

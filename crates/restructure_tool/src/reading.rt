@@ -1,8 +1,8 @@
 //! The bytes of a source.
 
-ghost use Rattle.std.specs.Prelude.{◌≡◌, ◌⊎◌, Err, IfOk, IfErr};
+ghost use Rattle.std.specs.Prelude.{◌≡◌, ◌⊎◌, Err, IsErr, IfOk, IfErr};
 ghost use Rattle.cob_base.specs.Outside.{Rose};
-ghost use Rattle.restructure_tool.specs.Calls.{IsRead};
+ghost use Rattle.restructure_tool.specs.Calls.{IsRead, IsLeftWithin};
 
 use crate::refusal::Refusal;
 use cob_base::{Source, Text, Took};
@@ -13,6 +13,7 @@ use std::alloc::Global;
 pub fn read_source<S: Source>(alloc: Global, source: &mut S) -> Result<Text, Refusal>
     ensures read { IfOk result (λ text. IsRead (S.left source.old) text (S.left source.new)) }
     ensures fault { result ≡ Err Refusal.ReadFault → Rose (S.faults source.old) (S.faults source.new) }
+    ensures within { IsErr result → IsLeftWithin (S.left source.old) (S.left source.new) }
     ensures only { IfErr result (λ refusal. (refusal ≡ Refusal.ReadFault) ⊎ (refusal ≡ Refusal.NoMemory)) }
 {
     let mut text = Text::new(alloc);

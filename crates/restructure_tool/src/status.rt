@@ -10,7 +10,7 @@ pub enum Status {
     Done,
     /// The words are no ask.
     Usage,
-    /// The source isn't of the language that is restructured.
+    /// The source isn't of the form that is restructured.
     NotSubset,
     /// A counted quantity passes its limit.
     Limit,

@@ -17,7 +17,7 @@ use std::alloc::Global;
 ///
 /// The order of the refusals is that of their causes: words, a fault of the source, the limit on
 /// the source, the form, a loop. Both sinks have room before the first byte of the result is
-/// written. A failure of `notes` changes no status.
+/// written. A failure of `notes` changes no status; want of room in it makes the status NoMemory.
 pub fn tool<S: Source, K: Sink, N: Sink>(
     alloc: Global,
     words: &[String],

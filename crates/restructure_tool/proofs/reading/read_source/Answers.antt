@@ -1,5 +1,5 @@
-use Rattle.std.proofs.Common.{◌<◌, length, arith}
-use Rattle.restructure_tool.proofs.ReadingOn.{is-read-ended, is-read-nothing, is-read-past}
+use Rattle.std.proofs.Common.{◌+◌, ◌<◌, ◌≤◌, length, arith}
+use Rattle.restructure_tool.proofs.ReadingOn.{is-read-ended, is-read-nothing, is-read-past, is-left-taken}
 use Rattle.restructure_tool.proofs.reading.read_source.Goals as goal
 
 pub returns-in-End-clause-read : goal.returns-in-End-clause-read
@@ -13,3 +13,8 @@ returns-in-Bytes-eq0-clause-read g c =
 
 pub returns-clause-read : goal.returns-clause-read
 returns-clause-read g c = is-read-past _ _ _ _ _ c.loop-buffer.invariant.1 (omega (arith, c.len.ensures.value))
+
+pub returns-in_err-add-in-Bytes-clause-within : goal.returns-in_err-add-in-Bytes-clause-within
+returns-in_err-add-in-Bytes-clause-within g c = λ err.
+    let short : length c.loop-buffer.text + c.min-room.result ≤ 4194305 = omega (arith, c.min-room.ensures, c.len-in-loop-buffer.ensures.value, c.len.ensures.value, c.loop-buffer-test.true) in
+    is-left-taken _ _ _ _ _ c.loop-buffer.invariant.1 _ _ _ _ c.in-Bytes.count short c.in-Bytes.ensures.bound c.in-Bytes.ensures.told
