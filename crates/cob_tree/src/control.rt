@@ -12,7 +12,10 @@ pub enum Control {
     Once,
     Times(Operand),
     /// `after` says that the test comes after each turn.
-    Until { after: bool, cond: Cond },
+    Until {
+        after: bool,
+        cond: Cond,
+    },
     Varying {
         after: bool,
         item: Place,

@@ -102,7 +102,9 @@ pub enum Stmt {
     ExitParagraph,
     ExitSection,
     /// EXIT PERFORM, or EXIT PERFORM CYCLE.
-    ExitPerform { cycle: bool },
+    ExitPerform {
+        cycle: bool,
+    },
     Continue,
 }
 
