@@ -13,6 +13,7 @@ mod calc;
 mod choice;
 mod cond;
 mod control;
+mod depth;
 mod ending;
 mod entry;
 mod fault;
@@ -20,6 +21,7 @@ mod file;
 mod number;
 mod picture;
 mod place;
+mod places;
 mod program;
 mod stmt;
 
