@@ -1,0 +1,4 @@
+-- programs as far as control goes
+pub mod Language
+-- what is still to do at a place, and the returns that are pending
+pub mod Items
