@@ -2,3 +2,5 @@
 pub mod Language
 -- what is still to do at a place, and the returns that are pending
 pub mod Items
+-- a program as its control
+pub mod Control
