@@ -11,10 +11,10 @@ use Rattle.cob_tree.specs.declared.place.Place.{Place}
 use Rattle.cob_tree.specs.declared.stmt.Arms.{Arms, fold_out-Arms, out-Arms, map-Arms}
 use Rattle.cob_tree.specs.declared.stmt.When.{When, fold_out-When, out-When}
 use Rattle.cob_tree.specs.declared.stmt.Stmt.{Stmt, fold-roll-Stmt}
-use Rattle.cob_tree.specs.declared.stmt.Stmt.TheOpen.{Stmt-F, Arms-F}
+use Rattle.cob_tree.specs.declared.stmt.Stmt.TheOpen.{Stmt-F}
 use Rattle.cob_tree.specs.declared.stmt.Stmt.TheVariants.{Display, rolls-Display, Move, rolls-Move, SetTrue, rolls-SetTrue, Opens, rolls-Opens, Closes, rolls-Closes, Write, rolls-Write, Rewrite, rolls-Rewrite, If, rolls-If, Evaluate, rolls-Evaluate, Loop, rolls-Loop, Perform, rolls-Perform, Go, rolls-Go, GoDepending, rolls-GoDepending, NextSentence, rolls-NextSentence, StopRun, rolls-StopRun, Exit, rolls-Exit, ExitParagraph, rolls-ExitParagraph, ExitSection, rolls-ExitSection, ExitPerform, rolls-ExitPerform, Continue, rolls-Continue, Arith, rolls-Arith, Read, rolls-Read}
 use Rattle.language.specs.Language as language
-use Rattle.language.specs.Control.{test_of, move_of, evaluate_of, arith_stmt, control_in, loop_of, perform_of, arm_before, else_of, stmts_if_any, Branch, branches_before, tests_of, Both, both_arms, both_step, branch_step, seen_step, seen, seen_when, seen_both, seen_stmts}
+use Rattle.language.specs.Control.{test_of, move_of, evaluate_of, arith_stmt, control_in, loop_of, perform_of, arm_before, else_of, Branch, branches_before, tests_of, Both, both_arms, both_step, branch_step, seen_step, seen, seen_when, seen_both, seen_stmts}
 
 -- statements that may be absent
 abbrev pub seen_if_any : ℕ → Option (List Stmt) → Option language.Stmts

@@ -1,11 +1,11 @@
 -- A program as its control: one fold takes each statement of the tree to a statement of the language.
-use Rattle.std.specs.Prelude.{ℕ, zero, suc, ◌+◌, ◌-◌, ◌^◌, ◌==◌, ◌||◌, nat_le, Bool, true, false, if◌then◌else◌, List, [], ◌∷◌, map, Option, Some, None, is_some}
+use Rattle.std.specs.Prelude.{ℕ, zero, suc, ◌-◌, ◌^◌, ◌==◌, ◌||◌, nat_le, Bool, true, false, if◌then◌else◌, List, [], ◌∷◌, map, Option, Some, None, is_some}
 use Rattle.std.specs.Str.Parse.{digits_value}
 use Rattle.cob_tree.specs.declared.number.Number.{Number}
 use Rattle.cob_tree.specs.declared.place.Place.{Place, out-Place}
-use Rattle.cob_tree.specs.declared.place.Operand.{Operand, out-Operand}
-use Rattle.cob_tree.specs.declared.place.Operand.TheVariants as operand
-use Rattle.cob_tree.specs.declared.place.Expr.{Expr, out-Expr}
+use Rattle.cob_tree.specs.declared.place.Operand.{Operand, out-Operand, roll-Operand}
+use Rattle.cob_tree.specs.declared.place.Figure.TheVariants.{Zero}
+use Rattle.cob_tree.specs.declared.place.Expr.{Expr, out-Expr, roll-Expr}
 use Rattle.cob_tree.specs.declared.place.Expr.TheOpen.{Expr-F, Operand-F}
 use Rattle.cob_tree.specs.declared.cond.Cond.{Cond, fold-Cond}
 use Rattle.cob_tree.specs.declared.cond.Cond.TheOpen.{Cond-F}
@@ -204,8 +204,12 @@ arith_stmt calc into both =
 
 -- Loops.
 
-abbrev pub one : Operand
-one = operand.Number (record { negative = false; digits = 49 ∷ []; scale = 0 })
+abbrev pub zero_side : Expr
+zero_side = roll-Expr (Expr-F.Leaf (roll-Operand (Operand-F.Figure Zero)))
+
+-- zero is zero
+abbrev pub always : Cond
+always = cond.Relation zero_side Equal zero_side
 
 -- VARYING sets its item by a MOVE, and augments it by an ADD
 abbrev pub augmenting : Place → Operand → Stmt
@@ -219,9 +223,9 @@ control_in (control.Until after until) = Some (language.Until after (test_of unt
 control_in (control.Varying after item from by until) =
     Some (language.Varying after (language.Own (stmt.Move from (item ∷ []))) (language.Own (augmenting item by)) (test_of until))
 
--- an inline loop has a control; without one it would be done once
+-- an inline loop has a control; one without it would be a choice of one arm
 abbrev pub loop_of : Option language.Control → language.Stmts → language.Stmt
-loop_of None body = language.Loop (language.Times one) (language.Nested body)
+loop_of None body = language.Choose (language.If (language.Holds always)) (language.given body language.done)
 loop_of (Some control) body = language.Loop control (language.Nested body)
 
 abbrev pub perform_of : Option language.Control → ℕ → ℕ → language.Stmt

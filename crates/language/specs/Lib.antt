@@ -4,3 +4,7 @@ pub mod Language
 pub mod Items
 -- a program as its control
 pub mod Control
+-- no word on an added item
+pub mod Own
+-- what control keeps of a program
+pub mod Laws
