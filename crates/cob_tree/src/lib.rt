@@ -24,6 +24,8 @@ mod place;
 mod places;
 mod program;
 mod stmt;
+#[cfg(test)]
+mod tests;
 
 pub use calc::{Calc, Target};
 pub use choice::{Subject, Test};
