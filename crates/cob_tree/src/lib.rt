@@ -24,8 +24,6 @@ mod place;
 mod places;
 mod program;
 mod stmt;
-#[cfg(test)]
-mod tests;
 
 pub use calc::{Calc, Target};
 pub use choice::{Subject, Test};
