@@ -1,8 +1,10 @@
 //! The bytes of a source.
 
-ghost use Rattle.std.specs.Prelude.{◌≡◌, ◌⊎◌, Err, IsErr, IfOk, IfErr};
-ghost use Rattle.cob_base.specs.Outside.{Rose};
-ghost use Rattle.restructure_tool.specs.Calls.{IsRead, IsLeftWithin};
+ghost use Rattle.std.specs.Prelude.{◌≡◌, ◌+◌, ◌⊎◌, Err, IsErr, IfOk, IfErr};
+ghost use Rattle.cob_base.specs.Faults.{Rose};
+ghost use Rattle.cob_base.specs.Source.{source_call};
+ghost use Rattle.restructure_core.specs.Answers.{source_limit};
+ghost use Rattle.restructure_tool.specs.Reading.{IsRead, IsReadWithin};
 
 use crate::refusal::Refusal;
 use cob_base::{Source, Text, Took};
@@ -11,10 +13,13 @@ use std::alloc::Global;
 
 /// The bytes of a source, to its end, or to the first byte past the limit on it.
 pub fn read_source<S: Source>(alloc: Global, source: &mut S) -> Result<Text, Refusal>
-    ensures read { IfOk result (λ text. IsRead (S.left source.old) text (S.left source.new)) }
-    ensures fault { result ≡ Err Refusal.ReadFault → Rose (S.faults source.old) (S.faults source.new) }
-    ensures within { IsErr result → IsLeftWithin (S.left source.old) (S.left source.new) }
-    ensures only { IfErr result (λ refusal. (refusal ≡ Refusal.ReadFault) ⊎ (refusal ≡ Refusal.NoMemory)) }
+    ensures read { IfOk result (IsRead (source_call S.left S.faults source.old source.new)) }
+    ensures fault { result ≡ Err Refusal.ReadFault →
+        Rose (S.faults source.old) (S.faults source.new) }
+    ensures within { IsErr result → IsReadWithin (source_limit + 1)
+        (source_call S.left S.faults source.old source.new) }
+    ensures only { IfErr result (λ refusal.
+        (refusal ≡ Refusal.ReadFault) ⊎ (refusal ≡ Refusal.NoMemory)) }
 {
     let mut text = Text::new(alloc);
     let mut buffer = [0u8; 4096];

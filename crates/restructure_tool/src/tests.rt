@@ -1,9 +1,11 @@
-//! The top call over sources and sinks in memory.
+//! The program and the top call over sources and sinks in memory.
 
+use crate::program::program;
 use crate::status::Status;
-use crate::tool::tool;
-use cob_base::{MemSink, MemSource, Source, Text, Took};
+use crate::tool;
+use cob_base::{MemSink, MemSource, NoMemory, Source, StdSink, StdSource, Text, Took};
 use std::alloc::{AllocError, Global};
+use std::io::{self, ErrorKind, Write};
 use std::process::Abort;
 use std::test::Fail;
 
@@ -42,9 +44,17 @@ const UNENDED: &str = "       IDENTIFICATION DIVISION.
        A.
            STOP RUN.";
 
+/// Which call is made.
+#[derive(Clone, Copy, PartialEq, Eq)]
+enum By {
+    Program,
+    Tool,
+}
+
 /// What a call is made with, and what it has to give.
 #[derive(Clone, Copy)]
 struct Case {
+    by: By,
     words: &'static [&'static str],
     source: &'static str,
     read_fails: u64,
@@ -57,6 +67,7 @@ struct Case {
 }
 
 const PLAIN: Case = Case {
+    by: By::Program,
     words: &["restructure"],
     source: HELLO,
     read_fails: 0,
@@ -140,7 +151,10 @@ fn check(rt: &impl Abort, alloc: Global, case: &Case) -> Result<(), AllocError> 
     let mut out = sink(alloc, case.piece, case.write_fails)?;
     let mut notes = sink(alloc, case.piece, case.note_fails)?;
     let words = words(alloc, case.words)?;
-    let status = tool(alloc, words.as_slice(), &mut source, &mut out, &mut notes);
+    let status = match case.by {
+        By::Tool => tool(alloc, words.as_slice(), &mut source, &mut out, &mut notes),
+        By::Program => program(alloc, Ok(words), &mut source, &mut out, &mut notes),
+    };
     assert_eq!(rt; status, case.status);
     assert_eq!(rt; out.held.as_slice(), case.out.as_bytes());
     assert_eq!(rt; notes.held.as_slice(), case.notes.as_bytes());
@@ -170,10 +184,32 @@ fn each_answer_comes_with_its_line(rt: HostRuntime) -> Result<(), Fail> {
             ..PLAIN
         },
         Case {
+            by: By::Tool,
             words: &["--help"],
             status: Status::Usage,
             out: "",
             notes: usage,
+            ..PLAIN
+        },
+        Case {
+            words: &["--version", "x"],
+            status: Status::Usage,
+            out: "",
+            notes: usage,
+            ..PLAIN
+        },
+        Case {
+            words: &["--version"],
+            out: "restructure_tool 0.1.0\n",
+            ..PLAIN
+        },
+        Case {
+            words: &["--help"],
+            piece: 6,
+            write_fails: 2,
+            status: Status::WriteFault,
+            out: "usage:",
+            notes: "WRITE FAULT\n",
             ..PLAIN
         },
         Case {
@@ -226,6 +262,50 @@ fn each_answer_comes_with_its_line(rt: HostRuntime) -> Result<(), Fail> {
     Ok(())
 }
 
+/// A writer that takes all and can't keep it, as a device that is full.
+#[derive(Drop)]
+struct Full;
+
+impl Write for Full {
+    fn write(&mut self, buf: &[u8]) -> io::Result<usize> {
+        Ok(buf.len())
+    }
+
+    fn flush(&mut self) -> io::Result<()> {
+        Err(io::Error::from(ErrorKind::StorageFull))
+    }
+}
+
+#[test]
+fn what_main_is_made_of_tells_each_failure(rt: HostRuntime) -> Result<(), Fail> {
+    let alloc = rt.alloc();
+    for asked in ["--help", "--version", "restructure"] {
+        let words = words(alloc, &[asked])?;
+        let mut source = StdSource::new(HELLO.as_bytes());
+        let mut notes = sink(alloc, 4096, 0)?;
+        let status = program(
+            alloc,
+            Ok(words),
+            &mut source,
+            &mut StdSink::new(Full),
+            &mut notes,
+        );
+        assert_eq!(rt; status, Status::WriteFault);
+        assert_eq!(rt; notes.held.as_slice(), b"WRITE FAULT\n".as_slice());
+    }
+    let mut source = Drip {
+        bytes: HELLO.as_bytes(),
+        at: 0,
+    };
+    let mut out = sink(alloc, 4096, 0)?;
+    let mut notes = sink(alloc, 4096, 0)?;
+    let status = program(alloc, Err(NoMemory), &mut source, &mut out, &mut notes);
+    assert_eq!(rt; status, Status::NoMemory);
+    assert_eq!(rt; out.held.len(), 0);
+    assert_eq!(rt; notes.held.as_slice(), b"NO MEMORY\n".as_slice());
+    Ok(())
+}
+
 #[test]
 fn a_source_of_one_byte_a_call_gives_the_same(rt: HostRuntime) -> Result<(), Fail> {
     let alloc = rt.alloc();
@@ -239,6 +319,51 @@ fn a_source_of_one_byte_a_call_gives_the_same(rt: HostRuntime) -> Result<(), Fai
     let status = tool(alloc, words.as_slice(), &mut source, &mut out, &mut notes);
     assert_eq!(rt; status, Status::Done);
     assert_eq!(rt; out.held.as_slice(), HELLO_RESULT.as_bytes());
+    assert_eq!(rt; notes.held.len(), 0);
+    Ok(())
+}
+
+/// A plain program of so many paragraphs, each of which shows its number, and its result.
+fn numbered(alloc: Global, count: u32) -> Result<(Text, Text), AllocError> {
+    let headers = "       IDENTIFICATION DIVISION.
+       PROGRAM-ID. T.
+       PROCEDURE DIVISION.
+";
+    let mut source = Vec::from_slice(alloc, headers.as_bytes())?;
+    let mut result = Vec::from_slice(alloc, headers.as_bytes())?;
+    result.extend_from_slice(b"       P0.\n")?;
+    for number in 0..count {
+        let name = format!(in alloc; "       P{number}.\n")?;
+        let shown = format!(in alloc; "           DISPLAY \"SHOWN BY THE PARAGRAPH {number}\"")?;
+        source.extend_from_slice(name.as_bytes())?;
+        source.extend_from_slice(shown.as_bytes())?;
+        source.extend_from_slice(b".\n")?;
+        result.extend_from_slice(shown.as_bytes())?;
+        result.extend_from_slice(b"\n")?;
+    }
+    source.extend_from_slice(b"           STOP RUN.\n")?;
+    result.extend_from_slice(b"           STOP RUN.\n")?;
+    Ok((Text { bytes: source }, Text { bytes: result }))
+}
+
+#[test]
+fn a_source_of_400_kilobytes_is_restructured(rt: HostRuntime) -> Result<(), Fail> {
+    let alloc = rt.alloc();
+    let (text, result) = numbered(alloc, 6500)?;
+    assert!(rt; text.len() > 400_000);
+    let mut source = MemSource {
+        bytes: text,
+        at: 0,
+        calls: 0,
+        failing: Vec::new(alloc),
+        count: 0,
+    };
+    let mut out = sink(alloc, 4096, 0)?;
+    let mut notes = sink(alloc, 4096, 0)?;
+    let words = words(alloc, &["restructure"])?;
+    let status = tool(alloc, words.as_slice(), &mut source, &mut out, &mut notes);
+    assert_eq!(rt; status, Status::Done);
+    assert!(rt; out.held.as_slice() == result.as_slice());
     assert_eq!(rt; notes.held.len(), 0);
     Ok(())
 }

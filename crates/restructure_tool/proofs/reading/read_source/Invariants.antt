@@ -1,6 +1,6 @@
 use Rattle.std.proofs.Common.{◌+◌, ◌-◌, ◌≡◌, length}
 use Rattle.restructure_core.specs.Answers.{source_limit}
-use Rattle.restructure_tool.proofs.ReadingOn.{ReadSoFar}
+use Rattle.restructure_tool.proofs.ReadingLemmas.{ReadSoFar}
 use Rattle.restructure_tool.proofs.reading.read_source.Given as goal
 
 abbrev pub invariant-loop-buffer : goal.invariant-loop-buffer

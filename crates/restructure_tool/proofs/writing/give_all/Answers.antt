@@ -1,5 +1,5 @@
 use Rattle.std.proofs.Common.{refl}
-use Rattle.restructure_tool.proofs.GivenOn.{emptied, given-all, given-failed, given-part, gained-all, given-whole}
+use Rattle.restructure_tool.proofs.WritingLemmas.{emptied, given-all, given-failed, given-part, gained-all, given-whole}
 use Rattle.restructure_tool.proofs.writing.give_all.Goals as goal
 
 pub returns-in-All-clause-front : goal.returns-in-All-clause-front

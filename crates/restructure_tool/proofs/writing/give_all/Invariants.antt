@@ -1,5 +1,5 @@
 use Rattle.std.proofs.Common.{length}
-use Rattle.restructure_tool.proofs.GivenOn.{Given}
+use Rattle.restructure_tool.proofs.WritingLemmas.{Given}
 use Rattle.restructure_tool.proofs.writing.give_all.Given as goal
 
 abbrev pub invariant-loop-rest : goal.invariant-loop-rest

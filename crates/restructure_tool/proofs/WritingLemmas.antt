@@ -1,12 +1,22 @@
 -- Bytes that are given piece by piece.
-use Rattle.std.proofs.Common.{◌≡◌, ℕ, ◌+◌, ◌-◌, ◌≤◌, Bool, true, List, [], ◌∷◌, ◌++◌, length, take, drop, Option, Some, None, refl, ap, sym, ◌∙◌, subst, arith, append_assoc, append-nil}
+use Rattle.std.proofs.Common.{◌≡◌, ℕ, ◌+◌, ◌-◌, ◌≤◌, Bool, true, List, [], ◌∷◌, ◌++◌, length, take, drop, Option, Some, None, refl, ap, sym, ◌∙◌, subst, arith, append_assoc, append-nil, inl, inr}
 use Rattle.std.specs.Prelude.{◌==◌}
 use Rattle.std.proofs.lemmas.Bool.Decides.{nat_tests}
 use Rattle.std.proofs.lemmas.List.{take-append-drop, length-drop}
 use Rattle.std.proofs.Math.Seq.{take-length, take-append_seam}
-use Rattle.cob_base.specs.Outside.{Rose, Gives}
+use Rattle.cob_base.specs.Faults.{Rose}
+use Rattle.cob_base.specs.Sink.{Gives, SinkCall}
 use Rattle.cob_base.specs.declared.sink.Gave.TheVariants as gave
-use Rattle.restructure_tool.specs.Calls.{Gained, GainedFront}
+use Rattle.restructure_tool.specs.Writing.{Gained, Takes, Keeps, NotesLine, Notes, Writes}
+use Rattle.restructure_tool.specs.declared.refusal.Refusal.{Refusal}
+use Rattle.restructure_tool.specs.declared.refusal.Refusal.TheVariants as refusal
+use Rattle.restructure_tool.specs.declared.status.Status.{Status}
+use Rattle.restructure_tool.specs.declared.status.Status.TheVariants as status
+use Rattle.restructure_tool.specs.Refusal.{status_of, line_of}
+
+-- a sink before and after a call
+abbrev pub call : (held now : Option (List ℕ)) (count count_now : ℕ) → SinkCall
+call held now count count_now = record { held = held; now = now; count = count; count_now = count_now }
 
 -- so far a front of the bytes was given, and the rest of them is to come
 pub record Given (bytes rest : List ℕ) (held now : Option (List ℕ)) (room count count_now : ℕ) : Type 0 where
@@ -47,7 +57,7 @@ module _ (bytes rest : List ℕ) (held mid now : Option (List ℕ)) (room count 
   taken-front : take (length given.front) bytes ≡ given.front
   taken-front = ap (take (length given.front)) given.whole ∙ take-append_seam given.front rest
 
-  pub given-failed : Gives mid rest gave.Failed now → Rose count_mid count_now → GainedFront bytes held now count count_now
+  pub given-failed : Gives mid rest gave.Failed now → Rose count_mid count_now → Takes bytes (call held now count count_now)
   given-failed g rose = record {
     some = length given.front;
     gained = subst (λ b. Gained b held now) (sym taken-front) (gives-failed held mid now given.front rest given.gained g);
@@ -64,7 +74,7 @@ module _ (bytes rest : List ℕ) (held mid now : Option (List ℕ)) (room count 
   }
 
 -- all of the bytes are a front of them
-pub gained-all : (bytes : List ℕ) (held now : Option (List ℕ)) (count count_now : ℕ) → Gained bytes held now → GainedFront bytes held now count count_now
+pub gained-all : (bytes : List ℕ) (held now : Option (List ℕ)) (count count_now : ℕ) → Gained bytes held now → Takes bytes (call held now count count_now)
 gained-all bytes held now count count_now g = record {
   some = length bytes;
   gained = subst (λ b. Gained b held now) (sym (take-length bytes)) g;
@@ -74,3 +84,23 @@ gained-all bytes held now count count_now g = record {
 pub given-whole : (bytes rest : List ℕ) (held now : Option (List ℕ)) (room count count_now : ℕ) → Given bytes rest held now room count count_now → rest ≡ [] → Gained bytes held now
 given-whole bytes rest held now room count count_now given is =
     subst (λ b. Gained b held now) (sym (given.whole ∙ ap (λ t. given.front ++ t) is ∙ append-nil given.front)) given.gained
+
+-- the same of a sink that was made ready first
+pub front-from : (bytes line : List ℕ) (held mid now : Option (List ℕ)) (count count_mid count_now : ℕ) → Takes bytes (call mid now count_mid count_now) → bytes ≡ line → mid ≡ held → count_mid ≡ count → Takes line (call held now count count_now)
+front-from bytes line held mid now count count_mid count_now h is same counts =
+    subst (λ b. Takes b (call held now count count_now)) is
+    (subst (λ m. Takes bytes (call m now count count_now)) same (subst (λ n. Takes bytes (call mid now n count_now)) counts h))
+
+-- a line that was noted tells its refusal, or want of memory
+pub line-noted : (r : Refusal) (line : List ℕ) (wanted : Status) (notes : SinkCall) (answer : Status) → line ≡ line_of r → wanted ≡ status_of r → NotesLine line wanted notes answer → Notes r notes answer
+line-noted r line wanted notes answer is same (inl h) = inl (h.0 ∙ same, subst (λ l. Takes l notes) is h.1)
+line-noted r line wanted notes answer is same (inr h) = inr (h.0, inr h.1)
+
+pub no-memory-noted : (r : Refusal) (notes : SinkCall) (answer : Status) → NotesLine (line_of refusal.NoMemory) status.NoMemory notes answer → Notes r notes answer
+no-memory-noted r notes answer (inl h) = inr (h.0, inl h.1)
+no-memory-noted r notes answer (inr h) = inr (h.0, inr h.1)
+
+-- where nothing is written for want of memory
+pub writes-nothing : (text : List ℕ) (out notes : SinkCall) (answer : Status) → Keeps out → Notes refusal.NoMemory notes answer → Writes text out notes answer
+writes-nothing text out notes answer kept (inl noted) = subst (Writes text out notes) (sym noted.0) (kept, inl noted.1)
+writes-nothing text out notes answer kept (inr noted) = subst (Writes text out notes) (sym noted.0) (kept, noted.1)
