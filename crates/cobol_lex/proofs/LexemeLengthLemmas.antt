@@ -1,29 +1,31 @@
 -- A token takes some bytes, and no more than there are.
 use Rattle.std.proofs.Common.{ℕ, ◌≡◌, ◌<◌, ◌≤◌, ◌+◌, ◌-◌, Bool, true, false, not, List, [], ◌∷◌, take, length, slice_index, arith, refl, rules, tests, length-take}
-use Rattle.cobol_lex.specs.Answers.{Answers}
+use Rattle.cob_base.specs.Answers.{Answers}
+use Rattle.cobol_lex.specs.Byte.{is_quote, is_letter, is_digit, is_point, is_sign, is_mark, is_white, begins}
+use Rattle.cobol_lex.specs.Word.{word_run}
+use Rattle.cobol_lex.specs.Number.{begins_unsigned, begins_number, number_run, unsigned_length}
+use Rattle.cobol_lex.specs.Literal.{quoted_by, quoted_lexeme}
+use Rattle.cobol_lex.specs.Awaits.{awaits_picture}
+use Rattle.cobol_lex.specs.Picture.{ends_picture, less_last, filled_run, picture_run, picture_lexeme}
+use Rattle.cobol_lex.specs.Lexeme.{lexeme_of, mark_lexeme, plain_lexeme, next_lexeme}
 use Rattle.std.specs.Prelude.{IfOk, Result, Ok, Err, Option, Some, None, if◌then◌else◌, ◌==◌, ◌||◌, ◌&&◌, nat_le}
 use Rattle.std.specs.List.{prefix_len}
 use Rattle.std.proofs.lemmas.List.Folds.{length-prefix_len}
 use Rattle.cob_base.specs.Spelling.{word_byte}
-use Rattle.cobol_lex.specs.Bytes.{is_quote, is_letter, is_digit, is_point, is_sign, is_mark, is_blank, begins}
-use Rattle.cobol_lex.specs.Numbers.{begins_unsigned, begins_number, number_run, unsigned_length}
-use Rattle.cobol_lex.specs.Words.{word_run}
-use Rattle.cobol_lex.specs.Literals.{quoted_by, literal_cut}
-use Rattle.cobol_lex.specs.Pictures.{awaits_picture, ends_picture, less_last, filled_run, picture_run, picture_cut}
-use Rattle.cobol_lex.specs.Next.{cut_of, mark_cut, plain_cut, next_cut}
 use Rattle.cobol_lex.specs.declared.token.TokenKind.{TokenKind}
 use Rattle.cobol_lex.specs.declared.awaits.Awaits.{Awaits}
-use Rattle.cobol_lex.specs.declared.cut.Cut.{Cut}
+use Rattle.cobol_lex.specs.declared.lexeme.Lexeme.{Lexeme}
 use Rattle.cobol_lex.specs.declared.literal.Quoted.{Quoted}
 use Rattle.cobol_lex.specs.declared.fault.LexFault.{LexFault}
-use Rattle.cobol_lex.proofs.Quoting.{quoted_within}
-use Rattle.cobol_lex.proofs.Runs.{run_within}
+use Rattle.cobol_lex.specs.declared.fault.LexFault.TheVariants as fault
+use Rattle.cobol_lex.proofs.LiteralLemmas.{quoted_within}
+use Rattle.cobol_lex.proofs.RunLemmas.{run_within}
 
 -- the token takes at least one byte, and at most so many
-abbrev pub Takes : ℕ → Result Cut LexFault → Type 0
-Takes most cut = (c : Cut) → cut ≡ Ok c → (0 < c.length) × (c.length ≤ most)
+abbrev pub Takes : ℕ → Result Lexeme LexFault → Type 0
+Takes most lexeme = (c : Lexeme) → lexeme ≡ Ok c → (0 < c.length) × (c.length ≤ most)
 
-takes_choice : (v : Bool) (most : ℕ) (x y : Result Cut LexFault) → (v ≡ true → Takes most x) → (v ≡ false → Takes most y) → Takes most (if v then x else y)
+takes_choice : (v : Bool) (most : ℕ) (x y : Result Lexeme LexFault) → (v ≡ true → Takes most x) → (v ≡ false → Takes most y) → Takes most (if v then x else y)
 takes_choice true most x y in_x in_y = in_x refl
 takes_choice false most x y in_x in_y = in_y refl
 
@@ -35,11 +37,11 @@ takes most length kind some within c is =
     let same : length ≡ c.length = cc in
     (omega arith, omega arith)
 
-takes_cut_of : (most length : ℕ) (kind : Result TokenKind LexFault) → 0 < length → length ≤ most → Takes most (cut_of length kind)
-takes_cut_of most length (Ok kind) some within = takes most length kind some within
-takes_cut_of most length (Err fault) some within = takes_none most fault
+takes_lexeme_of : (most length : ℕ) (kind : Result TokenKind LexFault) → 0 < length → length ≤ most → Takes most (lexeme_of length kind)
+takes_lexeme_of most length (Ok kind) some within = takes most length kind some within
+takes_lexeme_of most length (Err fault) some within = takes_none most fault
 
-takes_picture : (line most : ℕ) (run : List ℕ) → length run ≤ most → Takes most (picture_cut line run)
+takes_picture : (line most : ℕ) (run : List ℕ) → length run ≤ most → Takes most (picture_lexeme line run)
 takes_picture line most [] within = takes_none most _
 takes_picture line most (b ∷ rest) within = takes most _ _ (omega arith) within
 
@@ -52,11 +54,11 @@ less_last_within kind run =
 
 picture_within : (bytes : List ℕ) → length (picture_run bytes) ≤ length bytes
 picture_within bytes =
-    let filled = run_within (λ b. not (is_blank b)) bytes in
+    let filled = run_within (λ b. not (is_white b)) bytes in
     let less = less_last_within ends_picture (filled_run bytes) in
     omega arith
 
-takes_quoted : (line most : ℕ) (quoted : Option Quoted) → ((q : Quoted) → quoted ≡ Some q → 1 + q.taken ≤ most) → Takes most (literal_cut line quoted)
+takes_quoted : (line most : ℕ) (quoted : Option Quoted) → ((q : Quoted) → quoted ≡ Some q → 1 + q.taken ≤ most) → Takes most (quoted_lexeme line quoted)
 takes_quoted line most None within = takes_none most _
 takes_quoted line most (Some quoted) within =
     let fits = within quoted refl in
@@ -66,7 +68,7 @@ begins_some : (kind : ℕ → Bool) (bytes : List ℕ) → begins kind bytes ≡
 begins_some kind [] is = cc
 begins_some kind (b ∷ rest) is = omega arith
 
-takes_mark : (line b : ℕ) (rest : List ℕ) → Takes (length (b ∷ rest)) (mark_cut line b rest)
+takes_mark : (line b : ℕ) (rest : List ℕ) → Takes (length (b ∷ rest)) (mark_lexeme line b rest)
 takes_mark line b rest =
     let most = length (b ∷ rest) in
     takes_choice (is_point b) most _ _ (λ _. takes most 1 _ (omega arith) (omega arith)) (λ _.
@@ -123,19 +125,19 @@ number_some before b rest is =
 number_within : (bytes : List ℕ) → length (number_run bytes) ≤ length bytes
 number_within bytes = simp length-take (omega arith)
 
-takes_plain : (before line : ℕ) (bytes : List ℕ) → Takes (length bytes) (plain_cut before line bytes)
+takes_plain : (before line : ℕ) (bytes : List ℕ) → Takes (length bytes) (plain_lexeme before line bytes)
 takes_plain before line [] = takes_none _ _
 takes_plain before line (b ∷ rest) =
     takes_choice (is_quote b) _ _ _ (λ _. takes_quoted line _ (quoted_by b rest) (λ q is. let taken = quoted_within b rest q is in omega arith)) (λ _.
-    takes_choice (begins_number before (b ∷ rest)) _ _ _ (λ is. takes_cut_of _ _ _ (number_some before b rest is) (number_within (b ∷ rest))) (λ _.
-    takes_choice (is_letter b) _ _ _ (λ is. takes_cut_of _ _ _ (word_some b rest (letter_word b is)) (run_within word_byte (b ∷ rest))) (λ _.
+    takes_choice (begins_number before (b ∷ rest)) _ _ _ (λ is. takes_lexeme_of _ _ _ (number_some before b rest is) (number_within (b ∷ rest))) (λ _.
+    takes_choice (is_letter b) _ _ _ (λ is. takes_lexeme_of _ _ _ (word_some b rest (letter_word b is)) (run_within word_byte (b ∷ rest))) (λ _.
     takes_mark line b rest)))
 
-pub takes_next : (awaits : Awaits) (before line : ℕ) (bytes : List ℕ) → Takes (length bytes) (next_cut awaits before line bytes)
+pub takes_next : (awaits : Awaits) (before line : ℕ) (bytes : List ℕ) → Takes (length bytes) (next_lexeme awaits before line bytes)
 takes_next awaits before line bytes =
     takes_choice (awaits_picture awaits bytes) _ _ _ (λ _. takes_picture line _ (picture_run bytes) (picture_within bytes)) (λ _. takes_plain before line bytes)
 
-pub answer_takes : (awaits : Awaits) (before line : ℕ) (bytes : List ℕ) (answer : Result Cut LexFault) → Answers (next_cut awaits before line bytes) answer →
-    IfOk answer (λ cut. (0 < cut.length) × (cut.length ≤ length bytes))
-answer_takes awaits before line bytes (Ok cut) h = takes_next awaits before line bytes cut h
+pub answer_takes : (awaits : Awaits) (before line : ℕ) (bytes : List ℕ) (answer : Result Lexeme LexFault) → Answers fault.NoMemory (next_lexeme awaits before line bytes) answer →
+    IfOk answer (λ lexeme. (0 < lexeme.length) × (lexeme.length ≤ length bytes))
+answer_takes awaits before line bytes (Ok lexeme) h = takes_next awaits before line bytes lexeme h
 answer_takes awaits before line bytes (Err fault) h = tt

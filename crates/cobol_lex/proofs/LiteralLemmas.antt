@@ -2,8 +2,8 @@
 use Rattle.std.proofs.Common.{ℕ, ◌≡◌, ◌≢◌, ◌<◌, ◌≤◌, ◌+◌, zero, suc, Bool, true, false, List, [], ◌∷◌, ◌++◌, drop, length, get_or, ap, sym, ◌∙◌, arith, refl, rules, tests, append_assoc, add-one, drop-cons, drop-drop, append-nil}
 use Rattle.std.specs.Prelude.{Option, Some, None, if◌then◌else◌, ◌==◌}
 use Rattle.std.proofs.lemmas.Grind.{common_steps}
-use Rattle.cobol_lex.specs.Bytes.{begins}
-use Rattle.cobol_lex.specs.Literals.{quoted_by, with_byte}
+use Rattle.cobol_lex.specs.Byte.{begins}
+use Rattle.cobol_lex.specs.Literal.{quoted_by, with_byte}
 use Rattle.cobol_lex.specs.declared.literal.Quoted.{Quoted}
 
 -- what has been read stands before what is left
@@ -49,8 +49,8 @@ other_test a b h = search (rules, tests)
 -- the byte that stands there
 begins-drop : (kind : ℕ → Bool) (bytes : List ℕ) (at : ℕ) → at < length bytes → begins kind (drop at bytes) ≡ kind (get_or bytes at 0)
 begins-drop kind bytes at within =
-    let cut : drop at bytes ≡ get_or bytes at 0 ∷ drop (suc at) bytes = drop-cons bytes at 0 within in
-    rw cut
+    let lexeme : drop at bytes ≡ get_or bytes at 0 ∷ drop (suc at) bytes = drop-cons bytes at 0 within in
+    rw lexeme
 
 -- no such byte stands there
 begins_no : (mark : ℕ) (bytes : List ℕ) (at : ℕ) → (at < length bytes → get_or bytes at 0 ≢ mark) → begins (λ c. c == mark) (drop at bytes) ≡ false
@@ -61,8 +61,8 @@ begins_no mark (b ∷ bytes) (suc at) h = begins_no mark bytes at (λ within. h 
 
 quoted-at : (mark : ℕ) (bytes : List ℕ) (at : ℕ) → at < length bytes → quoted_by mark (drop at bytes) ≡ quoted_step mark (get_or bytes at 0) (drop (at + 1) bytes)
 quoted-at mark bytes at within =
-    let cut : drop at bytes ≡ get_or bytes at 0 ∷ drop (suc at) bytes = drop-cons bytes at 0 within in
-    rw (add-one, cut) (quoted-cons mark (get_or bytes at 0) (drop (suc at) bytes))
+    let lexeme : drop at bytes ≡ get_or bytes at 0 ∷ drop (suc at) bytes = drop-cons bytes at 0 within in
+    rw (add-one, lexeme) (quoted-cons mark (get_or bytes at 0) (drop (suc at) bytes))
 
 pub closing : (mark : ℕ) (bytes value : List ℕ) (at : ℕ) → at < length bytes → get_or bytes at 0 ≡ mark →
     (at + 1 < length bytes → get_or bytes (at + 1) 0 ≢ mark) →
@@ -76,10 +76,10 @@ pub doubled : (mark : ℕ) (bytes value : List ℕ) (at : ℕ) → at + 1 < leng
     quoted_behind value at (quoted_by mark (drop at bytes)) ≡ quoted_behind (value ++ mark ∷ []) (at + 1 + 1) (quoted_by mark (drop (at + 1 + 1) bytes))
 doubled mark bytes value at within is_mark again =
     let test : (get_or bytes at 0 == mark) ≡ true = same_test _ _ is_mark in
-    let goes_on : begins (λ c. c == mark) (drop (at + 1) bytes) ≡ true = begins-drop (λ c. c == mark) bytes (at + 1) within ∙ same_test _ _ again in
+    let runs_on : begins (λ c. c == mark) (drop (at + 1) bytes) ≡ true = begins-drop (λ c. c == mark) bytes (at + 1) within ∙ same_test _ _ again in
     let twice : drop 1 (drop (at + 1) bytes) ≡ drop (at + 1 + 1) bytes = drop-drop 1 (at + 1) bytes in
     let step = quoted-at mark bytes at (omega arith) in
-    rw (step, test, goes_on, twice) (behind_byte value at mark 2 (quoted_by mark (drop (at + 1 + 1) bytes)) ∙ ap (λ n. quoted_behind (value ++ mark ∷ []) n (quoted_by mark (drop (at + 1 + 1) bytes))) (omega arith))
+    rw (step, test, runs_on, twice) (behind_byte value at mark 2 (quoted_by mark (drop (at + 1 + 1) bytes)) ∙ ap (λ n. quoted_behind (value ++ mark ∷ []) n (quoted_by mark (drop (at + 1 + 1) bytes))) (omega arith))
 
 pub line_ends : (mark : ℕ) (bytes value : List ℕ) (at : ℕ) → at < length bytes → get_or bytes at 0 ≢ mark → get_or bytes at 0 ≡ 10 →
     quoted_behind value at (quoted_by mark (drop at bytes)) ≡ None

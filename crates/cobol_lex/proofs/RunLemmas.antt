@@ -4,7 +4,7 @@ use Rattle.std.specs.List.{take_while}
 use Rattle.std.proofs.lemmas.Grind.{common_steps}
 use Rattle.std.proofs.lemmas.List.Folds.{length-prefix_len}
 use Rattle.std.proofs.lemmas.List.Sums.{prefix_len-le-length}
-use Rattle.cobol_lex.specs.Numbers.{decimals, digits_of}
+use Rattle.cobol_lex.specs.Number.{decimals, digits_of}
 
 pub run_at_front : (p : ℕ → Bool) (bytes : List ℕ) → take (length (take_while p bytes)) bytes ≡ take_while p bytes
 run_at_front p bytes = ap (λ n. take n bytes) (length-prefix_len p bytes)

@@ -4,7 +4,7 @@ use Rattle.std.specs.List.{list_all}
 use Rattle.std.proofs.lemmas.List.Sums.{AllPass-from_list_all, list_all-from_AllPass}
 use Rattle.std.specs.Prelude.{Ok, Err, if◌then◌else◌}
 use Rattle.cob_base.specs.Spelling.{IsWord, word_byte, folded}
-use Rattle.cobol_lex.specs.Words.{fits_word, word_kind}
+use Rattle.cobol_lex.specs.Word.{fits_word, word_kind}
 use Rattle.cobol_lex.specs.declared.token.TokenKind.TheVariants as kind
 use Rattle.cobol_lex.specs.declared.fault.LexFault.TheVariants as fault
 

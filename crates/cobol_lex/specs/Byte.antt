@@ -1,38 +1,41 @@
 -- Kinds of bytes.
 use Rattle.std.specs.Prelude.{ℕ, Bool, false, ◌||◌, ◌&&◌, ◌==◌, nat_le, List, [], ◌∷◌}
+use Rattle.cob_base.specs.Bytes.{space, line_feed, comma, semicolon, quote, apostrophe, left_parenthesis, right_parenthesis, asterisk, plus_sign, hyphen, period, slash, colon, less_sign, equal_sign, greater_sign, digit_0, digit_9, capital_a, capital_z, small_a, small_z}
 
 abbrev pub is_digit : ℕ → Bool
-is_digit b = nat_le 48 b && nat_le b 57
+is_digit b = nat_le digit_0 b && nat_le b digit_9
 
 abbrev pub is_letter : ℕ → Bool
-is_letter b = nat_le 65 b && nat_le b 90 || nat_le 97 b && nat_le b 122
+is_letter b = nat_le capital_a b && nat_le b capital_z || nat_le small_a b && nat_le b small_z
 
 -- a space or the end of a line
-abbrev pub is_blank : ℕ → Bool
-is_blank b = b == 32 || b == 10
+abbrev pub is_white : ℕ → Bool
+is_white b = b == space || b == line_feed
 
 -- what may stand between tokens: a space, the end of a line, `,` or `;`
 abbrev pub is_separator : ℕ → Bool
-is_separator b = is_blank b || b == 44 || b == 59
+is_separator b = is_white b || b == comma || b == semicolon
 
 -- a sign counts only behind a separator, `(` or `:`
 abbrev pub leads_sign : ℕ → Bool
-leads_sign b = is_separator b || b == 40 || b == 58
+leads_sign b = is_separator b || b == left_parenthesis || b == colon
 
 -- `+` or `-`
 abbrev pub is_sign : ℕ → Bool
-is_sign b = b == 43 || b == 45
+is_sign b = b == plus_sign || b == hyphen
 
 abbrev pub is_point : ℕ → Bool
-is_point b = b == 46
+is_point b = b == period
 
 -- `"` or `'`
 abbrev pub is_quote : ℕ → Bool
-is_quote b = b == 34 || b == 39
+is_quote b = b == quote || b == apostrophe
 
 -- one of `+ - * / = < > ( ) :`
 abbrev pub is_mark : ℕ → Bool
-is_mark b = is_sign b || b == 42 || b == 47 || b == 61 || b == 60 || b == 62 || b == 40 || b == 41 || b == 58
+is_mark b =
+    is_sign b || b == asterisk || b == slash || b == equal_sign || b == less_sign
+    || b == greater_sign || b == left_parenthesis || b == right_parenthesis || b == colon
 
 -- the first byte, where there is one, is of this kind
 abbrev pub begins : (ℕ → Bool) → List ℕ → Bool

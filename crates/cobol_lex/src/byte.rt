@@ -2,7 +2,8 @@
 
 ghost use Rattle.std.specs.Prelude.{◌≡◌};
 ghost use Rattle.cob_base.specs.Spelling.{word_byte};
-ghost use Rattle.cobol_lex.specs.Bytes.{is_blank, is_digit, is_letter, is_mark, is_quote, is_separator, is_sign, leads_sign, begins};
+ghost use Rattle.cobol_lex.specs.Byte.{is_digit, is_letter, is_mark, is_quote, is_separator, is_sign};
+ghost use Rattle.cobol_lex.specs.Byte.{is_white, leads_sign, begins};
 
 pub fn is_letter(b: u8) -> bool
     ensures { result ≡ is_letter b }
@@ -24,8 +25,8 @@ pub fn is_word_byte(b: u8) -> bool
 }
 
 /// Whether the byte is a space or LF.
-pub fn is_blank(b: u8) -> bool
-    ensures { result ≡ is_blank b }
+pub fn is_white(b: u8) -> bool
+    ensures { result ≡ is_white b }
 {
     b == b' ' || b == b'\n'
 }
@@ -33,7 +34,7 @@ pub fn is_blank(b: u8) -> bool
 pub fn is_separator(b: u8) -> bool
     ensures { result ≡ is_separator b }
 {
-    is_blank(b) || b == b',' || b == b';'
+    is_white(b) || b == b',' || b == b';'
 }
 
 /// Whether a sign behind the byte counts.

@@ -1,15 +1,17 @@
 //! Numbers.
 
-ghost use Rattle.std.specs.Prelude.{◌≡◌, ◌||◌, ◌≤◌, length, IfOk, count_by};
+ghost use Rattle.std.specs.Prelude.{◌≡◌, ◌||◌, ◌≤◌, length, count_by};
 ghost use Rattle.std.specs.List.{list_all, list_any};
-ghost use Rattle.cobol_lex.specs.Bytes.{is_digit, is_point};
-ghost use Rattle.cobol_lex.specs.Answers.{Answers};
-ghost use Rattle.cobol_lex.specs.Numbers.{begins_number, begins_unsigned, decimal_kind, decimals, digits_kind, digits_of, is_decimal, number_kind, number_run, unsigned, unsigned_length};
+ghost use Rattle.cobol_lex.specs.Byte.{is_digit, is_point};
+ghost use Rattle.cob_base.specs.Answers.{Answers, Makes};
+ghost use Rattle.cobol_lex.specs.declared.fault.LexFault.TheVariants.{NoMemory as Memory};
+ghost use Rattle.cobol_lex.specs.Number.{begins_number, begins_unsigned, number_run, unsigned, unsigned_length};
+ghost use Rattle.cobol_lex.specs.Number.{decimal_kind, decimals, digits_kind, digits_of, is_decimal, number_kind};
 
-use crate::bytes::{begins_digit, begins_sign, is_digit, is_word_byte, leads_sign};
+use crate::byte::{begins_digit, begins_sign, is_digit, is_word_byte, leads_sign};
 use crate::fault::LexFault;
 use crate::token::TokenKind;
-use crate::words::word_kind;
+use crate::word::word_kind;
 use cob_base::{NoMemory, Text};
 use cob_tree::Number;
 use std::alloc::Global;
@@ -70,7 +72,7 @@ pub fn number_run(bytes: &[u8]) -> &[u8]
 }
 
 fn digits_of(alloc: Global, bytes: &[u8]) -> Result<Text, NoMemory>
-    ensures { IfOk result (λ digits. digits ≡ digits_of bytes.now) }
+    ensures { Makes (digits_of bytes.now) result }
 {
     let bytes = bytes.iter().copied().filter(|b| *b != b'.').collect(alloc)?;
     Ok(Text { bytes })
@@ -117,9 +119,9 @@ fn scale_of(bytes: &[u8]) -> usize
         .count()
 }
 
-#[tactic(auto, using(crate::proofs::Runs::decimals_within))]
+#[tactic(auto, using(crate::proofs::RunLemmas::decimals_within))]
 fn decimal_kind(alloc: Global, line: u32, run: &[u8], bytes: &[u8]) -> Result<TokenKind, LexFault>
-    ensures { Answers (decimal_kind line run.now bytes.now) result }
+    ensures { Answers Memory (decimal_kind line run.now bytes.now) result }
 {
     if !is_decimal(bytes) {
         return Err(LexFault::BadNumber(line));
@@ -136,7 +138,7 @@ fn decimal_kind(alloc: Global, line: u32, run: &[u8], bytes: &[u8]) -> Result<To
 }
 
 fn digits_kind(alloc: Global, line: u32, run: &[u8]) -> Result<TokenKind, LexFault>
-    ensures { Answers (digits_kind line run.now) result }
+    ensures { Answers Memory (digits_kind line run.now) result }
 {
     if run.len() > MOST_DIGITS {
         return Err(LexFault::TooManyDigits(line));
@@ -147,7 +149,7 @@ fn digits_kind(alloc: Global, line: u32, run: &[u8]) -> Result<TokenKind, LexFau
 
 /// The token of a run that begins as a number.
 pub fn number_kind(alloc: Global, line: u32, run: &[u8]) -> Result<TokenKind, LexFault>
-    ensures { Answers (number_kind line run.now) result }
+    ensures { Answers Memory (number_kind line run.now) result }
 {
     if begins_sign(run) || has_point(run) {
         decimal_kind(alloc, line, run, unsigned(run))

@@ -1,9 +1,9 @@
 //! Words.
 
 ghost use Rattle.std.specs.Prelude.{◌≡◌, codes, length};
-ghost use Rattle.cobol_lex.specs.Words.{word_run, word_kind, spells};
+ghost use Rattle.cobol_lex.specs.Word.{word_run, word_kind, spells};
 
-use crate::bytes::is_word_byte;
+use crate::byte::is_word_byte;
 use crate::fault::LexFault;
 use crate::token::TokenKind;
 use cob_base::Word;
@@ -15,7 +15,7 @@ fn word_length(bytes: &[u8]) -> usize
 }
 
 /// The letters, digits and hyphens at the front.
-#[tactic(auto, using(crate::proofs::Runs::run_at_front, crate::proofs::Runs::run_within))]
+#[tactic(auto, using(crate::proofs::RunLemmas::run_at_front, crate::proofs::RunLemmas::run_within))]
 pub fn word_run(bytes: &[u8]) -> &[u8]
     ensures { result.now ≡ word_run bytes.now }
 {

@@ -1,7 +1,8 @@
 use Rattle.std.proofs.Common.{length, ◌-◌, ◌≡◌, ◌≤◌, drop}
-use Rattle.cobol_lex.specs.Tokens.{tokens_of, tokens_from, bytes_of}
-use Rattle.cobol_lex.proofs.Scanning.{tokens_behind}
-use Rattle.cobol_lex.proofs.scan.tokens.Given as goal
+use Rattle.ref_format.specs.Placed.{bytes_of}
+use Rattle.cobol_lex.specs.Token.{tokens_of, tokens_from}
+use Rattle.cobol_lex.proofs.TokenLemmas.{tokens_behind}
+use Rattle.cobol_lex.proofs.tokens.Given as goal
 
 abbrev pub invariant-loop-at : goal.invariant-loop-at
 invariant-loop-at l = record {

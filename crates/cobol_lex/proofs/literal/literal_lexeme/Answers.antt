@@ -1,8 +1,8 @@
 use Rattle.std.proofs.Common.{sym, ap, ◌∙◌, ◌≤◌, ◌+◌, rules, length, drop, arith, get_or, length-drop}
-use Rattle.cobol_lex.specs.Literals.{quoted_by}
-use Rattle.cobol_lex.proofs.Cuts.{rest_whole}
-use Rattle.cobol_lex.proofs.Quoting.{quoted_within}
-use Rattle.cobol_lex.proofs.literal.literal_cut.Goals as goal
+use Rattle.cobol_lex.specs.Literal.{quoted_by}
+use Rattle.cobol_lex.proofs.LexemeLemmas.{rest_whole}
+use Rattle.cobol_lex.proofs.LiteralLemmas.{quoted_within}
+use Rattle.cobol_lex.proofs.literal.literal_lexeme.Goals as goal
 
 pub overflow_add-result : goal.overflow_add-result
 overflow_add-result c =

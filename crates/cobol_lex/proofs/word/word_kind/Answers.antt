@@ -1,7 +1,7 @@
-use Rattle.cobol_lex.proofs.Spelled.{word_kind-word, word_kind-none}
+use Rattle.cobol_lex.proofs.WordLemmas.{word_kind-word, word_kind-none}
 use Rattle.std.proofs.lemmas.Bool.{false≢true}
 use Rattle.std.proofs.Common.{refl}
-use Rattle.cobol_lex.proofs.words.word_kind.Goals as goal
+use Rattle.cobol_lex.proofs.word.word_kind.Goals as goal
 
 pub returns-in-None : goal.returns-in-None
 returns-in-None c = word_kind-none c.args.line c.args.run.now (λ w. false≢true (c.in-None.ensures.whole.1 w))
