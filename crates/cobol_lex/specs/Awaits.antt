@@ -16,5 +16,6 @@ awaits_picture awaits.Picture bytes = true
 abbrev pub awaits_behind : Awaits → TokenKind → Awaits
 awaits_behind awaits.PictureOrIs (kind.Word word) = awaits.Picture
 awaits_behind _ (kind.Word word) =
-    if spells (codes "PIC") word || spells (codes "PICTURE") word then awaits.PictureOrIs else awaits.Any
+    if spells (codes "PIC") word || spells (codes "PICTURE") word then awaits.PictureOrIs
+    else awaits.Any
 awaits_behind _ _ = awaits.Any

@@ -55,7 +55,8 @@ abbrev pub AreLaid : Awaits → (before : ℕ) → List Laid → List Placed →
 AreLaid awaits before [] end = AreSeparators end
 AreLaid awaits before (one ∷ more) end =
     IsLaid awaits before one (laid_text more end)
-    × AreLaid (awaits_behind awaits one.token.kind) (last_byte (last_byte before one.gap) one.piece) more end
+    × AreLaid (awaits_behind awaits one.token.kind)
+    (last_byte (last_byte before one.gap) one.piece) more end
 
 -- the text is the tokens' pieces, in order, with separators alone before each and behind the last;
 -- a piece begins on its token's line

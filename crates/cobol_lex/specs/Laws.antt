@@ -21,7 +21,8 @@ TokenLinesRise =
 
 -- the text is the tokens, in order, with separators alone round each
 abbrev pub TokensCover : Type 0
-TokensCover = (text : List Placed) (tokens : List Token) → tokens_of text ≡ Ok tokens → Covers text tokens
+TokensCover =
+    (text : List Placed) (tokens : List Token) → tokens_of text ≡ Ok tokens → Covers text tokens
 
 -- a token that is written is read back, whatever follows that doesn't run on with it
 abbrev pub TokenReadsBack : Type 0
@@ -35,14 +36,16 @@ TokenReadsBack =
 abbrev pub PictureReadsBack : Type 0
 PictureReadsBack =
     (picture : List ℕ) (awaits : Awaits) (before line : ℕ) (rest : List ℕ) →
-    IsPicture picture → awaits_picture awaits (picture ++ rest) ≡ true → ends_picture_run rest ≡ true →
+    IsPicture picture → awaits_picture awaits (picture ++ rest) ≡ true →
+    ends_picture_run rest ≡ true →
     next_lexeme awaits before line (picture ++ rest)
     ≡ Ok (record { kind = kind.Picture picture; length = length picture })
 
 -- tokens with single spaces between them are read back
 abbrev pub TextReadsBack : Type 0
 TextReadsBack =
-    (tokens : List Token) → AreLawful awaits.Any tokens → tokens_of (written_text tokens) ≡ Ok tokens
+    (tokens : List Token) → AreLawful awaits.Any tokens →
+    tokens_of (written_text tokens) ≡ Ok tokens
 
 -- a text of tokens in any lay-out has these tokens
 abbrev pub LaidReadsBack : Type 0

@@ -24,8 +24,10 @@ abbrev pub mark_lexeme : (line b : ℕ) → (rest : List ℕ) → Result Lexeme 
 mark_lexeme line b rest =
     if is_point b then lexeme_of 1 (Ok kind.Period)
     else if b == asterisk && begins (λ c. c == asterisk) rest then lexeme_of 2 (Ok kind.Power)
-    else if b == less_sign && begins (λ c. c == equal_sign) rest then lexeme_of 2 (Ok kind.LessEqual)
-    else if b == greater_sign && begins (λ c. c == equal_sign) rest then lexeme_of 2 (Ok kind.GreaterEqual)
+    else if b == less_sign && begins (λ c. c == equal_sign) rest
+    then lexeme_of 2 (Ok kind.LessEqual)
+    else if b == greater_sign && begins (λ c. c == equal_sign) rest
+    then lexeme_of 2 (Ok kind.GreaterEqual)
     else if is_mark b then lexeme_of 1 (Ok (kind.Mark b))
     else Err (fault.BadWord line)
 

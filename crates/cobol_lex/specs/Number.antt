@@ -15,7 +15,8 @@ use Rattle.cobol_lex.specs.declared.fault.LexFault.TheVariants as fault
 
 -- a digit, or a period before a digit
 abbrev pub begins_unsigned : List ℕ → Bool
-begins_unsigned bytes = begins is_digit bytes || begins is_point bytes && begins is_digit (drop 1 bytes)
+begins_unsigned bytes =
+    begins is_digit bytes || begins is_point bytes && begins is_digit (drop 1 bytes)
 
 -- the same, or a sign before it that counts by the byte that stands before the sign
 abbrev pub begins_number : (before : ℕ) → List ℕ → Bool

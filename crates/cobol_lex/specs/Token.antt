@@ -17,13 +17,15 @@ with_token token (Ok tokens) = Ok (token ∷ tokens)
 with_token token (Err fault) = Err fault
 
 -- what follows a lexeme, or the fault that there is in place of one
-abbrev pub after_lexeme : Result Lexeme LexFault → (Lexeme → Result (List Token) LexFault) → Result (List Token) LexFault
+abbrev pub after_lexeme : Result Lexeme LexFault → (Lexeme → Result (List Token) LexFault) →
+    Result (List Token) LexFault
 after_lexeme (Ok lexeme) follows = follows lexeme
 after_lexeme (Err fault) follows = Err fault
 
 -- The tokens of what is left of a text, of which the first bytes belong to the token before.
 -- `before` is the byte that stands before what is left.
-abbrev pub tokens_from : (taken : ℕ) → Awaits → (before : ℕ) → List Placed → Result (List Token) LexFault
+abbrev pub tokens_from : (taken : ℕ) → Awaits → (before : ℕ) → List Placed →
+    Result (List Token) LexFault
 tokens_from taken awaits before [] = Ok []
 tokens_from (suc taken) awaits before (p ∷ rest) = tokens_from taken awaits p.byte rest
 tokens_from zero awaits before (p ∷ rest) =

@@ -74,7 +74,8 @@ pub fn next_lexeme(
     bytes: &[u8],
 ) -> Result<Lexeme, LexFault>
     ensures value { Answers Memory (next_lexeme awaits before line bytes.now) result }
-    ensures within { IfOk result (λ lexeme. (0 < lexeme.length) × (lexeme.length ≤ length bytes.now)) }
+    ensures within { IfOk result
+        (λ lexeme. (0 < lexeme.length) × (lexeme.length ≤ length bytes.now)) }
 {
     if awaits_picture(awaits, bytes) {
         picture_lexeme(alloc, line, picture_run(bytes))

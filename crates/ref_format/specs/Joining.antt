@@ -94,11 +94,12 @@ fault_of last literal line =
 -- ---- the text
 
 -- the fault, or else this
-abbrev pub joined_or : {A : Type 0} → Option FormatFault → Result A FormatFault → Result A FormatFault
+abbrev pub joined_or : {A : Type 0} → Option FormatFault → Result A FormatFault →
+    Result A FormatFault
 joined_or (Some fault) rest = Err fault
 joined_or None rest = rest
 
--- this text, whose last kept line is `last`, with these lines behind it, or the first fault of theirs
+-- this text, whose last kept line is `last`, with these lines behind it, or their first fault
 abbrev pub joined : Option ℕ → List Placed → List Line → Result (List Placed) FormatFault
 joined last text [] = Ok text
 joined last text (line ∷ lines) =

@@ -19,7 +19,8 @@ TextStandsOnKeptLines =
 
 -- no byte stands on an earlier line than one before it
 abbrev pub LinesRise : Type 0
-LinesRise = (bytes : List ℕ) → IfOk (program_text bytes) (λ text. IsNonDecreasingBy (λ p. p.line) text)
+LinesRise =
+    (bytes : List ℕ) → IfOk (program_text bytes) (λ text. IsNonDecreasingBy (λ p. p.line) text)
 
 -- plain lines are the text, filled to column 72, where none of them begins a comment entry
 abbrev pub PlainLinesAreRead : Type 0

@@ -53,7 +53,8 @@ rows_text number literal (row ∷ rows) =
 
 -- the text of lines of which the first is this plain one
 abbrev pub text_of_rows : List ℕ → List Row → List Placed
-text_of_rows text rows = placed 1 (filled 65 text) ++ rows_text 1 (behind Closed (filled 65 text)) rows
+text_of_rows text rows =
+    placed 1 (filled 65 text) ++ rows_text 1 (behind Closed (filled 65 text)) rows
 
 -- ---- which lines can be written so
 
@@ -62,8 +63,8 @@ abbrev pub last_of : (before : ℕ) → List ℕ → ℕ
 last_of before [] = before
 last_of before (b ∷ bytes) = last_of b bytes
 
--- a continuation begins with the mark of the literal that is open; where none is, no space stands at
--- the cut
+-- a continuation begins with the mark of the literal that is open; where none is, no space stands
+-- at the cut
 abbrev pub TakesUp : Literal → (last : ℕ) → List ℕ → Type 0
 TakesUp literal last [] = ⊥
 TakesUp Closed last (b ∷ text) = (b ≢ space) × (last ≢ space)

@@ -79,7 +79,8 @@ impl Joining {
         ensures last { OnOk result (self.new.last ≡ Some number) }
         ensures text { OnOk result
             (self.new.text ≡ with_line self.old.last self.old.text (line_of number card.now)) }
-        ensures fault { let fault = fault_of self.old.last self.old.literal (line_of number card.now) in
+        ensures fault { let line = line_of number card.now in
+            let fault = fault_of self.old.last self.old.literal line in
             Answers Memory (joined_or fault (Ok tt)) result }
     {
         if let Some(fault) = self.fault(number, card) {
