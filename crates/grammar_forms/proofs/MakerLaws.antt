@@ -3,11 +3,11 @@ use Rattle.std.proofs.Common.{◌≡◌, ℕ, ◌<◌, ◌≤◌, Bool, true, fa
 use Rattle.cobol_lex.specs.declared.token.Token.{Token}
 use Rattle.cobol_lex.specs.declared.token.TokenKind.{TokenKind}
 use Rattle.grammar_forms.specs.declared.note.Note.{Note}
-use Rattle.grammar_forms.specs.declared.note.Spot.{Spot}
+use Rattle.grammar_forms.specs.declared.note.Position.{Position}
 use Rattle.grammar_forms.specs.declared.why.Why.{Why}
 use Rattle.grammar_forms.specs.Form as form
-use Rattle.grammar_forms.specs.Form.{Place, Outcome, Got, Stop, left, Form, one_reads, taken_as, begins_by, chosen}
-use Rattle.grammar_forms.specs.Parts as parts
+use Rattle.grammar_forms.specs.Form.{Input, Outcome, Got, Stop, left, Form, one_reads, taken_as, begins_by}
+use Rattle.grammar_forms.specs.Part as parts
 use Rattle.grammar_forms.proofs.Lawful as lawful
 use Rattle.grammar_forms.proofs.Lawful.{Lawful, then_got, got_is}
 use Rattle.grammar_forms.proofs.Turns.{Consumes, loop-lawful}
@@ -17,7 +17,7 @@ pub record Law {A : Type 0} (takes : Bool) (f : Form A) : Type 0 where
   pub consumes : takes ≡ true → Consumes f
 
 -- no more is left
-no_more : {A : Type 0} (f : Form A) → Lawful f → (p : Place) (a : A) (q : Place) → f.reads p ≡ Got a q → length q.rest ≤ length p.rest
+no_more : {A : Type 0} (f : Form A) → Lawful f → (p : Input) (a : A) (q : Input) → f.reads p ≡ Got a q → length q.rest ≤ length p.rest
 no_more f F p a q e =
     let w = F.within p in
     let n : length p.rest ≡ length (w.0 ++ q.rest) = ap length (w.1 ∙ ap (λ o. w.0 ++ left o) e) in
@@ -62,18 +62,18 @@ infixl 10 ◌>>◌
 pub ◌>>◌ : {A B : Type 0} {b c : Bool} {f : Form A} {g : Form B} → Law b f → Law c g → Law (b || c) (form.◌>>◌ f g)
 F >> G = F >>= (λ _. G)
 
-one_consumes : {A : Type 0} (test : Spot → TokenKind → Option A) → Consumes (form.one test)
+one_consumes : {A : Type 0} (test : Position → TokenKind → Option A) → Consumes (form.one test)
 one_consumes {A = A} test = record { less = λ p. go p p.rest }
   where
-    by_test : (p : Place) (o : Option A) (t : Token) (ts : List Token) (a : A) (q : Place) → taken_as o t ts p ≡ Got a q → length q.rest < length (t ∷ ts)
+    by_test : (p : Input) (o : Option A) (t : Token) (ts : List Token) (a : A) (q : Input) → taken_as o t ts p ≡ Got a q → length q.rest < length (t ∷ ts)
     by_test p (Some x) t ts a q e = let n : length ts ≡ length q.rest = ap (λ r. length r.rest) (got_is x a (form.past ts p) q e).1 in omega (arith, n)
     by_test p None t ts a q e = absurd cc
 
-    go : (p : Place) (ts : List Token) (a : A) (q : Place) → one_reads test ts p ≡ Got a q → length q.rest < length ts
+    go : (p : Input) (ts : List Token) (a : A) (q : Input) → one_reads test ts p ≡ Got a q → length q.rest < length ts
     go p [] a q e = absurd cc
-    go p (t ∷ ts) a q e = by_test p (test (form.spot_of p t) t.kind) t ts a q e
+    go p (t ∷ ts) a q e = by_test p (test (form.position_of p t) t.kind) t ts a q e
 
-pub one : {A : Type 0} (test : Spot → TokenKind → Option A) → Law true (form.one test)
+pub one : {A : Type 0} (test : Position → TokenKind → Option A) → Law true (form.one test)
 one test = record { lawful = lawful.one-lawful test; consumes = λ h. one_consumes test }
 
 pub by : {A : Type 0} {b : Bool} {choice : Option TokenKind → Form A} → ((o : Option TokenKind) → Law b (choice o)) → Law b (form.by choice)
@@ -82,16 +82,27 @@ by {choice = choice} C = record {
   consumes = λ h. record { less = λ p. ((C (form.next p.rest)).consumes h).less p };
 }
 
+-- one of two forms, by what was read before
+pub chosen : {A : Type 0} {b : Bool} (test : Bool) {there other : Form A} → Law b there → Law b other → Law b (form.chosen test there other)
+chosen true T O = T
+chosen false T O = O
+
 pub where_next : {A : Type 0} {b : Bool} {begin : TokenKind → Bool} {there other : Form A} → Law b there → Law b other → Law b (form.where_next begin there other)
-where_next {b = b} {begin = begin} {there = there} {other = other} T O = by (λ o. pick (begins_by begin o))
-  where
-    pick : (yes_no : Bool) → Law b (chosen yes_no there other)
-    pick true = T
-    pick false = O
+where_next {begin = begin} T O = by (λ o. chosen (begins_by begin o) T O)
+
+-- what is counted, and passes its limit or not
+pub unless : {A : Type 0} (why : Why) (passes : Bool) (a : A) → Law false (parts.unless why passes a)
+unless why passes a = chosen passes refuse pure
+
+pub loop_while : {S : Type 0} {begin : S → TokenKind → Bool} {step : S → Form S} {s : S} → ((s : S) → Law true (step s)) → Law false (form.loop_while begin step s)
+loop_while {begin = begin} {step = step} {s = s} L = record {
+  lawful = loop-lawful begin step (λ x. (L x).lawful) (λ x. (L x).consumes refl) s;
+  consumes = λ h. absurd cc;
+}
 
 pub loop : {S : Type 0} {begin : TokenKind → Bool} {step : S → Form S} {s : S} → ((s : S) → Law true (step s)) → Law false (form.loop begin step s)
 loop {begin = begin} {step = step} {s = s} L = record {
-  lawful = loop-lawful begin step (λ x. (L x).lawful) (λ x. (L x).consumes refl) s;
+  lawful = loop-lawful (λ _. begin) step (λ x. (L x).lawful) (λ x. (L x).consumes refl) s;
   consumes = λ h. absurd cc;
 }
 
@@ -111,7 +122,7 @@ f <$> P = P >>= (λ x. pure)
 -- ---- parts that are one token
 
 pub sign : (test : TokenKind → Bool) → Law true (parts.sign test)
-sign test = one (λ spot kind. parts.when (test kind) spot)
+sign test = one (λ position kind. parts.when (test kind) position)
 
 pub key : (word : List ℕ) → Law true (parts.key word)
 key word = sign (parts.is_key word)
@@ -123,7 +134,7 @@ pub period : Law true parts.period
 period = sign parts.is_period
 
 pub valued : {A : Type 0} (test : TokenKind → Option A) → Law true (parts.valued test)
-valued test = one (λ spot kind. parts.with_spot spot (test kind))
+valued test = one (λ position kind. parts.with_position position (test kind))
 
 pub word : Law true parts.word
 word = valued parts.word_of

@@ -4,10 +4,10 @@ use Rattle.std.specs.Str.{bytes_eq}
 use Rattle.cobol_lex.specs.declared.token.TokenKind.{TokenKind}
 use Rattle.cobol_lex.specs.declared.token.TokenKind.TheVariants as kinds
 use Rattle.cob_tree.specs.declared.number.Number.{Number}
-use Rattle.grammar_forms.specs.declared.note.Spot.{Spot}
+use Rattle.grammar_forms.specs.declared.note.Position.{Position}
 use Rattle.grammar_forms.specs.declared.why.Why.{Why}
 use Rattle.grammar_forms.specs.declared.why.Why.TheVariants.{Syntax}
-use Rattle.grammar_forms.specs.Form.{Form, one, by, pure, refuse, ◌>>◌, where_next}
+use Rattle.grammar_forms.specs.Form.{Form, one, by, pure, refuse, ◌>>◌, chosen, where_next}
 
 abbrev pub when : {A : Type 0} → Bool → A → Option A
 when holds a = if holds then Some a else None
@@ -25,30 +25,30 @@ abbrev pub is_period : TokenKind → Bool
 is_period kinds.Period = true
 is_period _ = false
 
--- a token of this kind, of which its spot is kept
-abbrev pub sign : (TokenKind → Bool) → Form Spot
-sign test = one (λ spot kind. when (test kind) spot)
+-- a token of this kind, of which its position is kept
+abbrev pub sign : (TokenKind → Bool) → Form Position
+sign test = one (λ position kind. when (test kind) position)
 
-abbrev pub key : List ℕ → Form Spot
+abbrev pub key : List ℕ → Form Position
 key word = sign (is_key word)
 
-abbrev pub mark : ℕ → Form Spot
+abbrev pub mark : ℕ → Form Position
 mark byte = sign (is_mark byte)
 
-abbrev pub period : Form Spot
+abbrev pub period : Form Position
 period = sign is_period
 
 -- a word that may be left out
 abbrev pub maybe : List ℕ → Form (Unit {0})
 maybe word = where_next (is_key word) (key word >> pure tt) (pure tt)
 
--- a value, and the spot of its token
-abbrev pub with_spot : {A : Type 0} → Spot → Option A → Option (A × Spot)
-with_spot spot (Some a) = Some (a, spot)
-with_spot spot None = None
+-- a value, and the position of its token
+abbrev pub with_position : {A : Type 0} → Position → Option A → Option (A × Position)
+with_position position (Some a) = Some (a, position)
+with_position position None = None
 
-abbrev pub valued : {A : Type 0} → (TokenKind → Option A) → Form (A × Spot)
-valued test = one (λ spot kind. with_spot spot (test kind))
+abbrev pub valued : {A : Type 0} → (TokenKind → Option A) → Form (A × Position)
+valued test = one (λ position kind. with_position position (test kind))
 
 abbrev pub word_of : TokenKind → Option (List ℕ)
 word_of (kinds.Word word) = Some word
@@ -70,19 +70,19 @@ abbrev pub picture_of : TokenKind → Option (List ℕ)
 picture_of (kinds.Picture picture) = Some picture
 picture_of _ = None
 
-abbrev pub word : Form (List ℕ × Spot)
+abbrev pub word : Form (List ℕ × Position)
 word = valued word_of
 
-abbrev pub digits : Form (List ℕ × Spot)
+abbrev pub digits : Form (List ℕ × Position)
 digits = valued digits_of
 
-abbrev pub decimal : Form (Number × Spot)
+abbrev pub decimal : Form (Number × Position)
 decimal = valued decimal_of
 
-abbrev pub literal : Form (List ℕ × Spot)
+abbrev pub literal : Form (List ℕ × Position)
 literal = valued literal_of
 
-abbrev pub picture : Form (List ℕ × Spot)
+abbrev pub picture : Form (List ℕ × Position)
 picture = valued picture_of
 
 abbrev pub ended_by : Option TokenKind → Form (Unit {0})
@@ -96,3 +96,7 @@ ended = by ended_by
 -- one of these that is nested too deep
 abbrev pub too_deep : {A : Type 0} → Why → (TokenKind → Bool) → Form A
 too_deep why begin = where_next begin (refuse why) (refuse Syntax)
+
+-- a value, unless what it counts passes its limit at the next token
+abbrev pub unless : {A : Type 0} → Why → (passes : Bool) → A → Form A
+unless why passes a = chosen passes (refuse why) (pure a)
