@@ -1,4 +1,5 @@
-// Products with powers of ten, and the limit on digits.
+//! Products with powers of ten, and the limit on digits.
+
 ghost use Rattle.std.specs.Prelude.{◌≡◌, ◌≢◌, ◌^◌, ◌<◌, ◌≤◌, ◌↔◌, pos, ◌*ℤ◌, int_div, IsTrue, IsSome, IfSome};
 ghost use Rattle.cob_num.specs.Digits.{FitsDigits, digit_limit, scale_limit};
 ghost use Rattle.cob_num.specs.Decimal.{common_scale, units};
@@ -16,7 +17,45 @@ pub fn power_of_ten(exponent: u8) -> u128
     ensures value { result ≡ 10 ^ exponent }
     ensures positive { 0 < result }
 {
-    10u128.pow(u32::from(exponent))
+    match exponent {
+        0 => 1,
+        1 => 10,
+        2 => 100,
+        3 => 1_000,
+        4 => 10_000,
+        5 => 100_000,
+        6 => 1_000_000,
+        7 => 10_000_000,
+        8 => 100_000_000,
+        9 => 1_000_000_000,
+        10 => 10_000_000_000,
+        11 => 100_000_000_000,
+        12 => 1_000_000_000_000,
+        13 => 10_000_000_000_000,
+        14 => 100_000_000_000_000,
+        15 => 1_000_000_000_000_000,
+        16 => 10_000_000_000_000_000,
+        17 => 100_000_000_000_000_000,
+        18 => 1_000_000_000_000_000_000,
+        19 => 10_000_000_000_000_000_000,
+        20 => 100_000_000_000_000_000_000,
+        21 => 1_000_000_000_000_000_000_000,
+        22 => 10_000_000_000_000_000_000_000,
+        23 => 100_000_000_000_000_000_000_000,
+        24 => 1_000_000_000_000_000_000_000_000,
+        25 => 10_000_000_000_000_000_000_000_000,
+        26 => 100_000_000_000_000_000_000_000_000,
+        27 => 1_000_000_000_000_000_000_000_000_000,
+        28 => 10_000_000_000_000_000_000_000_000_000,
+        29 => 100_000_000_000_000_000_000_000_000_000,
+        30 => 1_000_000_000_000_000_000_000_000_000_000,
+        31 => 10_000_000_000_000_000_000_000_000_000_000,
+        32 => 100_000_000_000_000_000_000_000_000_000_000,
+        33 => 1_000_000_000_000_000_000_000_000_000_000_000,
+        34 => 10_000_000_000_000_000_000_000_000_000_000_000,
+        35 => 100_000_000_000_000_000_000_000_000_000_000_000,
+        _ => 1_000_000_000_000_000_000_000_000_000_000_000_000,
+    }
 }
 
 fn fits_digits(value: i128) -> bool
@@ -84,7 +123,11 @@ pub fn at_scale(number: Dec, scale: u8) -> Option<i128>
     ensures value { IfSome result (λ value. value ≡ units number scale) }
     ensures short { IfSome result FitsDigits }
 {
-    times_power(number, scale - number.scale)
+    if number.scale == scale {
+        Some(number.value)
+    } else {
+        times_power(number, scale - number.scale)
+    }
 }
 
 // The quotient, truncated toward zero: it is no longer than the dividend.

@@ -1,1 +1,2 @@
+-- The words of a list by their length.
 pub mod ByLength

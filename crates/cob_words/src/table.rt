@@ -1,8 +1,9 @@
 //! A table that numbers words.
 
-ghost use Rattle.std.specs.Prelude.{◌≡◌, ◌≢◌, ◌<◌, ◌^◌, [], length, position, AllPairs, slice_get, IfOk, OnOk, OnErr};
+ghost use Rattle.std.specs.Prelude.{◌≡◌, ◌≢◌, ◌<◌, ◌^◌, [], length, position, AllPairs, slice_get, OnOk, OnErr};
 ghost use Rattle.std.specs.Option.{option_copied};
 ghost use Rattle.std.specs.Str.{bytes_eq};
+ghost use Rattle.cob_base.specs.Answers.{Makes};
 ghost use Rattle.cob_words.specs.Table.{number_in, with_word};
 
 use cob_base::{NoMemory, Word};
@@ -67,7 +68,7 @@ impl WordTable {
     /// `NoMemory` changes nothing.
     pub fn add(&mut self, word: Word) -> Result<u32, NoMemory>
         requires { length self.old < 2 ^ 32 }
-        ensures number { IfOk result (λ n. n ≡ number_in self.old word) }
+        ensures number { Makes (number_in self.old word) result }
         ensures words { OnOk result (self.new ≡ with_word self.old word) }
         ensures err { OnErr result (self.new ≡ self.old) }
     {

@@ -1,11 +1,16 @@
-pub mod Answers
-pub mod Bytes
-pub mod Laid
-pub mod Literals
-pub mod Next
-pub mod Numbers
-pub mod Pictures
-pub mod Rising
-pub mod Tokens
+-- Kinds of bytes.
+pub mod Byte
+-- Words, numbers, literals and pictures, and where a picture comes.
+pub mod Word
+pub mod Number
+pub mod Literal
+pub mod Awaits
+pub mod Picture
+-- The token that begins a text, and all of its tokens: `tokens_of`.
+pub mod Lexeme
+pub mod Token
+-- How tokens are written, and texts in which they stand.
 pub mod Written
-pub mod Words
+pub mod Laid
+-- What holds of the tokens of every text.
+pub mod Laws

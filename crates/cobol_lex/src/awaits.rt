@@ -1,10 +1,10 @@
 //! What the tokens before say of the next one.
 
 ghost use Rattle.std.specs.Prelude.{◌≡◌};
-ghost use Rattle.cobol_lex.specs.Pictures.{awaits_picture, awaits_behind};
+ghost use Rattle.cobol_lex.specs.Awaits.{awaits_picture, awaits_behind};
 
 use crate::token::TokenKind;
-use crate::words::{is_is, word_run};
+use crate::word::{is_is, word_run};
 
 /// What the next token may be.
 #[derive(Clone, Copy, Debug, PartialEq, Eq)]

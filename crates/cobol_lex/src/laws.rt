@@ -1,15 +1,19 @@
 //! What holds of the tokens of every text. These functions do nothing; their contracts are laws.
 
-ghost use Rattle.cobol_lex.specs.Laid.{LaidReadsBack};
-ghost use Rattle.cobol_lex.specs.Rising.{TokenLinesRise};
-ghost use Rattle.cobol_lex.specs.Written.{PictureReadsBack, TextReadsBack, TokenReadsBack};
+ghost use Rattle.cobol_lex.specs.Laws.{LaidReadsBack, PictureReadsBack, TextReadsBack, TokenReadsBack};
+ghost use Rattle.cobol_lex.specs.Laws.{TokenLinesRise, TokensCover};
 
 /// The lines of the tokens rise where those of the text do.
 pub fn token_lines_rise()
     ensures { TokenLinesRise }
 {}
 
-/// A token in its own spelling is read back, whatever follows that doesn't go on with it; a number
+/// The text is the tokens, in order, with separators alone before each and behind the last.
+pub fn tokens_cover()
+    ensures { TokensCover }
+{}
+
+/// A token in its own spelling is read back, whatever follows that doesn't run on with it; a number
 /// with a sign or a period stands behind a space, LF, `(`, `:`, `,` or `;`.
 pub fn token_reads_back()
     ensures { TokenReadsBack }

@@ -1,23 +1,70 @@
 //! Program text to tokens.
+//!
+//! `tokens` reads words, numbers, literals, pictures and marks, each with the line on which it
+//! begins. Hold `tokens_of` against ISO 1989:1985, Reference Format and Character-Strings. That the
+//! definition is right is said by laws: what is written as a token is read back in any lay-out
+//! (`laid_reads_back`), nothing but separators stands round tokens (`tokens_cover`), and their
+//! lines rise (`token_lines_rise`). That `tokens` succeeds where memory is ample is tested.
 #![tactic(auto)]
 
 mod awaits;
-mod bytes;
-mod cut;
+mod byte;
 mod fault;
 mod laws;
+mod lexeme;
 mod literal;
-mod numbers;
+mod number;
 mod picture;
-mod scan;
 #[cfg(test)]
 mod tests;
 mod token;
-mod words;
+mod word;
 
+ghost use Rattle.std.specs.Prelude.{◌≡◌};
+ghost use Rattle.cob_base.specs.Answers.{Answers};
+ghost use Rattle.cobol_lex.specs.Token.{tokens_of};
+ghost use Rattle.cobol_lex.specs.declared.fault.LexFault.TheVariants.{NoMemory as Memory};
+
+use awaits::{Awaits, awaits_behind};
+use byte::is_separator;
+use cob_base::Items;
 pub use fault::LexFault;
 pub use laws::{
     laid_reads_back, picture_reads_back, text_reads_back, token_lines_rise, token_reads_back,
+    tokens_cover,
 };
-pub use scan::tokens;
+use lexeme::next_lexeme;
+use ref_format::Placed;
+use std::alloc::Global;
 pub use token::{Token, TokenKind};
+
+/// The tokens of a program text, or its first fault, with the line on which the token begins.
+///
+/// The text's bytes lie on the lines that `text` gives them. A sign at the very beginning of a text
+/// doesn't count, since nothing stands before it.
+pub fn tokens(alloc: Global, text: &[Placed]) -> Result<Items<Token>, LexFault>
+    ensures { Answers Memory (tokens_of text.now) result }
+{
+    let bytes: Vec<u8> = text.iter().map(|placed| placed.byte).collect(alloc)?;
+    let mut tokens = Items::new(alloc);
+    let mut awaits = Awaits::Any;
+    let mut before = 0;
+    let mut at = 0;
+    while at < text.len() {
+        let placed = text[at];
+        if is_separator(placed.byte) {
+            before = placed.byte;
+            at += 1;
+            continue;
+        }
+        let lexeme = next_lexeme(alloc, awaits, before, placed.line, &bytes[at..])?;
+        awaits = awaits_behind(awaits, &lexeme.kind);
+        at += lexeme.length;
+        before = bytes[at - 1];
+        tokens.push(Token {
+            kind: lexeme.kind,
+            line: placed.line,
+        })?;
+    }
+    Ok(tokens)
+}

@@ -1,11 +1,11 @@
 //! Literals.
 
-ghost use Rattle.std.specs.Prelude.{◌≡◌, IfOk};
-ghost use Rattle.cobol_lex.specs.Answers.{Answers};
-ghost use Rattle.cobol_lex.specs.Literals.{quoted_by, literal_at};
+ghost use Rattle.cob_base.specs.Answers.{Answers, Makes};
+ghost use Rattle.cobol_lex.specs.declared.fault.LexFault.TheVariants.{NoMemory as Memory};
+ghost use Rattle.cobol_lex.specs.Literal.{quoted_by, literal_lexeme};
 
-use crate::cut::Cut;
 use crate::fault::LexFault;
+use crate::lexeme::Lexeme;
 use crate::token::TokenKind;
 use cob_base::{NoMemory, Text};
 use std::alloc::Global;
@@ -22,7 +22,7 @@ pub struct Quoted {
 
 /// What a literal has behind its opening mark, where the line has its closing mark.
 fn quoted_by(alloc: Global, mark: u8, rest: &[u8]) -> Result<Option<Quoted>, NoMemory>
-    ensures { IfOk result (λ quoted. quoted ≡ quoted_by mark rest.now) }
+    ensures { Makes (quoted_by mark rest.now) result }
 {
     let mut value = Text::new(alloc);
     let mut at = 0;
@@ -43,8 +43,8 @@ fn quoted_by(alloc: Global, mark: u8, rest: &[u8]) -> Result<Option<Quoted>, NoM
 }
 
 /// The literal that begins here.
-pub fn literal_cut(alloc: Global, line: u32, bytes: &[u8]) -> Result<Cut, LexFault>
-    ensures { Answers (literal_at line bytes.now) result }
+pub fn literal_lexeme(alloc: Global, line: u32, bytes: &[u8]) -> Result<Lexeme, LexFault>
+    ensures { Answers Memory (literal_lexeme line bytes.now) result }
 {
     let [mark, rest @ ..] = bytes else {
         return Err(LexFault::OpenLiteral(line));
@@ -55,7 +55,7 @@ pub fn literal_cut(alloc: Global, line: u32, bytes: &[u8]) -> Result<Cut, LexFau
     if value.len() == 0 || value.len() > MOST_BYTES {
         return Err(LexFault::BadWord(line));
     }
-    Ok(Cut {
+    Ok(Lexeme {
         kind: TokenKind::Literal(value),
         length: 1 + taken,
     })

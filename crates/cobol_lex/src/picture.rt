@@ -1,12 +1,13 @@
 //! Pictures.
 
 ghost use Rattle.std.specs.Prelude.{◌≡◌, length};
-ghost use Rattle.cobol_lex.specs.Answers.{Answers};
-ghost use Rattle.cobol_lex.specs.Pictures.{ends_picture, filled_run, picture_run, picture_cut};
+ghost use Rattle.cob_base.specs.Answers.{Answers};
+ghost use Rattle.cobol_lex.specs.declared.fault.LexFault.TheVariants.{NoMemory as Memory};
+ghost use Rattle.cobol_lex.specs.Picture.{ends_picture, filled_run, picture_run, picture_lexeme};
 
-use crate::bytes::is_blank;
-use crate::cut::Cut;
+use crate::byte::is_white;
 use crate::fault::LexFault;
+use crate::lexeme::Lexeme;
 use crate::token::TokenKind;
 use cob_base::Text;
 use std::alloc::Global;
@@ -20,11 +21,11 @@ fn ends_picture(b: u8) -> bool
 fn filled_length(bytes: &[u8]) -> usize
     ensures { result ≡ length (filled_run bytes.now) }
 {
-    bytes.iter().take_while(|b| !is_blank(**b)).count()
+    bytes.iter().take_while(|b| !is_white(**b)).count()
 }
 
 /// The bytes up to a space or LF.
-#[tactic(auto, using(crate::proofs::Runs::run_at_front, crate::proofs::Runs::run_within))]
+#[tactic(auto, using(crate::proofs::RunLemmas::run_at_front, crate::proofs::RunLemmas::run_within))]
 fn filled_run(bytes: &[u8]) -> &[u8]
     ensures { result.now ≡ filled_run bytes.now }
 {
@@ -42,14 +43,14 @@ pub fn picture_run(bytes: &[u8]) -> &[u8]
     }
 }
 
-pub fn picture_cut(alloc: Global, line: u32, run: &[u8]) -> Result<Cut, LexFault>
-    ensures { Answers (picture_cut line run.now) result }
+pub fn picture_lexeme(alloc: Global, line: u32, run: &[u8]) -> Result<Lexeme, LexFault>
+    ensures { Answers Memory (picture_lexeme line run.now) result }
 {
     if run.is_empty() {
         return Err(LexFault::BadWord(line));
     }
     let bytes = Vec::from_slice(alloc, run)?;
-    Ok(Cut {
+    Ok(Lexeme {
         kind: TokenKind::Picture(Text { bytes }),
         length: run.len(),
     })

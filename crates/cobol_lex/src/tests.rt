@@ -186,3 +186,22 @@ fn measures_literals(rt: HostRuntime) -> Result<(), Fail> {
     longer.add(b"x'")?;
     expect(&rt, alloc, &[longer.as_slice()], b"BadWord(1)")
 }
+
+/// 400 KB of text, which a body would refuse that gives up past some number.
+#[test]
+fn reads_a_large_text(rt: HostRuntime) -> Result<(), Fail> {
+    let alloc = rt.alloc();
+    let line = b"    MOVE 12.5 TO TOTAL-AMOUNT (I + 1). DISPLAY \"TEXT\".            \n";
+    let mut text = Vec::new(alloc);
+    for row in 0..6_250u32 {
+        for byte in line {
+            text.push(Placed {
+                byte: *byte,
+                line: row,
+            })?;
+        }
+    }
+    let tokens = tokens(alloc, &text)?;
+    assert_eq!(rt; tokens.len(), 6_250 * 13);
+    Ok(())
+}

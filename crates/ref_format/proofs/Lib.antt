@@ -1,6 +1,11 @@
-pub mod Ends
-pub mod Filling
-pub mod Fold
-pub mod Plain
-pub mod Standing
-pub mod Texts
+-- Columns and lines.
+pub mod ColumnLemmas
+pub mod LineLemmas
+-- The literal at a text's end, and the text that is still to come.
+pub mod JoiningLemmas
+pub mod UnfoldLemmas
+-- The laws.
+pub mod TextStandsOnKeptLines
+pub mod LinesRise
+pub mod PlainLinesAreRead
+pub mod RowsAreRead

@@ -1,8 +1,8 @@
 //! The text of the kept lines.
 
-ghost use Rattle.std.specs.Prelude.{◌≡◌, None, Some, OnOk, IfErr, ◌++◌, [], length};
+ghost use Rattle.std.specs.Prelude.{◌≡◌, None, Some, OnOk, ◌++◌, [], length};
 
-use crate::columns::{behind_spaces, blank, controls};
+use crate::column::{behind_spaces, blank, controls};
 use crate::fault::FormatFault;
 use crate::placed::Placed;
 use cob_base::{Items, NoMemory};
@@ -17,7 +17,7 @@ pub enum Literal {
 }
 
 impl Literal {
-    ghost use Rattle.ref_format.specs.Joined.{behind_byte, lacks_mark as without_mark};
+    ghost use Rattle.ref_format.specs.Joining.{behind_byte, lacks_mark as without_mark};
 
     fn behind(self, byte: u8) -> Literal
         ensures { result ≡ behind_byte self byte }
@@ -53,11 +53,14 @@ pub struct Joining {
 }
 
 impl Joining {
-    ghost use Rattle.std.specs.Prelude.{◌⊎◌};
-    ghost use Rattle.ref_format.specs.Joined.{placed, behind, unspaced_end, line_end, trimmed, continuing, with_line, fault_of, is_bad_continuation};
+    ghost use Rattle.std.specs.Prelude.{Ok};
+    ghost use Rattle.cob_base.specs.Answers.{Answers};
+    ghost use Rattle.ref_format.specs.Line.{line_of};
+    ghost use Rattle.ref_format.specs.Placed.{placed};
+    ghost use Rattle.ref_format.specs.Joining.{IsSound, behind, unspaced_end, line_end, trimmed, continuing};
+    ghost use Rattle.ref_format.specs.Joining.{with_line, fault_of, joined_or, is_bad_continuation};
     ghost use Rattle.ref_format.specs.declared.fault.FormatFault.TheVariants.{NoMemory as Memory};
     ghost use Rattle.ref_format.specs.declared.joining.Literal.TheVariants.{Closed};
-    ghost use Rattle.ref_format.specs.Sound.{IsSound, line_of};
 
     pub fn new(alloc: Global) -> Joining
         ensures { result ≡ record { text = []; last = None; literal = Closed } }
@@ -74,9 +77,11 @@ impl Joining {
         requires { IsSound self.old }
         ensures sound { OnOk result (IsSound self.new) }
         ensures last { OnOk result (self.new.last ≡ Some number) }
-        ensures text { OnOk result (self.new.text ≡ with_line self.old.last self.old.text (line_of number card.now)) }
-        ensures no_fault { OnOk result (fault_of self.old.last self.old.literal (line_of number card.now) ≡ None) }
-        ensures fault { IfErr result (λ e. (e ≡ Memory) ⊎ (fault_of self.old.last self.old.literal (line_of number card.now) ≡ Some e)) }
+        ensures text { OnOk result
+            (self.new.text ≡ with_line self.old.last self.old.text (line_of number card.now)) }
+        ensures fault { let line = line_of number card.now in
+            let fault = fault_of self.old.last self.old.literal line in
+            Answers Memory (joined_or fault (Ok tt)) result }
     {
         if let Some(fault) = self.fault(number, card) {
             return Err(fault);
@@ -117,8 +122,12 @@ impl Joining {
 
     /// Goes on with a continuation line.
     fn go_on(&mut self, number: u32, card: &[u8; 72]) -> Result<(), NoMemory>
-        ensures text { OnOk result (self.new.text ≡ trimmed self.old.literal self.old.text ++ placed number (continuing self.old.literal card.now)) }
-        ensures literal { OnOk result (self.new.literal ≡ behind self.old.literal (continuing self.old.literal card.now)) }
+        ensures text { OnOk result
+            (self.new.text
+            ≡ trimmed self.old.literal self.old.text
+            ++ placed number (continuing self.old.literal card.now)) }
+        ensures literal { OnOk result
+            (self.new.literal ≡ behind self.old.literal (continuing self.old.literal card.now)) }
     {
         let rest = behind_spaces(&card[11..]);
         match (self.literal, rest) {

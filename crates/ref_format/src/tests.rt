@@ -1,15 +1,20 @@
 //! Sources in the reference format and their texts, worked by hand.
 
-use crate::{FormatFault, unfold};
+use crate::{FormatFault, Placed, unfold};
+use cob_base::Items;
 use std::alloc::Global;
 use std::test::Fail;
 
-/// The text of a source, without the spaces at the end of each of its lines.
-fn text_of(alloc: Global, source: &[u8]) -> Result<Vec<u8>, FormatFault> {
+fn unfolded(alloc: Global, source: &[u8]) -> Result<Items<Placed>, FormatFault> {
     if source.len() >= 1 << 31 {
         return Err(FormatFault::NoMemory);
     }
-    let text = unfold(alloc, source)?;
+    unfold(alloc, source)
+}
+
+/// The text of a source, without the spaces at the end of each of its lines.
+fn text_of(alloc: Global, source: &[u8]) -> Result<Vec<u8>, FormatFault> {
+    let text = unfolded(alloc, source)?;
     let mut shown = Vec::new(alloc);
     for placed in text.as_slice() {
         if placed.byte == b'\n' {
@@ -120,5 +125,20 @@ fn lines(rt: HostRuntime) -> Result<(), Fail> {
     }
     assert_eq!(rt; text.len(), 65 + 1 + 65 + 60);
     assert_eq!(rt; rows, [0, 0, 3, 2, 3]);
+    Ok(())
+}
+
+/// 5,000 lines of 80 bytes, which a body would refuse that gives up past some number.
+#[test]
+fn unfolds_a_large_source(rt: HostRuntime) -> Result<(), Fail> {
+    let line =
+        b"000100     DISPLAY \"A LINE OF EIGHTY BYTES\".                           ANNOTATED";
+    let mut source = Vec::new(rt.alloc());
+    for _ in 0..5_000 {
+        source.extend_from_slice(line)?;
+        source.push(b'\n')?;
+    }
+    let text = unfolded(rt.alloc(), &source)?;
+    assert_eq!(rt; text.len(), 5_000 * 66 - 1);
     Ok(())
 }

@@ -1,4 +1,4 @@
-use Rattle.cobol_lex.proofs.ReadsBack as law
+use Rattle.cobol_lex.proofs.TextReadsBack as law
 use Rattle.cobol_lex.proofs.laws.text_reads_back.Goals as goal
 
 pub returns : goal.returns

@@ -1,5 +1,5 @@
-use Rattle.cobol_lex.proofs.RisingLaw.{token_lines}
+use Rattle.cobol_lex.proofs.TokenLinesRise as law
 use Rattle.cobol_lex.proofs.laws.token_lines_rise.Goals as goal
 
 pub returns : goal.returns
-returns c = token_lines
+returns c = law.token_lines_rise

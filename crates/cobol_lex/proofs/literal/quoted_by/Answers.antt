@@ -1,5 +1,5 @@
 use Rattle.std.proofs.Common.{sym, ap, ◌∙◌, ◌≡◌, ◌++◌, ◌∷◌, [], get_or, arith}
-use Rattle.cobol_lex.proofs.Quoting.{on_doubled, on_other, line_ends}
+use Rattle.cobol_lex.proofs.LiteralLemmas.{on_doubled, on_other, line_ends}
 use Rattle.cobol_lex.proofs.literal.quoted_by.Goals as goal
 use Rattle.cobol_lex.proofs.literal.quoted_by.Goals.{then-b-mark+else-at-rest+else-rest-at, else-b-mark+else-b-eq10}
 

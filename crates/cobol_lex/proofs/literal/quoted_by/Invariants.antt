@@ -1,6 +1,6 @@
 use Rattle.std.proofs.Common.{length, ◌-◌, ◌≡◌, drop}
-use Rattle.cobol_lex.specs.Literals.{quoted_by}
-use Rattle.cobol_lex.proofs.Quoting.{quoted_behind}
+use Rattle.cobol_lex.specs.Literal.{quoted_by}
+use Rattle.cobol_lex.proofs.LiteralLemmas.{quoted_behind}
 use Rattle.cobol_lex.proofs.literal.quoted_by.Given as goal
 
 abbrev pub invariant-loop-at : goal.invariant-loop-at

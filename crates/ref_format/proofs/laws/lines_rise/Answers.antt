@@ -1,5 +1,5 @@
-use Rattle.ref_format.proofs.Standing.{rise}
+use Rattle.ref_format.proofs.LinesRise as law
 use Rattle.ref_format.proofs.laws.lines_rise.Goals as goal
 
 pub returns : goal.returns
-returns c = rise c.args.bytes.now
+returns c = law.lines_rise

@@ -1,7 +1,7 @@
 use Rattle.std.proofs.Common.{◌≡◌, sym, ap, ◌∙◌}
-use Rattle.ref_format.specs.Joined.{behind, literal_at_end, trimmed, continuing}
-use Rattle.ref_format.specs.Columns.{columns}
-use Rattle.ref_format.proofs.Texts.{literal_at_end-placed, literal_at_end-trimmed, literal_at_end-line_end}
+use Rattle.ref_format.specs.Column.{columns}
+use Rattle.ref_format.specs.Joining.{behind, literal_at_end, trimmed, continuing}
+use Rattle.ref_format.proofs.JoiningLemmas.{literal_at_end-placed, literal_at_end-trimmed, literal_at_end-line_end}
 use Rattle.ref_format.proofs.joining.Joining.add.Goals as goal
 use Rattle.ref_format.proofs.joining.Joining.add.Goals.{then-card-eq45+in_ok-go_on, else-card-eq45+in_ok-end_line+in_ok-put}
 

@@ -1,5 +1,6 @@
 use Rattle.std.proofs.Common.{◌≡◌, ◌++◌, take, drop}
-use Rattle.ref_format.specs.Joined.{placed, behind}
+use Rattle.ref_format.specs.Placed.{placed}
+use Rattle.ref_format.specs.Joining.{behind}
 use Rattle.ref_format.proofs.joining.Joining.put.Given as goal
 
 abbrev pub invariant-loop-byte : goal.invariant-loop-byte

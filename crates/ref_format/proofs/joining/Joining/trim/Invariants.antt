@@ -1,5 +1,5 @@
 use Rattle.std.proofs.Common.{◌≡◌, length}
-use Rattle.ref_format.specs.Joined.{unspaced_end}
+use Rattle.ref_format.specs.Joining.{unspaced_end}
 use Rattle.ref_format.proofs.joining.Joining.trim.Given as goal
 
 abbrev pub invariant-loop-last : goal.invariant-loop-last

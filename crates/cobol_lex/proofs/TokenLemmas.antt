@@ -1,0 +1,156 @@
+-- The tokens of a text, a token at a time.
+use Rattle.std.proofs.Common.{ℕ, ◌≡◌, ◌≢◌, ◌<◌, ◌≤◌, ◌+◌, ◌-◌, zero, suc, true, false, List, [], ◌∷◌, ◌++◌, take, drop, length, get_or, ap, sym, ◌∙◌, arith, refl, append_assoc, add-one, drop-cons, drop-drop}
+use Rattle.cob_base.specs.Answers.{Answers}
+use Rattle.ref_format.specs.Placed.{bytes_of}
+use Rattle.cobol_lex.specs.Byte.{is_separator}
+use Rattle.cobol_lex.specs.Awaits.{awaits_behind}
+use Rattle.cobol_lex.specs.Lexeme.{next_lexeme}
+use Rattle.cobol_lex.specs.Token.{with_token, tokens_from}
+use Rattle.std.specs.Prelude.{IsErrAnd, Result, Ok, Err}
+use Rattle.std.proofs.lemmas.Grind.{common_steps}
+use Rattle.ref_format.specs.declared.placed.Placed.{Placed}
+use Rattle.cobol_lex.specs.declared.token.Token.{Token}
+use Rattle.cobol_lex.specs.declared.awaits.Awaits.{Awaits}
+use Rattle.cobol_lex.specs.declared.lexeme.Lexeme.{Lexeme}
+use Rattle.cobol_lex.specs.declared.fault.LexFault.{LexFault}
+use Rattle.cobol_lex.specs.declared.fault.LexFault.TheVariants as fault
+
+-- the tokens that have been read stand before those of what is left
+abbrev pub tokens_behind : List Token → Result (List Token) LexFault → Result (List Token) LexFault
+tokens_behind front (Ok tokens) = Ok (front ++ tokens)
+tokens_behind front (Err fault) = Err fault
+
+pub behind_none : (tokens : Result (List Token) LexFault) → tokens_behind [] tokens ≡ tokens
+behind_none (Ok tokens) = refl
+behind_none (Err fault) = refl
+
+behind_token : (front : List Token) (token : Token) (tokens : Result (List Token) LexFault) →
+    tokens_behind front (with_token token tokens) ≡ tokens_behind (front ++ token ∷ []) tokens
+behind_token front token (Ok tokens) = ap Ok (sym (append_assoc front (token ∷ []) tokens))
+behind_token front token (Err fault) = refl
+
+-- the bytes of a token are passed over
+passed_over : (n : ℕ) (awaits : Awaits) (p : Placed) (rest : List Placed) → n ≤ length rest →
+    tokens_from n awaits p.byte rest ≡ tokens_from 0 awaits (get_or (bytes_of (p ∷ rest)) n 0) (drop n rest)
+passed_over zero awaits p rest within = refl
+passed_over (suc n) awaits p [] within = absurd (omega arith)
+passed_over (suc n) awaits p (q ∷ rest) within = passed_over n awaits q rest (omega arith)
+
+drop_bytes : (n : ℕ) (text : List Placed) → drop n (bytes_of text) ≡ bytes_of (drop n text)
+drop_bytes zero text = refl
+drop_bytes (suc n) [] = refl
+drop_bytes (suc n) (p ∷ text) = drop_bytes n text
+
+byte_at : (n : ℕ) (text : List Placed) (p : Placed) → n < length text → get_or (bytes_of text) n 0 ≡ (get_or text n p).byte
+byte_at n [] p within = absurd (omega arith)
+byte_at zero (q ∷ text) p within = refl
+byte_at (suc n) (q ∷ text) p within = byte_at n text p (omega arith)
+
+byte_behind : (at n : ℕ) (text : List Placed) → get_or (bytes_of (drop at text)) n 0 ≡ get_or (bytes_of text) (at + n) 0
+byte_behind zero n text =
+    let same : n ≡ zero + n = omega arith in
+    ap (λ k. get_or (bytes_of text) k 0) same
+byte_behind (suc at) n [] = refl
+byte_behind (suc at) n (p ∷ text) =
+    let same : suc (at + n) ≡ suc at + n = omega arith in
+    byte_behind at n text ∙ ap (λ k. get_or (bytes_of (p ∷ text)) k 0) same
+
+length_bytes : (text : List Placed) → length (bytes_of text) ≡ length text
+length_bytes [] = refl
+length_bytes (p ∷ text) = ap suc (length_bytes text)
+
+get_or-default : (text : List Placed) (at : ℕ) (d d' : Placed) → at < length text → get_or text at d ≡ get_or text at d'
+get_or-default [] at d d' within = absurd (omega arith)
+get_or-default (p ∷ text) zero d d' within = refl
+get_or-default (p ∷ text) (suc at) d d' within = get_or-default text at d d' (omega arith)
+
+pub over_separator : (awaits : Awaits) (before at : ℕ) (text : List Placed) (p : Placed) → at < length text → get_or text at p ≡ p → is_separator p.byte ≡ true →
+    tokens_from 0 awaits before (drop at text) ≡ tokens_from 0 awaits p.byte (drop (at + 1) text)
+over_separator awaits before at text p within is_p separates =
+    let lexeme : drop at text ≡ get_or text at p ∷ drop (suc at) text = drop-cons text at p within in
+    rw (add-one, lexeme, is_p, separates)
+
+pub over_token : (awaits : Awaits) (before at : ℕ) (text : List Placed) (p : Placed) (front : List Token) (lexeme : Lexeme) →
+    at < length text → get_or text at p ≡ p → is_separator p.byte ≡ false →
+    next_lexeme awaits before p.line (bytes_of (drop at text)) ≡ Ok lexeme → 0 < lexeme.length → lexeme.length ≤ length (drop at text) →
+    tokens_behind front (tokens_from 0 awaits before (drop at text))
+    ≡ tokens_behind (front ++ record { kind = lexeme.kind; line = p.line } ∷ [])
+    (tokens_from 0 (awaits_behind awaits lexeme.kind) (get_or (bytes_of text) (at + lexeme.length - 1) 0) (drop (at + lexeme.length) text))
+over_token awaits before at text p front lexeme within is_p other next some most =
+    let rest = drop (suc at) text in
+    let begun : drop at text ≡ p ∷ rest = drop-cons text at p within ∙ ap (λ q. q ∷ rest) is_p in
+    let here : next_lexeme awaits before p.line (bytes_of (p ∷ rest)) ≡ Ok lexeme = ap (λ t. next_lexeme awaits before p.line (bytes_of t)) (sym begun) ∙ next in
+    let token : Token = record { kind = lexeme.kind; line = p.line } in
+    let more = lexeme.length - 1 in
+    let place : at + more ≡ at + lexeme.length - 1 = omega arith in
+    let behind : suc at + more ≡ at + lexeme.length = omega arith in
+    let lengths : length (drop at text) ≡ suc (length rest) = ap length begun in
+    let passed = passed_over more (awaits_behind awaits lexeme.kind) p rest (omega arith) in
+    let last : get_or (bytes_of (p ∷ rest)) more 0 ≡ get_or (bytes_of text) (at + lexeme.length - 1) 0 =
+    ap (λ t. get_or (bytes_of t) more 0) (sym begun) ∙ byte_behind at more text ∙ ap (λ k. get_or (bytes_of text) k 0) place in
+    let left : drop more rest ≡ drop (at + lexeme.length) text = drop-drop more (suc at) text ∙ ap (λ k. drop k text) behind in
+    let stepped : tokens_from 0 awaits before (p ∷ rest) ≡ with_token token (tokens_from more (awaits_behind awaits lexeme.kind) p.byte rest) = rw (other, here) in
+    ap (λ t. tokens_behind front (tokens_from 0 awaits before t)) begun
+    ∙ ap (tokens_behind front) stepped
+    ∙ behind_token front token _
+    ∙ ap (tokens_behind (front ++ token ∷ [])) (passed ∙ ap (λ b. tokens_from 0 (awaits_behind awaits lexeme.kind) b (drop more rest)) last ∙ ap (tokens_from 0 (awaits_behind awaits lexeme.kind) _) left)
+
+pub at_fault : (awaits : Awaits) (before at : ℕ) (text : List Placed) (p : Placed) (front : List Token) (fault : LexFault) →
+    at < length text → get_or text at p ≡ p → is_separator p.byte ≡ false →
+    next_lexeme awaits before p.line (bytes_of (drop at text)) ≡ Err fault →
+    tokens_behind front (tokens_from 0 awaits before (drop at text)) ≡ Err fault
+at_fault awaits before at text p front fault within is_p other next =
+    let lexeme : drop at text ≡ get_or text at p ∷ drop (suc at) text = drop-cons text at p within in
+    let begun : drop at text ≡ p ∷ drop (suc at) text = lexeme ∙ ap (λ q. q ∷ drop (suc at) text) is_p in
+    let here : next_lexeme awaits before p.line (bytes_of (p ∷ drop (suc at) text)) ≡ Err fault = ap (λ t. next_lexeme awaits before p.line (bytes_of t)) (sym begun) ∙ next in
+    rw (begun, other, here)
+
+pub at_end : (awaits : Awaits) (before at : ℕ) (text : List Placed) (front : List Token) → length text ≤ at →
+    tokens_behind front (tokens_from 0 awaits before (drop at text)) ≡ Ok front
+at_end awaits before at text front past =
+    let none : drop at text ≡ [] = grind (arith, common_steps) in
+    rw none (grind (arith, common_steps))
+
+take_rest : (n : ℕ) (bytes : List ℕ) → take (length bytes - n) (drop n bytes) ≡ drop n bytes
+take_rest n bytes = grind (arith, common_steps)
+
+-- the bytes of what is left
+pub bytes_left : (n : ℕ) (bytes : List ℕ) (text : List Placed) → bytes ≡ bytes_of text → take (length bytes - n) (drop n bytes) ≡ bytes_of (drop n text)
+bytes_left n bytes text placed = take_rest n bytes ∙ ap (drop n) placed ∙ drop_bytes n text
+
+-- the same, as a loop goes on with what it has read
+pub on_token : (awaits awaits' : Awaits) (before before' at : ℕ) (text : List Placed) (d : Placed) (bytes left : List ℕ) (front front' : List Token) (lexeme : Lexeme) (whole : Result (List Token) LexFault) →
+    bytes ≡ bytes_of text →
+    left ≡ bytes_of (drop at text) →
+    tokens_behind front (tokens_from 0 awaits before (drop at text)) ≡ whole →
+    at < length text →
+    is_separator (get_or text at d).byte ≡ false →
+    next_lexeme awaits before (get_or text at d).line left ≡ Ok lexeme →
+    (0 < lexeme.length) × (lexeme.length ≤ length left) →
+    awaits' ≡ awaits_behind awaits lexeme.kind →
+    before' ≡ get_or bytes (at + lexeme.length - 1) 0 →
+    front' ≡ front ++ record { kind = lexeme.kind; line = (get_or text at d).line } ∷ [] →
+    tokens_behind front' (tokens_from 0 awaits' before' (drop (at + lexeme.length) text)) ≡ whole
+on_token awaits awaits' before before' at text d bytes left front front' lexeme whole placed same so_far within other next takes awaited last added =
+    let p = get_or text at d in
+    let most : lexeme.length ≤ length (drop at text) = omega (arith, takes.1, ap length same, length_bytes (drop at text)) in
+    let next_is : next_lexeme awaits before p.line (bytes_of (drop at text)) ≡ Ok lexeme = ap (next_lexeme awaits before p.line) (sym same) ∙ next in
+    let step = over_token awaits before at text p front lexeme within (get_or-default text at p d within) other next_is takes.0 most in
+    let last_is : before' ≡ get_or (bytes_of text) (at + lexeme.length - 1) 0 = last ∙ ap (λ b. get_or b (at + lexeme.length - 1) 0) placed in
+    rw (awaited, last_is, added) (sym step ∙ so_far)
+
+pub on_fault : (awaits : Awaits) (before at : ℕ) (text : List Placed) (d : Placed) (left : List ℕ) (front : List Token) (fault : LexFault) (whole : Result (List Token) LexFault) →
+    left ≡ bytes_of (drop at text) →
+    tokens_behind front (tokens_from 0 awaits before (drop at text)) ≡ whole →
+    at < length text →
+    is_separator (get_or text at d).byte ≡ false →
+    next_lexeme awaits before (get_or text at d).line left ≡ Err fault →
+    whole ≡ Err fault
+on_fault awaits before at text d left front fault whole same so_far within other next =
+    let p = get_or text at d in
+    let next_is : next_lexeme awaits before p.line (bytes_of (drop at text)) ≡ Err fault = ap (next_lexeme awaits before p.line) (sym same) ∙ next in
+    sym so_far ∙ at_fault awaits before at text p front fault within (get_or-default text at p d within) other next_is
+
+pub fault_answer : (whole answer : Result (List Token) LexFault) (found : LexFault) → IsErrAnd answer (λ e. e ≡ found) → (found ≢ fault.NoMemory → whole ≡ Err found) → Answers fault.NoMemory whole answer
+fault_answer whole (Ok tokens) found is h = absurd is
+fault_answer whole (Err e) found is h = λ other. h (λ memory. other (is ∙ memory)) ∙ ap Err (sym is)

@@ -1,6 +1,0 @@
-use Rattle.std.proofs.Common.{◌≡◌, ◌+◌, drop}
-use Rattle.cobol_lex.specs.Numbers.{unsigned_length}
-use Rattle.cobol_lex.proofs.numbers.unsigned_length.Given as goal
-
-abbrev pub invariant-loop-at : goal.invariant-loop-at
-invariant-loop-at l = l.at + unsigned_length (drop l.at l.bytes) ≡ unsigned_length l.bytes

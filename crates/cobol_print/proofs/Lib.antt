@@ -1,0 +1,9 @@
+-- The lines as bytes.
+pub mod StreamLemmas
+-- The text that lines are, a token at a time and whole.
+pub mod PlacedLemmas
+pub mod LineLemmas
+-- The laws.
+pub mod PrintedReadsBack
+pub mod PrintsAll
+pub mod HeadsBeginNoEntry

@@ -1,0 +1,10 @@
+-- Where tokens stand on a line.
+pub mod Spacing
+-- Units as lines, and the lines as bytes.
+pub mod Line
+pub mod Stream
+-- The tokens with their lines, and which units can be printed.
+pub mod Printed
+pub mod Unit
+-- What holds of all that is printed.
+pub mod Laws

@@ -1,0 +1,143 @@
+//! Tokens as lines.
+
+ghost use Rattle.std.specs.Prelude.{◌≡◌, ◌≤◌, ◌++◌, [], false, OnOk, replicate};
+ghost use Rattle.cobol_print.specs.Line.{turned, next_column, column_behind};
+ghost use Rattle.cobol_print.specs.Stream.{byte_bytes, spread, start_bytes, rest_bytes, unit_bytes};
+
+use crate::spacing::{BEHIND, Start, clings, start_of};
+use crate::spelling::spelled;
+use crate::unit::PrintUnit;
+use cob_base::{NoMemory, Text};
+use cobol_lex::TokenKind;
+use std::alloc::Global;
+
+/// The lines so far, and the column at which the next byte stands.
+#[derive(Drop)]
+pub struct Layout {
+    pub out: Text,
+    pub column: usize,
+    /// Whether that is inside a literal.
+    pub inside: bool,
+}
+
+impl Layout {
+    pub fn new(alloc: Global) -> Layout
+        ensures out { result.out ≡ [] }
+        ensures column { result.column ≤ 73 }
+    {
+        Layout {
+            out: Text::new(alloc),
+            column: 1,
+            inside: false,
+        }
+    }
+
+    /// Adds a byte of a token, in a continuation line where this one is full.
+    fn put(&mut self, byte: u8) -> Result<(), NoMemory>
+        requires { self.old.column ≤ 73 }
+        ensures out { OnOk result
+            (self.new.out ≡ self.old.out ++ byte_bytes self.old.column self.old.inside byte) }
+        ensures column { OnOk result
+            (self.new.column ≡ next_column self.old.column self.old.inside) }
+        ensures inside { OnOk result (self.new.inside ≡ turned self.old.inside byte) }
+    {
+        if self.column == BEHIND {
+            self.out.add(b"\n      -    ")?;
+            self.column = 12;
+            if self.inside {
+                self.out.add(b"\"")?;
+                self.column = 13;
+            }
+        }
+        self.out.add(&[byte])?;
+        self.column += 1;
+        if byte == b'"' {
+            self.inside = !self.inside;
+        }
+        Ok(())
+    }
+
+    /// Adds the bytes of a token.
+    fn put_all(&mut self, bytes: &[u8]) -> Result<(), NoMemory>
+        requires { self.old.column ≤ 73 }
+        ensures out { OnOk result
+            (self.new.out ≡ self.old.out ++ spread self.old.column false bytes.now) }
+        ensures column { OnOk result
+            (self.new.column ≡ column_behind self.old.column false bytes.now) }
+        ensures within { OnOk result (self.new.column ≤ 73) }
+    {
+        self.inside = false;
+        for byte in bytes {
+            self.put(*byte)?;
+        }
+        Ok(())
+    }
+
+    fn add_spaces(&mut self, count: usize) -> Result<(), NoMemory>
+        ensures out { OnOk result (self.new.out ≡ self.old.out ++ replicate count 32) }
+        ensures column { self.new.column ≡ self.old.column }
+    {
+        for _done in 0..count {
+            self.out.add(b" ")?;
+        }
+        Ok(())
+    }
+
+    /// Goes to where a token begins.
+    fn go_to(&mut self, start: Start) -> Result<(), NoMemory>
+        requires { start.column ≤ 73 }
+        ensures out { OnOk result
+            (self.new.out ≡ self.old.out ++ start_bytes start self.old.column) }
+        ensures column { OnOk result (self.new.column ≡ start.column) }
+    {
+        if start.breaks {
+            self.out.add(b"\n       ")?;
+            self.add_spaces(start.column.saturating_sub(8))?;
+        } else {
+            self.add_spaces(start.column.saturating_sub(self.column))?;
+        }
+        self.column = start.column;
+        Ok(())
+    }
+
+    /// Adds the lines of a unit.
+    pub fn add_unit(&mut self, alloc: Global, unit: &PrintUnit) -> Result<(), NoMemory>
+        requires { unit.now.column ≤ 32 }
+        ensures { OnOk result
+            (self.new.out ≡ self.old.out ++ unit_bytes unit.now.column unit.now.tokens) }
+    {
+        let [first, rest @ ..] = unit.tokens.as_slice() else {
+            return Ok(());
+        };
+        self.out.add(b"       ")?;
+        self.add_spaces(unit.column.saturating_sub(8))?;
+        self.column = unit.column;
+        let bytes = spelled(alloc, first)?;
+        self.put_all(bytes.as_slice())?;
+        self.add_rest(alloc, unit.column, clings(first), rest)
+    }
+
+    /// Adds the tokens that follow in a unit from this margin, and ends its last line.
+    fn add_rest(
+        &mut self,
+        alloc: Global,
+        margin: usize,
+        clinging: bool,
+        tokens: &[TokenKind],
+    ) -> Result<(), NoMemory>
+        requires margin { margin ≤ 32 }
+        requires column { self.old.column ≤ 73 }
+        ensures { OnOk result
+            (self.new.out ≡ self.old.out ++ rest_bytes margin self.old.column clinging tokens.now) }
+    {
+        let mut clinging = clinging;
+        for token in tokens {
+            let bytes = spelled(alloc, token)?;
+            let start = start_of(margin, self.column, clinging, token, bytes.len());
+            self.go_to(start)?;
+            self.put_all(bytes.as_slice())?;
+            clinging = clings(token);
+        }
+        self.out.add(b"\n")
+    }
+}

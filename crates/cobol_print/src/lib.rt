@@ -1,0 +1,43 @@
+//! Units to lines in the reference format.
+//!
+//! A unit is a column and the tokens that stand from it. `print_units` lays units out in lines of
+//! 72 columns and cuts literals that are too long for one, as `lines_of` says. That this is right
+//! is said by `printed_reads_back`: what is printed unfolds without a fault, to a text with these
+//! very tokens. Hold it against ISO 1989:1985, Reference Format, continuation of lines. That the
+//! lines are those that a person would write is tested.
+#![tactic(auto)]
+
+mod laws;
+mod layout;
+mod spacing;
+mod spelling;
+#[cfg(test)]
+mod tests;
+mod unit;
+
+ghost use Rattle.std.specs.Prelude.{◌≤◌, All};
+ghost use Rattle.cob_base.specs.Answers.{Makes};
+ghost use Rattle.cobol_print.specs.Line.{lines_of, bytes_of_lines};
+
+use cob_base::{NoMemory, Text};
+pub use laws::{heads_begin_no_entry, printed_reads_back, prints_all};
+use layout::Layout;
+use std::alloc::Global;
+pub use unit::PrintUnit;
+
+/// The lines of the units, one behind the other.
+pub fn print_units(alloc: Global, units: &[PrintUnit]) -> Result<Text, NoMemory>
+    requires { All (λ unit. unit.column ≤ 32) units.now }
+    ensures { Makes (bytes_of_lines (lines_of units.now)) result }
+{
+    let mut layout = Layout::new(alloc);
+    for unit in units {
+        layout.add_unit(alloc, unit)?;
+    }
+    let Layout {
+        out,
+        column: _,
+        inside: _,
+    } = layout;
+    Ok(out)
+}

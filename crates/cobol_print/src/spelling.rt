@@ -1,0 +1,70 @@
+//! How a token is written.
+
+ghost use Rattle.std.specs.Prelude.{◌≡◌, ◌++◌, OnOk};
+ghost use Rattle.cob_base.specs.Answers.{Makes};
+ghost use Rattle.cobol_lex.specs.Written.{written, doubled};
+ghost use Rattle.cobol_lex.specs.declared.token.TokenKind.TheVariants as kind;
+
+use cob_base::{NoMemory, Text};
+use cob_tree::Number;
+use cobol_lex::TokenKind;
+use std::alloc::Global;
+
+/// The bytes that a token is written with.
+pub fn spelled(alloc: Global, token: &TokenKind) -> Result<Text, NoMemory>
+    ensures { Makes (written token.now) result }
+{
+    let mut text = Text::new(alloc);
+    match token {
+        TokenKind::Word(word) => text.add(word.as_slice())?,
+        TokenKind::Digits(digits) => text.add(digits.as_slice())?,
+        TokenKind::Decimal(number) => add_number(&mut text, number)?,
+        TokenKind::Literal(value) => add_literal(&mut text, value.as_slice())?,
+        TokenKind::Picture(picture) => text.add(picture.as_slice())?,
+        TokenKind::Period => text.add(b".")?,
+        TokenKind::Mark(mark) => text.add(&[*mark])?,
+        TokenKind::LessEqual => text.add(b"<=")?,
+        TokenKind::GreaterEqual => text.add(b">=")?,
+        TokenKind::Power => text.add(b"**")?,
+    }
+    Ok(text)
+}
+
+/// A literal in its marks, each `"` in it twice.
+fn add_literal(text: &mut Text, value: &[u8]) -> Result<(), NoMemory>
+    ensures { OnOk result (text.new ≡ text.old ++ written (kind.Literal value.now)) }
+{
+    text.add(b"\"")?;
+    add_doubled(text, value)?;
+    text.add(b"\"")
+}
+
+fn add_doubled(text: &mut Text, value: &[u8]) -> Result<(), NoMemory>
+    ensures { OnOk result (text.new ≡ text.old ++ doubled value.now) }
+{
+    for byte in value {
+        if *byte == b'"' {
+            text.add(b"\"")?;
+        }
+        text.add(&[*byte])?;
+    }
+    Ok(())
+}
+
+fn add_number(text: &mut Text, number: &Number) -> Result<(), NoMemory>
+    ensures { OnOk result (text.new ≡ text.old ++ written (kind.Decimal number.now)) }
+{
+    if number.negative {
+        text.add(b"-")?;
+    } else if number.scale == 0 {
+        text.add(b"+")?;
+    }
+    let digits = number.digits.as_slice();
+    if number.scale == 0 {
+        return text.add(digits);
+    }
+    let whole = digits.len().saturating_sub(number.scale as usize);
+    text.add(&digits[..whole])?;
+    text.add(b".")?;
+    text.add(&digits[whole..])
+}

@@ -1,7 +1,0 @@
-use Rattle.std.proofs.Common.{rules}
-use Rattle.ref_format.specs.Kept.{comment_headers}
-use Rattle.ref_format.proofs.entries.comment_header.Goals as goal
-
-pub returns-then-card-eq32 : goal.returns-then-card-eq32
-unfolding comment_headers
-returns-then-card-eq32 c = search rules

@@ -1,0 +1,7 @@
+use Rattle.std.proofs.Common.{rules}
+use Rattle.ref_format.specs.Entry.{comment_headers}
+use Rattle.ref_format.proofs.entry.comment_header.Goals as goal
+
+pub returns-then-card-eq32 : goal.returns-then-card-eq32
+unfolding comment_headers
+returns-then-card-eq32 c = search rules

@@ -1,0 +1,48 @@
+//! Columns of a line.
+
+ghost use Rattle.std.specs.Prelude.{◌≡◌};
+ghost use Rattle.ref_format.specs.Column.{card_of, is_blank, has_control, unspaced};
+
+/// The bytes in columns 1 to 72 of a line, a tab being spaces up to the next of columns 9, 17, 25
+/// and so on.
+pub fn card_of_line(line: &[u8]) -> [u8; 72]
+    ensures { result ≡ card_of line.now }
+{
+    let mut card = [b' '; 72];
+    let mut before = 0;
+    for byte in line {
+        if before >= 72 {
+            return card;
+        }
+        if *byte == b'\t' {
+            before += 8 - before % 8;
+        } else {
+            card[before] = *byte;
+            before += 1;
+        }
+    }
+    card
+}
+
+pub fn blank(bytes: &[u8]) -> bool
+    ensures { result ≡ is_blank bytes.now }
+{
+    bytes.iter().all(|b| *b == b' ')
+}
+
+pub fn controls(bytes: &[u8]) -> bool
+    ensures { result ≡ has_control bytes.now }
+{
+    bytes.iter().any(|b| *b < b' ')
+}
+
+/// The bytes from the first one that is no space on.
+pub fn behind_spaces(bytes: &[u8]) -> &[u8]
+    ensures { result.now ≡ unspaced bytes.now }
+{
+    let mut rest = bytes;
+    while let [b' ', tail @ ..] = rest {
+        rest = tail;
+    }
+    rest
+}
