@@ -1,0 +1,9 @@
+use Rattle.std.proofs.Common.{◌≡◌, drop}
+use Rattle.cob_store.specs.Place.{reached}
+use Rattle.statements.specs.Moving.{receive}
+use Rattle.statements.specs.Outcome.{each}
+use Rattle.cob_act.specs.Moving.{seen_sender}
+use Rattle.cob_act.proofs.moving.receive_all.Given as goal
+
+abbrev pub invariant-loop-place : goal.invariant-loop-place
+invariant-loop-place l = each (λ now place. receive l.areas (seen_sender l.sender) now (reached place)) l.store (drop l.place-index l.places) ≡ each (λ now place. receive l.areas (seen_sender l.sender) now (reached place)) l.initial.store l.places

@@ -1,0 +1,6 @@
+use Rattle.std.proofs.Common.{◌≡◌, drop}
+use Rattle.statements.specs.Text.{beside_spaces}
+use Rattle.cob_act.proofs.text.beside_spaces.Given as goal
+
+abbrev pub invariant-loop-byte : goal.invariant-loop-byte
+invariant-loop-byte l = beside_spaces (drop l.byte-index l.bytes) ≡ beside_spaces l.bytes

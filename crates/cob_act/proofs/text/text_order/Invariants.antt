@@ -1,0 +1,6 @@
+use Rattle.std.proofs.Common.{◌≡◌, drop}
+use Rattle.statements.specs.Text.{text_order}
+use Rattle.cob_act.proofs.text.text_order.Given as goal
+
+abbrev pub invariant-loop-at : goal.invariant-loop-at
+invariant-loop-at l = text_order (drop l.at l.a) l.left ≡ text_order l.a l.b

@@ -1,0 +1,18 @@
+-- Sides of a comparison as the code holds them.
+use Rattle.std.specs.Prelude.{Ok, Err}
+use Rattle.cob_store.specs.Answer.{Answer}
+use Rattle.statements.specs.Side as sides
+use Rattle.cob_act.specs.declared.side.Side.{Side}
+use Rattle.cob_act.specs.declared.side.Side.TheVariants.{Amount, Literal, Item, Nought, Bytes, Filler}
+
+abbrev pub seen : Side → sides.Side
+seen (Amount number) = sides.Amount number
+seen (Literal number) = sides.Literal number.now
+seen (Item signed part sign bytes) = sides.Item signed part sign bytes.now
+seen Nought = sides.Nought
+seen (Bytes bytes) = sides.Bytes bytes.now
+seen (Filler byte) = sides.Filler byte
+
+abbrev pub seen_answer : Answer Side → Answer sides.Side
+seen_answer (Ok side) = Ok (seen side)
+seen_answer (Err abend) = Err abend

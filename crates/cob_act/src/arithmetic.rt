@@ -1,0 +1,250 @@
+//! ADD, SUBTRACT, MULTIPLY, DIVIDE and COMPUTE.
+
+ghost use Rattle.std.specs.Prelude.{◌≡◌, Ok};
+ghost use Rattle.cob_num.specs.Exact.{difference_of, product_of, sum_of};
+ghost use Rattle.cob_store.specs.Place.{memory_of, number_at};
+ghost use Rattle.statements.specs.Arithmetic.{all_targeted, basis_of, both, calculated, divided, given, part_of, stored_in, sum_on, summed, targeted, value_for};
+ghost use Rattle.cob_act.specs.Arithmetic.{seen_basis, seen_read};
+ghost use Rattle.cob_act.specs.Moving.{outcome_of};
+
+use cob_num::{Dec, Stored, add, mul, quotient, sub};
+use cob_store::{Area, Form, Spot, Store, expr_value, kept, number_at, operand_value, reached};
+use cob_tree::{Abend, Calc, Operand, Sign, Target};
+
+/// What is worked out before the receivers: a value that each is given, or one that each is changed by.
+#[derive(Clone, Copy)]
+pub enum Basis {
+    Given(Option<Dec>),
+    Quotient {
+        dividend: Option<Dec>,
+        divisor: Option<Dec>,
+    },
+    Plus(Option<Dec>),
+    Less(Option<Dec>),
+    Times(Option<Dec>),
+    Over(Option<Dec>),
+}
+
+fn sum(a: Option<Dec>, b: Option<Dec>) -> Option<Dec>
+    ensures { result ≡ both sum_of a b }
+{
+    add(a?, b?)
+}
+
+fn difference(a: Option<Dec>, b: Option<Dec>) -> Option<Dec>
+    ensures { result ≡ both difference_of a b }
+{
+    sub(a?, b?)
+}
+
+fn product(a: Option<Dec>, b: Option<Dec>) -> Option<Dec>
+    ensures { result ≡ both product_of a b }
+{
+    mul(a?, b?)
+}
+
+// To one decimal place more than the receiver has.
+fn divided(part: u8, a: Option<Dec>, b: Option<Dec>) -> Option<Dec>
+    ensures { result ≡ both (divided part) a b }
+{
+    let a = a?;
+    let b = b?;
+    if part <= 18 {
+        quotient(a, b, part + 1)
+    } else {
+        None
+    }
+}
+
+// The sum from the left; every operand is read.
+fn summed(areas: &[Area], store: &Store, operands: &[Operand]) -> Result<Option<Dec>, Abend>
+    ensures { result ≡ summed (memory_of areas.now store.now) operands.now }
+{
+    let Some((first, others)) = operands.split_first() else {
+        return Ok(None);
+    };
+    let mut total = operand_value(areas, store, first)?;
+    for operand in others {
+        let value = operand_value(areas, store, operand)?;
+        total = sum(total, value);
+    }
+    Ok(total)
+}
+
+fn basis_of(areas: &[Area], store: &Store, calc: &Calc) -> Result<Basis, Abend>
+    ensures { seen_read result ≡ basis_of (memory_of areas.now store.now) calc.now }
+{
+    match calc {
+        Calc::Add(operands) => {
+            let total = summed(areas, store, operands.as_slice())?;
+            Ok(Basis::Plus(total))
+        }
+        Calc::AddGiving(operands) => {
+            let total = summed(areas, store, operands.as_slice())?;
+            Ok(Basis::Given(total))
+        }
+        Calc::Subtract(operands) => {
+            let total = summed(areas, store, operands.as_slice())?;
+            Ok(Basis::Less(total))
+        }
+        Calc::SubtractGiving(operands, from) => {
+            let total = summed(areas, store, operands.as_slice())?;
+            let value = operand_value(areas, store, from)?;
+            Ok(Basis::Given(difference(value, total)))
+        }
+        Calc::Multiply(by) => {
+            let value = operand_value(areas, store, by)?;
+            Ok(Basis::Times(value))
+        }
+        Calc::MultiplyGiving(a, b) => {
+            let first = operand_value(areas, store, a)?;
+            let second = operand_value(areas, store, b)?;
+            Ok(Basis::Given(product(first, second)))
+        }
+        Calc::Divide(by) => {
+            let value = operand_value(areas, store, by)?;
+            Ok(Basis::Over(value))
+        }
+        Calc::DivideGiving(by, a) => {
+            let divisor = operand_value(areas, store, by)?;
+            let dividend = operand_value(areas, store, a)?;
+            Ok(Basis::Quotient { dividend, divisor })
+        }
+        Calc::Compute(expr) => {
+            let value = expr_value(areas, store, expr)?;
+            Ok(Basis::Given(value))
+        }
+    }
+}
+
+fn part_of(form: Form) -> u8
+    ensures { result ≡ part_of form }
+{
+    match form {
+        Form::Number { part, .. } => part,
+        Form::Group => 0,
+        Form::Text => 0,
+    }
+}
+
+// The value for a receiver.
+fn value_for(store: &Store, spot: Spot, form: Form, basis: Basis) -> Result<Option<Dec>, Abend>
+    ensures { result ≡ value_for (part_of form) (number_at store.now spot form) (seen_basis basis) }
+{
+    match basis {
+        Basis::Given(value) => Ok(value),
+        Basis::Quotient { dividend, divisor } => Ok(divided(part_of(form), dividend, divisor)),
+        Basis::Plus(value) => {
+            let old = number_at(store, spot, form)?;
+            Ok(sum(old, value))
+        }
+        Basis::Less(value) => {
+            let old = number_at(store, spot, form)?;
+            Ok(difference(old, value))
+        }
+        Basis::Times(value) => {
+            let old = number_at(store, spot, form)?;
+            Ok(product(old, value))
+        }
+        Basis::Over(value) => {
+            let old = number_at(store, spot, form)?;
+            Ok(divided(part_of(form), old, value))
+        }
+    }
+}
+
+// Whether the receiver had a size error; under a SIZE phrase it then stays.
+fn stored_in(
+    store: &mut Store,
+    guarded: bool,
+    spot: Spot,
+    signed: bool,
+    sign: Sign,
+    stored: Stored,
+) -> bool
+    ensures { outcome_of store.new (Ok result) ≡ stored_in guarded store.old spot signed sign stored }
+{
+    if stored.size_error && guarded {
+        return true;
+    }
+    store.put_number(
+        spot,
+        signed,
+        sign,
+        stored.value < 0,
+        stored.value.unsigned_abs(),
+    );
+    stored.size_error
+}
+
+// A receiver without a value stays, and had a size error.
+fn given(
+    store: &mut Store,
+    guarded: bool,
+    spot: Spot,
+    form: Form,
+    rounded: bool,
+    value: Option<Dec>,
+) -> bool
+    ensures { outcome_of store.new (Ok result) ≡ given guarded store.old spot form rounded value }
+{
+    match form {
+        Form::Number {
+            signed,
+            whole,
+            part,
+            sign,
+        } => {
+            let Some(number) = value else {
+                return true;
+            };
+            match kept(number, whole, part, rounded) {
+                None => true,
+                Some(stored) => stored_in(store, guarded, spot, signed, sign, stored),
+            }
+        }
+        Form::Group => true,
+        Form::Text => true,
+    }
+}
+
+fn targeted(
+    areas: &[Area],
+    store: &mut Store,
+    guarded: bool,
+    basis: Basis,
+    target: &Target,
+) -> Result<bool, Abend>
+    ensures { outcome_of store.new result ≡ targeted areas.now guarded (seen_basis basis) store.old target.now }
+{
+    let place = reached(areas, store, &target.place)?;
+    let value = value_for(store, place.spot, place.form, basis)?;
+    Ok(given(
+        store,
+        guarded,
+        place.spot,
+        place.form,
+        target.rounded,
+        value,
+    ))
+}
+
+/// The arithmetic statements: whether a receiver had a size error. `guarded` says that there is a
+/// SIZE phrase.
+pub fn calculated(
+    areas: &[Area],
+    store: &mut Store,
+    calc: &Calc,
+    guarded: bool,
+    targets: &[Target],
+) -> Result<bool, Abend>
+    ensures { outcome_of store.new result ≡ calculated areas.now calc.now guarded targets.now store.old }
+{
+    let basis = basis_of(areas, store, calc)?;
+    let mut failed = false;
+    for target in targets {
+        let error = targeted(areas, store, guarded, basis, target)?;
+        failed = failed || error;
+    }
+    Ok(failed)
+}

@@ -1,0 +1,87 @@
+//! DISPLAY.
+
+ghost use Rattle.std.specs.Prelude.{◌≡◌, ◌++◌, IfOk, OnOk, [], ◌∷◌, Ok};
+ghost use Rattle.cob_store.specs.Answer.{and_then};
+ghost use Rattle.cob_store.specs.Place.{memory_of};
+ghost use Rattle.statements.specs.Display.{displayed, operand_shown, shown_on};
+ghost use Rattle.statements.specs.Text.{pointed, printed_number};
+ghost use Rattle.cob_act.specs.Display.{with_bytes};
+
+use cob_base::{NoMemory, Text};
+use cob_store::{Area, Store, figure_byte, reached};
+use cob_tree::{Abend, Number, Operand};
+
+fn add_pointed(into: &mut Text, scale: u8, digits: &[u8]) -> Result<(), NoMemory>
+    ensures { OnOk result (into.new ≡ into.old ++ pointed scale digits.now) }
+{
+    if scale == 0 {
+        return into.add(digits);
+    }
+    let (whole, part) = digits.split_at(digits.len().saturating_sub(scale as usize));
+    into.add(whole)?;
+    into.add(b".")?;
+    into.add(part)
+}
+
+/// A number as it prints.
+pub fn add_number(into: &mut Text, number: &Number) -> Result<(), NoMemory>
+    ensures { OnOk result (into.new ≡ into.old ++ printed_number number.now) }
+{
+    if number.negative {
+        into.add(b"-")?;
+    }
+    add_pointed(into, number.scale, number.digits.as_slice())
+}
+
+fn add_operand(
+    areas: &[Area],
+    store: &Store,
+    into: &mut Text,
+    operand: &Operand,
+) -> Result<Result<(), Abend>, NoMemory>
+    ensures { IfOk result (λ answer. with_bytes answer into.new ≡ and_then (operand_shown (memory_of areas.now store.now) operand.now) (λ more. Ok (into.old ++ more))) }
+{
+    match operand {
+        Operand::Place(place) => match reached(areas, store, place) {
+            Err(abend) => Ok(Err(abend)),
+            Ok(place) => {
+                into.add(store.bytes(place.spot))?;
+                Ok(Ok(()))
+            }
+        },
+        Operand::Number(number) => {
+            add_number(into, number)?;
+            Ok(Ok(()))
+        }
+        Operand::Text(text) => {
+            into.add(text.as_slice())?;
+            Ok(Ok(()))
+        }
+        Operand::Figure(figure) => {
+            into.add(&[figure_byte(*figure)])?;
+            Ok(Ok(()))
+        }
+    }
+}
+
+/// The bytes of DISPLAY, put into an empty text.
+pub fn displayed(
+    areas: &[Area],
+    store: &Store,
+    into: &mut Text,
+    operands: &[Operand],
+    advance: bool,
+) -> Result<Result<(), Abend>, NoMemory>
+    requires { into.old ≡ [] }
+    ensures { IfOk result (λ answer. with_bytes answer into.new ≡ displayed (memory_of areas.now store.now) operands.now advance) }
+{
+    for operand in operands {
+        if let Err(abend) = add_operand(areas, store, into, operand)? {
+            return Ok(Err(abend));
+        }
+    }
+    if advance {
+        into.add(b"\n")?;
+    }
+    Ok(Ok(()))
+}

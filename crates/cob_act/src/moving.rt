@@ -1,0 +1,285 @@
+//! MOVE and SET.
+
+ghost use Rattle.std.specs.Prelude.{◌≡◌, ◌-◌, IfOk, drop, length, not, option_copied};
+ghost use Rattle.cob_store.specs.Store.{fitted, put_at};
+ghost use Rattle.cob_store.specs.Place.{memory_of, reached};
+ghost use Rattle.statements.specs.Moving.{all_groups, moved, form_of, is_group, digits_of, none_is_bad, number_received, put_answer, receive, received, sender_bytes, sender_number, sender_text, sent, set, text_number};
+ghost use Rattle.statements.specs.Outcome.{each, go_on};
+ghost use Rattle.cob_act.specs.Moving.{outcome_of, seen_sender, seen_sent};
+
+use crate::condition::spans_at;
+use cob_base::NoMemory;
+use cob_num::Dec;
+use cob_store::{
+    Area, Form, Spot, Store, area_at, figure_byte, kept, literal_value, number_in, number_of,
+    put_digits, reached,
+};
+use cob_tree::{Abend, Entry, Figure, Number, Operand, Place, Sign};
+use std::slice::from_ref;
+
+/// A sender as it was read.
+#[derive(Clone, Copy)]
+pub enum Sender<'a> {
+    Figured(Figure),
+    Grouped(&'a [u8]),
+    Spelled(&'a [u8]),
+    Written(&'a Number),
+    /// A number item, with its number where one of the receivers isn't a group.
+    Counted {
+        bytes: &'a [u8],
+        digits: u16,
+        number: Option<Dec>,
+    },
+}
+
+fn is_group(form: Form) -> bool
+    ensures { result ≡ is_group form }
+{
+    match form {
+        Form::Group => true,
+        _ => false,
+    }
+}
+
+/// The form that a place has, whatever its subscripts.
+fn form_of(areas: &[Area], place: &Place) -> Form
+    ensures { result ≡ form_of areas.now place.now }
+{
+    let windowed = place.window.is_some();
+    match area_at(areas, place.item) {
+        None => Form::Text,
+        Some(area) => if windowed { Form::Text } else { area.form },
+    }
+}
+
+fn all_groups(areas: &[Area], places: &[Place]) -> bool
+    ensures { result ≡ all_groups areas.now places.now }
+{
+    places.iter().all(|place| is_group(form_of(areas, place)))
+}
+
+fn sent<'a>(asked: bool, form: Form, bytes: &'a [u8]) -> Result<Sender<'a>, Abend>
+    ensures { seen_sent result ≡ sent asked form bytes.now }
+{
+    match form {
+        Form::Group => Ok(Sender::Grouped(bytes)),
+        Form::Text => Ok(Sender::Spelled(bytes)),
+        Form::Number {
+            signed,
+            whole,
+            part,
+            sign,
+        } => {
+            let digits = u16::from(whole) + u16::from(part);
+            if !asked {
+                return Ok(Sender::Counted {
+                    bytes,
+                    digits,
+                    number: None,
+                });
+            }
+            let number = number_of(number_in(signed, sign, bytes), part)?;
+            Ok(Sender::Counted {
+                bytes,
+                digits,
+                number: Some(number),
+            })
+        }
+    }
+}
+
+// The last 18 bytes as an unsigned integer.
+fn text_number(bytes: &[u8]) -> Result<Dec, Abend>
+    ensures { result ≡ text_number bytes.now }
+{
+    let last = &bytes[bytes.len().saturating_sub(18)..];
+    number_of(number_in(false, Sign::Within, last), 0)
+}
+
+fn none_is_bad(value: Option<Dec>) -> Result<Dec, Abend>
+    ensures { result ≡ none_is_bad value }
+{
+    match value {
+        None => Err(Abend::BadDigits),
+        Some(number) => Ok(number),
+    }
+}
+
+fn sender_number(sender: Sender) -> Result<Dec, Abend>
+    ensures { result ≡ sender_number (seen_sender sender.entry) }
+{
+    match sender {
+        Sender::Figured(_) => none_is_bad(Dec::new(0, 0)),
+        Sender::Grouped(bytes) => text_number(bytes),
+        Sender::Spelled(bytes) => text_number(bytes),
+        Sender::Written(number) => none_is_bad(literal_value(number)),
+        Sender::Counted { number, .. } => none_is_bad(number),
+    }
+}
+
+// The digits of an integer without its sign.
+fn put_integer(store: &mut Store, spot: Spot, digits: u16, number: Option<Dec>)
+    ensures { store.new ≡ put_at store.old spot (fitted spot.length (digits_of digits number)) }
+{
+    let mut buffer = [0u8; 18];
+    let Some(number) = number else {
+        store.put_bytes(spot, &[]);
+        return;
+    };
+    let size = usize::from(digits);
+    if size <= 18 {
+        put_digits(&mut buffer[..size], number.value.unsigned_abs());
+        store.put_bytes(spot, &buffer[..size]);
+    } else {
+        store.put_bytes(spot, &[]);
+    }
+}
+
+fn put_text(store: &mut Store, spot: Spot, sender: Sender)
+    ensures { store.new ≡ put_at store.old spot (sender_text spot.length (seen_sender sender.entry)) }
+{
+    match sender {
+        Sender::Figured(figure) => store.put_filler(spot, figure_byte(figure)),
+        Sender::Grouped(bytes) => store.put_bytes(spot, bytes),
+        Sender::Spelled(bytes) => store.put_bytes(spot, bytes),
+        Sender::Written(number) => store.put_bytes(spot, number.digits.as_slice()),
+        Sender::Counted { digits, number, .. } => put_integer(store, spot, digits, number),
+    }
+}
+
+// A group takes the bytes of an item, whatever its form.
+fn put_bytes(store: &mut Store, spot: Spot, sender: Sender)
+    ensures { store.new ≡ put_at store.old spot (sender_bytes spot.length (seen_sender sender.entry)) }
+{
+    match sender {
+        Sender::Figured(figure) => store.put_filler(spot, figure_byte(figure)),
+        Sender::Grouped(bytes) => store.put_bytes(spot, bytes),
+        Sender::Spelled(bytes) => store.put_bytes(spot, bytes),
+        Sender::Written(number) => store.put_bytes(spot, number.digits.as_slice()),
+        Sender::Counted { bytes, .. } => store.put_bytes(spot, bytes),
+    }
+}
+
+fn put_received(
+    store: &mut Store,
+    spot: Spot,
+    number: Dec,
+    signed: bool,
+    whole: u8,
+    part: u8,
+    sign: Sign,
+) -> Result<(), Abend>
+    ensures { outcome_of store.new result ≡ put_answer store.old spot (number_received signed whole part sign spot.length number) }
+{
+    match kept(number, whole, part, false) {
+        None => Err(Abend::BadDigits),
+        Some(stored) => {
+            store.put_number(
+                spot,
+                signed,
+                sign,
+                stored.value < 0,
+                stored.value.unsigned_abs(),
+            );
+            Ok(())
+        }
+    }
+}
+
+// What a receiver of that form is given.
+fn put_sent(store: &mut Store, spot: Spot, form: Form, sender: Sender) -> Result<(), Abend>
+    ensures { outcome_of store.new result ≡ put_answer store.old spot (received form spot.length (seen_sender sender.entry)) }
+{
+    match form {
+        Form::Group => {
+            put_bytes(store, spot, sender);
+            Ok(())
+        }
+        Form::Text => {
+            put_text(store, spot, sender);
+            Ok(())
+        }
+        Form::Number {
+            signed,
+            whole,
+            part,
+            sign,
+        } => match sender {
+            Sender::Grouped(bytes) => {
+                store.put_bytes(spot, bytes);
+                Ok(())
+            }
+            _ => {
+                let number = sender_number(sender)?;
+                put_received(store, spot, number, signed, whole, part, sign)
+            }
+        },
+    }
+}
+
+fn receive(areas: &[Area], store: &mut Store, sender: Sender, place: &Place) -> Result<(), Abend>
+    ensures { outcome_of store.new result ≡ receive areas.now (seen_sender sender.entry) store.old (reached place.now) }
+{
+    let place = reached(areas, store, place)?;
+    put_sent(store, place.spot, place.form, sender)
+}
+
+// Each receiver is reached in the store that the ones before left.
+fn receive_all(
+    areas: &[Area],
+    store: &mut Store,
+    sender: Sender,
+    places: &[Place],
+) -> Result<(), Abend>
+    ensures { outcome_of store.new result ≡ each (λ now place. receive areas.now (seen_sender sender.entry) now (reached place)) store.old places.now }
+{
+    for place in places {
+        receive(areas, store, sender, place)?;
+    }
+    Ok(())
+}
+
+/// MOVE. The bytes of a sending item are kept in `scratch`, since a receiver may lie over them.
+pub fn moved(
+    areas: &[Area],
+    store: &mut Store,
+    scratch: &mut Vec<u8>,
+    from: &Operand,
+    to: &[Place],
+) -> Result<Result<(), Abend>, NoMemory>
+    ensures { IfOk result (λ answer. outcome_of store.new answer ≡ moved areas.now from.now to.now store.old) }
+{
+    let asked = !all_groups(areas, to);
+    match from {
+        Operand::Place(place) => match reached(areas, store, place) {
+            Err(abend) => Ok(Err(abend)),
+            Ok(place) => {
+                scratch.clear();
+                scratch.extend_from_slice(store.bytes(place.spot))?;
+                match sent(asked, place.form, scratch.as_slice()) {
+                    Err(abend) => Ok(Err(abend)),
+                    Ok(sender) => Ok(receive_all(areas, store, sender, to)),
+                }
+            }
+        },
+        Operand::Number(number) => Ok(receive_all(areas, store, Sender::Written(number), to)),
+        Operand::Text(text) => Ok(receive_all(areas, store, Sender::Spelled(text.as_slice()), to)),
+        Operand::Figure(figure) => Ok(receive_all(areas, store, Sender::Figured(*figure), to)),
+    }
+}
+
+/// SET: the first value of a level 88 is moved to its item.
+pub fn set(
+    entries: &[Entry],
+    areas: &[Area],
+    store: &mut Store,
+    scratch: &mut Vec<u8>,
+    place: &Place,
+) -> Result<Result<(), Abend>, NoMemory>
+    ensures { IfOk result (λ answer. outcome_of store.new answer ≡ set entries.now areas.now place.now store.old) }
+{
+    match spans_at(entries, place.item).split_first() {
+        None => Ok(Ok(())),
+        Some((span, _)) => moved(areas, store, scratch, &span.from, from_ref(place)),
+    }
+}

@@ -1,0 +1,186 @@
+//! The two sides of a comparison.
+
+ghost use Rattle.std.specs.Prelude.{◌≡◌, option_map, option_copied};
+ghost use Rattle.cob_store.specs.Place.{memory_of};
+ghost use Rattle.statements.specs.Side.{bytes_compared, compared, expr_side, filler_of, is_numeric, numbers_compared, operand_side, side_bytes, texts_compared, place_side, side_number, valued};
+ghost use Rattle.cob_act.specs.Side.{seen, seen_answer};
+
+use crate::text::{byte_order, filler_order, literal_order, order_filler, text_order};
+use cob_num::{Dec, compare};
+use cob_store::{
+    Area, Form, Store, expr_value, figure_byte, literal_value, number_in, number_of, reached,
+};
+use cob_tree::{Abend, Expr, Figure, Number, Operand, Place, Sign};
+use std::cmp::Ordering;
+
+/// A side as it was read. A number item is decoded only where it is compared as a number.
+#[derive(Clone, Copy)]
+pub enum Side<'a> {
+    Amount(Dec),
+    Literal(&'a Number),
+    Item {
+        signed: bool,
+        part: u8,
+        sign: Sign,
+        bytes: &'a [u8],
+    },
+    /// ZERO, which is a number, and beside text is repeated.
+    Nought,
+    Bytes(&'a [u8]),
+    /// Any other figure.
+    Filler(u8),
+}
+
+pub fn valued(value: Option<Dec>) -> Result<Dec, Abend>
+    ensures { result ≡ valued value }
+{
+    match value {
+        None => Err(Abend::OutOfRange),
+        Some(number) => Ok(number),
+    }
+}
+
+pub fn place_side<'a>(areas: &[Area], store: &'a Store, place: &Place) -> Result<Side<'a>, Abend>
+    ensures { seen_answer result ≡ place_side (memory_of areas.now store.now) place.now }
+{
+    let place = reached(areas, store, place)?;
+    let bytes = store.bytes(place.spot);
+    match place.form {
+        Form::Number {
+            signed,
+            part,
+            sign,
+            ..
+        } => Ok(Side::Item {
+            signed,
+            part,
+            sign,
+            bytes,
+        }),
+        Form::Group => Ok(Side::Bytes(bytes)),
+        Form::Text => Ok(Side::Bytes(bytes)),
+    }
+}
+
+pub fn operand_side<'a>(
+    areas: &[Area],
+    store: &'a Store,
+    operand: &'a Operand,
+) -> Result<Side<'a>, Abend>
+    ensures { seen_answer result ≡ operand_side (memory_of areas.now store.now) operand.now }
+{
+    match operand {
+        Operand::Place(place) => place_side(areas, store, place),
+        Operand::Number(number) => Ok(Side::Literal(number)),
+        Operand::Text(text) => Ok(Side::Bytes(text.as_slice())),
+        Operand::Figure(Figure::Zero) => Ok(Side::Nought),
+        Operand::Figure(figure) => Ok(Side::Filler(figure_byte(*figure))),
+    }
+}
+
+pub fn expr_side<'a>(areas: &[Area], store: &'a Store, expr: &'a Expr) -> Result<Side<'a>, Abend>
+    ensures { seen_answer result ≡ expr_side (memory_of areas.now store.now) expr.now }
+{
+    match expr {
+        Expr::Leaf(operand) => operand_side(areas, store, operand),
+        _ => {
+            let value = expr_value(areas, store, expr)?;
+            let number = valued(value)?;
+            Ok(Side::Amount(number))
+        }
+    }
+}
+
+fn is_numeric(side: Side) -> bool
+    ensures { result ≡ is_numeric (seen side.entry) }
+{
+    match side {
+        Side::Bytes(_) => false,
+        Side::Filler(_) => false,
+        _ => true,
+    }
+}
+
+fn side_number(side: Side) -> Result<Dec, Abend>
+    ensures { result ≡ side_number (seen side.entry) }
+{
+    match side {
+        Side::Amount(number) => Ok(number),
+        Side::Literal(number) => valued(literal_value(number)),
+        Side::Item {
+            signed,
+            part,
+            sign,
+            bytes,
+        } => number_of(number_in(signed, sign, bytes), part),
+        Side::Nought => valued(Dec::new(0, 0)),
+        _ => Err(Abend::OutOfRange),
+    }
+}
+
+fn filler_of(side: Side) -> Option<u8>
+    ensures { result ≡ filler_of (seen side.entry) }
+{
+    match side {
+        Side::Nought => Some(b'0'),
+        Side::Filler(byte) => Some(byte),
+        _ => None,
+    }
+}
+
+fn numbers_compared(a: Side, b: Side) -> Result<Ordering, Abend>
+    ensures { result ≡ numbers_compared (seen a.entry) (seen b.entry) }
+{
+    let first = side_number(a)?;
+    let second = side_number(b)?;
+    Ok(compare(first, second))
+}
+
+pub fn side_bytes<'a>(side: Side<'a>) -> &'a [u8]
+    ensures { result.now ≡ side_bytes (seen side.entry) }
+{
+    match side {
+        Side::Literal(number) => number.digits.as_slice(),
+        Side::Item { bytes, .. } => bytes,
+        Side::Bytes(bytes) => bytes,
+        _ => &[],
+    }
+}
+
+fn texts_compared(a: Side, b: Side) -> Ordering
+    ensures { result ≡ texts_compared (seen a.entry) (seen b.entry) }
+{
+    if let Side::Literal(number) = a {
+        return literal_order(number, side_bytes(b));
+    }
+    if let Side::Literal(number) = b {
+        return literal_order(number, side_bytes(a)).reverse();
+    }
+    text_order(side_bytes(a), side_bytes(b))
+}
+
+fn bytes_compared(a: Side, b: Side) -> Ordering
+    ensures { result ≡ bytes_compared (seen a.entry) (seen b.entry) }
+{
+    match filler_of(a) {
+        None => match filler_of(b) {
+            None => texts_compared(a, b),
+            Some(byte) => order_filler(side_bytes(a), byte),
+        },
+        Some(first) => match filler_of(b) {
+            None => filler_order(first, side_bytes(b)),
+            Some(second) => byte_order(first, second),
+        },
+    }
+}
+
+/// The order of two sides: by value where both are numbers, and else by bytes.
+pub fn compared(a: Side, b: Side) -> Result<Ordering, Abend>
+    ensures { result ≡ compared (seen a.entry) (seen b.entry) }
+{
+    if is_numeric(a) && is_numeric(b) {
+        numbers_compared(a, b)
+    } else {
+        Ok(bytes_compared(a, b))
+    }
+}

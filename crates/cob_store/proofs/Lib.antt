@@ -1,0 +1,6 @@
+-- numbers that were read from their bits
+pub mod Signed
+-- offsets past the repetitions
+pub mod Occurrence
+-- the starting bytes of one entry over those of the later ones
+pub mod Overlaid

@@ -1,0 +1,135 @@
+-- Where the items of a program lie, worked out from the first entry to the last.
+use Rattle.std.specs.Prelude.{ℕ, ◌+◌, ◌-◌, max, Bool, false, if◌then◌else◌, nat_lt, ◌==◌, List, [], ◌∷◌, ◌++◌, length, Option, Some, None, slice_get, slice_index, slice_set}
+use Rattle.cob_tree.specs.declared.picture.Picture.{Picture}
+use Rattle.cob_tree.specs.declared.picture.Picture.TheVariants as pictures
+use Rattle.cob_tree.specs.declared.picture.Sign.{Sign}
+use Rattle.cob_tree.specs.declared.entry.Entry.{Entry}
+use Rattle.cob_store.specs.declared.area.Area.{Area}
+use Rattle.cob_store.specs.declared.area.Areas.{Areas}
+use Rattle.cob_store.specs.declared.area.Dim.{Dim}
+use Rattle.cob_store.specs.declared.area.Form.{Form}
+use Rattle.cob_store.specs.declared.area.Form.TheVariants as forms
+use Rattle.cob_store.specs.declared.laying.Laid.{Laid}
+use Rattle.cob_store.specs.declared.laying.Open.{Open}
+use Rattle.cob_store.specs.Area.{root_of, start_of}
+use Rattle.cob_store.specs.Size.{capped, depth, is_condition, sized, times}
+
+-- the groups that an item of this depth stands in
+abbrev pub groups_of : ℕ → List Open → List Open
+groups_of depth [] = []
+groups_of depth (group ∷ groups) =
+    if nat_lt group.depth depth then group ∷ groups else groups_of depth groups
+
+abbrev pub dims_of : Option ℕ → ℕ → List Dim
+dims_of None size = []
+dims_of (Some count) size = record { stride = size; count = count } ∷ []
+
+-- an item that redefines begins where that one begins
+abbrev pub start_by : Laid → ℕ → Option ℕ → ℕ
+start_by laid next None = next
+start_by laid next (Some redefined) = start_of (slice_get laid.areas redefined)
+
+abbrev pub next_by : ℕ → ℕ → Option ℕ → ℕ
+next_by next bytes None = capped (next + bytes)
+next_by next bytes (Some redefined) = next
+
+-- this entry is of the file of the last one
+abbrev pub same_file : Option ℕ → Option ℕ → Bool
+same_file (Some file) (Some last) = file == last
+same_file _ _ = false
+
+abbrev pub last_area : List Area → Option Area
+last_area areas = slice_get areas (length areas - 1)
+
+-- the root of an item that stands in no group: that of the redefined item, or of the file's
+-- entries, or a new one
+abbrev pub root_by : Laid → Option ℕ → Option ℕ → ℕ
+root_by laid (Some redefined) file = root_of (slice_get laid.areas redefined)
+root_by laid None file =
+    if same_file file laid.file then root_of (last_area laid.areas) else length laid.roots
+
+-- a root is as long as its longest item
+abbrev pub lengthened : List ℕ → ℕ → ℕ → List ℕ
+lengthened roots root size =
+    if nat_lt root (length roots)
+    then slice_set roots root (max (slice_index roots root) size)
+    else roots ++ size ∷ []
+
+abbrev pub form_by : Sign → Option Picture → Form
+form_by sign None = forms.Group
+form_by sign (Some (pictures.Number signed whole part)) = forms.Number signed whole part sign
+form_by sign (Some (pictures.Letters size)) = forms.Text
+form_by sign (Some (pictures.Any size)) = forms.Text
+
+abbrev pub area_of : Entry → ℕ → ℕ → ℕ → List Dim → Area
+area_of entry size root start dims =
+    record {
+      root = root;
+      start = start;
+      size = size;
+      form = form_by entry.sign entry.picture;
+      dims = dims;
+    }
+
+abbrev pub opened : Entry → ℕ → ℕ → List Dim → Open
+opened entry root start dims =
+    record { depth = depth entry; root = root; next = start; dims = dims }
+
+abbrev pub root_laid : Laid → Entry → ℕ → ℕ → List Dim → Laid
+root_laid laid entry size root dims = record {
+  areas = laid.areas ++ area_of entry size root 0 dims ∷ [];
+  roots = lengthened laid.roots root size;
+  groups = opened entry root 0 dims ∷ laid.groups;
+  file = entry.file;
+}
+
+abbrev pub inner_laid : Laid → Entry → ℕ → Open → List Open → ℕ → List Dim → Laid
+inner_laid laid entry size group groups start dims = record {
+  areas = laid.areas ++ area_of entry size group.root start dims ∷ [];
+  roots = laid.roots;
+  groups = opened entry group.root start dims ∷ record group {
+    next = next_by group.next
+        (times entry.occurs size) entry.redefines;
+  } ∷ groups;
+  file = entry.file;
+}
+
+-- an item that stands in no group
+abbrev pub alone_laid : Laid → Entry → ℕ → Laid
+alone_laid laid entry size =
+    root_laid laid entry size (root_by laid entry.redefines entry.file) (dims_of entry.occurs size)
+
+-- an item that stands in this group, and that group in these
+abbrev pub below_laid : Laid → Entry → ℕ → Open → List Open → Laid
+below_laid laid entry size group groups =
+    inner_laid laid entry size group groups (start_by laid group.next entry.redefines)
+    (group.dims ++ dims_of entry.occurs size)
+
+abbrev pub item_laid : Laid → Entry → ℕ → List Open → Laid
+item_laid laid entry size [] = alone_laid (record laid { groups = [] }) entry size
+item_laid laid entry size (group ∷ groups) = below_laid laid entry size group groups
+
+-- a level 88 lies where the item before it lies
+abbrev pub condition_laid : Laid → Option Area → Laid
+condition_laid laid None = laid
+condition_laid laid (Some area) = record laid { areas = laid.areas ++ area ∷ [] }
+
+abbrev pub laid_by : Laid → Entry → ℕ → Laid
+laid_by laid entry size =
+    if is_condition entry
+    then condition_laid laid (last_area laid.areas)
+    else item_laid laid entry size (groups_of (depth entry) laid.groups)
+
+abbrev pub laid_from : Laid → List Entry → List ℕ → Laid
+laid_from laid (entry ∷ entries) (size ∷ sizes) = laid_from (laid_by laid entry size) entries sizes
+laid_from laid _ _ = laid
+
+abbrev pub nothing_laid : Laid
+nothing_laid = record { areas = []; roots = []; groups = []; file = None }
+
+abbrev pub areas_of : Laid → Areas
+areas_of laid = record { items = laid.areas; roots = laid.roots }
+
+-- where each item lies, and how long each root is
+abbrev pub layout_of : List Entry → Areas
+layout_of entries = areas_of (laid_from nothing_laid entries (sized entries).sizes)

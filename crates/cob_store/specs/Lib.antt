@@ -1,0 +1,16 @@
+-- what is read, or how the run ends there
+pub mod Answer
+-- numbers as the bytes of an item spell them
+pub mod Number
+-- how long items are
+pub mod Size
+-- where an item lies
+pub mod Area
+-- where all items lie
+pub mod Laying
+-- stores, and what is read and put at their spots
+pub mod Store
+-- where places are, and what operands and expressions are worth
+pub mod Place
+-- the store at the start of a run
+pub mod Starting

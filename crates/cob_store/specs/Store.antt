@@ -1,0 +1,74 @@
+-- Stores, the parts of them that places are, and what is read and put there.
+use Rattle.std.specs.Prelude.{ℕ, ◌+◌, ◌-◌, Bool, if◌then◌else◌, nat_le, ℤ, List, [], ◌++◌, length, map, take, drop, replicate, slice_get, slice_set, unwrap_or, Option, option_and_then, Err}
+use Rattle.cob_num.specs.Exact.{decimal}
+use Rattle.cob_num.specs.declared.number.Dec.{Dec}
+use Rattle.cob_num.specs.declared.storing.Stored.{Stored}
+use Rattle.cob_tree.specs.declared.ending.Abend.TheVariants.{BadDigits}
+use Rattle.cob_tree.specs.declared.picture.Picture.{Picture}
+use Rattle.cob_tree.specs.declared.picture.Picture.TheVariants as pictures
+use Rattle.cob_tree.specs.declared.picture.Sign.{Sign}
+use Rattle.cob_store.specs.declared.area.Form.{Form}
+use Rattle.cob_store.specs.declared.area.Form.TheVariants as forms
+use Rattle.cob_store.specs.Answer.{Answer, there_or}
+use Rattle.cob_store.specs.Number.{number_bytes, number_in}
+use Rattle.cob_store.specs.declared.spot.Spot.{Spot}
+
+-- the bytes of each root
+abbrev pub Roots : Type 0
+Roots = List (List ℕ)
+
+-- roots of these sizes before anything is put into them
+abbrev pub blank : List ℕ → Roots
+blank = map (λ size. replicate size 32)
+
+abbrev pub root_bytes : Roots → ℕ → List ℕ
+root_bytes roots root = unwrap_or (slice_get roots root) []
+
+abbrev pub spot_bytes : Roots → Spot → List ℕ
+spot_bytes roots spot = take spot.length (drop spot.start (root_bytes roots spot.root))
+
+-- the spot lies inside its root
+abbrev pub is_inside : Roots → Spot → Bool
+is_inside roots spot = nat_le (spot.start + spot.length) (length (root_bytes roots spot.root))
+
+-- these bytes in the place of as many
+abbrev pub replaced : List ℕ → ℕ → ℕ → List ℕ → List ℕ
+replaced old start size bytes = take start old ++ bytes ++ drop (start + size) old
+
+-- the store with these bytes at a spot, which are as many as it has
+abbrev pub put_at : Roots → Spot → List ℕ → Roots
+put_at roots spot bytes =
+    if is_inside roots spot
+    then slice_set roots spot.root (replaced
+    (root_bytes roots spot.root) spot.start spot.length bytes)
+    else roots
+
+-- bytes from the left, cut, or padded with spaces
+abbrev pub fitted : ℕ → List ℕ → List ℕ
+fitted size bytes = take size bytes ++ replicate (size - length bytes) 32
+
+-- ---- numbers
+
+-- the form of an item by its picture; a group has none
+abbrev pub form_with : Picture → Sign → Form
+form_with (pictures.Number signed whole part) sign = forms.Number signed whole part sign
+form_with (pictures.Letters size) sign = forms.Text
+form_with (pictures.Any size) sign = forms.Text
+
+-- the number of an item whose picture has so many decimal places
+abbrev pub number_of : Option ℤ → ℕ → Answer Dec
+number_of number places = there_or BadDigits (option_and_then (λ z. decimal z places) number)
+
+-- the number at a spot, or BadDigits
+abbrev pub value_at : Roots → Spot → Form → Answer Dec
+value_at roots spot (forms.Number signed whole part sign) =
+    number_of (number_in signed sign (spot_bytes roots spot)) part
+value_at roots spot forms.Group = Err BadDigits
+value_at roots spot forms.Text = Err BadDigits
+
+-- a number that was stored, as its digits and sign; text takes none
+abbrev pub stored_at : Roots → Spot → Form → Stored → Roots
+stored_at roots spot (forms.Number signed whole part sign) stored =
+    put_at roots spot (number_bytes signed sign spot.length stored.value)
+stored_at roots spot forms.Group stored = roots
+stored_at roots spot forms.Text stored = roots

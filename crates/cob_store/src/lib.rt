@@ -1,0 +1,26 @@
+//! Storage: a program's items as ranges of bytes (ISO 1989:1985, DATA DIVISION).
+//!
+//! `layout` says where each item lies: a root for each item that stands in no group and redefines
+//! none, and one for the records of a file. A `Store` has the bytes of each root; `reach` leads
+//! from a place of the program to its spot there, `get` and `put` read and write a number by its
+//! picture and sign, `bytes` and `put_bytes` anything. The definitions are total: what a program
+//! without faults never meets, as an entry that isn't there, has an answer too.
+#![tactic(auto)]
+
+mod area;
+mod laying;
+mod number;
+mod place;
+mod size;
+mod spot;
+mod stack;
+mod starting;
+mod store;
+
+pub use area::{Area, Areas, Dim, Form, area_at};
+pub use laying::layout;
+pub use number::{digits_value, is_digit, number_in, put_digits};
+pub use place::{expr_value, kept, literal_value, number_at, operand_value, place_value, reached};
+pub use spot::{Reached, Spot};
+pub use starting::figure_byte;
+pub use store::{Store, number_of};

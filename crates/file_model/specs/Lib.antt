@@ -1,0 +1,8 @@
+-- how a file stands, and the statuses that follow from it alone
+pub mod Status
+-- devices with their files, and what is seen from outside
+pub mod World
+-- what each operation on a file does
+pub mod Attempts
+-- what a call of a device makes of the files that it tells
+pub mod Told

@@ -1,0 +1,20 @@
+//! Devices with files, and what becomes of the files of a program (ISO 1989:1985, Sequential I-O).
+//!
+//! `specs` has the world of a run: the devices with their files, and how each file of the program
+//! stands; and one attempt an operation, which gives the world after it, the bytes that it moved
+//! and its status. A `Device` is what the outside gives; a `Bench` holds devices; a `FileTable`
+//! keeps how each file of the program stands and answers the statuses that need no device.
+#![tactic(auto)]
+
+mod bench;
+mod device;
+mod mem_file;
+mod null_device;
+mod table;
+
+pub use bench::Bench;
+pub use cob_tree::How;
+pub use device::{Device, Got, Opened, Put};
+pub use mem_file::MemFile;
+pub use null_device::NullDevice;
+pub use table::{FileRow, FileTable};
