@@ -1,0 +1,10 @@
+-- The graphs of a lowered program: their family is the lowered one, and their jumps are to their nodes.
+pub mod LoweredGraphs
+-- The graphs of a lowered program are a family: each range performs later ones alone, and names its own cells.
+pub mod LaterCalls
+-- The graphs of a lowered program can be written, and so can what closing leaves of them.
+pub mod LoweredStand
+-- The cells that lowered nodes name are counters of loops by TIMES.
+pub mod NamedCells
+-- The counter of a small program.
+pub mod NamedCellsExample
