@@ -8,10 +8,10 @@ use Rattle.runs.specs.Machine.{iterate, meaning}
 use Rattle.runs.proofs.Ties.{covers-is, tied-sym, le_or}
 use Rattle.runs.proofs.Machines.{iterate-add, machine-steady}
 use Rattle.control.specs.Outcome.{Trace, Normally, Abend, Overlap, Reentry, Ending, Stopped, Faulted, Run, Standing, Tried, Got, Ends}
-use Rattle.control.specs.Language.{Act, Test, Control, Times, Until, Varying, Stmt, Choose, Loop, Perform, Go, GoDepending, NextSentence, StopRun, Stmts, none, also, Arms, done, given, missing, Body, Nested, Performed, Paragraph, Program, unless_absent, paragraph_at}
+use Rattle.control.specs.Language.{Act, Test, Control, Times, Until, Varying, Stmt, Choose, Loop, Perform, Go, GoDepending, NextSentence, ExitParagraph, ExitSection, ExitPerform, StopRun, Stmts, none, also, Arms, done, given, missing, Body, Nested, Performed, Paragraph, Program, unless_absent, paragraph_at}
 use Rattle.control.specs.Language as language
 use Rattle.control.specs.Doing.{Doing}
-use Rattle.control.specs.Items.{Turning, Counted, Tests, Steps, StepsAfter, Item, Do, SentenceEnd, Turn, before, before_body, before_arm, items_of, Way, On, Halts, Into, To, way_after, tried, on, turns as loop_turns, first_turn as loop_first, varying as loop_varying, loop_begins, tests, steps_on}
+use Rattle.control.specs.Items.{Turning, Counted, Tests, Steps, StepsAfter, Item, Do, SentenceEnd, Turn, before, before_body, before_arm, items_of, Way, On, Halts, Into, To, ToEnd, way_after, tried, on, turns as loop_turns, first_turn as loop_first, varying as loop_varying, loop_begins, tests, steps_on}
 use Rattle.control.specs.Source.{Pending, SourceState, ends_at, rest_of, comes_to, goes, falls, source_step, source_machine, source_begun}
 use Rattle.control.specs.Structural.{Outcome, Went, Stands, nothing, behind, then_do, one_then, unit_of, stops, gets, acts, goes_round, turns, all_turns, first_turn, varying, loop_does, Performing, stmt_does, stmts_do, arm_does, body_does, paragraph_does, performing, program_does, run_of, structural}
 use Rattle.agreement.specs.Structured.{StmtNests, StmtsNest, ArmsNest, BodyNests, NamesLater, ParagraphNests, ParagraphsNest, EndsInStop, FirstStops, IsStructured}
@@ -125,12 +125,14 @@ module _ {Memory Left : Type 0} (doing : Doing Memory) (left : Memory → Left) 
   Plain (Halts trace how memory) = Unit {0}
   Plain (Into entry exit items) = ⊥
   Plain (To trace memory paragraph) = Unit {0}
+  Plain (ToEnd trace memory paragraph) = Unit {0}
 
   plain-after : (shown : Trace) (way : Way Memory) → Plain way → Plain (way_after shown way)
   plain-after shown (On trace memory items) h = tt
   plain-after shown (Halts trace how memory) h = tt
   plain-after shown (Into entry exit items) h = h
   plain-after shown (To trace memory paragraph) h = tt
+  plain-after shown (ToEnd trace memory paragraph) h = tt
 
   plain-tried : {Value : Type 0} (t : Tried Memory Value) (k : Value → Memory → Way Memory) → ((v : Value) (m : Memory) → Plain (k v m)) → Plain (tried t k)
   plain-tried (Got trace value memory) k h = plain-after trace (k value memory) (h value memory)
@@ -153,12 +155,14 @@ module _ {Memory Left : Type 0} (doing : Doing Memory) (left : Memory → Left) 
         ap (λ t. (let s : State = record { paragraph = here; rest = items; pending = pending; memory = now; run = record { trace = t; standing = Over (Stopped how (left now)) } } in s)) (sym (append_assoc trace shown more))
     goes-after items m memory trace shown (Into entry exit rest) h = absurd h
     goes-after items m memory trace shown (To more now to) h = ap (at to (rest_of program to) pending now) (sym (append_assoc trace shown more))
+    goes-after items m memory trace shown (ToEnd more now to) h = ap (at to [] pending now) (sym (append_assoc trace shown more))
 
     shows-more : (items : List Item) (m memory : Memory) (trace shown : Trace) (way : Way Memory) → Plain way → Begins (trace ++ (shown ++ [])) (goes doing left program (way_after shown way) (at here items pending memory trace)).run.trace
     shows-more items m memory trace shown (On more now rest) h = (more, ap (λ t. trace ++ t) (ap (λ t. t ++ more) (sym (append-nil shown))) ∙ sym (append_assoc trace (shown ++ []) more))
     shows-more items m memory trace shown (Halts more how now) h = (more, ap (λ t. trace ++ t) (ap (λ t. t ++ more) (sym (append-nil shown))) ∙ sym (append_assoc trace (shown ++ []) more))
     shows-more items m memory trace shown (Into entry exit rest) h = absurd h
     shows-more items m memory trace shown (To more now to) h = (more, ap (λ t. trace ++ t) (ap (λ t. t ++ more) (sym (append-nil shown))) ∙ sym (append_assoc trace (shown ++ []) more))
+    shows-more items m memory trace shown (ToEnd more now to) h = (more, ap (λ t. trace ++ t) (ap (λ t. t ++ more) (sym (append-nil shown))) ∙ sym (append_assoc trace (shown ++ []) more))
 
     -- what was tried, and then what comes of it
     meets-tried : {Value : Type 0} (items : List Item) (memory : Memory) (trace : Trace) (target : Target) (units over slack : ℕ) (t : Tried Memory Value) (k : Value → Memory → Way Memory) (d : Value → D) →
@@ -424,6 +428,9 @@ module _ {Memory Left : Type 0} (doing : Doing Memory) (left : Memory → Left) 
           stmt-does (Go to) nests = absurd nests
           stmt-does (GoDepending to chooser) nests = absurd nests
           stmt-does NextSentence nests = absurd nests
+          stmt-does ExitParagraph nests = absurd nests
+          stmt-does (ExitSection last) nests = absurd nests
+          stmt-does (ExitPerform cycle) nests = absurd nests
           stmt-does StopRun nests = λ rest memory units trace.
               let next = goes doing left program (Halts [] Normally memory) (at here (Do StopRun ∷ rest) pending memory trace) in
               meets-begun StopRun rest next (stops doing left Normally) memory units trace refl

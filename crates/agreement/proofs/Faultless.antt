@@ -4,7 +4,7 @@ use Rattle.runs.specs.Run.{Going, Over}
 use Rattle.runs.specs.Machine.{meaning}
 use Rattle.runs.proofs.Ties.{tied-comes}
 use Rattle.control.specs.Outcome.{Trace, Normally, FlowFault, Faulted, Standing, Tried, Got, Ends}
-use Rattle.control.specs.Language.{Control, Times, Until, Varying, Stmt, Do, Choose, Loop, Perform, Go, GoDepending, NextSentence, StopRun, Stmts, none, also, Arms, done, given, missing, Body, Nested, Performed, Paragraph, Program}
+use Rattle.control.specs.Language.{Control, Times, Until, Varying, Stmt, Do, Choose, Loop, Perform, Go, GoDepending, NextSentence, ExitParagraph, ExitSection, ExitPerform, StopRun, Stmts, none, also, Arms, done, given, missing, Body, Nested, Performed, Paragraph, Program}
 use Rattle.control.specs.Doing.{Doing}
 use Rattle.control.specs.Items.{Turning, Counted, Tests, Steps, StepsAfter}
 use Rattle.control.specs.Source.{source_machine}
@@ -90,6 +90,9 @@ module _ {Memory Left : Type 0} (doing : Doing Memory) (left : Memory → Left) 
       fair-stmt (Go to) = λ m n. tt
       fair-stmt (GoDepending to chooser) = λ m n. tt
       fair-stmt NextSentence = λ m n. tt
+      fair-stmt ExitParagraph = λ m n. tt
+      fair-stmt (ExitSection last) = λ m n. tt
+      fair-stmt (ExitPerform cycle) = λ m n. tt
       fair-stmt StopRun = fair-unit (stops doing left Normally) (λ m n. tt)
 
       fair-stmts : (stmts : Stmts) → AllFair (stmts_do doing left stmts perform)

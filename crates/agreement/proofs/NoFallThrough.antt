@@ -3,10 +3,10 @@ use Rattle.std.proofs.Common.{◌≡◌, ◌≢◌, ℕ, zero, suc, ◌+◌, ◌
 use Rattle.runs.specs.Run.{Going, Over}
 use Rattle.runs.specs.Machine.{iterate}
 use Rattle.control.specs.Outcome.{Trace, Overlap, Reentry, Faulted, Standing, Tried, Got, Ends}
-use Rattle.control.specs.Language.{Act, Test, Picker, Control, Times, Until, Varying, Stmt, Choose, Loop, Perform, Go, GoDepending, NextSentence, StopRun, Stmts, none, also, Arms, done, given, missing, Body, Nested, Performed, Paragraph, Program, unless_absent}
+use Rattle.control.specs.Language.{Act, Test, Picker, Control, Times, Until, Varying, Stmt, Choose, Loop, Perform, Go, GoDepending, NextSentence, ExitParagraph, ExitSection, ExitPerform, StopRun, Stmts, none, also, Arms, done, given, missing, Body, Nested, Performed, Paragraph, Program, unless_absent}
 use Rattle.control.specs.Language as language
 use Rattle.control.specs.Doing.{Doing}
-use Rattle.control.specs.Items.{Turning, Counted, Tests, Steps, StepsAfter, Item, Do, SentenceEnd, Turn, before, before_body, before_arm, items_of, Way, On, Halts, Into, To, way_after, tried, on, first_turn, varying, loop_begins, turns, tests, steps_on, turn_way, stmt_way, item_way}
+use Rattle.control.specs.Items.{Turning, Counted, Tests, Steps, StepsAfter, Item, Do, SentenceEnd, Turn, before, before_body, before_arm, items_of, Way, On, Halts, Into, To, ToEnd, way_after, tried, on, first_turn, varying, loop_begins, turns, tests, steps_on, turn_way, stmt_way, item_way}
 use Rattle.control.specs.Source.{Pending, SourceState, ends_at, rest_of, comes_to, goes, falls, end_step, source_step, source_begun}
 use Rattle.agreement.specs.Structured.{StmtNests, StmtsNest, ArmsNest, BodyNests, NamesLater, ParagraphNests, ParagraphsNest, EndsInStop, FirstStops, IsStructured}
 use Rattle.agreement.specs.Laws.{Returns}
@@ -46,12 +46,14 @@ module _ {Memory : Type 0} (doing : Doing Memory) (Such : ℕ → ℕ → Type 0
   WayKeeps (Halts trace how memory) = Unit {0}
   WayKeeps (Into entry exit items) = Such entry exit × P items
   WayKeeps (To trace memory to) = ⊥
+  WayKeeps (ToEnd trace memory to) = ⊥
 
   keeps-after : (shown : Trace) (way : Way Memory) → WayKeeps way → WayKeeps (way_after shown way)
   keeps-after shown (On trace memory items) h = h
   keeps-after shown (Halts trace how memory) h = h
   keeps-after shown (Into entry exit items) h = h
   keeps-after shown (To trace memory to) h = h
+  keeps-after shown (ToEnd trace memory to) h = h
 
   keeps-tried : {Value : Type 0} (t : Tried Memory Value) (f : Value → Memory → Way Memory) → ((v : Value) (memory : Memory) → WayKeeps (f v memory)) → WayKeeps (tried t f)
   keeps-tried (Got trace value memory) f h = keeps-after trace (f value memory) (h value memory)
@@ -118,6 +120,9 @@ module _ {Memory : Type 0} (doing : Doing Memory) (Such : ℕ → ℕ → Type 0
     keeps-stmt (Go to) items memory nests h = absurd nests
     keeps-stmt (GoDepending to chooser) items memory nests h = absurd nests
     keeps-stmt NextSentence items memory nests h = absurd nests
+    keeps-stmt ExitParagraph items memory nests h = absurd nests
+    keeps-stmt (ExitSection last) items memory nests h = absurd nests
+    keeps-stmt (ExitPerform cycle) items memory nests h = absurd nests
     keeps-stmt StopRun items memory nests h = tt
 
     keeps-item : (item : Item) (items : List Item) (memory : Memory) → ItemNests item → P items → WayKeeps (item_way doing item items memory)
@@ -216,6 +221,7 @@ module _ {Memory Left : Type 0} (doing : Doing Memory) (left : Memory → Left) 
       by_test true = λ going. absurd (cc)
       by_test false = λ going. (later-rest entry (omega (arith, h.0.1)) h.0.2, (sym h.0.0, h.0.1, h.1, waits))
   goes-kept here rest pending memory trace (To shown next to) h waits = absurd h
+  goes-kept here rest pending memory trace (ToEnd shown next to) h waits = absurd h
 
   end-kept : (here : ℕ) (pending : List Pending) (memory : Memory) (trace : Trace) → RestOf here [] → Waits here pending → Kept (end_step doing left program pending (at here [] pending memory trace))
   end-kept here [] memory trace rest waits = absurd (rest.1 waits)

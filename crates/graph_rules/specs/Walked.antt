@@ -4,7 +4,7 @@ use Rattle.runs.specs.Run.{Going, Over}
 use Rattle.runs.specs.Tied.{Meaning}
 use Rattle.runs.specs.Machine.{Machine}
 use Rattle.control.specs.Outcome.{Event, Ending, Normally, Returned, Lost, Run}
-use Rattle.control.specs.Language.{Stmt, Do, Choose, Loop, Perform, Go, GoDepending, NextSentence, StopRun, Stmts, none, also, Arms, done, given, missing, Body, Nested, Performed, Range, Part, same_range}
+use Rattle.control.specs.Language.{Stmt, Do, Choose, Loop, Perform, Go, GoDepending, NextSentence, ExitParagraph, ExitSection, ExitPerform, StopRun, Stmts, none, also, Arms, done, given, missing, Body, Nested, Performed, Range, Part, same_range}
 use Rattle.control.specs.Doing.{Acting, Doing, Celled, celled}
 use Rattle.control.specs.Structural.{Outcome, Went, Stands}
 use Rattle.control.specs.Structural as structural
@@ -40,6 +40,9 @@ module _ {Memory Left : Type 0} (acting : Acting Memory) (left : Memory → Left
       stmt_walks (Go to) = lost
       stmt_walks (GoDepending to chooser) = lost
       stmt_walks NextSentence = lost
+      stmt_walks ExitParagraph = lost
+      stmt_walks (ExitSection last) = lost
+      stmt_walks (ExitPerform cycle) = lost
       stmt_walks StopRun = structural.unit_of doing left_of (structural.stops doing left_of Normally)
 
       pub stmts_walk : Stmts → Walking

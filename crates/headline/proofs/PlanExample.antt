@@ -5,13 +5,13 @@ use Rattle.runs.specs.Run.{Over}
 use Rattle.runs.specs.Machine.{iterate}
 use Rattle.control.specs.Outcome.{Normally, Stopped}
 use Rattle.control.specs.Language.{Go, Perform, Range, Main, Part}
-use Rattle.control.specs.Items.{Item, Do, SentenceEnd, Way, On, Into, To, item_way}
+use Rattle.control.specs.Items.{Item, Do, SentenceEnd, Way, On, Into, To, ToEnd, item_way}
 use Rattle.control.specs.Source.{rest_of, source_step}
 use Rattle.control.specs.Graph.{Label, end_of}
 use Rattle.lowering.specs.Told.{IsSource}
 use Rattle.graph_rules.specs.Walked.{In}
 use Rattle.lowering.specs.WellFormed.{AreJustReached}
-use Rattle.lowering.specs.flow.Comes.{begins, enters, goes_on, goes_to, over, falls}
+use Rattle.lowering.specs.flow.Comes.{begins, enters, goes_on, goes_to, goes_to_end, over, falls}
 use Rattle.lowering.specs.Lowered.{lowered}
 use Rattle.lowering.specs.Reached.{JumpsTo, IsReached, entered, jumped}
 use Rattle.lowering.specs.flow.Paths.{Flow, flow, free, free_step, alone_pending, nothing_left, IsFaulty, ReturnsByPath}
@@ -99,6 +99,8 @@ main-rest r n s (goes_to range number item rest memory trace after to c e) is =
     let k : To [] memory 0 ≡ To trace after to = ap (λ x. way_of x memory) (sym (main-rest range number (item ∷ rest) c is)) ∙ e in
     let z : to ≡ 0 = cc in
     ap (λ x. rest_of again x) z
+main-rest r n s (goes_to_end range number item rest memory trace after to c e) is =
+    absurd (let k : To [] memory 0 ≡ ToEnd trace after to = ap (λ x. way_of x memory) (sym (main-rest range number (item ∷ rest) c is)) ∙ e in cc)
 main-rest r n s (over range number item rest memory entry exit items c e d) is =
     absurd (let k : To [] memory 0 ≡ Into entry exit items = ap (λ x. way_of x memory) (sym (main-rest range number (item ∷ rest) c is)) ∙ e in cc)
 main-rest r n s (falls range number next found off c) is = absurd (let k : [] ≡ whole_rest = main-rest range number [] c is in cc)

@@ -1,6 +1,6 @@
 -- For any parts there is a structured result of the same behaviour.
 use Rattle.std.proofs.Common.{◌≡◌, ℕ, refl, true, List, ◌∷◌}
-use Rattle.control.specs.Language.{Act, Own, Set, Take, Lower, Test, Holds, Not, Is, Above, Picker, If, By, ByCell, Control, Times, Until, Varying, Stmt, Choose, Loop, Perform, Go, GoDepending, NextSentence, StopRun, Stmts, none, also, Arms, done, given, missing, Body, Nested, Performed, Range, Main}
+use Rattle.control.specs.Language.{Act, Own, Set, Take, Lower, Test, Holds, Not, Is, Above, Picker, If, By, ByCell, Control, Times, Until, Varying, Stmt, Choose, Loop, Perform, Go, GoDepending, NextSentence, ExitParagraph, ExitSection, ExitPerform, StopRun, Stmts, none, also, Arms, done, given, missing, Body, Nested, Performed, Range, Main}
 use Rattle.control.specs.Language as language
 use Rattle.control.specs.Graph.{Tree, tree, End, Pick, Jump, Return, Stop, Dead, Trees, no_more, more}
 use Rattle.lowering.specs.WellFormed.{tree_count}
@@ -68,6 +68,9 @@ module _ (naming : Naming) (procedures : List Procedure) (range : Range) (R W : 
     stmt-served (Go to) = λ h. tt
     stmt-served (GoDepending to on) = λ h. tt
     stmt-served NextSentence = λ h. tt
+    stmt-served ExitParagraph = λ h. tt
+    stmt-served (ExitSection last) = λ h. tt
+    stmt-served (ExitPerform cycle) = λ h. tt
     stmt-served StopRun = λ h. tt
 
     stmts-served : (stmts : Stmts) → StmtsName R W stmts → StmtsServed naming every-kind procedures range stmts

@@ -1,7 +1,7 @@
 -- From a source to the written program, over what lowering, the rules and rendering give: the whole headline of this theory.
 use Rattle.std.specs.Prelude.{ℕ, ◌⊎◌, ◌≡◌, ◌<◌, ◌≤◌, Bool, true, false, List, [], ◌∷◌, length, Some, slice_get}
 use Rattle.runs.specs.Machine.{meaning}
-use Rattle.control.specs.Language.{Picker, If, By, ByCell, Stmt, Do, Choose, Loop, Perform, Go, GoDepending, NextSentence, StopRun, Stmts, none, also, Arms, done, given, missing, Body, Nested, Performed, Program, Range, Main, Part}
+use Rattle.control.specs.Language.{Picker, If, By, ByCell, Stmt, Do, Choose, Loop, Perform, Go, GoDepending, NextSentence, ExitParagraph, ExitSection, ExitPerform, StopRun, Stmts, none, also, Arms, done, given, missing, Body, Nested, Performed, Program, Range, Main, Part}
 use Rattle.control.specs.Doing.{Acting, Celled, alone}
 use Rattle.control.specs.Source.{source_machine}
 use Rattle.control.specs.Graph.{Label, Tree, tree, End, Pick, Jump, Return, Stop, Dead, Trees, no_more, more, body_of, end_of}
@@ -74,6 +74,9 @@ module _ (Reads Writes : ℕ → Type 0) where
     StmtNames (Go to) = Unit {0}
     StmtNames (GoDepending to chooser) = Unit {0}
     StmtNames NextSentence = Unit {0}
+    StmtNames ExitParagraph = Unit {0}
+    StmtNames (ExitSection last) = Unit {0}
+    StmtNames (ExitPerform cycle) = Unit {0}
     StmtNames StopRun = Unit {0}
 
     pub StmtsName : Stmts → Type 0
@@ -146,6 +149,9 @@ module _ (naming : Naming) (kinds : Kinds) (procedures : List Procedure) (range 
     StmtServed (Go to) = Unit {0}
     StmtServed (GoDepending to chooser) = Unit {0}
     StmtServed NextSentence = Unit {0}
+    StmtServed ExitParagraph = Unit {0}
+    StmtServed (ExitSection last) = Unit {0}
+    StmtServed (ExitPerform cycle) = Unit {0}
     StmtServed StopRun = Unit {0}
 
     pub StmtsServed : Stmts → Type 0

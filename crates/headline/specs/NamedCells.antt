@@ -1,6 +1,6 @@
 -- Which cells a lowered program names: the counters of its loops by TIMES, each by the number of its place, and no other.
 use Rattle.std.specs.Prelude.{ℕ, ◌+◌, ◌≡◌, Bool, true, List, [], ◌∷◌, Some}
-use Rattle.control.specs.Language.{Control, Times, Until, Varying, Stmt, Do, Choose, Loop, Perform, Go, GoDepending, NextSentence, StopRun, Stmts, none, also, Arms, done, given, missing, Body, Nested, Performed, Paragraph, Program, Range}
+use Rattle.control.specs.Language.{Control, Times, Until, Varying, Stmt, Do, Choose, Loop, Perform, Go, GoDepending, NextSentence, ExitParagraph, ExitSection, ExitPerform, StopRun, Stmts, none, also, Arms, done, given, missing, Body, Nested, Performed, Paragraph, Program, Range}
 use Rattle.control.specs.Graph.{Label}
 use Rattle.lowering.specs.Told.{Told, IsSource}
 use Rattle.lowering.specs.Completes.{size, sizes}
@@ -27,6 +27,9 @@ module _ (Holds : ℕ → Type 0) where
     StmtCounts (Go to) place = Unit {0}
     StmtCounts (GoDepending to chooser) place = Unit {0}
     StmtCounts NextSentence place = Unit {0}
+    StmtCounts ExitParagraph place = Unit {0}
+    StmtCounts (ExitSection last) place = Unit {0}
+    StmtCounts (ExitPerform cycle) place = Unit {0}
     StmtCounts StopRun place = Unit {0}
 
     pub StmtsCount : Stmts → ℕ → Type 0

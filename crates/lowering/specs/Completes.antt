@@ -1,6 +1,6 @@
 -- What a statement holds, whether it can complete, and what stands behind one that can't.
 use Rattle.std.specs.Prelude.{ℕ, Bool, true, false, if◌then◌else◌, ◌+◌}
-use Rattle.control.specs.Language.{Act, Own, Set, Take, Lower, Picker, If, By, ByCell, Control, Times, Until, Varying, Stmt, Do, Choose, Loop, Perform, Go, GoDepending, NextSentence, StopRun, Stmts, none, also, Arms, done, given, missing, Body, Nested, Performed}
+use Rattle.control.specs.Language.{Act, Own, Set, Take, Lower, Picker, If, By, ByCell, Control, Times, Until, Varying, Stmt, Do, Choose, Loop, Perform, Go, GoDepending, NextSentence, ExitParagraph, ExitSection, ExitPerform, StopRun, Stmts, none, also, Arms, done, given, missing, Body, Nested, Performed}
 use Rattle.lowering.specs.Told.{Told}
 
 -- the loop is tested after its body
@@ -20,11 +20,14 @@ abbrev mutual
   pub completes : Told → Stmt → Bool
   completes told (Do act) = true
   completes told (Choose picker arms) = choice_completes told (first_is_dead told picker) arms
-  completes told (Loop control body) = if is_after control then body_completes told body else true
+  completes told (Loop control body) = if is_after control then (if body_completes told body then true else body_leaves_loop told body) else true
   completes told (Perform entry exit) = told.returning entry exit
   completes told (Go to) = false
   completes told (GoDepending to on) = true
   completes told NextSentence = false
+  completes told ExitParagraph = false
+  completes told (ExitSection last) = false
+  completes told (ExitPerform cycle) = false
   completes told StopRun = false
 
   pub complete : Told → Stmts → Bool
@@ -41,6 +44,33 @@ abbrev mutual
   body_completes told (Nested stmts) = complete told stmts
   body_completes told (Performed entry exit) = told.returning entry exit
 
+  -- an EXIT PERFORM of the loop around stands in it, with or without CYCLE, and not behind what can't complete
+  pub leaves_loop : Told → Stmt → Bool
+  leaves_loop told (Do act) = false
+  leaves_loop told (Choose picker arms) = arms_leave_loop told arms
+  leaves_loop told (Loop control body) = false
+  leaves_loop told (Perform entry exit) = false
+  leaves_loop told (Go to) = false
+  leaves_loop told (GoDepending to on) = false
+  leaves_loop told NextSentence = false
+  leaves_loop told ExitParagraph = false
+  leaves_loop told (ExitSection last) = false
+  leaves_loop told (ExitPerform cycle) = true
+  leaves_loop told StopRun = false
+
+  pub leave_loop : Told → Stmts → Bool
+  leave_loop told none = false
+  leave_loop told (also stmt stmts) = if leaves_loop told stmt then true else (if completes told stmt then leave_loop told stmts else false)
+
+  pub arms_leave_loop : Told → Arms → Bool
+  arms_leave_loop told done = false
+  arms_leave_loop told (given arm others) = if leave_loop told arm then true else arms_leave_loop told others
+  arms_leave_loop told (missing others) = arms_leave_loop told others
+
+  pub body_leaves_loop : Told → Body → Bool
+  body_leaves_loop told (Nested stmts) = leave_loop told stmts
+  body_leaves_loop told (Performed entry exit) = false
+
 -- lists end behind the first statement that can't complete
 abbrev mutual
   pub cut : Told → Stmt → Stmt
@@ -51,6 +81,9 @@ abbrev mutual
   cut told (Go to) = Go to
   cut told (GoDepending to on) = GoDepending to on
   cut told NextSentence = NextSentence
+  cut told ExitParagraph = ExitParagraph
+  cut told (ExitSection last) = ExitSection last
+  cut told (ExitPerform cycle) = ExitPerform cycle
   cut told StopRun = StopRun
 
   pub cuts : Told → Stmts → Stmts
@@ -66,7 +99,7 @@ abbrev mutual
   cut_body told (Nested stmts) = Nested (cuts told stmts)
   cut_body told (Performed entry exit) = Performed entry exit
 
--- no escape stands in it: GO TO, GO TO DEPENDING, NEXT SENTENCE
+-- no escape stands in it: GO TO, GO TO DEPENDING, NEXT SENTENCE, EXIT PARAGRAPH, EXIT SECTION or EXIT PERFORM
 abbrev mutual
   pub whole : Stmt → Bool
   whole (Do act) = true
@@ -76,6 +109,9 @@ abbrev mutual
   whole (Go to) = false
   whole (GoDepending to on) = false
   whole NextSentence = false
+  whole ExitParagraph = false
+  whole (ExitSection last) = false
+  whole (ExitPerform cycle) = false
   whole StopRun = true
 
   pub wholes : Stmts → Bool
@@ -101,6 +137,9 @@ abbrev mutual
   leaves_sentence (Go to) = false
   leaves_sentence (GoDepending to on) = false
   leaves_sentence NextSentence = true
+  leaves_sentence ExitParagraph = false
+  leaves_sentence (ExitSection last) = false
+  leaves_sentence (ExitPerform cycle) = false
   leaves_sentence StopRun = false
 
   pub leave_sentence : Stmts → Bool
@@ -126,6 +165,9 @@ abbrev mutual
   size (Go to) = 1
   size (GoDepending to on) = 1
   size NextSentence = 1
+  size ExitParagraph = 1
+  size (ExitSection last) = 1
+  size (ExitPerform cycle) = 1
   size StopRun = 1
 
   pub sizes : Stmts → ℕ

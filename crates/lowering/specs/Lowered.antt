@@ -4,8 +4,8 @@ use Rattle.control.specs.Language.{Paragraph, Program, Range}
 use Rattle.control.specs.Graph.{Label, Tree, End, Dead, Family}
 use Rattle.lowering.specs.Told.{Told}
 use Rattle.lowering.specs.Completes.{sizes}
-use Rattle.lowering.specs.Lower.{point, only, Node, node, nodes, end_leaf}
-use Rattle.lowering.specs.Rests.{Rest, Over, From, Sent, Turns, Cut, rest_from, leaf_of, sentence_of, tree_of}
+use Rattle.lowering.specs.Lower.{point, only, Node, node, nodes, Leaving, leaving_at}
+use Rattle.lowering.specs.Rests.{Rest, Over, From, Sent, Turns, Cut, rest_from, leaf_of, leaving_of, tree_of}
 use Rattle.lowering.specs.flow.Comes.{entry_of}
 
 -- the places of a paragraph's statements
@@ -29,21 +29,21 @@ find key (one ∷ others) = if one.key == key then one.tree else find key others
 
 module _ (told : Told) (program : Program) where
   -- the nodes of what is left of a paragraph
-  abbrev pub nodes_left : End → Rest → List Node
-  nodes_left end Over = []
-  nodes_left end (From place stmts others) =
-      nodes told (place_in program) stmts place (sentence_of told (place_in program) end others) (leaf_of told (place_in program) end others) (tree_of told (place_in program) end others)
-      ++ nodes_left end others
-  nodes_left end (Sent holds others) = nodes_left end others
-  nodes_left end (Turns place control left reached body others) = nodes_left end others
-  nodes_left end (Cut others) = nodes_left end others
+  abbrev pub nodes_left : Leaving → Rest → List Node
+  nodes_left paragraph Over = []
+  nodes_left paragraph (From place stmts others) =
+      nodes told (place_in program) stmts place (leaving_of told (place_in program) paragraph others) (leaf_of told (place_in program) paragraph others) (tree_of told (place_in program) paragraph others)
+      ++ nodes_left paragraph others
+  nodes_left paragraph (Sent holds others) = nodes_left paragraph others
+  nodes_left paragraph (Turns place control left reached body others) = nodes_left paragraph others
+  nodes_left paragraph (Cut others) = nodes_left paragraph others
 
   -- of the paragraphs from this number on, whose first has this place
   abbrev pub nodes_from : Range → ℕ → ℕ → List Paragraph → List Node
   nodes_from range number place [] = []
   nodes_from range number place (paragraph ∷ others) =
-      node (point place) (tree_of told (place_in program) (end_leaf (place_in program) program range number) (rest_from told (place + 1) paragraph))
-      ∷ (nodes_left (end_leaf (place_in program) program range number) (rest_from told (place + 1) paragraph) ++ nodes_from range (suc number) (place + 1 + total paragraph) others)
+      node (point place) (tree_of told (place_in program) (leaving_at (place_in program) program range number) (rest_from told (place + 1) paragraph))
+      ∷ (nodes_left (leaving_at (place_in program) program range number) (rest_from told (place + 1) paragraph) ++ nodes_from range (suc number) (place + 1 + total paragraph) others)
 
   abbrev pub nodes_of : Range → List Node
   nodes_of range = nodes_from range 0 0 program.paragraphs

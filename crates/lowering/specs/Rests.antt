@@ -5,7 +5,7 @@ use Rattle.control.specs.Items.{Turning, Counted, Tests, Steps, StepsAfter, Item
 use Rattle.control.specs.Graph.{Label, Tree, End, Jump}
 use Rattle.lowering.specs.Told.{Told}
 use Rattle.lowering.specs.Completes.{cuts, leave_sentence, sizes}
-use Rattle.lowering.specs.Lower.{head, third, only, back, leaf, build, Node, nodes, nodes_in}
+use Rattle.lowering.specs.Lower.{head, third, only, back, Leaving, leaf, build, Node, nodes, nodes_in}
 
 -- what is left of a paragraph: statements from a place; the end of a sentence, and whether a NEXT SENTENCE stands in it;
 -- a loop with an escape, the turns that are left where they are counted, and of VARYING whether its test was reached;
@@ -47,6 +47,22 @@ after_sentence (Sent holds others) = Cut others
 after_sentence (Turns place control left reached body others) = after_sentence others
 after_sentence (Cut others) = after_sentence others
 
+-- the rest behind its first loop, at whose continuation the walk stands
+abbrev pub after_loop : Rest → Rest
+after_loop Over = Over
+after_loop (From place stmts others) = after_loop others
+after_loop (Sent holds others) = after_loop others
+after_loop (Turns place control left reached body others) = Cut others
+after_loop (Cut others) = after_loop others
+
+-- the rest from its first loop on
+abbrev pub at_loop : Rest → Rest
+at_loop Over = Over
+at_loop (From place stmts others) = at_loop others
+at_loop (Sent holds others) = at_loop others
+at_loop (Turns place control left reached body others) = Turns place control left reached body others
+at_loop (Cut others) = at_loop others
+
 -- the same items, where the walk stands at no continuation: the tree of a label runs on
 abbrev pub uncut : Rest → Rest
 uncut Over = Over
@@ -61,25 +77,32 @@ rest_from told place [] = Over
 rest_from told place (sentence ∷ sentences) = From place sentence (Sent (leave_sentence (cuts told sentence)) (rest_from told (place + sizes sentence) sentences))
 
 module _ (told : Told) (place_of : ℕ → ℕ) where
-  -- its continuation, where the paragraph's end is this
-  abbrev pub leaf_of : End → Rest → End
-  leaf_of end Over = end
-  leaf_of end (From place stmts others) = leaf told place_of stmts place (leaf_of end others)
-  leaf_of end (Sent holds others) = leaf_of end others
-  leaf_of end (Turns place control left reached body others) = Jump (to_turn control reached place)
-  leaf_of end (Cut others) = leaf_of end others
+  -- its continuation, in a paragraph that is left so
+  abbrev pub leaf_of : Leaving → Rest → End
+  leaf_of paragraph Over = paragraph.paragraph
+  leaf_of paragraph (From place stmts others) = leaf told place_of stmts place (leaf_of paragraph others)
+  leaf_of paragraph (Sent holds others) = leaf_of paragraph others
+  leaf_of paragraph (Turns place control left reached body others) = Jump (to_turn control reached place)
+  leaf_of paragraph (Cut others) = leaf_of paragraph others
 
-  abbrev pub sentence_of : End → Rest → End
-  sentence_of end rest = leaf_of end (after_sentence rest)
+  -- where what leaves it goes on
+  abbrev pub leaving_of : Leaving → Rest → Leaving
+  leaving_of paragraph rest = record {
+    sentence = leaf_of paragraph (after_sentence rest);
+    paragraph = paragraph.paragraph;
+    section = paragraph.section;
+    loop = leaf_of paragraph (after_loop rest);
+    cycle = leaf_of paragraph (at_loop rest);
+  }
 
   -- its tree
-  abbrev pub tree_of : End → Rest → Tree
-  tree_of end Over = only end
-  tree_of end (From place stmts others) = build told place_of stmts place (sentence_of end others) (leaf_of end others) (tree_of end others)
-  tree_of end (Sent true others) = only (leaf_of end others)
-  tree_of end (Sent false others) = tree_of end others
-  tree_of end (Turns place control left reached body others) = only (Jump (to_turn control reached place))
-  tree_of end (Cut others) = only (leaf_of end others)
+  abbrev pub tree_of : Leaving → Rest → Tree
+  tree_of paragraph Over = only paragraph.paragraph
+  tree_of paragraph (From place stmts others) = build told place_of stmts place (leaving_of paragraph others) (leaf_of paragraph others) (tree_of paragraph others)
+  tree_of paragraph (Sent true others) = only (leaf_of paragraph others)
+  tree_of paragraph (Sent false others) = tree_of paragraph others
+  tree_of paragraph (Turns place control left reached body others) = only (Jump (to_turn control reached place))
+  tree_of paragraph (Cut others) = only (leaf_of paragraph others)
 
   -- a graph has these nodes
   abbrev pub Has : (Label → Tree) → List Node → Type 0
@@ -87,9 +110,9 @@ module _ (told : Told) (place_of : ℕ → ℕ) where
   Has graph (one ∷ others) = (graph one.key ≡ one.tree) × Has graph others
 
   -- a graph has the nodes of all that is left
-  abbrev pub HasRest : (Label → Tree) → End → Rest → Type 0
-  HasRest graph end Over = Unit {0}
-  HasRest graph end (From place stmts others) = Has graph (nodes told place_of stmts place (sentence_of end others) (leaf_of end others) (tree_of end (uncut others))) × HasRest graph end others
-  HasRest graph end (Sent holds others) = HasRest graph end others
-  HasRest graph end (Turns place control left reached body others) = Has graph (nodes_in told place_of (Loop control (Nested body)) place (sentence_of end others) (leaf_of end others) (tree_of end (uncut others))) × HasRest graph end others
-  HasRest graph end (Cut others) = HasRest graph end others
+  abbrev pub HasRest : (Label → Tree) → Leaving → Rest → Type 0
+  HasRest graph paragraph Over = Unit {0}
+  HasRest graph paragraph (From place stmts others) = Has graph (nodes told place_of stmts place (leaving_of paragraph others) (leaf_of paragraph others) (tree_of paragraph (uncut others))) × HasRest graph paragraph others
+  HasRest graph paragraph (Sent holds others) = HasRest graph paragraph others
+  HasRest graph paragraph (Turns place control left reached body others) = Has graph (nodes_in told place_of (Loop control (Nested body)) place (leaving_of paragraph others) (leaf_of paragraph others) (tree_of paragraph (uncut others))) × HasRest graph paragraph others
+  HasRest graph paragraph (Cut others) = HasRest graph paragraph others

@@ -7,7 +7,7 @@ use Rattle.runs.proofs.Ties.{tied-sym, tied-trans, tied-at, tied-comes, going_or
 use Rattle.control.specs.Outcome.{Event, FlowFault, Overlap, Reentry, Ending, Stopped, Faulted, Returned, Lost, Standing}
 use Rattle.control.specs.Language.{Main, Paragraph, Program}
 use Rattle.control.specs.Doing.{Acting, Doing, Celled, alone}
-use Rattle.control.specs.Items.{Item, Way, On, Halts, Into, To, item_way}
+use Rattle.control.specs.Items.{Item, Way, On, Halts, Into, To, ToEnd, item_way}
 use Rattle.control.specs.Source.{Pending, SourceState, ends_at, comes_to, goes, goes_to, falls, end_step, rest_step, step_by, source_step, source_begun, source_machine}
 use Rattle.control.specs.Graph.{Family}
 use Rattle.control.specs.Walk.{walk_machine, main_machine}
@@ -65,6 +65,7 @@ module _ {Memory Left : Type 0} (doing : Doing Memory) (left : Memory → Left) 
     goes-sober (Halts trace how memory) = tt
     goes-sober (Into entry exit items) = performs-sober entry exit items (ends_at exit state.pending)
     goes-sober (To trace memory paragraph) = sober
+    goes-sober (ToEnd trace memory paragraph) = sober
 
     rest-sober : (rest : List Item) → IsSober (rest_step doing left program rest state)
     rest-sober [] = end-sober state.pending

@@ -1,6 +1,6 @@
 -- The program that is written of procedures is structured.
 use Rattle.std.proofs.Common.{◌≡◌, ℕ, zero, suc, ◌+◌, ◌<◌, ◌≤◌, Bool, true, false, if◌then◌else◌, ◌==◌, List, [], ◌∷◌, length, Some, slice_get, map, refl, ap, sym, ◌∙◌, subst, arith, ◌⊎◌, inl, inr}
-use Rattle.control.specs.Language.{Simple, If, By, ByCell, Stmt, Do, Choose, Loop, Perform, Go, GoDepending, NextSentence, StopRun, Stmts, none, also, Arms, done, given, missing, Body, Nested, Performed, Paragraph, unless_absent, paragraph_at, Range, Main, Part, same_range}
+use Rattle.control.specs.Language.{Simple, If, By, ByCell, Stmt, Do, Choose, Loop, Perform, Go, GoDepending, NextSentence, ExitParagraph, ExitSection, ExitPerform, StopRun, Stmts, none, also, Arms, done, given, missing, Body, Nested, Performed, Paragraph, unless_absent, paragraph_at, Range, Main, Part, same_range}
 use Rattle.control.specs.Graph.{Family}
 use Rattle.control.specs.Graph as graph
 use Rattle.agreement.specs.Structured.{StmtNests, StmtsNest, ArmsNest, BodyNests, NamesLater, ParagraphsNest, EndsInStop, FirstStops, stmt_performs, stmts_perform, arms_perform, body_performs, paragraph_performs, IsStructured}
@@ -90,6 +90,9 @@ module _ (naming : Naming) (kinds : Kinds) (procedures : List Procedure) (range 
     stmt-nests (Go to) = λ h. h
     stmt-nests (GoDepending to chooser) = λ h. h
     stmt-nests NextSentence = λ h. h
+    stmt-nests ExitParagraph = λ h. h
+    stmt-nests (ExitSection last) = λ h. h
+    stmt-nests (ExitPerform cycle) = λ h. h
     stmt-nests StopRun = λ h. tt
 
     stmts-nest : (stmts : Stmts) → StmtsStand naming kinds procedures range stmts → StmtsNest Later (written_stmts naming place range stmts)
@@ -121,6 +124,9 @@ module _ (naming : Naming) (kinds : Kinds) (procedures : List Procedure) (range 
     chosen-nests cell (Go to) = λ h. absurd h
     chosen-nests cell (GoDepending to chooser) = λ h. absurd h
     chosen-nests cell NextSentence = λ h. absurd h
+    chosen-nests cell ExitParagraph = λ h. absurd h
+    chosen-nests cell (ExitSection last) = λ h. absurd h
+    chosen-nests cell (ExitPerform cycle) = λ h. absurd h
     chosen-nests cell StopRun = λ h. absurd h
 
     choosing-nests : (cell : ℕ) (body : Body) → BodyChooses naming kinds procedures range cell body → BodyNests Later (written_body naming place range body)
@@ -141,6 +147,9 @@ module _ (naming : Naming) (kinds : Kinds) (procedures : List Procedure) (range 
     stmt-performs to (Go at) = λ h. h
     stmt-performs to (GoDepending at chooser) = λ h. h
     stmt-performs to NextSentence = λ h. h
+    stmt-performs to ExitParagraph = λ h. h
+    stmt-performs to (ExitSection last) = λ h. h
+    stmt-performs to (ExitPerform cycle) = λ h. h
     stmt-performs to StopRun = λ h. h
 
     stmts-perform : (to : Range) (stmts : Stmts) → stmts_call to stmts ≡ true → stmts_perform (place to) (written_stmts naming place range stmts) ≡ true

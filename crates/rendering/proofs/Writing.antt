@@ -1,10 +1,10 @@
 -- What an item does, its written form does.
 use Rattle.std.proofs.Common.{◌≡◌, ℕ, zero, suc, ◌-◌, ◌≤◌, Bool, true, false, not, ◌==◌, List, [], ◌∷◌, ◌++◌, length, refl, ap, sym, ◌∙◌, subst, arith, ◌⊎◌, inl, inr}
 use Rattle.control.specs.Outcome.{Trace, Abend, Tried, Got, Ends}
-use Rattle.control.specs.Language.{Act, Own, Set, Take, Lower, Test, Holds, Not, Is, Above, Picker, If, By, ByCell, Control, Times, Until, Varying, Stmt, Choose, Loop, Perform, Go, GoDepending, NextSentence, StopRun, Stmts, none, also, Arms, done, given, missing, Body, Nested, Performed, Range, Main, Part}
+use Rattle.control.specs.Language.{Act, Own, Set, Take, Lower, Test, Holds, Not, Is, Above, Picker, If, By, ByCell, Control, Times, Until, Varying, Stmt, Choose, Loop, Perform, Go, GoDepending, NextSentence, ExitParagraph, ExitSection, ExitPerform, StopRun, Stmts, none, also, Arms, done, given, missing, Body, Nested, Performed, Range, Main, Part}
 use Rattle.control.specs.Language as language
 use Rattle.control.specs.Doing.{Acting, Doing, Celled, own_is, keeping, giving, arm_of, is_above, alone, alone_act, alone_test, alone_pick, celled, celled_act, celled_test, celled_pick}
-use Rattle.control.specs.Items.{Turning, Counted, Tests, Steps, StepsAfter, Item, Do, SentenceEnd, Turn, before, before_body, before_arm, Way, On, Halts, Into, To, way_after, tried, on, first_turn, varying, loop_begins, turns, tests, steps_on, turn_way, stmt_way, item_way}
+use Rattle.control.specs.Items.{Turning, Counted, Tests, Steps, StepsAfter, Item, Do, SentenceEnd, Turn, before, before_body, before_arm, Way, On, Halts, Into, To, ToEnd, way_after, tried, on, first_turn, varying, loop_begins, turns, tests, steps_on, turn_way, stmt_way, item_way}
 use Rattle.rendering.specs.Rendering.{Empty, Continues, Stays, Goes, Naming, Procedure, place_of, count_arms, standing, required, written_arm, written_act, written_test, written_picker, written_control, written_stmt, written_stmts, written_arms, written_body}
 use Rattle.rendering.specs.Procedures.{Kinds, ActFits, TestFits, PickerFits, ControlFits, StandsLater, StmtLeaves, StmtStands, StmtsStand, ArmsStand, BodyStands, StmtChooses, BodyChooses}
 use Rattle.rendering.specs.Serving.{SameArm, Alike, Serves}
@@ -150,34 +150,47 @@ module _ {Memory Other Left World : Type 0} (acting : Acting Memory) (left : Mem
     Ways (On trace memory items) (Halts other_trace how other) = ⊥
     Ways (On trace memory items) (Into entry exit rest) = ⊥
     Ways (On trace memory items) (To other_trace other to) = ⊥
+    Ways (On trace memory items) (ToEnd other_trace other to) = ⊥
     Ways (Halts trace how memory) (On other_trace other rest) = ⊥
     Ways (Halts trace how memory) (Halts other_trace other_how other) = (trace ≡ other_trace) × (how ≡ other_how) × (left memory.own ≡ other_left other)
     Ways (Halts trace how memory) (Into entry exit rest) = ⊥
     Ways (Halts trace how memory) (To other_trace other to) = ⊥
+    Ways (Halts trace how memory) (ToEnd other_trace other to) = ⊥
     Ways (Into entry exit items) (On other_trace other rest) = ⊥
     Ways (Into entry exit items) (Halts other_trace how other) = ⊥
     Ways (Into entry exit items) (Into other_entry other_exit rest) =
         (other_entry ≡ place (Part entry exit)) × (other_exit ≡ place (Part entry exit)) × StandsLater naming kinds procedures range (Part entry exit) × AllStand items × (rest ≡ written_items items tail)
     Ways (Into entry exit items) (To other_trace other to) = ⊥
+    Ways (Into entry exit items) (ToEnd other_trace other to) = ⊥
     Ways (To trace memory to) way = ⊥
+    Ways (ToEnd trace memory to) way = ⊥
 
     ways-after : (trace other_trace : Trace) (a : Way (Celled Memory)) (b : Way Other) → trace ≡ other_trace → Ways a b → Ways (way_after trace a) (way_after other_trace b)
     ways-after trace other_trace (On more memory items) (On other_more other rest) e h = (ap (λ t. t ++ more) e ∙ ap (λ t. other_trace ++ t) h.0, h.1, h.2, h.3)
     ways-after trace other_trace (On more memory items) (Halts other_more how other) e h = h
     ways-after trace other_trace (On more memory items) (Into entry exit rest) e h = h
     ways-after trace other_trace (On more memory items) (To other_more other to) e h = h
+    ways-after trace other_trace (On more memory items) (ToEnd other_more other to) e h = h
     ways-after trace other_trace (Halts more how memory) (On other_more other rest) e h = h
     ways-after trace other_trace (Halts more how memory) (Halts other_more other_how other) e h = (ap (λ t. t ++ more) e ∙ ap (λ t. other_trace ++ t) h.0, h.1, h.2)
     ways-after trace other_trace (Halts more how memory) (Into entry exit rest) e h = h
     ways-after trace other_trace (Halts more how memory) (To other_more other to) e h = h
+    ways-after trace other_trace (Halts more how memory) (ToEnd other_more other to) e h = h
     ways-after trace other_trace (Into entry exit items) (On other_more other rest) e h = h
     ways-after trace other_trace (Into entry exit items) (Halts other_more how other) e h = h
     ways-after trace other_trace (Into entry exit items) (Into other_entry other_exit rest) e h = h
     ways-after trace other_trace (Into entry exit items) (To other_more other to) e h = h
+    ways-after trace other_trace (Into entry exit items) (ToEnd other_more other to) e h = h
     ways-after trace other_trace (To more memory to) (On other_more other rest) e h = h
+    ways-after trace other_trace (ToEnd more memory to) (On other_more other rest) e h = h
     ways-after trace other_trace (To more memory to) (Halts other_more how other) e h = h
+    ways-after trace other_trace (ToEnd more memory to) (Halts other_more how other) e h = h
     ways-after trace other_trace (To more memory to) (Into entry exit rest) e h = h
+    ways-after trace other_trace (ToEnd more memory to) (Into entry exit rest) e h = h
     ways-after trace other_trace (To more memory to) (To other_more other at) e h = h
+    ways-after trace other_trace (ToEnd more memory to) (ToEnd other_more other at) e h = h
+    ways-after trace other_trace (To more memory to) (ToEnd other_more other at) e h = h
+    ways-after trace other_trace (ToEnd more memory to) (To other_more other at) e h = h
 
     ways-tried : {Value : Type 0} (Like : Value → Value → Type 0) (t : Tried (Celled Memory) Value) (u : Tried Other Value) (f : Value → Celled Memory → Way (Celled Memory)) (g : Value → Other → Way Other) → Same Like t u →
         ((v w : Value) (memory : Celled Memory) (other : Other) → Like v w → Carries memory other → Ways (f v memory) (g w other)) → Ways (tried t f) (tried u g)
@@ -409,6 +422,9 @@ module _ {Memory Other Left World : Type 0} (acting : Acting Memory) (left : Mem
     cell-ways cell arm (Go to) items chooses all memory other is carries = absurd chooses
     cell-ways cell arm (GoDepending to chooser) items chooses all memory other is carries = absurd chooses
     cell-ways cell arm NextSentence items chooses all memory other is carries = absurd chooses
+    cell-ways cell arm ExitParagraph items chooses all memory other is carries = absurd chooses
+    cell-ways cell arm (ExitSection last) items chooses all memory other is carries = absurd chooses
+    cell-ways cell arm (ExitPerform cycle) items chooses all memory other is carries = absurd chooses
     cell-ways cell arm StopRun items chooses all memory other is carries = absurd chooses
 
     begins-ways : (control : Control) (body : Body) (items : List Item) → ControlFits naming kinds procedures range control → (BodyStands naming kinds procedures range body ⊎ ((cell : ℕ) × (control ≡ Until false (Is cell 0)) × BodyChooses naming kinds procedures range cell body)) → AllStand items →
@@ -436,6 +452,9 @@ module _ {Memory Other Left World : Type 0} (acting : Acting Memory) (left : Mem
     stmt-ways (Go to) items stands all memory other carries = absurd stands
     stmt-ways (GoDepending to chooser) items stands all memory other carries = absurd stands
     stmt-ways NextSentence items stands all memory other carries = absurd stands
+    stmt-ways ExitParagraph items stands all memory other carries = absurd stands
+    stmt-ways (ExitSection last) items stands all memory other carries = absurd stands
+    stmt-ways (ExitPerform cycle) items stands all memory other carries = absurd stands
     stmt-ways StopRun items stands all memory other carries = (refl, refl, serves.leaves memory other carries)
 
     abbrev pub written_item : Item → Item
@@ -475,6 +494,9 @@ module _ {Memory Other Left World : Type 0} (acting : Acting Memory) (left : Mem
     leaving-begins cell (Go to) next items stands leaves chooses all memory other carries = absurd leaves
     leaving-begins cell (GoDepending to chooser) next items stands leaves chooses all memory other carries = absurd leaves
     leaving-begins cell NextSentence next items stands leaves chooses all memory other carries = absurd leaves
+    leaving-begins cell ExitParagraph next items stands leaves chooses all memory other carries = absurd leaves
+    leaving-begins cell (ExitSection last) next items stands leaves chooses all memory other carries = absurd leaves
+    leaving-begins cell (ExitPerform cycle) next items stands leaves chooses all memory other carries = absurd leaves
     leaving-begins cell StopRun next items stands leaves chooses all memory other carries = absurd leaves
 
     left-ways : (item : Item) (items : List Item) (memory : Celled Memory) (other : Other) → ItemStands item → LeftBy items item → Carries memory other →

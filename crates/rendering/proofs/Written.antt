@@ -9,7 +9,7 @@ use Rattle.control.specs.Outcome.{Event, Trace, How, Normally, Overlap, Reentry,
 use Rattle.control.specs.Language.{Simple, Act, Own, Stmt, StopRun, Stmts, none, also, Paragraph, Program, unless_absent, Range, Main, Part, same_range}
 use Rattle.control.specs.Language as language
 use Rattle.control.specs.Doing.{Acting, Celled, celled, alone}
-use Rattle.control.specs.Items.{Item, Do, SentenceEnd, Turn, before, items_of, Way, On, Halts, Into, To, tried, on, item_way}
+use Rattle.control.specs.Items.{Item, Do, SentenceEnd, Turn, before, items_of, Way, On, Halts, Into, To, ToEnd, tried, on, item_way}
 use Rattle.control.specs.Source.{Pending, SourceState, ends_at, rest_of, comes_to, goes, falls, source_step, source_begun}
 use Rattle.control.specs.Graph.{Tree, tree, End, Pick, Jump, Return, Stop, Dead, body_of, end_of, Family}
 use Rattle.control.specs.Walk.{Level, Walk, walk_goes, walk_end, walk_step, walk_begun}
@@ -260,6 +260,7 @@ module _ {Memory Other Left World : Type 0} (acting : Acting Memory) (left : Mem
     ways-land items rest (On shown now more) (Halts other_shown how next) h carries reached = absurd h
     ways-land items rest (On shown now more) (Into entry exit others) h carries reached = absurd h
     ways-land items rest (On shown now more) (To other_shown next to) h carries reached = absurd h
+    ways-land items rest (On shown now more) (ToEnd other_shown next to) h carries reached = absurd h
     ways-land items rest (Halts shown how now) (On other_shown next others) h carries reached = absurd h
     ways-land items rest (Halts shown how now) (Halts other_shown other_how next) h carries reached = (
       0,
@@ -271,6 +272,7 @@ module _ {Memory Other Left World : Type 0} (acting : Acting Memory) (left : Mem
     )
     ways-land items rest (Halts shown how now) (Into entry exit others) h carries reached = absurd h
     ways-land items rest (Halts shown how now) (To other_shown next to) h carries reached = absurd h
+    ways-land items rest (Halts shown how now) (ToEnd other_shown next to) h carries reached = absurd h
     ways-land items rest (Into entry exit more) (On other_shown next others) h carries reached = absurd h
     ways-land items rest (Into entry exit more) (Halts other_shown how next) h carries reached = absurd h
     ways-land items rest (Into entry exit more) (Into other_entry other_exit others) h carries reached =
@@ -288,7 +290,9 @@ module _ {Memory Other Left World : Type 0} (acting : Acting Memory) (left : Mem
         subst (Lands 2 inside) (come ∙ same)
         (let l = eased-lands to (before (body_of node) []) (end_of node) waiting memory trace other (rest_of written (place to)) carries (inl enters.1) enters.2 (h.2.0, h.3, last, stack) reached enters.0 in (l.0, omega (arith, l.1), l.2))
     ways-land items rest (Into entry exit more) (To other_shown next to) h carries reached = absurd h
+    ways-land items rest (Into entry exit more) (ToEnd other_shown next to) h carries reached = absurd h
     ways-land items rest (To shown now to) way h carries reached = absurd h
+    ways-land items rest (ToEnd shown now to) way h carries reached = absurd h
 
   module _ (sound : (world : World) (n : ℕ) → EndsFairly (meaning walks_from world n).standing) where
     -- no walk from the start comes to be lost, or to return

@@ -1,6 +1,6 @@
 -- When the procedures of a shaped family can be written.
 use Rattle.std.specs.Prelude.{ℕ, ◌≡◌, ◌<◌, ◌≤◌, Bool, true, false, if◌then◌else◌, List, [], ◌∷◌, length, Some, slice_get, ◌⊎◌}
-use Rattle.control.specs.Language.{Simple, Cond, Chooser, Amount, Act, Own, Set, Take, Lower, Test, Holds, Not, Is, Above, Picker, If, By, ByCell, Control, Times, Until, Varying, Stmt, Do, Choose, Loop, Perform, Go, GoDepending, NextSentence, StopRun, Stmts, none, also, Arms, done, given, missing, Body, Nested, Performed, Range, Main, Part, same_range}
+use Rattle.control.specs.Language.{Simple, Cond, Chooser, Amount, Act, Own, Set, Take, Lower, Test, Holds, Not, Is, Above, Picker, If, By, ByCell, Control, Times, Until, Varying, Stmt, Do, Choose, Loop, Perform, Go, GoDepending, NextSentence, ExitParagraph, ExitSection, ExitPerform, StopRun, Stmts, none, also, Arms, done, given, missing, Body, Nested, Performed, Range, Main, Part, same_range}
 use Rattle.control.specs.Graph.{tree, End, Pick, Jump, Return, Stop, Dead, Family}
 use Rattle.rendering.specs.Rendering.{Naming, Procedure, place_of, count_arms, standing}
 
@@ -59,6 +59,9 @@ module _ (naming : Naming) (kinds : Kinds) (procedures : List Procedure) (range 
   StmtLeaves cell (Go to) = ⊥
   StmtLeaves cell (GoDepending to chooser) = ⊥
   StmtLeaves cell NextSentence = ⊥
+  StmtLeaves cell ExitParagraph = ⊥
+  StmtLeaves cell (ExitSection last) = ⊥
+  StmtLeaves cell (ExitPerform cycle) = ⊥
   StmtLeaves cell StopRun = ⊥
 
   abbrev mutual
@@ -71,6 +74,9 @@ module _ (naming : Naming) (kinds : Kinds) (procedures : List Procedure) (range 
     StmtStands (Go to) = ⊥
     StmtStands (GoDepending to chooser) = ⊥
     StmtStands NextSentence = ⊥
+    StmtStands ExitParagraph = ⊥
+    StmtStands (ExitSection last) = ⊥
+    StmtStands (ExitPerform cycle) = ⊥
     StmtStands StopRun = Unit {0}
 
     pub StmtsStand : Stmts → Type 0
@@ -102,6 +108,9 @@ module _ (naming : Naming) (kinds : Kinds) (procedures : List Procedure) (range 
     StmtChooses cell (Go to) = ⊥
     StmtChooses cell (GoDepending to chooser) = ⊥
     StmtChooses cell NextSentence = ⊥
+    StmtChooses cell ExitParagraph = ⊥
+    StmtChooses cell (ExitSection last) = ⊥
+    StmtChooses cell (ExitPerform cycle) = ⊥
     StmtChooses cell StopRun = ⊥
 
     pub BodyChooses : ℕ → Body → Type 0
@@ -120,6 +129,9 @@ abbrev mutual
   stmt_calls range (Go to) = false
   stmt_calls range (GoDepending to chooser) = false
   stmt_calls range NextSentence = false
+  stmt_calls range ExitParagraph = false
+  stmt_calls range (ExitSection last) = false
+  stmt_calls range (ExitPerform cycle) = false
   stmt_calls range StopRun = false
 
   pub stmts_call : Range → Stmts → Bool

@@ -2,10 +2,10 @@
 use Rattle.std.proofs.Common.{◌≡◌, ℕ, zero, suc, ◌+◌, ◌-◌, Bool, true, false, not, if◌then◌else◌, ◌==◌, List, [], ◌∷◌, refl, ap, sym, ◌∙◌, subst, inl, inr}
 use Rattle.std.proofs.lemmas.Bool.Decides.{eqb_tells}
 use Rattle.control.specs.Outcome.{Trace, Tried, Got, Ends}
-use Rattle.control.specs.Language.{Act, Own, Set, Take, Lower, Test, Holds, Not, Is, Above, Picker, If, By, ByCell, Control, Times, Until, Varying, Stmt, Choose, Loop, Perform, Go, GoDepending, NextSentence, StopRun, Body, Range, same_range}
+use Rattle.control.specs.Language.{Act, Own, Set, Take, Lower, Test, Holds, Not, Is, Above, Picker, If, By, ByCell, Control, Times, Until, Varying, Stmt, Choose, Loop, Perform, Go, GoDepending, NextSentence, ExitParagraph, ExitSection, ExitPerform, StopRun, Body, Range, same_range}
 use Rattle.control.specs.Language as language
 use Rattle.control.specs.Doing.{Acting, Doing, Celled, celled, celled_act, celled_test, celled_pick, own_is, put, taken, giving, keeping, arm_of, is_above}
-use Rattle.control.specs.Items.{Turning, Counted, Tests, Steps, StepsAfter, Item, Do, SentenceEnd, Turn, before_body, before_arm, Way, On, Halts, Into, To, way_after, tried, on, first_turn, varying, loop_begins, turns, tests, steps_on, turn_way, stmt_way, item_way}
+use Rattle.control.specs.Items.{Turning, Counted, Tests, Steps, StepsAfter, Item, Do, SentenceEnd, Turn, before_body, before_arm, Way, On, Halts, Into, To, ToEnd, way_after, tried, on, first_turn, varying, loop_begins, turns, tests, steps_on, turn_way, stmt_way, item_way}
 use Rattle.graph_rules.specs.Fits.{ActFits, TestFits, PickerFits, ControlFits, StmtFits, TurningFits, ItemFits}
 use Rattle.graph_rules.specs.Costs.{tried_cost, round_cost, first_cost, turn_cost, loop_cost, stmt_cost, item_cost}
 use Rattle.closing.specs.Gathers.{OnCell, says}
@@ -32,12 +32,14 @@ module _ {Memory : Type 0} (acting : Acting Memory) (range : Range) (cell : ℕ)
   AgreeWay number (Halts trace how m) other = (n : Celled Memory) × (other ≡ Halts trace how n) × Agree number m n
   AgreeWay number (Into entry exit items) other = other ≡ Into entry exit items
   AgreeWay number (To trace m paragraph) other = (n : Celled Memory) × (other ≡ To trace n paragraph) × Agree number m n
+  AgreeWay number (ToEnd trace m paragraph) other = (n : Celled Memory) × (other ≡ ToEnd trace n paragraph) × Agree number m n
 
   agree-after : (number : ℕ) (shown : Trace) (way other : Way (Celled Memory)) → AgreeWay number way other → AgreeWay number (way_after shown way) (way_after shown other)
   agree-after number shown (On trace m items) other a = (a.0, ap (way_after shown) a.1, a.2)
   agree-after number shown (Halts trace how m) other a = (a.0, ap (way_after shown) a.1, a.2)
   agree-after number shown (Into entry exit items) other a = ap (way_after shown) a
   agree-after number shown (To trace m paragraph) other a = (a.0, ap (way_after shown) a.1, a.2)
+  agree-after number shown (ToEnd trace m paragraph) other a = (a.0, ap (way_after shown) a.1, a.2)
 
   agree-tried : {Value : Type 0} (number : ℕ) (x y : Tried (Celled Memory) Value) (one two : Value → Celled Memory → Way (Celled Memory)) → AgreeTried number x y → ((v : Value) (m n : Celled Memory) → Agree number m n → AgreeWay number (one v m) (two v n)) → AgreeWay number (tried x one) (tried y two)
   agree-tried number (Got trace v m) y one two a h =
@@ -184,6 +186,9 @@ module _ {Memory : Type 0} (acting : Acting Memory) (range : Range) (cell : ℕ)
     stmt-agrees number (Go to) rest s t fits a = absurd fits
     stmt-agrees number (GoDepending to chooser) rest s t fits a = absurd fits
     stmt-agrees number NextSentence rest s t fits a = absurd fits
+    stmt-agrees number ExitParagraph rest s t fits a = absurd fits
+    stmt-agrees number (ExitSection last) rest s t fits a = absurd fits
+    stmt-agrees number (ExitPerform cycle) rest s t fits a = absurd fits
     stmt-agrees number StopRun rest s t fits a = (t, refl, a)
 
     -- an item that doesn't name the cell comes to the same from both
@@ -218,6 +223,9 @@ module _ {Memory : Type 0} (acting : Acting Memory) (range : Range) (cell : ℕ)
     stmt-costs number (Go to) rest s t fits a = refl
     stmt-costs number (GoDepending to chooser) rest s t fits a = refl
     stmt-costs number NextSentence rest s t fits a = refl
+    stmt-costs number ExitParagraph rest s t fits a = refl
+    stmt-costs number (ExitSection last) rest s t fits a = refl
+    stmt-costs number (ExitPerform cycle) rest s t fits a = refl
     stmt-costs number StopRun rest s t fits a = refl
 
     -- and costs the same

@@ -6,7 +6,7 @@ use Rattle.runs.proofs.Machines.{iterate-add}
 use Rattle.control.specs.Outcome.{Trace, Normally, Abend, Stopped, Returned, Lost, Standing, Tried, Got, Ends}
 use Rattle.control.specs.Language.{Test, Picker, ByCell, Until, Choose, Loop, StopRun, Stmts, none, Arms, Nested, Range, Part, same_range}
 use Rattle.control.specs.Doing.{Acting, Celled, celled, celled_test, put}
-use Rattle.control.specs.Items.{Tests, Item, Do, Turn, before, before_arm, Way, On, Halts, Into, To, tried, on, turns, item_way}
+use Rattle.control.specs.Items.{Tests, Item, Do, Turn, before, before_arm, Way, On, Halts, Into, To, ToEnd, tried, on, turns, item_way}
 use Rattle.control.specs.Graph.{Label, Tree, tree, End, Pick, Jump, Return, Stop, Dead, Trees, no_more, more, body_of, end_of, Family}
 use Rattle.control.specs.Walk.{Level, Walk, tree_at, level_at, walk_goes, picked, picks, walk_step}
 use Rattle.graph_rules.specs.Fits.{TreeFits, EndFits, TreesFit, ItemsFit, WayFits}
@@ -378,6 +378,7 @@ module _ {Memory Left : Type 0} (acting : Acting Memory) (left : Memory → Left
           dear = (let p = e.dear in let q = root-owes part (g.node part (g.entry part)) in let b = back-most part in let z = ap frees i.0 in let y = i.1 in omega (arith, p, q, b, z, y));
         })
     way-lands (To shown m paragraph) other a w f i = absurd w
+    way-lands (ToEnd shown m paragraph) other a w f i = absurd w
 
     same-cost : item_cost (celled acting r) item (rest ++ after) t ≡ units
     same-cost =

@@ -6,7 +6,7 @@ use Rattle.control.specs.Outcome.{Trace, How, Normally, Abend, Ending, Stopped, 
 use Rattle.control.specs.Outcome as outcome
 use Rattle.control.specs.Language.{Range, Part, same_range}
 use Rattle.control.specs.Doing.{Acting, Celled, celled}
-use Rattle.control.specs.Items.{Item, before, Way, On, Halts, Into, To, item_way}
+use Rattle.control.specs.Items.{Item, before, Way, On, Halts, Into, To, ToEnd, item_way}
 use Rattle.control.specs.Graph.{Label, Tree, tree, End, Pick, Jump, Return, Stop, Dead, Trees, no_more, more, body_of, end_of, Family}
 use Rattle.control.specs.Walk.{Level, Walk, tree_at, level_at, level_of, walk_goes, picked, picks, walk_step, walk_machine}
 use Rattle.graph_rules.specs.Fits.{TreeFits, EndFits, TreesFit, ItemsFit, WayFits}
@@ -208,6 +208,7 @@ module _ {Memory Left : Type 0} (acting : Acting Memory) (left : Memory → Left
           omega (arith, a, b, d, k, e),
         )
     way-inlines r item rest tail end now memory trace inside fits end_fits j cost_is e (To shown m paragraph) w f i = absurd w
+    way-inlines r item rest tail end now memory trace inside fits end_fits j cost_is e (ToEnd shown m paragraph) w f i = absurd w
 
     item-inlines : (r : Range) (item : Item) (rest tail : List Item) (end now : End) (memory : Celled Memory) (trace : Trace) → In r order → Fit r (item ∷ rest) → EndFit r end → InlinesEnd (here r) node end tail now → Calm (celled acting r) tail →
         Steps (at (lev r (item ∷ (rest ++ tail)) now) news memory trace Going) (at (lev r (item ∷ rest) end) olds memory trace Going) (item_cost (celled acting r) item rest memory)

@@ -5,7 +5,7 @@ use Rattle.runs.specs.Machine.{iterate}
 use Rattle.control.specs.Outcome.{Trace, Normally, Stopped, Lost, Standing, Tried, Got, Ends}
 use Rattle.control.specs.Language.{Choose, StopRun, none, Arms, given, missing, Range, Part}
 use Rattle.control.specs.Doing.{Acting, Celled, celled}
-use Rattle.control.specs.Items.{Item, Do, before, before_arm, Way, On, Halts, Into, To, tried, on, item_way}
+use Rattle.control.specs.Items.{Item, Do, before, before_arm, Way, On, Halts, Into, To, ToEnd, tried, on, item_way}
 use Rattle.control.specs.Graph.{Label, Tree, tree, End, Pick, Jump, Return, Stop, Dead, Trees, no_more, more, body_of, end_of, Family}
 use Rattle.control.specs.Walk.{Level, Walk, tree_at, level_at, level_of, walk_goes, picked, picks, walk_end, walk_step, walk_begun}
 use Rattle.graph_rules.specs.Fits.{TreeFits, EndFits, TreesFit, ItemsFit, WayFits}
@@ -91,6 +91,7 @@ module _ {Memory Left : Type 0} (acting : Acting Memory) (left : Memory → Left
     way-joins r items0 tail end now memory trace here fits end_fits j (Into entry exit items) w =
         record { level = entry-level (Part entry exit) w.0; callers = (record { range = refl; here = here; fits = w.1; end_fits = end_fits; tail = tail; items = refl; stands = j }, c); memory = refl; run = refl }
     way-joins r items0 tail end now memory trace here fits end_fits j (To shown m paragraph) w = absurd w
+    way-joins r items0 tail end now memory trace here fits end_fits j (ToEnd shown m paragraph) w = absurd w
 
     item-joins : (r : Range) (item : Item) (items tail : List Item) (end now : End) (memory : Celled Memory) (trace : Trace) → In r order → Fit r (item ∷ items) → EndFit r end → JoinsEnd end tail now →
         Related (walk_step acting left g (at (lev r (item ∷ items) end) olds memory trace Going)) (walk_step acting left h (at (lev r (item ∷ (items ++ tail)) now) news memory trace Going))

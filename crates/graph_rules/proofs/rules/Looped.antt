@@ -8,7 +8,7 @@ use Rattle.control.specs.Outcome as outcome
 use Rattle.control.specs.Language.{Set, Test, Is, Until, Loop, Choose, StopRun, Stmts, none, also, Arms, done, given, missing, Nested, Range, Main, Part, same_range}
 use Rattle.control.specs.Language as language
 use Rattle.control.specs.Doing.{Acting, Celled, put, celled}
-use Rattle.control.specs.Items.{Tests, Item, Do, Turn, before, before_arm, Way, On, Halts, Into, To, tried, on, turns, item_way}
+use Rattle.control.specs.Items.{Tests, Item, Do, Turn, before, before_arm, Way, On, Halts, Into, To, ToEnd, tried, on, turns, item_way}
 use Rattle.control.specs.Graph.{Label, Tree, tree, End, Pick, Jump, Return, Stop, Dead, Trees, no_more, more, body_of, end_of, Family}
 use Rattle.control.specs.Walk.{Level, Walk, tree_at, level_at, level_of, walk_goes, picked, picks, returns, walk_step, walk_begun}
 use Rattle.graph_rules.specs.Fits.{PickerFits, TreeFits, EndFits, TreesFit, ItemsFit, WayFits}
@@ -184,6 +184,7 @@ module _ {Memory Left : Type 0} (acting : Acting Memory) (left : Memory → Left
       way-both item rest s t trace fits agree z cost_is e (On shown m items) w f i (Halts u how n) k = absurd k
       way-both item rest s t trace fits agree z cost_is e (On shown m items) w f i (Into entry exit o) k = absurd k
       way-both item rest s t trace fits agree z cost_is e (On shown m items) w f i (To u n p) k = absurd k
+      way-both item rest s t trace fits agree z cost_is e (On shown m items) w f i (ToEnd u n p) k = absurd k
       way-both item rest s t trace fits agree z cost_is e (Halts shown how m) w f i (On u n o) k = absurd k
       way-both item rest s t trace fits agree z cost_is e (Halts shown how m) w f i (Halts u kind n) k =
           let a = owes_is (item ∷ rest) in (
@@ -202,6 +203,7 @@ module _ {Memory Left : Type 0} (acting : Acting Memory) (left : Memory → Left
           )
       way-both item rest s t trace fits agree z cost_is e (Halts shown how m) w f i (Into entry exit o) k = absurd k
       way-both item rest s t trace fits agree z cost_is e (Halts shown how m) w f i (To u n p) k = absurd k
+      way-both item rest s t trace fits agree z cost_is e (Halts shown how m) w f i (ToEnd u n p) k = absurd k
       way-both item rest s t trace fits agree z cost_is e (Into entry exit items) w f i (On u n o) k = absurd k
       way-both item rest s t trace fits agree z cost_is e (Into entry exit items) w f i (Halts u how n) k = absurd k
       way-both item rest s t trace fits agree z cost_is e (Into entry exit items) w f i (Into first last o) k =
@@ -229,7 +231,9 @@ module _ {Memory Left : Type 0} (acting : Acting Memory) (left : Memory → Left
             omega (arith, a, q, d, y, x, e),
           )))
       way-both item rest s t trace fits agree z cost_is e (Into entry exit items) w f i (To u n p) k = absurd k
+      way-both item rest s t trace fits agree z cost_is e (Into entry exit items) w f i (ToEnd u n p) k = absurd k
       way-both item rest s t trace fits agree z cost_is e (To shown m p) w f i other k = absurd w
+      way-both item rest s t trace fits agree z cost_is e (ToEnd shown m p) w f i other k = absurd w
 
       item-goes : (item : Item) (rest : List Item) (s t : Celled Memory) (trace : Trace) → Fit r (item ∷ rest) → Agree s t → Zero (if wi then true else within) t → Calm (celled acting r) more_items →
           Goes (at (lev r (item ∷ rest) end) olds s trace Going) (at (lev r (item ∷ (rest ++ more_items)) now) news t trace Going) ((4 * frees (item ∷ rest) + wo) + others)

@@ -7,7 +7,7 @@ use Rattle.control.specs.Outcome.{Trace, How, Normally, Abend, Ending, Stopped, 
 use Rattle.control.specs.Outcome as outcome
 use Rattle.control.specs.Language.{Test, If, Until, Loop, Stmts, none, Nested, Range, Part}
 use Rattle.control.specs.Doing.{Acting, Doing, giving, arm_of, Celled, celled}
-use Rattle.control.specs.Items.{Tests, Item, Do, Turn, before, Way, On, Halts, Into, To, tried, on, first_turn, turns, item_way}
+use Rattle.control.specs.Items.{Tests, Item, Do, Turn, before, Way, On, Halts, Into, To, ToEnd, tried, on, first_turn, turns, item_way}
 use Rattle.control.specs.Graph.{Label, Tree, tree, End, Pick, Jump, Return, Stop, Dead, Trees, no_more, more, body_of, end_of, Family}
 use Rattle.control.specs.Walk.{Level, Walk, tree_at, level_at, level_of, walk_goes, picked, picks, walk_step, walk_machine}
 use Rattle.graph_rules.specs.Fits.{TreeFits, EndFits, TreesFit, ItemsFit, WayFits}
@@ -229,6 +229,7 @@ module _ {Memory Left : Type 0} (acting : Acting Memory) (left : Memory → Left
             omega (arith, b, y),
           )
       way-both item rest memory trace fits (To shown m paragraph) w f i = absurd w
+      way-both item rest memory trace fits (ToEnd shown m paragraph) w f i = absurd w
 
       item-goes : (item : Item) (rest : List Item) (memory : Celled Memory) (trace : Trace) → Fit r (item ∷ rest) → Calm (celled acting r) more →
           Goes (at (lev r (item ∷ rest) end) olds memory trace Going) (at (lev r (item ∷ (rest ++ more)) now) news memory trace Going) ((2 * frees (item ∷ rest) + wo) + others) (wd + dues)

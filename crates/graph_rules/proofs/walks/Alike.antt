@@ -1,10 +1,10 @@
 -- What an item does to two memories that are alike.
 use Rattle.std.proofs.Common.{◌≡◌, ℕ, zero, suc, ◌+◌, ◌-◌, Bool, true, false, not, ◌==◌, List, ◌∷◌, ◌++◌, refl, ap, ◌∙◌, subst}
 use Rattle.control.specs.Outcome.{Trace, Abend, Tried, Got, Ends}
-use Rattle.control.specs.Language.{Simple, Cond, Chooser, Amount, Act, Own, Set, Take, Lower, Test, Holds, Not, Is, Above, Picker, If, By, ByCell, Control, Times, Until, Varying, Stmt, Choose, Loop, Perform, Go, GoDepending, NextSentence, StopRun, Stmts, Body, Range, Part}
+use Rattle.control.specs.Language.{Simple, Cond, Chooser, Amount, Act, Own, Set, Take, Lower, Test, Holds, Not, Is, Above, Picker, If, By, ByCell, Control, Times, Until, Varying, Stmt, Choose, Loop, Perform, Go, GoDepending, NextSentence, ExitParagraph, ExitSection, ExitPerform, StopRun, Stmts, Body, Range, Part}
 use Rattle.control.specs.Language as language
 use Rattle.control.specs.Doing.{Acting, Doing, giving, keeping, arm_of, Celled, own_is, put, taken, is_above, celled_test, celled}
-use Rattle.control.specs.Items.{Turning, Counted, Tests, Steps, StepsAfter, Item, Do, SentenceEnd, Turn, before_body, before_arm, Way, On, Halts, Into, To, way_after, tried, on, first_turn, varying, loop_begins, turns, tests, steps_on, turn_way, stmt_way, item_way}
+use Rattle.control.specs.Items.{Turning, Counted, Tests, Steps, StepsAfter, Item, Do, SentenceEnd, Turn, before_body, before_arm, Way, On, Halts, Into, To, ToEnd, way_after, tried, on, first_turn, varying, loop_begins, turns, tests, steps_on, turn_way, stmt_way, item_way}
 use Rattle.graph_rules.specs.Costs.{tried_cost, round_cost, first_cost, turn_cost, loop_cost, item_cost}
 use Rattle.graph_rules.specs.Fits.{ActFits, TestFits, PickerFits, ControlFits, TurningFits, StmtFits, ItemFits}
 
@@ -21,36 +21,54 @@ module _ {Memory : Type 0} (M : Celled Memory → Celled Memory → Type 0) wher
   WayAlike (On shown m items) (Halts other how n) = ⊥
   WayAlike (On shown m items) (Into entry exit others) = ⊥
   WayAlike (On shown m items) (To other n paragraph) = ⊥
+  WayAlike (On shown m items) (ToEnd other n paragraph) = ⊥
   WayAlike (Halts shown how m) (On other n others) = ⊥
   WayAlike (Halts shown how m) (Halts other kind n) = (shown ≡ other) × (how ≡ kind) × M m n
   WayAlike (Halts shown how m) (Into entry exit others) = ⊥
   WayAlike (Halts shown how m) (To other n paragraph) = ⊥
+  WayAlike (Halts shown how m) (ToEnd other n paragraph) = ⊥
   WayAlike (Into entry exit items) (On other n others) = ⊥
   WayAlike (Into entry exit items) (Halts other how n) = ⊥
   WayAlike (Into entry exit items) (Into first last others) = (entry ≡ first) × (exit ≡ last) × (items ≡ others)
   WayAlike (Into entry exit items) (To other n paragraph) = ⊥
+  WayAlike (Into entry exit items) (ToEnd other n paragraph) = ⊥
   WayAlike (To shown m paragraph) (On other n others) = ⊥
+  WayAlike (ToEnd shown m paragraph) (On other n others) = ⊥
   WayAlike (To shown m paragraph) (Halts other how n) = ⊥
+  WayAlike (ToEnd shown m paragraph) (Halts other how n) = ⊥
   WayAlike (To shown m paragraph) (Into entry exit others) = ⊥
+  WayAlike (ToEnd shown m paragraph) (Into entry exit others) = ⊥
   WayAlike (To shown m paragraph) (To other n q) = ⊥
+  WayAlike (ToEnd shown m paragraph) (ToEnd other n q) = ⊥
+  WayAlike (To shown m paragraph) (ToEnd other n q) = ⊥
+  WayAlike (ToEnd shown m paragraph) (To other n q) = ⊥
 
   after-alike : (shown other : Trace) (one two : Way (Celled Memory)) → shown ≡ other → WayAlike one two → WayAlike (way_after shown one) (way_after other two)
   after-alike shown other (On t m items) (On u n others) e h = (ap (λ x. x ++ t) e ∙ ap (λ x. other ++ x) h.0, h.1, h.2)
   after-alike shown other (On t m items) (Halts u how n) e h = absurd h
   after-alike shown other (On t m items) (Into entry exit others) e h = absurd h
   after-alike shown other (On t m items) (To u n paragraph) e h = absurd h
+  after-alike shown other (On t m items) (ToEnd u n paragraph) e h = absurd h
   after-alike shown other (Halts t how m) (On u n others) e h = absurd h
   after-alike shown other (Halts t how m) (Halts u kind n) e h = (ap (λ x. x ++ t) e ∙ ap (λ x. other ++ x) h.0, h.1, h.2)
   after-alike shown other (Halts t how m) (Into entry exit others) e h = absurd h
   after-alike shown other (Halts t how m) (To u n paragraph) e h = absurd h
+  after-alike shown other (Halts t how m) (ToEnd u n paragraph) e h = absurd h
   after-alike shown other (Into entry exit items) (On u n others) e h = absurd h
   after-alike shown other (Into entry exit items) (Halts u how n) e h = absurd h
   after-alike shown other (Into entry exit items) (Into first last others) e h = h
   after-alike shown other (Into entry exit items) (To u n paragraph) e h = absurd h
+  after-alike shown other (Into entry exit items) (ToEnd u n paragraph) e h = absurd h
   after-alike shown other (To t m paragraph) (On u n others) e h = absurd h
+  after-alike shown other (ToEnd t m paragraph) (On u n others) e h = absurd h
   after-alike shown other (To t m paragraph) (Halts u how n) e h = absurd h
+  after-alike shown other (ToEnd t m paragraph) (Halts u how n) e h = absurd h
   after-alike shown other (To t m paragraph) (Into entry exit others) e h = absurd h
+  after-alike shown other (ToEnd t m paragraph) (Into entry exit others) e h = absurd h
   after-alike shown other (To t m paragraph) (To u n q) e h = absurd h
+  after-alike shown other (ToEnd t m paragraph) (ToEnd u n q) e h = absurd h
+  after-alike shown other (To t m paragraph) (ToEnd u n q) e h = absurd h
+  after-alike shown other (ToEnd t m paragraph) (To u n q) e h = absurd h
 
   tried-alike : {Value : Type 0} (one two : Tried (Celled Memory) Value) (goes : Value → Celled Memory → Way (Celled Memory)) (comes : Value → Celled Memory → Way (Celled Memory)) → TriedAlike one two → ((v : Value) (m n : Celled Memory) → M m n → WayAlike (goes v m) (comes v n)) → WayAlike (tried one goes) (tried two comes)
   tried-alike (Got shown v m) (Got other w n) goes comes h k = after-alike shown other (goes v m) (comes w n) h.0 (subst (λ x. WayAlike (goes v m) (comes x n)) h.1 (k v m n h.2))
@@ -151,6 +169,9 @@ module _ {Memory : Type 0} (M : Celled Memory → Celled Memory → Type 0) wher
     stmt-alike (Go to) rest s t fits m = absurd fits
     stmt-alike (GoDepending to chooser) rest s t fits m = absurd fits
     stmt-alike NextSentence rest s t fits m = absurd fits
+    stmt-alike ExitParagraph rest s t fits m = absurd fits
+    stmt-alike (ExitSection last) rest s t fits m = absurd fits
+    stmt-alike (ExitPerform cycle) rest s t fits m = absurd fits
     stmt-alike StopRun rest s t fits m = (refl, refl, m)
 
     pub item-alike : (item : Item) (rest : List Item) (s t : Celled Memory) → ItemFits Calls Reads Writes item → M s t → WayAlike (item_way doing item rest s) (item_way doing item rest t)
@@ -183,6 +204,9 @@ module _ {Memory : Type 0} (M : Celled Memory → Celled Memory → Type 0) wher
     item-cost-alike (Do (Go to)) rest s t fits m = absurd fits
     item-cost-alike (Do (GoDepending to chooser)) rest s t fits m = absurd fits
     item-cost-alike (Do NextSentence) rest s t fits m = absurd fits
+    item-cost-alike (Do ExitParagraph) rest s t fits m = absurd fits
+    item-cost-alike (Do (ExitSection last)) rest s t fits m = absurd fits
+    item-cost-alike (Do (ExitPerform cycle)) rest s t fits m = absurd fits
     item-cost-alike (Do StopRun) rest s t fits m = refl
     item-cost-alike SentenceEnd rest s t fits m = absurd fits
     item-cost-alike (Turn turning body) rest s t fits m = turn-cost-alike turning s t fits.0 m

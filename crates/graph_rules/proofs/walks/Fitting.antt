@@ -1,6 +1,6 @@
 -- What fits fits more.
 use Rattle.std.proofs.Common.{ℕ}
-use Rattle.control.specs.Language.{Act, Own, Set, Take, Lower, Test, Holds, Not, Is, Above, Picker, If, By, ByCell, Control, Times, Until, Varying, Stmt, Choose, Loop, Perform, Go, GoDepending, NextSentence, StopRun, Stmts, none, also, Arms, done, given, missing, Body, Nested, Performed, Range, Part}
+use Rattle.control.specs.Language.{Act, Own, Set, Take, Lower, Test, Holds, Not, Is, Above, Picker, If, By, ByCell, Control, Times, Until, Varying, Stmt, Choose, Loop, Perform, Go, GoDepending, NextSentence, ExitParagraph, ExitSection, ExitPerform, StopRun, Stmts, none, also, Arms, done, given, missing, Body, Nested, Performed, Range, Part}
 use Rattle.control.specs.Language as language
 use Rattle.control.specs.Graph.{Tree, tree, End, Pick, Jump, Return, Stop, Dead, Trees, no_more, more}
 use Rattle.graph_rules.specs.Fits.{ActFits, TestFits, PickerFits, ControlFits, StmtFits, StmtsFit, ArmsFit, BodyFits, TreeFits, EndFits, TreesFit}
@@ -37,6 +37,9 @@ module _ (P Q : Range → Type 0) (R R2 S S2 : ℕ → Type 0) (f : (r : Range) 
     stmt-more (Go to) = λ k. k
     stmt-more (GoDepending to chooser) = λ k. k
     stmt-more NextSentence = λ k. k
+    stmt-more ExitParagraph = λ k. k
+    stmt-more (ExitSection last) = λ k. k
+    stmt-more (ExitPerform cycle) = λ k. k
     stmt-more StopRun = λ k. k
 
     pub stmts-more : (stmts : Stmts) → StmtsFit P R S stmts → StmtsFit Q R2 S2 stmts

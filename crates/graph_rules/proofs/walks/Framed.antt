@@ -2,7 +2,7 @@
 use Rattle.std.proofs.Common.{◌≡◌, ℕ, zero, suc, ◌+◌, ◌*◌, Bool, true, false, if◌then◌else◌, ◌==◌, List, [], ◌∷◌, ◌++◌, refl, ap, sym, ◌∙◌, subst}
 use Rattle.runs.specs.Run.{Over, Covers}
 use Rattle.control.specs.Outcome.{Trace, How, Normally, Abend, Stopped, Returned, Tried, Got, Ends}
-use Rattle.control.specs.Language.{Act, Test, Control, Times, Until, Varying, Stmt, Choose, Loop, Perform, Go, GoDepending, NextSentence, StopRun, Stmts, none, also, Arms, done, given, missing, Body, Nested, Performed, Range, Part, same_range}
+use Rattle.control.specs.Language.{Act, Test, Control, Times, Until, Varying, Stmt, Choose, Loop, Perform, Go, GoDepending, NextSentence, ExitParagraph, ExitSection, ExitPerform, StopRun, Stmts, none, also, Arms, done, given, missing, Body, Nested, Performed, Range, Part, same_range}
 use Rattle.control.specs.Language as language
 use Rattle.control.specs.Doing.{Acting, Doing, Celled, own_is, put, celled}
 use Rattle.control.specs.Items.{Turning, Counted, Tests, Steps, StepsAfter}
@@ -168,6 +168,9 @@ module _ {Memory Left : Type 0} (acting : Acting Memory) (left : Memory → Left
       stmt-alike (Go to) = λ fits. absurd fits
       stmt-alike (GoDepending to chooser) = λ fits. absurd fits
       stmt-alike NextSentence = λ fits. absurd fits
+      stmt-alike ExitParagraph = λ fits. absurd fits
+      stmt-alike (ExitSection last) = λ fits. absurd fits
+      stmt-alike (ExitPerform cycle) = λ fits. absurd fits
       stmt-alike StopRun = λ fits. unit-alike (structural.stops doing whole Normally) (stops-alike Normally)
 
       stmts-alike : (stmts : Stmts) → StmtsFit Calls (Has r) Writes stmts → Alike (stmts_walk acting left r perform stmts)

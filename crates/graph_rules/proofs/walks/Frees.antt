@@ -1,10 +1,10 @@
 -- The PERFORMs that take no unit, since they are the bodies of loops: each was paid by its turn.
 use Rattle.std.proofs.Common.{◌≡◌, ℕ, zero, suc, ◌+◌, ◌≤◌, Bool, true, false, List, [], ◌∷◌, Option, Some, None, slice_get, refl, arith}
 use Rattle.control.specs.Outcome.{Trace, Tried, Got, Ends}
-use Rattle.control.specs.Language.{Act, Test, By, Control, Times, Until, Varying, Stmt, Choose, Loop, Perform, Go, GoDepending, NextSentence, StopRun, Stmts, none, also, Arms, done, given, missing, Body, Nested, Performed, Range, Part}
+use Rattle.control.specs.Language.{Act, Test, By, Control, Times, Until, Varying, Stmt, Choose, Loop, Perform, Go, GoDepending, NextSentence, ExitParagraph, ExitSection, ExitPerform, StopRun, Stmts, none, also, Arms, done, given, missing, Body, Nested, Performed, Range, Part}
 use Rattle.control.specs.Language as language
 use Rattle.control.specs.Doing.{Doing}
-use Rattle.control.specs.Items.{Turning, Counted, Tests, Steps, StepsAfter, Item, Do, SentenceEnd, Turn, before, before_body, before_arm, Way, On, Halts, Into, To, way_after, tried, on, first_turn, varying, loop_begins, turns, tests, steps_on, turn_way, to_one, stmt_way, item_way}
+use Rattle.control.specs.Items.{Turning, Counted, Tests, Steps, StepsAfter, Item, Do, SentenceEnd, Turn, before, before_body, before_arm, Way, On, Halts, Into, To, ToEnd, way_after, tried, on, first_turn, varying, loop_begins, turns, tests, steps_on, turn_way, to_one, stmt_way, item_way}
 use Rattle.graph_rules.specs.Fits.{StmtFits, ItemFits}
 use Rattle.graph_rules.specs.Costs.{tried_cost, round_cost, turn_cost, loop_cost, perform_cost, stmt_cost, item_cost}
 
@@ -24,6 +24,9 @@ stmt_free (Loop control body) rest = 0
 stmt_free (Go to) rest = 0
 stmt_free (GoDepending to chooser) rest = 0
 stmt_free NextSentence rest = 0
+stmt_free ExitParagraph rest = 0
+stmt_free (ExitSection last) rest = 0
+stmt_free (ExitPerform cycle) rest = 0
 stmt_free StopRun rest = 0
 
 abbrev pub item_free : Item → List Item → ℕ
@@ -50,6 +53,9 @@ stmt-most (Loop control body) rest = omega arith
 stmt-most (Go to) rest = omega arith
 stmt-most (GoDepending to chooser) rest = omega arith
 stmt-most NextSentence rest = omega arith
+stmt-most ExitParagraph rest = omega arith
+stmt-most (ExitSection last) rest = omega arith
+stmt-most (ExitPerform cycle) rest = omega arith
 stmt-most StopRun rest = omega arith
 
 -- statements are freed by what stands behind them alone
@@ -78,12 +84,14 @@ WayFrees most (On trace memory items) = frees items ≤ most
 WayFrees most (Halts trace how memory) = Unit {0}
 WayFrees most (Into entry exit items) = frees items ≤ most
 WayFrees most (To trace memory paragraph) = Unit {0}
+WayFrees most (ToEnd trace memory paragraph) = Unit {0}
 
 after-frees : {Memory : Type 0} (most : ℕ) (trace : Trace) (way : Way Memory) → WayFrees most way → WayFrees most (way_after trace way)
 after-frees most trace (On shown memory items) h = h
 after-frees most trace (Halts shown how memory) h = h
 after-frees most trace (Into entry exit items) h = h
 after-frees most trace (To shown memory paragraph) h = h
+after-frees most trace (ToEnd shown memory paragraph) h = h
 
 tried-frees : {Memory Value : Type 0} (most : ℕ) (value : Tried Memory Value) (goes : Value → Memory → Way Memory) (cost : Value → Memory → ℕ) → ((v : Value) (m : Memory) → WayFrees (most + cost v m) (goes v m)) → WayFrees (most + tried_cost value cost) (tried value goes)
 tried-frees most (Got trace v m) goes cost h = after-frees (most + cost v m) trace (goes v m) (h v m)
@@ -99,6 +107,7 @@ way-more few most (On trace memory items) le h = omega (arith, le, h)
 way-more few most (Halts trace how memory) le h = tt
 way-more few most (Into entry exit items) le h = omega (arith, le, h)
 way-more few most (To trace memory paragraph) le h = tt
+way-more few most (ToEnd trace memory paragraph) le h = tt
 
 module _ {Memory : Type 0} (doing : Doing Memory) where
   first-frees : (after : Bool) (turning : Turning) (body : Body) (rest : List Item) → frees (first_turn doing after turning body rest) ≤ frees rest + 1
@@ -142,6 +151,9 @@ module _ {Memory : Type 0} (doing : Doing Memory) where
     stmt-frees (Go to) rest memory fits = absurd fits
     stmt-frees (GoDepending to chooser) rest memory fits = absurd fits
     stmt-frees NextSentence rest memory fits = absurd fits
+    stmt-frees ExitParagraph rest memory fits = absurd fits
+    stmt-frees (ExitSection last) rest memory fits = absurd fits
+    stmt-frees (ExitPerform cycle) rest memory fits = absurd fits
     stmt-frees StopRun rest memory fits = tt
 
     -- an item that costs nothing frees nothing
@@ -163,6 +175,7 @@ module _ {Memory : Type 0} (doing : Doing Memory) where
   IntoCosts item rest memory (On trace m items) = Unit {0}
   IntoCosts item rest memory (Halts trace how m) = Unit {0}
   IntoCosts item rest memory (To trace m paragraph) = Unit {0}
+  IntoCosts item rest memory (ToEnd trace m paragraph) = Unit {0}
 
   -- a way that doesn't perform
   abbrev Quiet : Way Memory → Type 0
@@ -170,12 +183,14 @@ module _ {Memory : Type 0} (doing : Doing Memory) where
   Quiet (On trace m items) = Unit {0}
   Quiet (Halts trace how m) = Unit {0}
   Quiet (To trace m paragraph) = Unit {0}
+  Quiet (ToEnd trace m paragraph) = Unit {0}
 
   quiet-after : (trace : Trace) (way : Way Memory) → Quiet way → Quiet (way_after trace way)
   quiet-after trace (On shown m items) q = tt
   quiet-after trace (Halts shown how m) q = tt
   quiet-after trace (Into entry exit items) q = q
   quiet-after trace (To shown m paragraph) q = tt
+  quiet-after trace (ToEnd shown m paragraph) q = tt
 
   quiet-tried : {Value : Type 0} (value : Tried Memory Value) (goes : Value → Memory → Way Memory) → ((v : Value) (m : Memory) → Quiet (goes v m)) → Quiet (tried value goes)
   quiet-tried (Got trace v m) goes h = quiet-after trace (goes v m) (h v m)
@@ -186,6 +201,7 @@ module _ {Memory : Type 0} (doing : Doing Memory) where
   quiet-into item rest memory (Halts trace how m) q = tt
   quiet-into item rest memory (Into entry exit items) q = absurd q
   quiet-into item rest memory (To trace m paragraph) q = tt
+  quiet-into item rest memory (ToEnd trace m paragraph) q = tt
 
   steps-quiet : (ended : Bool) (act : Act) (test : Test) (body : Body) (rest : List Item) (memory : Memory) → Quiet (steps_on doing ended act test body rest memory)
   steps-quiet true act test body rest memory = tt
@@ -219,6 +235,9 @@ module _ {Memory : Type 0} (doing : Doing Memory) where
   item-into (Do (Go to)) rest memory = tt
   item-into (Do (GoDepending to chooser)) rest memory = quiet-into (Do (GoDepending to chooser)) rest memory (stmt_way doing (GoDepending to chooser) rest memory) (quiet-tried (doing.pick (By chooser) memory) (λ k. to_one doing (slice_get to k) rest) (λ k m. to-quiet (slice_get to k) rest m))
   item-into (Do NextSentence) rest memory = tt
+  item-into (Do ExitParagraph) rest memory = tt
+  item-into (Do (ExitSection last)) rest memory = tt
+  item-into (Do (ExitPerform cycle)) rest memory = tt
   item-into (Do StopRun) rest memory = tt
   item-into SentenceEnd rest memory = tt
   item-into (Turn turning body) rest memory = quiet-into (Turn turning body) rest memory (turn_way doing turning body rest memory) (turn-quiet turning body rest memory)

@@ -7,7 +7,7 @@ use Rattle.runs.proofs.Machines.{iterate-add}
 use Rattle.control.specs.Outcome.{Event, Trace, Abend, Ending, Stopped, Standing, Tried, Got, Ends}
 use Rattle.control.specs.Language.{Range}
 use Rattle.control.specs.Doing.{Acting, Doing, Celled}
-use Rattle.control.specs.Items.{Item, Way, On, Halts, Into, To, way_after, tried}
+use Rattle.control.specs.Items.{Item, Way, On, Halts, Into, To, ToEnd, way_after, tried}
 use Rattle.control.specs.Structural.{Outcome, Went, Stands}
 use Rattle.control.specs.Structural as structural
 use Rattle.control.specs.Graph.{End, Family}
@@ -155,6 +155,7 @@ module _ {Memory Left : Type 0} (acting : Acting Memory) (left : Memory → Left
     trace_of (Halts trace how memory) = trace
     trace_of (Into entry exit items) = []
     trace_of (To trace memory paragraph) = []
+    trace_of (ToEnd trace memory paragraph) = []
 
     -- it goes on or halts
     abbrev pub Plain : Way (Celled Memory) → Type 0
@@ -162,6 +163,7 @@ module _ {Memory Left : Type 0} (acting : Acting Memory) (left : Memory → Left
     Plain (Halts trace how memory) = Unit {0}
     Plain (Into entry exit items) = ⊥
     Plain (To trace memory paragraph) = ⊥
+    Plain (ToEnd trace memory paragraph) = ⊥
 
     module _ (range : Range) (items : List Item) (end : End) (callers : List Level) (here : Celled Memory) (target : Target) where
       abbrev from : Trace → State
@@ -182,6 +184,7 @@ module _ {Memory Left : Type 0} (acting : Acting Memory) (left : Memory → Left
       goes-run (Halts shown how memory) trace plain = ([], sym (append-nil (trace ++ shown)))
       goes-run (Into entry exit items) trace plain = absurd plain
       goes-run (To shown memory paragraph) trace plain = absurd plain
+      goes-run (ToEnd shown memory paragraph) trace plain = absurd plain
 
       covers-some : (trace shown whole : Trace) (r : Run Event (Ending Left)) → Begins shown whole → Begins (trace ++ whole) r.trace → Covers (ran (trace ++ shown) Going) r
       covers-some trace shown whole r b c = record {
@@ -227,18 +230,21 @@ module _ {Memory Left : Type 0} (acting : Acting Memory) (left : Memory → Left
       after-plain shown (Halts trace how memory) plain = tt
       after-plain shown (Into entry exit items) plain = absurd plain
       after-plain shown (To trace memory paragraph) plain = absurd plain
+      after-plain shown (ToEnd trace memory paragraph) plain = absurd plain
 
       trace-after : (shown : Trace) (way : Way (Celled Memory)) → Plain way → trace_of (way_after shown way) ≡ shown ++ trace_of way
       trace-after shown (On trace memory items) plain = refl
       trace-after shown (Halts trace how memory) plain = refl
       trace-after shown (Into entry exit items) plain = absurd plain
       trace-after shown (To trace memory paragraph) plain = absurd plain
+      trace-after shown (ToEnd trace memory paragraph) plain = absurd plain
 
       goes-after : (shown trace : Trace) (way : Way (Celled Memory)) → Plain way → goes way (trace ++ shown) ≡ goes (way_after shown way) trace
       goes-after shown trace (On more memory items) plain = ap (λ t. at range items end callers memory t) (append_assoc trace shown more)
       goes-after shown trace (Halts more how memory) plain = ap (λ t. record { level = record { range = range; items = items; end = end }; callers = callers; memory = memory; run = ran t (Over (Stopped how (left memory.own))) }) (append_assoc trace shown more)
       goes-after shown trace (Into entry exit items) plain = absurd plain
       goes-after shown trace (To more memory paragraph) plain = absurd plain
+      goes-after shown trace (ToEnd more memory paragraph) plain = absurd plain
 
       -- what was shown before the way
       pub takes-after : (bound slack : ℕ) (shown : Trace) (way : Way (Celled Memory)) (c : ℕ) (d : ℕ → Result) → c ≤ 1 → Plain way → Takes bound slack way c d → Takes bound slack (way_after shown way) c (λ n. behind shown (d n))

@@ -1,6 +1,6 @@
 -- What an order of ranges gives to every walk of a family.
 use Rattle.std.proofs.Common.{◌≡◌, ℕ, suc, ◌<◌, true, false, if◌then◌else◌, List, [], ◌∷◌, ◌++◌, refl, ap, sym, ◌∙◌, subst, arith}
-use Rattle.control.specs.Language.{Range, Main, Part, same_range, Stmts, none, also, Body, Nested, Performed, Act, Picker, Control, Stmt, Choose, Loop, Perform, Go, GoDepending, NextSentence, StopRun}
+use Rattle.control.specs.Language.{Range, Main, Part, same_range, Stmts, none, also, Body, Nested, Performed, Act, Picker, Control, Stmt, Choose, Loop, Perform, Go, GoDepending, NextSentence, ExitParagraph, ExitSection, ExitPerform, StopRun}
 use Rattle.control.specs.Doing.{Doing}
 use Rattle.control.specs.Items.{Item, Do, SentenceEnd, Turn, before}
 use Rattle.control.specs.Language as language
@@ -73,6 +73,9 @@ module _ {Memory : Type 0} (doing : Doing Memory) where
   cost-append (Do (Go to)) items tail memory h = refl
   cost-append (Do (GoDepending to chooser)) items tail memory h = refl
   cost-append (Do NextSentence) items tail memory h = refl
+  cost-append (Do ExitParagraph) items tail memory h = refl
+  cost-append (Do (ExitSection last)) items tail memory h = refl
+  cost-append (Do (ExitPerform cycle)) items tail memory h = refl
   cost-append (Do StopRun) items tail memory h = refl
   cost-append SentenceEnd items tail memory h = refl
   cost-append (Turn turning body) items tail memory h = refl

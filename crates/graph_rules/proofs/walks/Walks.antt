@@ -6,7 +6,7 @@ use Rattle.runs.specs.Machine.{meaning, Grows}
 use Rattle.runs.proofs.Machines.{iterate-add}
 use Rattle.control.specs.Outcome.{Event, Trace, How, Normally, Abend, Ending, Stopped, Returned, Lost, Tried, Got, Ends}
 use Rattle.control.specs.Outcome as outcome
-use Rattle.control.specs.Language.{Act, Test, Picker, Control, Times, Until, Varying, Stmt, Choose, Loop, Perform, Go, GoDepending, NextSentence, StopRun, Stmts, none, also, Arms, done, given, missing, Body, Nested, Performed, Range, Main, Part, same_range}
+use Rattle.control.specs.Language.{Act, Test, Picker, Control, Times, Until, Varying, Stmt, Choose, Loop, Perform, Go, GoDepending, NextSentence, ExitParagraph, ExitSection, ExitPerform, StopRun, Stmts, none, also, Arms, done, given, missing, Body, Nested, Performed, Range, Main, Part, same_range}
 use Rattle.control.specs.Language as language
 use Rattle.control.specs.Doing.{Acting, Doing, Celled, celled}
 use Rattle.control.specs.Items.{Turning, Counted, Tests, Steps, StepsAfter, Item, Do, SentenceEnd, Turn, before, before_body, before_arm, Way, On, Halts, tried, on, first_turn, loop_begins, turns, tests, steps_on, turn_way}
@@ -71,6 +71,9 @@ module _ {Memory : Type 0} (doing : Doing Memory) where
   item-most (Do (Go to)) rest memory = omega arith
   item-most (Do (GoDepending to chooser)) rest memory = omega arith
   item-most (Do NextSentence) rest memory = omega arith
+  item-most (Do ExitParagraph) rest memory = omega arith
+  item-most (Do (ExitSection last)) rest memory = omega arith
+  item-most (Do (ExitPerform cycle)) rest memory = omega arith
   item-most (Do StopRun) rest memory = omega arith
   item-most SentenceEnd rest memory = omega arith
   item-most (Turn turning body) rest memory = turn-most turning memory
@@ -339,6 +342,9 @@ module _ {Memory Left : Type 0} (acting : Acting Memory) (left : Memory → Left
         stmt-does (Go to) fits = absurd fits
         stmt-does (GoDepending to chooser) fits = absurd fits
         stmt-does NextSentence fits = absurd fits
+        stmt-does ExitParagraph fits = absurd fits
+        stmt-does (ExitSection last) fits = absurd fits
+        stmt-does (ExitPerform cycle) fits = absurd fits
         stmt-does StopRun fits = λ rest end memory units trace calm.
             unit-does StopRun rest end memory trace (Halts [] Normally memory) 0 (structural.stops doing whole Normally) units tt (takes-halt (Do StopRun ∷ rest) end memory (stand range rest end callers) (suc units) 3 memory (omega arith)) refl refl
 

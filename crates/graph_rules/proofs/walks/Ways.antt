@@ -1,10 +1,10 @@
 -- What an item comes to, with more behind it, and with statements that fit.
 use Rattle.std.proofs.Common.{◌≡◌, ℕ, zero, suc, Bool, true, false, List, [], ◌∷◌, ◌++◌, refl, ap, sym, ◌∙◌}
 use Rattle.control.specs.Outcome.{Trace, Tried, Got, Ends}
-use Rattle.control.specs.Language.{Act, Test, Control, Times, Until, Varying, Stmt, Choose, Loop, Perform, Go, GoDepending, NextSentence, StopRun, Stmts, none, also, Arms, done, given, missing, Body, Nested, Performed, Range, Part}
+use Rattle.control.specs.Language.{Act, Test, Control, Times, Until, Varying, Stmt, Choose, Loop, Perform, Go, GoDepending, NextSentence, ExitParagraph, ExitSection, ExitPerform, StopRun, Stmts, none, also, Arms, done, given, missing, Body, Nested, Performed, Range, Part}
 use Rattle.control.specs.Language as language
 use Rattle.control.specs.Doing.{Doing}
-use Rattle.control.specs.Items.{Turning, Counted, Tests, Steps, StepsAfter, Item, Do, SentenceEnd, Turn, before, before_body, before_arm, Way, On, Halts, Into, To, way_after, tried, on, first_turn, varying, loop_begins, turns, tests, steps_on, turn_way, stmt_way, item_way}
+use Rattle.control.specs.Items.{Turning, Counted, Tests, Steps, StepsAfter, Item, Do, SentenceEnd, Turn, before, before_body, before_arm, Way, On, Halts, Into, To, ToEnd, way_after, tried, on, first_turn, varying, loop_begins, turns, tests, steps_on, turn_way, stmt_way, item_way}
 use Rattle.graph_rules.specs.Fits.{ActFits, TestFits, StmtFits, StmtsFit, ArmsFit, BodyFits, ControlFits, TurningFits, ItemFits, ItemsFit, WayFits}
 
 pub before-append : (stmts : Stmts) (items more : List Item) → before stmts items ++ more ≡ before stmts (items ++ more)
@@ -28,12 +28,14 @@ further more (On trace memory items) = On trace memory (items ++ more)
 further more (Halts trace how memory) = Halts trace how memory
 further more (Into entry exit items) = Into entry exit (items ++ more)
 further more (To trace memory paragraph) = To trace memory paragraph
+further more (ToEnd trace memory paragraph) = ToEnd trace memory paragraph
 
 further-after : {Memory : Type 0} (more : List Item) (trace : Trace) (way : Way Memory) → way_after trace (further more way) ≡ further more (way_after trace way)
 further-after more trace (On shown memory items) = refl
 further-after more trace (Halts shown how memory) = refl
 further-after more trace (Into entry exit items) = refl
 further-after more trace (To shown memory paragraph) = refl
+further-after more trace (ToEnd shown memory paragraph) = refl
 
 further-tried : {Memory Value : Type 0} (more : List Item) (value : Tried Memory Value) (one two : Value → Memory → Way Memory) → ((v : Value) (m : Memory) → two v m ≡ further more (one v m)) → tried value two ≡ further more (tried value one)
 further-tried more (Got trace v m) one two is = ap (way_after trace) (is v m) ∙ further-after more trace (one v m)
@@ -90,6 +92,9 @@ module _ {Memory : Type 0} (doing : Doing Memory) (more : List Item) where
     stmt-further (Go to) rest memory fits = absurd fits
     stmt-further (GoDepending to chooser) rest memory fits = absurd fits
     stmt-further NextSentence rest memory fits = absurd fits
+    stmt-further ExitParagraph rest memory fits = absurd fits
+    stmt-further (ExitSection last) rest memory fits = absurd fits
+    stmt-further (ExitPerform cycle) rest memory fits = absurd fits
     stmt-further StopRun rest memory fits = refl
 
     -- what an item does with more items behind it
@@ -136,6 +141,7 @@ module _ (Calls : Range → Type 0) (Reads Writes : ℕ → Type 0) where
     after-fits trace (Halts shown how memory) h = h
     after-fits trace (Into entry exit items) h = h
     after-fits trace (To shown memory paragraph) h = h
+    after-fits trace (ToEnd shown memory paragraph) h = h
 
     tried-fits : {Value : Type 0} (value : Tried Memory Value) (goes : Value → Memory → Way Memory) → ((v : Value) (m : Memory) → FitWay (goes v m)) → FitWay (tried value goes)
     tried-fits (Got trace v m) goes h = after-fits trace (goes v m) (h v m)
@@ -185,6 +191,9 @@ module _ (Calls : Range → Type 0) (Reads Writes : ℕ → Type 0) where
     stmt-fits (Go to) rest memory s r = absurd s
     stmt-fits (GoDepending to chooser) rest memory s r = absurd s
     stmt-fits NextSentence rest memory s r = absurd s
+    stmt-fits ExitParagraph rest memory s r = absurd s
+    stmt-fits (ExitSection last) rest memory s r = absurd s
+    stmt-fits (ExitPerform cycle) rest memory s r = absurd s
     stmt-fits StopRun rest memory s r = tt
 
     -- what an item that fits comes to

@@ -1,7 +1,7 @@
 -- An order in which each range is performed by a path of an earlier one is one in which a kept node of an earlier one performs it.
 use Rattle.std.proofs.Common.{◌≡◌, ℕ, zero, suc, ◌<◌, ◌≤◌, ◌==◌, arith, Bool, true, false, if◌then◌else◌, List, [], ◌∷◌, Some, slice_get, refl, ap, sym, ◌∙◌, subst, inl, inr}
 use Rattle.std.specs.Prelude.{length}
-use Rattle.control.specs.Language.{Stmt, Choose, Loop, Perform, Go, GoDepending, NextSentence, StopRun, Stmts, none, also, Arms, done, given, missing, Body, Nested, Performed, Program, Range, Main, Part, same_range}
+use Rattle.control.specs.Language.{Stmt, Choose, Loop, Perform, Go, GoDepending, NextSentence, ExitParagraph, ExitSection, ExitPerform, StopRun, Stmts, none, also, Arms, done, given, missing, Body, Nested, Performed, Program, Range, Main, Part, same_range}
 use Rattle.control.specs.Language as language
 use Rattle.control.specs.Graph.{Label, Tree, tree, End, Pick, Jump, Return, Stop, Dead, Trees, no_more, more}
 use Rattle.lowering.specs.Told.{Told}
@@ -31,6 +31,9 @@ module _ (number : ℕ → ℕ) (r : Range) where
     stmt-same (Go to) = refl
     stmt-same (GoDepending to on) = refl
     stmt-same NextSentence = refl
+    stmt-same ExitParagraph = refl
+    stmt-same (ExitSection last) = refl
+    stmt-same (ExitPerform cycle) = refl
     stmt-same StopRun = refl
 
     stmts-same : (ss : Stmts) → stmts_call r (stmts_anew number ss) ≡ stmts_call r ss

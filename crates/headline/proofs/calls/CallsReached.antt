@@ -2,17 +2,17 @@
 use Rattle.std.proofs.Common.{◌≡◌, ℕ, zero, suc, ◌+◌, ◌<◌, Bool, true, false, if◌then◌else◌, List, [], ◌∷◌, refl, ap, sym, ◌∙◌, subst, arith, inl, inr, Some}
 use Rattle.std.specs.Prelude.{slice_get, length}
 use Rattle.control.specs.Doing.{arm_of}
-use Rattle.control.specs.Language.{Act, Test, Picker, If, By, ByCell, Control, Times, Until, Varying, Stmt, Choose, Loop, Perform, Go, GoDepending, NextSentence, StopRun, Stmts, none, also, Arms, done, given, missing, Body, Nested, Performed, Paragraph, Program, paragraph_at, Range, Main, Part}
+use Rattle.control.specs.Language.{Act, Test, Picker, If, By, ByCell, Control, Times, Until, Varying, Stmt, Choose, Loop, Perform, Go, GoDepending, NextSentence, ExitParagraph, ExitSection, ExitPerform, StopRun, Stmts, none, also, Arms, done, given, missing, Body, Nested, Performed, Paragraph, Program, paragraph_at, Range, Main, Part}
 use Rattle.control.specs.Language as language
-use Rattle.control.specs.Items.{Turning, Counted, Tests, Steps, StepsAfter, Item, Do, Turn, before, before_body, before_arm, Way, On, Halts, Into, To, way_after, tried, on, turns, steps_on, turn_way, to_one, stmt_way, item_way}
+use Rattle.control.specs.Items.{Turning, Counted, Tests, Steps, StepsAfter, Item, Do, Turn, before, before_body, before_arm, Way, On, Halts, Into, To, ToEnd, way_after, tried, on, turns, steps_on, turn_way, to_one, stmt_way, item_way}
 use Rattle.control.specs.Source.{rest_of}
 use Rattle.control.specs.Graph.{Label, Tree, tree, End, Pick, Jump, Return, Stop, Dead, Trees, no_more, more, end_of, Family}
 use Rattle.lowering.specs.Told.{Told, IsSource, IsFirstMissing, MayGive, OwnPicker, OwnStmt, AllBelow, arm_count}
-use Rattle.lowering.specs.Completes.{completes, complete, choice_completes, body_completes, cut, cuts, cut_arms, cut_body, whole, wholes, whole_arms, whole_body, size, sizes, skips, first_is_dead}
-use Rattle.lowering.specs.Lower.{point, head, third, only, with_first, push, leaf, build, build_stmt, build_arms, depending, loop_start, loop_nodes, nodes, nodes_in, nodes_of_arms, fall_leaf, end_leaf}
-use Rattle.lowering.specs.Rests.{Rest, From, Sent, Turns, Cut, turning_of, items_in, to_turn, after_sentence, uncut, rest_from, leaf_of, sentence_of, tree_of, Has, HasRest}
+use Rattle.lowering.specs.Completes.{completes, complete, choice_completes, body_completes, body_leaves_loop, cut, cuts, cut_arms, cut_body, whole, wholes, whole_arms, whole_body, size, sizes, skips, first_is_dead}
+use Rattle.lowering.specs.Lower.{point, head, third, only, with_first, push, leaf, build, build_stmt, build_arms, depending, loop_start, loop_nodes, nodes, nodes_in, nodes_of_arms, fall_leaf, end_leaf, Leaving, leaving_at, within_loop}
+use Rattle.lowering.specs.Rests.{Rest, From, Sent, Turns, Cut, turning_of, items_in, to_turn, after_sentence, after_loop, at_loop, uncut, rest_from, leaf_of, leaving_of, tree_of, Has, HasRest}
 use Rattle.lowering.specs.Rests as rests
-use Rattle.lowering.specs.flow.Comes.{IsNoExit, begins, enters, goes_on, goes_to, over, falls, entry_of, IsLowered}
+use Rattle.lowering.specs.flow.Comes.{IsNoExit, begins, enters, goes_on, goes_to, goes_to_end, over, falls, entry_of, IsLowered}
 use Rattle.lowering.specs.Lowered.{place_in, lowered}
 use Rattle.lowering.specs.Reached.{JumpsTo, ArmsJumpTo, IsReached, entered, jumped}
 use Rattle.lowering.specs.flow.Paths.{next_way, is_first, is_below, not_dead, first_arm, arm_for, free_pick, free}
@@ -22,7 +22,7 @@ use Rattle.headline.specs.Chain.{TreeCalls, EndCalls, TreesCall}
 use Rattle.headline.specs.CallsReached.{GivesSome, NamesWhatReturns, WhatIsCalledStands}
 use Rattle.control.proofs.Ranges.{same-self}
 use Rattle.lowering.proofs.rests.Fits.{FitsIn, comes-fits, rest-fits}
-use Rattle.lowering.proofs.rests.Counters.{has-left, has-right, past-items, items-from, items-uncut, has-uncut, built-uncut}
+use Rattle.lowering.proofs.rests.Counters.{has-left, has-right, has-after, has-behind, has-turn, past-items, loop-items, items-from, items-uncut, has-uncut, built-uncut}
 use Rattle.lowering.proofs.graphs.Families.{lowered-is-lowered}
 use Rattle.headline.proofs.calls.FreePaths.{names-what-returns}
 
@@ -81,8 +81,8 @@ module _ (told : Told) (program : Program) (source : IsSource told program) (som
   low : IsLowered told program (place_in program) family
   low = lowered-is-lowered told program
 
-  abbrev ending : ℕ → End
-  ending q = end_leaf places program range q
+  abbrev ending : ℕ → Leaving
+  ending q = leaving_at places program range q
 
   abbrev Tr : ℕ → Rest → Tree
   Tr q c = tree_of told places (ending q) c
@@ -90,8 +90,8 @@ module _ (told : Told) (program : Program) (source : IsSource told program) (som
   abbrev Lf : ℕ → Rest → End
   Lf q c = leaf_of told places (ending q) c
 
-  abbrev Sn : ℕ → Rest → End
-  Sn q c = sentence_of told places (ending q) c
+  abbrev Sn : ℕ → Rest → Leaving
+  Sn q c = leaving_of told places (ending q) c
 
   abbrev HR : ℕ → Rest → Type 0
   HR q c = HasRest told places graph (ending q) c
@@ -110,6 +110,9 @@ module _ (told : Told) (program : Program) (source : IsSource told program) (som
     FineStmt (Go to) = Unit {0}
     FineStmt (GoDepending to on) = Unit {0}
     FineStmt NextSentence = Unit {0}
+    FineStmt ExitParagraph = Unit {0}
+    FineStmt (ExitSection last) = Unit {0}
+    FineStmt (ExitPerform cycle) = Unit {0}
     FineStmt StopRun = Unit {0}
 
     FineStmts : Stmts → Type 0
@@ -149,6 +152,9 @@ module _ (told : Told) (program : Program) (source : IsSource told program) (som
     stmt-all (Go to) h = tt
     stmt-all (GoDepending to on) h = tt
     stmt-all NextSentence h = tt
+    stmt-all ExitParagraph h = tt
+    stmt-all (ExitSection last) h = tt
+    stmt-all (ExitPerform cycle) h = tt
     stmt-all StopRun h = tt
 
     stmts-all : (ss : Stmts) → ((e x : ℕ) → stmts_call (Part e x) ss ≡ true → Stands e x) → FineStmts ss
@@ -227,27 +233,20 @@ module _ (told : Told) (program : Program) (source : IsSource told program) (som
       subst (λ t. Has told places graph (nodes_in told places s place (Sn q c) (leaf told places ss (place + size s) (Lf q c)) t)) (sym (built-uncut told places (ending q) (build told places ss (place + size s)) c))
       (has-left graph told places (nodes_in told places s place (Sn q c) (leaf told places ss (place + size s) (Lf q c)) (build told places ss (place + size s) (Sn q c) (Lf q c) (Tr q (uncut c)))) (nodes told places ss (place + size s) (Sn q c) (Lf q c) (Tr q (uncut c))) h.0.1)
 
-  has-past : (q : ℕ) (c : Rest) → HR q c → HR q (after_sentence c)
-  has-past q rests.Over h = tt
-  has-past q (From place stmts others) h = has-past q others h.1
-  has-past q (Sent holds others) h = h
-  has-past q (Turns place control left reached body others) h = has-past q others h.1
-  has-past q (Cut others) h = has-past q others h
-
   abbrev inner : ℕ → Control → Stmts → Rest → Rest
   inner place control body c = From (place + 1) body (Turns place control 0 true body c)
 
   loop-has : (q place : ℕ) (control : Control) (body : Stmts) (r : Rest) → Has told places graph (nodes_in told places (Loop control (Nested body)) place (Sn q r) (Lf q r) (Tr q (uncut r))) → HR q r → HR q (inner place control body r)
   loop-has q place (Times amount) body r h hr =
-      (has-right graph told places (loop_nodes (Times amount) place (build told places body (place + 1) (Sn q r) (Jump (head place)) (only (Jump (head place)))) (Lf q r)) (nodes told places body (place + 1) (Sn q r) (Jump (head place)) (only (Jump (head place)))) h, (h, hr))
+      (has-right graph told places (loop_nodes (Times amount) place (build told places body (place + 1) (within_loop (Sn q r) (Lf q r) (Jump (head place))) (Jump (head place)) (only (Jump (head place)))) (Lf q r)) (nodes told places body (place + 1) (within_loop (Sn q r) (Lf q r) (Jump (head place))) (Jump (head place)) (only (Jump (head place)))) h, (h, hr))
   loop-has q place (Until false test) body r h hr =
-      (has-right graph told places (loop_nodes (Until false test) place (build told places body (place + 1) (Sn q r) (Jump (head place)) (only (Jump (head place)))) (Lf q r)) (nodes told places body (place + 1) (Sn q r) (Jump (head place)) (only (Jump (head place)))) h, (h, hr))
+      (has-right graph told places (loop_nodes (Until false test) place (build told places body (place + 1) (within_loop (Sn q r) (Lf q r) (Jump (head place))) (Jump (head place)) (only (Jump (head place)))) (Lf q r)) (nodes told places body (place + 1) (within_loop (Sn q r) (Lf q r) (Jump (head place))) (Jump (head place)) (only (Jump (head place)))) h, (h, hr))
   loop-has q place (Until true test) body r h hr =
-      (has-right graph told places (loop_nodes (Until true test) place (build told places body (place + 1) (Sn q r) (Jump (third place)) (only (Jump (third place)))) (Lf q r)) (nodes told places body (place + 1) (Sn q r) (Jump (third place)) (only (Jump (third place)))) h, (h, hr))
+      (has-right graph told places (loop_nodes (Until true test) place (build told places body (place + 1) (within_loop (Sn q r) (Lf q r) (Jump (third place))) (Jump (third place)) (only (Jump (third place)))) (Lf q r)) (nodes told places body (place + 1) (within_loop (Sn q r) (Lf q r) (Jump (third place))) (Jump (third place)) (only (Jump (third place)))) h, (h, hr))
   loop-has q place (Varying false set stp test) body r h hr =
-      (has-right graph told places (loop_nodes (Varying false set stp test) place (build told places body (place + 1) (Sn q r) (Jump (third place)) (only (Jump (third place)))) (Lf q r)) (nodes told places body (place + 1) (Sn q r) (Jump (third place)) (only (Jump (third place)))) h, (h, hr))
+      (has-right graph told places (loop_nodes (Varying false set stp test) place (build told places body (place + 1) (within_loop (Sn q r) (Lf q r) (Jump (third place))) (Jump (third place)) (only (Jump (third place)))) (Lf q r)) (nodes told places body (place + 1) (within_loop (Sn q r) (Lf q r) (Jump (third place))) (Jump (third place)) (only (Jump (third place)))) h, (h, hr))
   loop-has q place (Varying true set stp test) body r h hr =
-      (has-right graph told places (loop_nodes (Varying true set stp test) place (build told places body (place + 1) (Sn q r) (Jump (third place)) (only (Jump (third place)))) (Lf q r)) (nodes told places body (place + 1) (Sn q r) (Jump (third place)) (only (Jump (third place)))) h, (h, hr))
+      (has-right graph told places (loop_nodes (Varying true set stp test) place (build told places body (place + 1) (within_loop (Sn q r) (Lf q r) (Jump (third place))) (Jump (third place)) (only (Jump (third place)))) (Lf q r)) (nodes told places body (place + 1) (within_loop (Sn q r) (Lf q r) (Jump (third place))) (Jump (third place)) (only (Jump (third place)))) h, (h, hr))
 
   -- from a continuation on, the tree at its label runs on
   point-frame : (q place : ℕ) (s : Stmt) (ss : Stmts) (r : Rest) → HR q (From place (also s ss) r) → IsReached family range (point place) → Ok q (Base (From place (also s ss) (uncut r)))
@@ -270,6 +269,9 @@ module _ (told : Told) (program : Program) (source : IsSource told program) (som
   resume-from q place (also (Go to) ss) r g h e = (Base (From place (also (Go to) ss) r), refl, ((tt, e), h))
   resume-from q place (also (GoDepending to on) ss) r g h e = point-good q place (GoDepending to on) ss r h e
   resume-from q place (also NextSentence ss) r g h e = point-good q place NextSentence ss r h e
+  resume-from q place (also ExitParagraph ss) r g h e = point-good q place ExitParagraph ss r h e
+  resume-from q place (also (ExitSection last) ss) r g h e = point-good q place (ExitSection last) ss r h e
+  resume-from q place (also (ExitPerform cycle) ss) r g h e = point-good q place (ExitPerform cycle) ss r h e
   resume-from q place (also StopRun ss) r g h e = (Base (From place (also StopRun ss) r), refl, ((tt, tt), h))
 
   resume : (q : ℕ) (c : Rest) → HR q c → FineEnd (Lf q c) → Good q (items_in c)
@@ -285,9 +287,10 @@ module _ (told : Told) (program : Program) (source : IsSource told program) (som
   Follows q (Halts t how m) = Unit {0}
   Follows q (Into e x items) = Stands e x × (told.returning e x ≡ true → Good q items)
   Follows q (To t m to) = IsReached family range (point (places to)) × (to < count)
+  Follows q (ToEnd t m to) = FineEnd (end_leaf places program range to)
 
   abbrev Next : ℕ → List Item → Type 0
-  Next q [] = FineEnd (ending q)
+  Next q [] = FineEnd (ending q).paragraph
   Next q (item ∷ rest) = (m : List ℕ) → Follows q (item_way (free told) item rest m)
 
   pick-follows : (q : ℕ) (picker : Picker) (n : ℕ) (g : ℕ → List Item) → OwnPicker told picker n → ((k : ℕ) → MayGive n (first_is_dead told picker) k → Good q (g k)) → (m : List ℕ) → Follows q (tried (free_pick told picker m) (λ k. on (free told) (g k)))
@@ -318,13 +321,16 @@ module _ (told : Told) (program : Program) (source : IsSource told program) (som
   inside q (Choose picker arms) f fine w h own m = pick-follows q picker (arm_count arms) (λ k. before_arm arms k (items_of_frame f)) own.0 (λ k may. arm-good q arms (first_is_dead told picker) k f fine w h may) m
   inside q (Loop (Times amount) body) f fine w h own m = (Round (Counted (next_way m)) body f, refl, (fine, w, h refl))
   inside q (Loop (Until false test) body) f fine w h own m = (Round (Tests test) body f, refl, (fine, w, h refl))
-  inside q (Loop (Until true test) body) f fine w h own m = body-good q body (Round (Tests test) body f) fine w (λ k. (fine, w, h k))
+  inside q (Loop (Until true test) body) f fine w h own m = body-good q body (Round (Tests test) body f) fine w (λ k. (fine, w, h (left-true (body_completes told body) (body_leaves_loop told body) k)))
   inside q (Loop (Varying false set stp test) body) f fine w h own m = (Round (Steps false stp test) body f, refl, (fine, w, h refl))
-  inside q (Loop (Varying true set stp test) body) f fine w h own m = body-good q body (Round (StepsAfter stp test) body f) fine w (λ k. (fine, w, h k))
+  inside q (Loop (Varying true set stp test) body) f fine w h own m = body-good q body (Round (StepsAfter stp test) body f) fine w (λ k. (fine, w, h (left-true (body_completes told body) (body_leaves_loop told body) k)))
   inside q (Perform e x) f fine w h own m = (fine, λ k. (f, refl, h k))
   inside q (Go to) f fine w h own m = absurd (let e : false ≡ true = w in cc)
   inside q (GoDepending to on) f fine w h own m = absurd (let e : false ≡ true = w in cc)
   inside q NextSentence f fine w h own m = absurd (let e : false ≡ true = w in cc)
+  inside q ExitParagraph f fine w h own m = absurd (let e : false ≡ true = w in cc)
+  inside q (ExitSection last) f fine w h own m = absurd (let e : false ≡ true = w in cc)
+  inside q (ExitPerform cycle) f fine w h own m = absurd (let e : false ≡ true = w in cc)
   inside q StopRun f fine w h own m = tt
 
   -- a loop's remainder, by where one more turn and its end come to
@@ -446,7 +452,11 @@ module _ (told : Told) (program : Program) (source : IsSource told program) (som
   stmt-next q place (Perform e x) r fine h hr own m = push-next q (Perform e x) r fine hr refl own m
   stmt-next q place (Go to) r fine h hr own m = (fine.1, own)
   stmt-next q place (GoDepending to on) r fine h hr own m = one-next q to (arm_for (told.width on) (told.never_first on) (next_way m)) r _ fine.1 hr own.1
-  stmt-next q place NextSentence r fine h hr own m = subst (Good q) (sym (past-items r)) (resume q (after_sentence r) (has-past q r hr) fine.1)
+  stmt-next q place NextSentence r fine h hr own m = subst (Good q) (sym (past-items r)) (resume q (after_sentence r) (has-after graph told places (ending q) r hr) fine.1)
+  stmt-next q place ExitParagraph r fine h hr own m = (Base rests.Over, refl, ((tt, fine.1), tt))
+  stmt-next q place (ExitSection last) r fine h hr own m = fine.1
+  stmt-next q place (ExitPerform false) r fine h hr own m = subst (Good q) (sym (loop-items false r)) (resume q (after_loop r) (has-behind graph told places (ending q) r hr) fine.1)
+  stmt-next q place (ExitPerform true) r fine h hr own m = subst (Good q) (sym (loop-items true r)) (resume q (at_loop r) (has-turn graph told places (ending q) r hr) fine.1)
   stmt-next q place StopRun r fine h hr own m = tt
 
   -- at a continuation
@@ -469,6 +479,9 @@ module _ (told : Told) (program : Program) (source : IsSource told program) (som
   cut-next-from q place (also (Go to) ss) r g h e fit = λ m. (e, fit.0)
   cut-next-from q place (also (GoDepending to on) ss) r g h e fit = λ m. runs-on q place (GoDepending to on) ss r h e fit.0 m
   cut-next-from q place (also NextSentence ss) r g h e fit = λ m. runs-on q place NextSentence ss r h e fit.0 m
+  cut-next-from q place (also ExitParagraph ss) r g h e fit = λ m. runs-on q place ExitParagraph ss r h e fit.0 m
+  cut-next-from q place (also (ExitSection last) ss) r g h e fit = λ m. runs-on q place (ExitSection last) ss r h e fit.0 m
+  cut-next-from q place (also (ExitPerform cycle) ss) r g h e fit = λ m. runs-on q place (ExitPerform cycle) ss r h e fit.0 m
   cut-next-from q place (also StopRun ss) r g h e fit = λ m. tt
 
   drop-fits : (ss : Stmts) (xs : List Item) → FitsIn told program source (before ss xs) → FitsIn told program source xs
@@ -533,6 +546,9 @@ module _ (told : Told) (program : Program) (source : IsSource told program) (som
   come-good range q rest (goes_to r n item others m t after to c is) lt =
       let f = subst (Follows told program source some r n) is (good-next told program source some r n (item ∷ others) (come-good r n (item ∷ others) c lt) (fit-here r n (item ∷ others) c) m) in
       paragraph-good told program source some r to f.1 f.0
+  come-good range q rest (goes_to_end r n item others m t after to c is) lt =
+      let f = subst (Follows told program source some r n) is (good-next told program source some r n (item ∷ others) (come-good r n (item ∷ others) c lt) (fit-here r n (item ∷ others) c) m) in
+      (Base rests.Over, refl, ((tt, f), tt))
   come-good range q rest (over r n item others m e x items c is d) lt =
       (subst (Follows told program source some r n) is (good-next told program source some r n (item ∷ others) (come-good r n (item ∷ others) c lt) (fit-here r n (item ∷ others) c) m)).1 (returning e x d)
   come-good range q rest (falls r n found is out c) lt =

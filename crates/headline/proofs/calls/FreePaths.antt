@@ -4,11 +4,11 @@ use Rattle.std.specs.Prelude.{slice_get}
 use Rattle.runs.specs.Machine.{iterate}
 use Rattle.runs.proofs.Machines.{iterate-add}
 use Rattle.control.specs.Language as language
-use Rattle.control.specs.Language.{Act, Test, If, By, ByCell, Times, Until, Varying, Choose, Loop, Perform, Go, GoDepending, NextSentence, StopRun, Body, Paragraph, Program, Range, Main, Part}
+use Rattle.control.specs.Language.{Act, Test, If, By, ByCell, Times, Until, Varying, Choose, Loop, Perform, Go, GoDepending, NextSentence, ExitParagraph, ExitSection, ExitPerform, StopRun, Body, Paragraph, Program, Range, Main, Part}
 use Rattle.control.specs.Items.{Counted, Tests, Steps, StepsAfter, Item, Do, SentenceEnd, Turn, Way, way_after, steps_on, to_one, item_way}
 use Rattle.control.specs.Source.{Pending, rest_of, falls}
 use Rattle.lowering.specs.Told.{Told, IsSource}
-use Rattle.lowering.specs.flow.Comes.{Comes, begins, enters, goes_on, goes_to, over, IsNoExit}
+use Rattle.lowering.specs.flow.Comes.{Comes, begins, enters, goes_on, goes_to, goes_to_end, over, IsNoExit}
 use Rattle.lowering.specs.flow.Comes as come
 use Rattle.lowering.specs.flow.Paths.{Flow, flow, free, nothing_left, free_goes, free_step, next_way, later_ways, is_first, arm_for, alone_pending, AreReturningByPath}
 use Rattle.lowering.proofs.rests.Fits.{FitsIn, comes-fits, rest-fits}
@@ -38,6 +38,9 @@ module _ (told : Told) where
   item-free (Do (Go to)) rest m = ([], λ more. refl)
   item-free (Do (GoDepending to on)) rest m = one-free (slice_get to (arm_for (told.width on) (told.never_first on) (next_way m))) (next_way m) rest (later_ways m) (item_way (free told) (Do (GoDepending to on)) rest) (λ more. refl)
   item-free (Do NextSentence) rest m = ([], λ more. refl)
+  item-free (Do ExitParagraph) rest m = ([], λ more. refl)
+  item-free (Do (ExitSection last)) rest m = ([], λ more. refl)
+  item-free (Do (ExitPerform cycle)) rest m = ([], λ more. refl)
   item-free (Do StopRun) rest m = tt
   item-free SentenceEnd rest m = ([], λ more. refl)
   item-free (Turn (Counted zero) body) rest m = ([], λ more. refl)
@@ -86,6 +89,11 @@ module _ (told : Told) (program : Program) (source : IsSource told program) (fir
       let fit = comes-fits told program source (free told) first first_rest first_fits r n (item ∷ others) c in
       let way = subst (λ w. Freely w (item_way (free told) item others)) is (item-free told item others m) in
       then-leads (entry_number r) n to (rest_of program (entry_number r)) (item ∷ others) (rest_of program to) pending pending pending (comes-by-path r n (item ∷ others) c pending s)
+      (way.0, 1, λ more. ap (λ w. free_goes told program w (flow n (item ∷ others) pending (way.0 ++ more))) (way.1 more))
+  comes-by-path range q rest (goes_to_end r n item others m t after to c is) pending s =
+      let fit = comes-fits told program source (free told) first first_rest first_fits r n (item ∷ others) c in
+      let way = subst (λ w. Freely w (item_way (free told) item others)) is (item-free told item others m) in
+      then-leads (entry_number r) n to (rest_of program (entry_number r)) (item ∷ others) [] pending pending pending (comes-by-path r n (item ∷ others) c pending s)
       (way.0, 1, λ more. ap (λ w. free_goes told program w (flow n (item ∷ others) pending (way.0 ++ more))) (way.1 more))
   comes-by-path range q rest (over r n item others m e x items c is d) pending s =
       let fit = comes-fits told program source (free told) first first_rest first_fits r n (item ∷ others) c in

@@ -1,7 +1,7 @@
 -- The graphs of a lowered program are a family: each range performs later ones alone, and names its own cells.
 use Rattle.std.proofs.Common.{◌≡◌, ℕ, ◌<◌, Bool, true, false, if◌then◌else◌, ◌==◌, List, [], ◌∷◌, refl, ap, sym, subst}
 use Rattle.std.specs.Prelude.{length}
-use Rattle.control.specs.Language.{Act, Own, Set, Take, Lower, Test, Holds, Not, Is, Above, Picker, If, By, ByCell, Control, Times, Until, Varying, Stmt, Choose, Loop, Perform, Go, GoDepending, NextSentence, StopRun, Stmts, none, also, Arms, done, given, missing, Body, Nested, Performed, Program, Range, Main, Part, same_range}
+use Rattle.control.specs.Language.{Act, Own, Set, Take, Lower, Test, Holds, Not, Is, Above, Picker, If, By, ByCell, Control, Times, Until, Varying, Stmt, Choose, Loop, Perform, Go, GoDepending, NextSentence, ExitParagraph, ExitSection, ExitPerform, StopRun, Stmts, none, also, Arms, done, given, missing, Body, Nested, Performed, Program, Range, Main, Part, same_range}
 use Rattle.control.specs.Language as language
 use Rattle.control.specs.Graph.{Label, Tree, tree, End, Pick, Jump, Return, Stop, Dead, Trees, no_more, more, Family}
 use Rattle.lowering.specs.Told.{Told, IsSource}
@@ -59,6 +59,9 @@ module _ (told : Told) (program : Program) (range : Range) (C : Range → Type 0
     stmt-later (Go to) = λ w c k. absurd (let e : false ≡ true = w in cc)
     stmt-later (GoDepending to chooser) = λ w c k. absurd (let e : false ≡ true = w in cc)
     stmt-later NextSentence = λ w c k. absurd (let e : false ≡ true = w in cc)
+    stmt-later ExitParagraph = λ w c k. absurd (let e : false ≡ true = w in cc)
+    stmt-later (ExitSection last) = λ w c k. absurd (let e : false ≡ true = w in cc)
+    stmt-later (ExitPerform cycle) = λ w c k. absurd (let e : false ≡ true = w in cc)
     stmt-later StopRun = λ w c k. tt
 
     stmts-later : (stmts : Stmts) → wholes stmts ≡ true → CallsStmts told program range stmts → StmtsName R W (stmts_anew number stmts) → StmtsFit C R W (stmts_anew number stmts)

@@ -1,7 +1,7 @@
 -- The graphs of a lowered program can be written, and so can what closing leaves of them.
 use Rattle.std.proofs.Common.{◌≡◌, ℕ, suc, ◌<◌, Bool, true, false, if◌then◌else◌, List, [], ◌∷◌, refl, ap, sym, ◌∙◌, subst, arith, inl}
 use Rattle.std.specs.Prelude.{length}
-use Rattle.control.specs.Language.{Act, Own, Set, Take, Lower, Test, Holds, Not, Is, Above, Picker, If, By, ByCell, Control, Times, Until, Varying, Stmt, Choose, Loop, Perform, Go, GoDepending, NextSentence, StopRun, Stmts, none, also, Arms, done, given, missing, Body, Nested, Performed, Program, Range, Main, Part, same_range}
+use Rattle.control.specs.Language.{Act, Own, Set, Take, Lower, Test, Holds, Not, Is, Above, Picker, If, By, ByCell, Control, Times, Until, Varying, Stmt, Choose, Loop, Perform, Go, GoDepending, NextSentence, ExitParagraph, ExitSection, ExitPerform, StopRun, Stmts, none, also, Arms, done, given, missing, Body, Nested, Performed, Program, Range, Main, Part, same_range}
 use Rattle.control.specs.Language as language
 use Rattle.control.specs.Graph.{Label, Tree, tree, End, Pick, Jump, Return, Stop, Dead, Trees, no_more, more, body_of, end_of, Family}
 use Rattle.lowering.specs.Told.{Told, IsSource}
@@ -61,6 +61,9 @@ module _ (naming : Naming) (kinds : Kinds) (procedures : List Procedure) (range 
     stmt-stands (Go to) = λ k n. k
     stmt-stands (GoDepending to chooser) = λ k n. k
     stmt-stands NextSentence = λ k n. k
+    stmt-stands ExitParagraph = λ k n. k
+    stmt-stands (ExitSection last) = λ k n. k
+    stmt-stands (ExitPerform cycle) = λ k n. k
     stmt-stands StopRun = λ k n. tt
 
     stmts-stand : (stmts : Stmts) → StmtsFit C R W stmts → StmtsServed naming kinds procedures range stmts → StmtsStand naming kinds procedures range stmts

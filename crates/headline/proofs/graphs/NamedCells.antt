@@ -1,13 +1,13 @@
 -- The cells that lowered nodes name are counters of loops by TIMES.
 use Rattle.std.proofs.Common.{◌≡◌, ℕ, suc, ◌+◌, ◌*◌, Bool, true, false, if◌then◌else◌, ◌==◌, nat_eq, List, [], ◌∷◌, ◌++◌, refl, sym, ◌∙◌, subst, inl, inr, Option, Some, None}
 use Rattle.std.specs.Prelude.{slice_get, length}
-use Rattle.control.specs.Language.{Act, Own, Set, Take, Lower, Test, Holds, Not, Is, Above, Picker, If, By, ByCell, Control, Times, Until, Varying, Stmt, Choose, Loop, Perform, Go, GoDepending, NextSentence, StopRun, Stmts, none, also, Arms, done, given, missing, Body, Nested, Performed, Paragraph, Program, Range, Main, Part}
+use Rattle.control.specs.Language.{Act, Own, Set, Take, Lower, Test, Holds, Not, Is, Above, Picker, If, By, ByCell, Control, Times, Until, Varying, Stmt, Choose, Loop, Perform, Go, GoDepending, NextSentence, ExitParagraph, ExitSection, ExitPerform, StopRun, Stmts, none, also, Arms, done, given, missing, Body, Nested, Performed, Paragraph, Program, Range, Main, Part}
 use Rattle.control.specs.Language as language
 use Rattle.control.specs.Graph.{Label, Tree, tree, End, Pick, Jump, Return, Stop, Dead, Trees, no_more, more, end_of}
 use Rattle.lowering.specs.Told.{Told, IsSource, OwnAct, OwnTest, OwnControl, OwnPicker, OwnStmt, OwnStmts, OwnArms, OwnBody, OwnParagraph, OwnParagraphs, arm_count}
 use Rattle.lowering.specs.Completes.{completes, cut, cuts, cut_arms, cut_body, whole, wholes, leave_sentence, size, sizes, skips, first_is_dead}
-use Rattle.lowering.specs.Lower.{point, head, only, with_first, push, back, leaf, build, build_stmt, build_arms, depending, loop_start, Node, loop_nodes, nodes, nodes_in, nodes_of_arms, fall_leaf, end_leaf}
-use Rattle.lowering.specs.Rests.{Rest, Sent, rest_from, leaf_of, sentence_of, tree_of}
+use Rattle.lowering.specs.Lower.{point, head, only, with_first, push, back, leaf, build, build_stmt, build_arms, depending, loop_start, Node, loop_nodes, nodes, nodes_in, nodes_of_arms, fall_leaf, end_leaf, Leaving, leaving_at, within_loop}
+use Rattle.lowering.specs.Rests.{Rest, Sent, rest_from, leaf_of, leaving_of, tree_of, after_loop, at_loop}
 use Rattle.lowering.specs.Rests as rests
 use Rattle.lowering.specs.Lowered.{total, place_in, find, nodes_left, nodes_from, nodes_of}
 use Rattle.lowering.specs.Reached.{JumpsTo, ArmsJumpTo, jumped, kept_nodes}
@@ -70,6 +70,9 @@ module _ (told : Told) (place_of : ℕ → ℕ) (paragraphs : ℕ) (J : Label �
     cut-names (Go to) = λ own. tt
     cut-names (GoDepending to on) = λ own. tt
     cut-names NextSentence = λ own. tt
+    cut-names ExitParagraph = λ own. tt
+    cut-names (ExitSection last) = λ own. tt
+    cut-names (ExitPerform cycle) = λ own. tt
     cut-names StopRun = λ own. tt
 
     cuts-name : (ss : Stmts) → OwnStmts told paragraphs ss → StmtsName Q Q (cuts told ss)
@@ -95,6 +98,9 @@ module _ (told : Told) (place_of : ℕ → ℕ) (paragraphs : ℕ) (J : Label �
   leaf-names (also (Go to) ss) n after w = tt
   leaf-names (also (GoDepending to on) ss) n after w = tt
   leaf-names (also NextSentence ss) n after w = tt
+  leaf-names (also ExitParagraph ss) n after w = tt
+  leaf-names (also (ExitSection last) ss) n after w = tt
+  leaf-names (also (ExitPerform cycle) ss) n after w = tt
   leaf-names (also StopRun ss) n after w = tt
 
   only-fine : (end : End) → EndNames Q Q end → Fine (only end)
@@ -121,45 +127,53 @@ module _ (told : Told) (place_of : ℕ → ℕ) (paragraphs : ℕ) (J : Label �
   start-fine (Until after test) n own c = λ j. (tt, tt)
   start-fine (Varying after set step test) n own c = λ j. ((own-act set own.0, tt), tt)
 
+  -- wherever what leaves goes on, these cells alone are named
+  abbrev pub LeavingNames : Leaving → Type 0
+  LeavingNames leaving = EndNames Q Q leaving.sentence × EndNames Q Q leaving.paragraph × ((last : ℕ) → EndNames Q Q (leaving.section last)) × EndNames Q Q leaving.loop × EndNames Q Q leaving.cycle
+
   mutual
-    build-stmt-fine : (s : Stmt) (n : ℕ) (sentence after : End) (behind : Tree) → OwnStmt told paragraphs s → StmtCounts P s n →
-        EndNames Q Q sentence → EndNames Q Q after → Fine behind → Fine (build_stmt told place_of s n sentence after behind)
-    build-stmt-fine (language.Do act) n sentence after behind own c ws wa fb =
+    build-stmt-fine : (s : Stmt) (n : ℕ) (leaving : Leaving) (after : End) (behind : Tree) → OwnStmt told paragraphs s → StmtCounts P s n →
+        LeavingNames leaving → EndNames Q Q after → Fine behind → Fine (build_stmt told place_of s n leaving after behind)
+    build-stmt-fine (language.Do act) n leaving after behind own c ws wa fb =
         elim (skips told act) as (λ b. Fine (if b then behind else push told place_of (language.Do act) behind)) [ true ↦ fb | false ↦ push-fine (language.Do act) behind own fb ]
-    build-stmt-fine (Choose picker arms) n sentence after behind own c ws wa fb =
-        let trees = build_arms told place_of (first_is_dead told picker) arms (n + 1) sentence after in
+    build-stmt-fine (Choose picker arms) n leaving after behind own c ws wa fb =
+        let trees = build_arms told place_of (first_is_dead told picker) arms (n + 1) leaving after in
         elim (whole (cut told (Choose picker arms))) as (λ b. Fine (if b then push told place_of (Choose picker arms) behind else only (Pick picker trees))) [
           | true ↦ push-fine (Choose picker arms) behind own fb
-          | false ↦ λ j. (tt, (own-picker picker (arm_count arms) own.0, arms-fine (first_is_dead told picker) arms (n + 1) sentence after own.1 c ws wa j))
+          | false ↦ λ j. (tt, (own-picker picker (arm_count arms) own.0, arms-fine (first_is_dead told picker) arms (n + 1) leaving after own.1 c ws wa j))
         ]
-    build-stmt-fine (Loop control (Nested body)) n sentence after behind own c ws wa fb =
+    build-stmt-fine (Loop control (Nested body)) n leaving after behind own c ws wa fb =
         elim (wholes (cuts told body)) as (λ b. Fine (if b then push told place_of (Loop control (Nested body)) behind else loop_start control n)) [
           | true ↦ push-fine (Loop control (Nested body)) behind own fb
           | false ↦ start-fine control n own.0 c.0
         ]
-    build-stmt-fine (Loop control (Performed e x)) n sentence after behind own c ws wa fb = push-fine (Loop control (Performed e x)) behind own fb
-    build-stmt-fine (Perform e x) n sentence after behind own c ws wa fb = push-fine (Perform e x) behind own fb
-    build-stmt-fine (Go to) n sentence after behind own c ws wa fb = λ j. (tt, tt)
-    build-stmt-fine (GoDepending to on) n sentence after behind own c ws wa fb = λ j. (tt, (tt, depending-name to after wa))
-    build-stmt-fine NextSentence n sentence after behind own c ws wa fb = λ j. (tt, ws)
-    build-stmt-fine StopRun n sentence after behind own c ws wa fb = λ j. (tt, tt)
+    build-stmt-fine (Loop control (Performed e x)) n leaving after behind own c ws wa fb = push-fine (Loop control (Performed e x)) behind own fb
+    build-stmt-fine (Perform e x) n leaving after behind own c ws wa fb = push-fine (Perform e x) behind own fb
+    build-stmt-fine (Go to) n leaving after behind own c ws wa fb = λ j. (tt, tt)
+    build-stmt-fine (GoDepending to on) n leaving after behind own c ws wa fb = λ j. (tt, (tt, depending-name to after wa))
+    build-stmt-fine NextSentence n leaving after behind own c ws wa fb = λ j. (tt, ws.0)
+    build-stmt-fine ExitParagraph n leaving after behind own c ws wa fb = λ j. (tt, ws.1)
+    build-stmt-fine (ExitSection last) n leaving after behind own c ws wa fb = λ j. (tt, ws.2 last)
+    build-stmt-fine (ExitPerform false) n leaving after behind own c ws wa fb = λ j. (tt, ws.3)
+    build-stmt-fine (ExitPerform true) n leaving after behind own c ws wa fb = λ j. (tt, ws.4)
+    build-stmt-fine StopRun n leaving after behind own c ws wa fb = λ j. (tt, tt)
 
-    build-fine : (ss : Stmts) (n : ℕ) (sentence after : End) (behind : Tree) → OwnStmts told paragraphs ss → StmtsCount P ss n →
-        EndNames Q Q sentence → EndNames Q Q after → Fine behind → Fine (build told place_of ss n sentence after behind)
-    build-fine none n sentence after behind own c ws wa fb = fb
-    build-fine (also s ss) n sentence after behind own c ws wa fb =
-        build-stmt-fine s n sentence (leaf told place_of ss (n + size s) after) (build told place_of ss (n + size s) sentence after behind) own.0 c.0
-        ws (leaf-names ss (n + size s) after wa) (build-fine ss (n + size s) sentence after behind own.1 c.1 ws wa fb)
+    build-fine : (ss : Stmts) (n : ℕ) (leaving : Leaving) (after : End) (behind : Tree) → OwnStmts told paragraphs ss → StmtsCount P ss n →
+        LeavingNames leaving → EndNames Q Q after → Fine behind → Fine (build told place_of ss n leaving after behind)
+    build-fine none n leaving after behind own c ws wa fb = fb
+    build-fine (also s ss) n leaving after behind own c ws wa fb =
+        build-stmt-fine s n leaving (leaf told place_of ss (n + size s) after) (build told place_of ss (n + size s) leaving after behind) own.0 c.0
+        ws (leaf-names ss (n + size s) after wa) (build-fine ss (n + size s) leaving after behind own.1 c.1 ws wa fb)
 
-    arms-fine : (first : Bool) (arms : Arms) (n : ℕ) (sentence after : End) → OwnArms told paragraphs arms → ArmsCount P arms n →
-        EndNames Q Q sentence → EndNames Q Q after → AreFine (build_arms told place_of first arms n sentence after)
-    arms-fine first done n sentence after own c ws wa = λ j. tt
-    arms-fine first (given arm others) n sentence after own c ws wa =
-        trees-more (build told place_of arm n sentence after (only after)) (build_arms told place_of false others (n + sizes arm) sentence after)
-        (build-fine arm n sentence after (only after) own.0 c.0 ws wa (only-fine after wa))
-        (arms-fine false others (n + sizes arm) sentence after own.1 c.1 ws wa)
-    arms-fine true (missing others) n sentence after own c ws wa = λ j. (tt, tt, arms-fine false others n sentence after own c ws wa (λ l h. j l (inr h)))
-    arms-fine false (missing others) n sentence after own c ws wa = λ j. (tt, wa, arms-fine false others n sentence after own c ws wa (λ l h. j l (inr h)))
+    arms-fine : (first : Bool) (arms : Arms) (n : ℕ) (leaving : Leaving) (after : End) → OwnArms told paragraphs arms → ArmsCount P arms n →
+        LeavingNames leaving → EndNames Q Q after → AreFine (build_arms told place_of first arms n leaving after)
+    arms-fine first done n leaving after own c ws wa = λ j. tt
+    arms-fine first (given arm others) n leaving after own c ws wa =
+        trees-more (build told place_of arm n leaving after (only after)) (build_arms told place_of false others (n + sizes arm) leaving after)
+        (build-fine arm n leaving after (only after) own.0 c.0 ws wa (only-fine after wa))
+        (arms-fine false others (n + sizes arm) leaving after own.1 c.1 ws wa)
+    arms-fine true (missing others) n leaving after own c ws wa = λ j. (tt, tt, arms-fine false others n leaving after own c ws wa (λ l h. j l (inr h)))
+    arms-fine false (missing others) n leaving after own c ws wa = λ j. (tt, wa, arms-fine false others n leaving after own c ws wa (λ l h. j l (inr h)))
 
   loop-fine : (control : Control) (n : ℕ) (body : Tree) (after : End) → OwnControl control → ControlCounts P control n → Fine body → EndNames Q Q after → AllFine (loop_nodes control n body after)
   loop-fine (Times amount) n (tree stmts end) after own c f wa = (λ k j. (let b = f (λ l h. j l (inl h)) in let q = c k in (tt, (q, (((q, q), b.0), b.1, (tt, wa, tt))))), tt)
@@ -172,42 +186,47 @@ module _ (told : Told) (place_of : ℕ → ℕ) (paragraphs : ℕ) (J : Label �
   loop-fine (Varying true set step test) n (tree stmts end) after own c f wa = (λ k j. f j, (λ k j. (tt, (own-test test own.2, (tt, wa, ((own-act step own.1, tt), tt, tt)))), tt))
 
   mutual
-    nodes-in-fine : (s : Stmt) (n : ℕ) (sentence after : End) (behind : Tree) → OwnStmt told paragraphs s → StmtCounts P s n →
-        EndNames Q Q sentence → EndNames Q Q after → Fine behind → AllFine (nodes_in told place_of s n sentence after behind)
-    nodes-in-fine (language.Do act) n sentence after behind own c ws wa fb = tt
-    nodes-in-fine (Choose picker arms) n sentence after behind own c ws wa fb = arms-nodes-fine arms (n + 1) sentence after behind own.1 c ws wa fb
-    nodes-in-fine (Loop control (Nested body)) n sentence after behind own c ws wa fb =
+    nodes-in-fine : (s : Stmt) (n : ℕ) (leaving : Leaving) (after : End) (behind : Tree) → OwnStmt told paragraphs s → StmtCounts P s n →
+        LeavingNames leaving → EndNames Q Q after → Fine behind → AllFine (nodes_in told place_of s n leaving after behind)
+    nodes-in-fine (language.Do act) n leaving after behind own c ws wa fb = tt
+    nodes-in-fine (Choose picker arms) n leaving after behind own c ws wa fb = arms-nodes-fine arms (n + 1) leaving after behind own.1 c ws wa fb
+    nodes-in-fine (Loop control (Nested body)) n leaving after behind own c ws wa fb =
         let b1 = Jump (back control n) in
-        all-append (loop_nodes control n (build told place_of body (n + 1) sentence b1 (only b1)) after) (nodes told place_of body (n + 1) sentence b1 (only b1))
-        (loop-fine control n (build told place_of body (n + 1) sentence b1 (only b1)) after own.0 c.0 (build-fine body (n + 1) sentence b1 (only b1) own.1 c.1 ws tt (only-fine b1 tt)) wa)
-        (nodes-fine body (n + 1) sentence b1 (only b1) own.1 c.1 ws tt (only-fine b1 tt))
-    nodes-in-fine (Loop control (Performed e x)) n sentence after behind own c ws wa fb = tt
-    nodes-in-fine (Perform e x) n sentence after behind own c ws wa fb = tt
-    nodes-in-fine (Go to) n sentence after behind own c ws wa fb = tt
-    nodes-in-fine (GoDepending to on) n sentence after behind own c ws wa fb = tt
-    nodes-in-fine NextSentence n sentence after behind own c ws wa fb = tt
-    nodes-in-fine StopRun n sentence after behind own c ws wa fb = tt
+        let in_body = within_loop leaving after b1 in
+        let wl : LeavingNames in_body = (ws.0, ws.1, ws.2, wa, tt) in
+        all-append (loop_nodes control n (build told place_of body (n + 1) in_body b1 (only b1)) after) (nodes told place_of body (n + 1) in_body b1 (only b1))
+        (loop-fine control n (build told place_of body (n + 1) in_body b1 (only b1)) after own.0 c.0 (build-fine body (n + 1) in_body b1 (only b1) own.1 c.1 wl tt (only-fine b1 tt)) wa)
+        (nodes-fine body (n + 1) in_body b1 (only b1) own.1 c.1 wl tt (only-fine b1 tt))
+    nodes-in-fine (Loop control (Performed e x)) n leaving after behind own c ws wa fb = tt
+    nodes-in-fine (Perform e x) n leaving after behind own c ws wa fb = tt
+    nodes-in-fine (Go to) n leaving after behind own c ws wa fb = tt
+    nodes-in-fine (GoDepending to on) n leaving after behind own c ws wa fb = tt
+    nodes-in-fine NextSentence n leaving after behind own c ws wa fb = tt
+    nodes-in-fine ExitParagraph n leaving after behind own c ws wa fb = tt
+    nodes-in-fine (ExitSection last) n leaving after behind own c ws wa fb = tt
+    nodes-in-fine (ExitPerform cycle) n leaving after behind own c ws wa fb = tt
+    nodes-in-fine StopRun n leaving after behind own c ws wa fb = tt
 
-    nodes-fine : (ss : Stmts) (n : ℕ) (sentence after : End) (behind : Tree) → OwnStmts told paragraphs ss → StmtsCount P ss n →
-        EndNames Q Q sentence → EndNames Q Q after → Fine behind → AllFine (nodes told place_of ss n sentence after behind)
-    nodes-fine none n sentence after behind own c ws wa fb = tt
-    nodes-fine (also s ss) n sentence after behind own c ws wa fb =
+    nodes-fine : (ss : Stmts) (n : ℕ) (leaving : Leaving) (after : End) (behind : Tree) → OwnStmts told paragraphs ss → StmtsCount P ss n →
+        LeavingNames leaving → EndNames Q Q after → Fine behind → AllFine (nodes told place_of ss n leaving after behind)
+    nodes-fine none n leaving after behind own c ws wa fb = tt
+    nodes-fine (also s ss) n leaving after behind own c ws wa fb =
         let lf = leaf told place_of ss (n + size s) after in
-        let bt = build told place_of ss (n + size s) sentence after behind in
+        let bt = build told place_of ss (n + size s) leaving after behind in
         let wl = leaf-names ss (n + size s) after wa in
-        let ft = build-fine ss (n + size s) sentence after behind own.1 c.1 ws wa fb in (
-          λ k. build-stmt-fine s n sentence lf bt own.0 c.0 ws wl ft,
-          all-append (nodes_in told place_of s n sentence lf bt) (nodes told place_of ss (n + size s) sentence after behind)
-              (nodes-in-fine s n sentence lf bt own.0 c.0 ws wl ft) (nodes-fine ss (n + size s) sentence after behind own.1 c.1 ws wa fb),
+        let ft = build-fine ss (n + size s) leaving after behind own.1 c.1 ws wa fb in (
+          λ k. build-stmt-fine s n leaving lf bt own.0 c.0 ws wl ft,
+          all-append (nodes_in told place_of s n leaving lf bt) (nodes told place_of ss (n + size s) leaving after behind)
+              (nodes-in-fine s n leaving lf bt own.0 c.0 ws wl ft) (nodes-fine ss (n + size s) leaving after behind own.1 c.1 ws wa fb),
         )
 
-    arms-nodes-fine : (arms : Arms) (n : ℕ) (sentence after : End) (behind : Tree) → OwnArms told paragraphs arms → ArmsCount P arms n →
-        EndNames Q Q sentence → EndNames Q Q after → Fine behind → AllFine (nodes_of_arms told place_of arms n sentence after behind)
-    arms-nodes-fine done n sentence after behind own c ws wa fb = tt
-    arms-nodes-fine (given arm others) n sentence after behind own c ws wa fb =
-        all-append (nodes told place_of arm n sentence after behind) (nodes_of_arms told place_of others (n + sizes arm) sentence after behind)
-        (nodes-fine arm n sentence after behind own.0 c.0 ws wa fb) (arms-nodes-fine others (n + sizes arm) sentence after behind own.1 c.1 ws wa fb)
-    arms-nodes-fine (missing others) n sentence after behind own c ws wa fb = arms-nodes-fine others n sentence after behind own c ws wa fb
+    arms-nodes-fine : (arms : Arms) (n : ℕ) (leaving : Leaving) (after : End) (behind : Tree) → OwnArms told paragraphs arms → ArmsCount P arms n →
+        LeavingNames leaving → EndNames Q Q after → Fine behind → AllFine (nodes_of_arms told place_of arms n leaving after behind)
+    arms-nodes-fine done n leaving after behind own c ws wa fb = tt
+    arms-nodes-fine (given arm others) n leaving after behind own c ws wa fb =
+        all-append (nodes told place_of arm n leaving after behind) (nodes_of_arms told place_of others (n + sizes arm) leaving after behind)
+        (nodes-fine arm n leaving after behind own.0 c.0 ws wa fb) (arms-nodes-fine others (n + sizes arm) leaving after behind own.1 c.1 ws wa fb)
+    arms-nodes-fine (missing others) n leaving after behind own c ws wa fb = arms-nodes-fine others n leaving after behind own c ws wa fb
 
 module _ (told : Told) (program : Program) (range : Range) (J : Label → Type 0) (Q : ℕ → Type 0) where
   abbrev places : ℕ → ℕ
@@ -225,31 +244,48 @@ module _ (told : Told) (program : Program) (range : Range) (J : Label → Type 0
   abbrev Counter : ℕ → Type 0
   Counter place = J (head place) → Q place
 
-  left-leaf-names : (end : End) (n : ℕ) (ss : Paragraph) → EndNames Q Q end → EndNames Q Q (leaf_of told places end (rest_from told n ss))
-  left-leaf-names end n [] w = w
+  -- the ends of paragraphs do
+  abbrev ParagraphNames : Leaving → Type 0
+  ParagraphNames end = EndNames Q Q end.paragraph × ((last : ℕ) → EndNames Q Q (end.section last))
+
+  left-leaf-names : (end : Leaving) (n : ℕ) (ss : Paragraph) → ParagraphNames end → EndNames Q Q (leaf_of told places end (rest_from told n ss))
+  left-leaf-names end n [] w = w.0
   left-leaf-names end n (s ∷ ss) w = leaf-names told places count J Q s n (leaf_of told places end (rest_from told (n + sizes s) ss)) (left-leaf-names end (n + sizes s) ss w)
 
-  sent-fine : (end : End) (holds : Bool) (c : Rest) → EndNames Q Q (leaf_of told places end c) → IsFine (tree_of told places end c) → IsFine (tree_of told places end (Sent holds c))
+  left-loop-names : (end : Leaving) (n : ℕ) (ss : Paragraph) → EndNames Q Q end.paragraph → EndNames Q Q (leaf_of told places end (after_loop (rest_from told n ss)))
+  left-loop-names end n [] w = w
+  left-loop-names end n (s ∷ ss) w = left-loop-names end (n + sizes s) ss w
+
+  left-turn-names : (end : Leaving) (n : ℕ) (ss : Paragraph) → EndNames Q Q end.paragraph → EndNames Q Q (leaf_of told places end (at_loop (rest_from told n ss)))
+  left-turn-names end n [] w = w
+  left-turn-names end n (s ∷ ss) w = left-turn-names end (n + sizes s) ss w
+
+  left-leaving-names : (end : Leaving) (n : ℕ) (ss : Paragraph) → EndNames Q Q (leaf_of told places end (rest_from told n ss)) → ParagraphNames end →
+      EndNames Q Q (leaf_of told places end (rest_from told n ss)) × EndNames Q Q end.paragraph × ((last : ℕ) → EndNames Q Q (end.section last))
+      × EndNames Q Q (leaf_of told places end (after_loop (rest_from told n ss))) × EndNames Q Q (leaf_of told places end (at_loop (rest_from told n ss)))
+  left-leaving-names end n ss wl w = (wl, w.0, w.1, left-loop-names end n ss w.0, left-turn-names end n ss w.0)
+
+  sent-fine : (end : Leaving) (holds : Bool) (c : Rest) → EndNames Q Q (leaf_of told places end c) → IsFine (tree_of told places end c) → IsFine (tree_of told places end (Sent holds c))
   sent-fine end true c w f = λ j. (tt, w)
   sent-fine end false c w f = f
 
-  left-tree-fine : (end : End) (n : ℕ) (ss : Paragraph) → OwnParagraph told count ss → ParagraphCounts Counter ss n → EndNames Q Q end → IsFine (tree_of told places end (rest_from told n ss))
-  left-tree-fine end n [] own c w = λ j. (tt, w)
+  left-tree-fine : (end : Leaving) (n : ℕ) (ss : Paragraph) → OwnParagraph told count ss → ParagraphCounts Counter ss n → ParagraphNames end → IsFine (tree_of told places end (rest_from told n ss))
+  left-tree-fine end n [] own c w = λ j. (tt, w.0)
   left-tree-fine end n (s ∷ ss) own c w =
       let holds = leave_sentence (cuts told s) in
       let r = rest_from told (n + sizes s) ss in
       let wl = left-leaf-names end (n + sizes s) ss w in
-      build-fine told places count J Q s n (leaf_of told places end r) (leaf_of told places end r) (tree_of told places end (Sent holds r)) own.0 c.0 wl wl
+      build-fine told places count J Q s n (leaving_of told places end (Sent holds r)) (leaf_of told places end r) (tree_of told places end (Sent holds r)) own.0 c.0 (left-leaving-names end (n + sizes s) ss wl w) wl
       (sent-fine end holds r wl (left-tree-fine end (n + sizes s) ss own.1 c.1 w))
 
-  left-fine : (end : End) (n : ℕ) (ss : Paragraph) → OwnParagraph told count ss → ParagraphCounts Counter ss n → EndNames Q Q end → EachFine (nodes_left told program end (rest_from told n ss))
+  left-fine : (end : Leaving) (n : ℕ) (ss : Paragraph) → OwnParagraph told count ss → ParagraphCounts Counter ss n → ParagraphNames end → EachFine (nodes_left told program end (rest_from told n ss))
   left-fine end n [] own c w = tt
   left-fine end n (s ∷ ss) own c w =
       let holds = leave_sentence (cuts told s) in
       let r = rest_from told (n + sizes s) ss in
       let wl = left-leaf-names end (n + sizes s) ss w in
-      all-append told places count J Q (nodes told places s n (leaf_of told places end r) (leaf_of told places end r) (tree_of told places end (Sent holds r))) (nodes_left told program end r)
-      (nodes-fine told places count J Q s n (leaf_of told places end r) (leaf_of told places end r) (tree_of told places end (Sent holds r)) own.0 c.0 wl wl
+      all-append told places count J Q (nodes told places s n (leaving_of told places end (Sent holds r)) (leaf_of told places end r) (tree_of told places end (Sent holds r))) (nodes_left told program end r)
+      (nodes-fine told places count J Q s n (leaving_of told places end (Sent holds r)) (leaf_of told places end r) (tree_of told places end (Sent holds r)) own.0 c.0 (left-leaving-names end (n + sizes s) ss wl w) wl
       (sent-fine end holds r wl (left-tree-fine end (n + sizes s) ss own.1 c.1 w)))
       (left-fine end (n + sizes s) ss own.1 c.1 w)
 
@@ -264,10 +300,10 @@ module _ (told : Told) (program : Program) (range : Range) (J : Label → Type 0
   from-fine : (q n : ℕ) (ps : List Paragraph) → OwnParagraphs told count ps → ParagraphsCount Counter ps n → EachFine (nodes_from told program range q n ps)
   from-fine q n [] own c = tt
   from-fine q n (ss ∷ others) own c =
-      let end = end_leaf places program range q in (
-        λ k. left-tree-fine end (n + 1) ss own.0 c.0 (end-names range q),
+      let end = leaving_at places program range q in (
+        λ k. left-tree-fine end (n + 1) ss own.0 c.0 (end-names range q, end-names range),
         all-append told places count J Q (nodes_left told program end (rest_from told (n + 1) ss)) (nodes_from told program range (suc q) (n + 1 + total ss) others)
-            (left-fine end (n + 1) ss own.0 c.0 (end-names range q)) (from-fine (suc q) (n + 1 + total ss) others own.1 c.1),
+            (left-fine end (n + 1) ss own.0 c.0 (end-names range q, end-names range)) (from-fine (suc q) (n + 1 + total ss) others own.1 c.1),
       )
 
   pub all-fine : IsSource told program → ProgramCounts Counter program → EachFine (nodes_of told program range)
@@ -290,6 +326,9 @@ module _ (S T : ℕ → Type 0) (f : (n : ℕ) → S n → T n) where
     stmt-weak (Go to) n c = tt
     stmt-weak (GoDepending to on) n c = tt
     stmt-weak NextSentence n c = tt
+    stmt-weak ExitParagraph n c = tt
+    stmt-weak (ExitSection last) n c = tt
+    stmt-weak (ExitPerform cycle) n c = tt
     stmt-weak StopRun n c = tt
 
     stmts-weak : (ss : Stmts) (n : ℕ) → StmtsCount S ss n → StmtsCount T ss n
@@ -352,6 +391,9 @@ module _ (number : ℕ → ℕ) (Q R W : ℕ → Type 0) (to_r : (c : ℕ) → Q
     stmt-numbered (Go to) = λ k. tt
     stmt-numbered (GoDepending to on) = λ k. tt
     stmt-numbered NextSentence = λ k. tt
+    stmt-numbered ExitParagraph = λ k. tt
+    stmt-numbered (ExitSection last) = λ k. tt
+    stmt-numbered (ExitPerform cycle) = λ k. tt
     stmt-numbered StopRun = λ k. tt
 
     stmts-numbered : (ss : Stmts) → StmtsName Q Q ss → StmtsName R W (stmts_anew number ss)

@@ -1,24 +1,24 @@
 -- A reached node performs only what its range's level calls.
 use Rattle.std.proofs.Common.{◌≡◌, ℕ, zero, suc, ◌+◌, ◌<◌, Bool, true, false, if◌then◌else◌, nat_eq, List, [], ◌∷◌, refl, ap, sym, ◌∙◌, subst, arith, ◌⊎◌, inl, inr, Option, Some, None}
 use Rattle.std.specs.Prelude.{slice_get, length}
-use Rattle.control.specs.Language.{Act, Take, Lower, Test, Above, If, Control, Times, Until, Varying, Picker, By, Stmt, Choose, Loop, Perform, Go, GoDepending, NextSentence, StopRun, Stmts, none, also, Arms, done, given, missing, Body, Nested, Performed, Paragraph, Program, paragraph_at, Range, Main, Part}
+use Rattle.control.specs.Language.{Act, Take, Lower, Test, Above, If, Control, Times, Until, Varying, Picker, By, Stmt, Choose, Loop, Perform, Go, GoDepending, NextSentence, ExitParagraph, ExitSection, ExitPerform, StopRun, Stmts, none, also, Arms, done, given, missing, Body, Nested, Performed, Paragraph, Program, paragraph_at, Range, Main, Part}
 use Rattle.control.specs.Language as language
-use Rattle.control.specs.Items.{Turning, Counted, Tests, Steps, StepsAfter, Item, Do, SentenceEnd, Turn, before, before_body, before_arm, past_sentence, On, way_after, tried, to_one, item_way}
+use Rattle.control.specs.Items.{Turning, Counted, Tests, Steps, StepsAfter, Item, Do, SentenceEnd, Turn, before, before_body, before_arm, past_sentence, from_loop, On, way_after, tried, to_one, item_way}
 use Rattle.control.specs.Source.{rest_of}
 use Rattle.control.specs.Graph.{Label, Tree, tree, End, Pick, Jump, Return, Stop, Dead, Trees, no_more, more, end_of, Family}
 use Rattle.lowering.specs.Told.{Told, IsSource, IsFirstMissing, MayGive, OwnStmt, OwnStmts, OwnArms, AllBelow, arm_count}
 use Rattle.lowering.specs.Completes.{completes, cut, cuts, cut_arms, whole, wholes, size, sizes, skips, first_is_dead}
-use Rattle.lowering.specs.Lower.{point, head, third, only, with_first, push, leaf, leaf_stmt, build, build_stmt, build_arms, depending, loop_start, loop_nodes, nodes, nodes_in, nodes_of_arms, fall_leaf, end_leaf}
-use Rattle.lowering.specs.Rests.{Rest, From, Sent, Turns, Cut, turning_of, items_in, to_turn, after_sentence, uncut, rest_from, leaf_of, sentence_of, tree_of, Has, HasRest}
+use Rattle.lowering.specs.Lower.{point, head, third, only, with_first, push, leaf, leaf_stmt, build, build_stmt, build_arms, depending, loop_start, loop_nodes, nodes, nodes_in, nodes_of_arms, fall_leaf, end_leaf, Leaving, leaving_at, within_loop}
+use Rattle.lowering.specs.Rests.{Rest, From, Sent, Turns, Cut, turning_of, items_in, to_turn, after_sentence, uncut, rest_from, leaf_of, leaving_of, tree_of, Has, HasRest}
 use Rattle.lowering.specs.Rests as rests
-use Rattle.lowering.specs.flow.Comes.{begins, enters, goes_to, falls, entry_of, IsLowered}
+use Rattle.lowering.specs.flow.Comes.{begins, enters, goes_to, falls, entry_of, IsLowered, goes_to_end}
 use Rattle.lowering.specs.Lowered.{place_in, lowered}
 use Rattle.lowering.specs.Reached.{JumpsTo, ArmsJumpTo, IsReached, entered, jumped}
 use Rattle.lowering.specs.flow.Paths.{free}
 use Rattle.lowering.specs.Laws.{FreelyComes}
 use Rattle.lowering.specs.flow.Called.{CallsStmt, CallsStmts, CallsArms, CallsEnd, CallsTrees, CallsTree}
 use Rattle.lowering.proofs.rests.Fits.{FitsIn, comes-fits, rest-fits}
-use Rattle.lowering.proofs.rests.Counters.{has-left, has-right, past-before, items-from, items-uncut, has-uncut, built-uncut}
+use Rattle.lowering.proofs.rests.Counters.{has-left, has-right, past-before, loop-before, items-from, items-uncut, has-uncut, built-uncut}
 use Rattle.lowering.proofs.graphs.Families.{lowered-is-lowered}
 use Rattle.lowering.proofs.flow.Passes.{missing-first, way-of, to-arm, by-ways, stmt-passes}
 
@@ -65,6 +65,9 @@ module _ (told : Told) (program : Program) (source : IsSource told program) (exa
     stmt-called q (Go to) rest own c = tt
     stmt-called q (GoDepending to on) rest own c = tt
     stmt-called q NextSentence rest own c = tt
+    stmt-called q ExitParagraph rest own c = tt
+    stmt-called q (ExitSection last) rest own c = tt
+    stmt-called q (ExitPerform cycle) rest own c = tt
     stmt-called q StopRun rest own c = tt
 
     stmts-called : (q : ℕ) (ss : Stmts) (rest : List Item) → OwnStmts told count ss → C q (before ss rest) → CallsStmts told program range (cuts told ss)
@@ -96,8 +99,8 @@ module _ (told : Told) (program : Program) (source : IsSource told program) (exa
   low : IsLowered told program (place_in program) family
   low = lowered-is-lowered told program
 
-  abbrev ending : ℕ → End
-  ending q = end_leaf places program range q
+  abbrev ending : ℕ → Leaving
+  ending q = leaving_at places program range q
 
   abbrev Tr : ℕ → Rest → Tree
   Tr q c = tree_of told places (ending q) c
@@ -105,8 +108,8 @@ module _ (told : Told) (program : Program) (source : IsSource told program) (exa
   abbrev Lf : ℕ → Rest → End
   Lf q c = leaf_of told places (ending q) c
 
-  abbrev Sn : ℕ → Rest → End
-  Sn q c = sentence_of told places (ending q) c
+  abbrev Sn : ℕ → Rest → Leaving
+  Sn q c = leaving_of told places (ending q) c
 
   abbrev HR : ℕ → Rest → Type 0
   HR q c = HasRest told places graph (ending q) c
@@ -221,12 +224,14 @@ module _ (told : Told) (program : Program) (source : IsSource told program) (exa
   record Behind (q : ℕ) (c : Rest) : Type 0 where
     whole_tree : C q (items_in c) → GoodTree (Tr q c)
     continuation : C q (items_in c) → GoodEnd (Lf q c)
-    past : C q (past_sentence (items_in c)) → GoodEnd (Sn q c)
+    past : C q (past_sentence (items_in c)) → GoodEnd (Sn q c).sentence
+    leaves : C q (from_loop false (items_in c)) → GoodEnd (Sn q c).loop
+    cycles : C q (from_loop true (items_in c)) → GoodEnd (Sn q c).cycle
     has : HR q c
     loops : LoopsOk q c
 
   behind-cut : (q : ℕ) (c : Rest) → Behind q c → Behind q (Cut c)
-  behind-cut q c b = record { whole_tree = λ k. (tt, b.continuation k); continuation = b.continuation; past = b.past; has = b.has; loops = b.loops }
+  behind-cut q c b = record { whole_tree = λ k. (tt, b.continuation k); continuation = b.continuation; past = b.past; leaves = b.leaves; cycles = b.cycles; has = b.has; loops = b.loops }
 
   later-has : (q place : ℕ) (s : Stmt) (ss : Stmts) (c : Rest) → HR q (From place (also s ss) c) → HR q (From (place + size s) ss c)
   later-has q place s ss c h =
@@ -250,15 +255,15 @@ module _ (told : Told) (program : Program) (source : IsSource told program) (exa
 
   loop-has : (q place : ℕ) (control : Control) (body : Stmts) (r : Rest) → Has told places graph (nodes_in told places (Loop control (Nested body)) place (Sn q r) (Lf q r) (Tr q (uncut r))) → HR q r → HR q (inner place control body r)
   loop-has q place (Times amount) body r h hr =
-      (has-right graph told places (loop_nodes (Times amount) place (build told places body (place + 1) (Sn q r) (Jump (head place)) (only (Jump (head place)))) (Lf q r)) (nodes told places body (place + 1) (Sn q r) (Jump (head place)) (only (Jump (head place)))) h, (h, hr))
+      (has-right graph told places (loop_nodes (Times amount) place (build told places body (place + 1) (within_loop (Sn q r) (Lf q r) (Jump (head place))) (Jump (head place)) (only (Jump (head place)))) (Lf q r)) (nodes told places body (place + 1) (within_loop (Sn q r) (Lf q r) (Jump (head place))) (Jump (head place)) (only (Jump (head place)))) h, (h, hr))
   loop-has q place (Until false test) body r h hr =
-      (has-right graph told places (loop_nodes (Until false test) place (build told places body (place + 1) (Sn q r) (Jump (head place)) (only (Jump (head place)))) (Lf q r)) (nodes told places body (place + 1) (Sn q r) (Jump (head place)) (only (Jump (head place)))) h, (h, hr))
+      (has-right graph told places (loop_nodes (Until false test) place (build told places body (place + 1) (within_loop (Sn q r) (Lf q r) (Jump (head place))) (Jump (head place)) (only (Jump (head place)))) (Lf q r)) (nodes told places body (place + 1) (within_loop (Sn q r) (Lf q r) (Jump (head place))) (Jump (head place)) (only (Jump (head place)))) h, (h, hr))
   loop-has q place (Until true test) body r h hr =
-      (has-right graph told places (loop_nodes (Until true test) place (build told places body (place + 1) (Sn q r) (Jump (third place)) (only (Jump (third place)))) (Lf q r)) (nodes told places body (place + 1) (Sn q r) (Jump (third place)) (only (Jump (third place)))) h, (h, hr))
+      (has-right graph told places (loop_nodes (Until true test) place (build told places body (place + 1) (within_loop (Sn q r) (Lf q r) (Jump (third place))) (Jump (third place)) (only (Jump (third place)))) (Lf q r)) (nodes told places body (place + 1) (within_loop (Sn q r) (Lf q r) (Jump (third place))) (Jump (third place)) (only (Jump (third place)))) h, (h, hr))
   loop-has q place (Varying false set stp test) body r h hr =
-      (has-right graph told places (loop_nodes (Varying false set stp test) place (build told places body (place + 1) (Sn q r) (Jump (third place)) (only (Jump (third place)))) (Lf q r)) (nodes told places body (place + 1) (Sn q r) (Jump (third place)) (only (Jump (third place)))) h, (h, hr))
+      (has-right graph told places (loop_nodes (Varying false set stp test) place (build told places body (place + 1) (within_loop (Sn q r) (Lf q r) (Jump (third place))) (Jump (third place)) (only (Jump (third place)))) (Lf q r)) (nodes told places body (place + 1) (within_loop (Sn q r) (Lf q r) (Jump (third place))) (Jump (third place)) (only (Jump (third place)))) h, (h, hr))
   loop-has q place (Varying true set stp test) body r h hr =
-      (has-right graph told places (loop_nodes (Varying true set stp test) place (build told places body (place + 1) (Sn q r) (Jump (third place)) (only (Jump (third place)))) (Lf q r)) (nodes told places body (place + 1) (Sn q r) (Jump (third place)) (only (Jump (third place)))) h, (h, hr))
+      (has-right graph told places (loop_nodes (Varying true set stp test) place (build told places body (place + 1) (within_loop (Sn q r) (Lf q r) (Jump (third place))) (Jump (third place)) (only (Jump (third place)))) (Lf q r)) (nodes told places body (place + 1) (within_loop (Sn q r) (Lf q r) (Jump (third place))) (Jump (third place)) (only (Jump (third place)))) h, (h, hr))
 
   -- a loop with an escape that is come to
   start-good : (q place : ℕ) (control : Control) (body : Stmts) (r : Rest) → Has told places graph (nodes_in told places (Loop control (Nested body)) place (Sn q r) (Lf q r) (Tr q (uncut r))) → HR q r → LoopsOk q r →
@@ -315,6 +320,26 @@ module _ (told : Told) (program : Program) (source : IsSource told program) (exa
         ),
       )
 
+  below-found : (ps : List Paragraph) (k : ℕ) (next : Paragraph) → slice_get ps k ≡ Some next → k < length ps
+  below-found [] k next is = cc
+  below-found (x ∷ xs) zero next is = omega arith
+  below-found (x ∷ xs) (suc k) next is = let e = below-found xs k next is in omega (arith, e)
+
+  fall-good : (r : Range) (q : ℕ) (found : Option Paragraph) → slice_get program.paragraphs (suc q) ≡ found → ((next : Paragraph) → slice_get program.paragraphs (suc q) ≡ Some next → C (suc q) (rest_of program (suc q))) → GoodEnd (fall_leaf places q found)
+  fall-good r q None is h = tt
+  fall-good r q (Some next) is h = paragraph-known (suc q) (below-found program.paragraphs (suc q) next is) (h next is)
+
+  end-good : (r : Range) (q : ℕ) → FreelyComes told program r q [] → ((number : ℕ) (rest : List Item) → FreelyComes told program r number rest → C number rest) → GoodEnd (end_leaf places program r q)
+  end-good Main q c same = fall-good Main q (slice_get program.paragraphs (suc q)) refl (λ next is. same (suc q) (rest_of program (suc q)) (falls Main q next is tt c))
+  end-good (Part e x) q c same =
+      (elim (nat_eq x q) as (λ b. nat_eq x q ≡ b → GoodEnd (if b then Return else fall_leaf places q (slice_get program.paragraphs (suc q)))) [
+        | true ↦ λ out. tt
+        | false ↦ λ out. fall-good (Part e x) q (slice_get program.paragraphs (suc q)) refl (λ next is. same (suc q) (rest_of program (suc q)) (falls (Part e x) q next is out c))
+      ]) refl
+
+  ends-here : (q : ℕ) → C q [] → GoodEnd (ending q).paragraph
+  ends-here q c = end-good range q c (λ number rest k. k)
+
   mutual
     stmt-good : (q place : ℕ) (s : Stmt) (r : Rest) → Behind q r → Has told places graph (nodes_in told places s place (Sn q r) (Lf q r) (Tr q (uncut r))) → OwnStmt told count s → C q (Do s ∷ items_in r) →
         GoodTree (build_stmt told places s place (Sn q r) (Lf q r) (Tr q r))
@@ -346,6 +371,10 @@ module _ (told : Told) (program : Program) (source : IsSource told program) (exa
           (b.continuation (passes q (GoDepending to on) (items_in r) own refl c)),
     )
     stmt-good q place NextSentence r b h own c = (tt, b.past (step q (Do NextSentence) (items_in r) (past_sentence (items_in r)) [] [] refl c))
+    stmt-good q place ExitParagraph r b h own c = (tt, ends-here q (step q (Do ExitParagraph) (items_in r) [] [] [] refl c))
+    stmt-good q place (ExitSection last) r b h own c = (tt, end-good range last (goes_to_end range q (Do (ExitSection last)) (items_in r) [] [] [] last c refl) (λ number rest k. k))
+    stmt-good q place (ExitPerform false) r b h own c = (tt, b.leaves (step q (Do (ExitPerform false)) (items_in r) (from_loop false (items_in r)) [] [] refl c))
+    stmt-good q place (ExitPerform true) r b h own c = (tt, b.cycles (step q (Do (ExitPerform true)) (items_in r) (from_loop true (items_in r)) [] [] refl c))
     stmt-good q place StopRun r b h own c = (tt, tt)
 
     arms-good : (q place : ℕ) (arms : Arms) (dead : Bool) (r : Rest) → Behind q r → Has told places graph (nodes_of_arms told places arms place (Sn q r) (Lf q r) (Tr q (uncut r))) → OwnArms told count arms → (dead ≡ true → IsFirstMissing arms) →
@@ -362,13 +391,15 @@ module _ (told : Told) (program : Program) (source : IsSource told program) (exa
     arms-good q place (missing others) false r b h own first come = (tt, b.continuation (come 0 (omega arith, λ f. cc)), arms-good q place others false r b h own (λ f. cc) (λ k may. come (suc k) (let e = may.0 in omega (arith, e), λ f. cc)))
 
     stmts-behind : (q place : ℕ) (ss : Stmts) (r : Rest) → Behind q r → OwnStmts told count ss → HR q (From place ss r) → Behind q (From place ss r)
-    stmts-behind q place none r b own h = record { whole_tree = b.whole_tree; continuation = b.continuation; past = b.past; has = h; loops = b.loops }
+    stmts-behind q place none r b own h = record { whole_tree = b.whole_tree; continuation = b.continuation; past = b.past; leaves = b.leaves; cycles = b.cycles; has = h; loops = b.loops }
     stmts-behind q place (also s ss) r b own h =
         let b1 = stmts-behind q (place + size s) ss r b own.1 (later-has q place s ss r h) in
         record {
           whole_tree = λ c. stmt-good q place s (From (place + size s) ss r) b1 (in-has q place s ss r h) own.0 c;
           continuation = λ c. leaf-good q place s ss r b1 b.loops own.0 h c;
           past = λ c. b.past (subst (C q) (past-before ss (items_in r)) c);
+          leaves = λ c. b.leaves (subst (C q) (loop-before false ss (items_in r)) c);
+          cycles = λ c. b.cycles (subst (C q) (loop-before true ss (items_in r)) c);
           has = h;
           loops = b.loops;
         }
@@ -386,6 +417,9 @@ module _ (told : Told) (program : Program) (source : IsSource told program) (exa
     leaf-good q place (Go to) ss r b lo own h c = paragraph-known to own (goes_to range q (Do (Go to)) (before ss (items_in r)) [] [] [] to c refl)
     leaf-good q place (GoDepending to on) ss r b lo own h c = point-known q place (GoDepending to on) ss r h lo c
     leaf-good q place NextSentence ss r b lo own h c = point-known q place NextSentence ss r h lo c
+    leaf-good q place ExitParagraph ss r b lo own h c = point-known q place ExitParagraph ss r h lo c
+    leaf-good q place (ExitSection last) ss r b lo own h c = point-known q place (ExitSection last) ss r h lo c
+    leaf-good q place (ExitPerform cycle) ss r b lo own h c = point-known q place (ExitPerform cycle) ss r h lo c
     leaf-good q place StopRun ss r b lo own h c = tt
 
   abbrev OwnRest : Rest → Type 0
@@ -406,26 +440,6 @@ module _ (told : Told) (program : Program) (source : IsSource told program) (exa
   own-rest (Turns place control left reached body others) f = own-rest others f.2
   own-rest (Cut others) f = own-rest others f
 
-  below-found : (ps : List Paragraph) (k : ℕ) (next : Paragraph) → slice_get ps k ≡ Some next → k < length ps
-  below-found [] k next is = cc
-  below-found (x ∷ xs) zero next is = omega arith
-  below-found (x ∷ xs) (suc k) next is = let e = below-found xs k next is in omega (arith, e)
-
-  fall-good : (r : Range) (q : ℕ) (found : Option Paragraph) → slice_get program.paragraphs (suc q) ≡ found → ((next : Paragraph) → slice_get program.paragraphs (suc q) ≡ Some next → C (suc q) (rest_of program (suc q))) → GoodEnd (fall_leaf places q found)
-  fall-good r q None is h = tt
-  fall-good r q (Some next) is h = paragraph-known (suc q) (below-found program.paragraphs (suc q) next is) (h next is)
-
-  end-good : (r : Range) (q : ℕ) → FreelyComes told program r q [] → ((number : ℕ) (rest : List Item) → FreelyComes told program r number rest → C number rest) → GoodEnd (end_leaf places program r q)
-  end-good Main q c same = fall-good Main q (slice_get program.paragraphs (suc q)) refl (λ next is. same (suc q) (rest_of program (suc q)) (falls Main q next is tt c))
-  end-good (Part e x) q c same =
-      (elim (nat_eq x q) as (λ b. nat_eq x q ≡ b → GoodEnd (if b then Return else fall_leaf places q (slice_get program.paragraphs (suc q)))) [
-        | true ↦ λ out. tt
-        | false ↦ λ out. fall-good (Part e x) q (slice_get program.paragraphs (suc q)) refl (λ next is. same (suc q) (rest_of program (suc q)) (falls (Part e x) q next is out c))
-      ]) refl
-
-  ends-here : (q : ℕ) → C q [] → GoodEnd (ending q)
-  ends-here q c = end-good range q c (λ number rest k. k)
-
   turn-label : (control : Control) (reached : Bool) (place : ℕ) → LoopLabel control place (to_turn control reached place)
   turn-label (Times amount) reached place = refl
   turn-label (Until false test) reached place = refl
@@ -439,6 +453,8 @@ module _ (told : Told) (program : Program) (source : IsSource told program) (exa
     whole_tree = λ k. (tt, b.continuation (step q SentenceEnd (items_in c) (items_in c) [] [] refl k));
     continuation = λ k. b.continuation (step q SentenceEnd (items_in c) (items_in c) [] [] refl k);
     past = b.continuation;
+    leaves = b.leaves;
+    cycles = b.cycles;
     has = b.has;
     loops = b.loops;
   }
@@ -446,19 +462,21 @@ module _ (told : Told) (program : Program) (source : IsSource told program) (exa
     whole_tree = λ k. b.whole_tree (step q SentenceEnd (items_in c) (items_in c) [] [] refl k);
     continuation = λ k. b.continuation (step q SentenceEnd (items_in c) (items_in c) [] [] refl k);
     past = b.continuation;
+    leaves = b.leaves;
+    cycles = b.cycles;
     has = b.has;
     loops = b.loops;
   }
 
   rest-behind : (q : ℕ) (c : Rest) → HR q c → LoopsOk q c → OwnRest c → Behind q c
-  rest-behind q rests.Over h lo own = record { whole_tree = λ k. (tt, ends-here q k); continuation = ends-here q; past = ends-here q; has = tt; loops = tt }
+  rest-behind q rests.Over h lo own = record { whole_tree = λ k. (tt, ends-here q k); continuation = ends-here q; past = ends-here q; leaves = ends-here q; cycles = ends-here q; has = tt; loops = tt }
   rest-behind q (From place stmts others) h lo own = stmts-behind q place stmts others (rest-behind q others h.1 lo own.1) own.0 h
   rest-behind q (Sent holds others) h lo own = sent-behind q holds others (rest-behind q others h lo own)
   rest-behind q (Turns place control left reached body others) h lo own =
       let b = rest-behind q others h.1 lo.1 own in
       let known : C q (items_in (Turns place control left reached body others)) → Known (to_turn control reached place) =
       λ k. inr (q, place, control, body, others, turn-label control reached place, lo.0 k, h.1, lo.1) in
-      record { whole_tree = λ k. (tt, known k); continuation = known; past = b.past; has = h; loops = lo }
+      record { whole_tree = λ k. (tt, known k); continuation = known; past = b.past; leaves = b.continuation; cycles = known; has = h; loops = lo }
   rest-behind q (Cut others) h lo own = behind-cut q others (rest-behind q others h lo own)
 
   rest-good : (q : ℕ) (c : Rest) → HR q c → LoopsOk q c → C q (items_in c) → GoodTree (Tr q c)

@@ -6,7 +6,7 @@ use Rattle.runs.specs.Machine.{iterate}
 use Rattle.control.specs.Outcome.{Trace, How, Normally, Ending, Stopped, Faulted, Reentry, Overlap, FlowFault, Standing}
 use Rattle.control.specs.Language.{Paragraph, Program}
 use Rattle.control.specs.Doing.{Doing, Acting, alone}
-use Rattle.control.specs.Items.{Item, Way, On, Halts, Into, To, item_way}
+use Rattle.control.specs.Items.{Item, Way, On, Halts, Into, To, ToEnd, item_way}
 use Rattle.control.specs.Source.{Pending, SourceState, ends_at, rest_of, comes_to, goes, falls, step_by, source_step}
 use Rattle.lowering.specs.Told.{Told, IsTold, IsSource}
 use Rattle.lowering.specs.flow.Paths.{Flow, flow, free, nothing_left}
@@ -112,6 +112,13 @@ module _ (told : Told) (program : Program) (source : IsSource told program) wher
         ] refl f
     goes-freed n ih q x xs pending m tr fault (To t now to) heavy h adds fit f =
         let k = ih to (rest_of program to) pending now (tr ++ t) fault (rest-fits told program source to) fit f in (
+          h.0 ++ k.0,
+          λ more.
+              subst (λ ways. FaultsAt n (goes (free told) nothing_left program (item_way (free told) x xs ways) (flow q (x ∷ xs) pending ways)) fault) (sym (append_assoc h.0 k.0 more))
+              (subst (λ w. FaultsAt n (goes (free told) nothing_left program w (flow q (x ∷ xs) pending (h.0 ++ (k.0 ++ more)))) fault) (sym (h.1 (k.0 ++ more))) (k.1 more)),
+        )
+    goes-freed n ih q x xs pending m tr fault (ToEnd t now to) heavy h adds fit f =
+        let k = ih to [] pending now (tr ++ t) fault tt fit f in (
           h.0 ++ k.0,
           λ more.
               subst (λ ways. FaultsAt n (goes (free told) nothing_left program (item_way (free told) x xs ways) (flow q (x ∷ xs) pending ways)) fault) (sym (append_assoc h.0 k.0 more))

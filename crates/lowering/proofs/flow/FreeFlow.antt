@@ -5,7 +5,7 @@ use Rattle.runs.specs.Run.{Going, Over}
 use Rattle.runs.specs.Machine.{iterate}
 use Rattle.control.specs.Outcome.{Faulted, Reentry, Overlap, Standing}
 use Rattle.control.specs.Language.{Program}
-use Rattle.control.specs.Items.{Item, Way, On, Halts, Into, To, item_way}
+use Rattle.control.specs.Items.{Item, Way, On, Halts, Into, To, ToEnd, item_way}
 use Rattle.control.specs.Source.{Pending, ends_at, rest_of, comes_to, goes_to, goes, falls, end_step, rest_step, step_by, source_step}
 use Rattle.lowering.specs.Told.{Told}
 use Rattle.lowering.specs.flow.Paths.{Flow, flow, free, nothing_left, IsFaulty, free_goes, free_end, free_rest, free_by, free_step}
@@ -26,6 +26,7 @@ module _ (told : Told) (program : Program) where
         | false ↦ λ fine. refl
       ]) fine
   goes-free (To t m to) f fine = refl
+  goes-free (ToEnd t m to) f fine = refl
 
   end-free : (pending : List Pending) (f : Flow) → IsFine (end_step (free told) nothing_left program pending f) → free_end told program pending f ≡ end_step (free told) nothing_left program pending f
   end-free [] f fine = refl

@@ -2,10 +2,10 @@
 use Rattle.std.proofs.Common.{◌≡◌, ◌≢◌, ℕ, zero, suc, ◌<◌, Bool, true, false, if◌then◌else◌, List, [], ◌∷◌, ◌++◌, refl, ap, sym, ◌∙◌, subst, arith, Option, Some, None}
 use Rattle.std.specs.Prelude.{slice_get, length}
 use Rattle.control.specs.Outcome.{Trace, Tried, Got, Ends}
-use Rattle.control.specs.Language.{Act, Own, Set, Take, Lower, Test, Picker, If, By, ByCell, Control, Times, Until, Varying, Stmt, Choose, Loop, Perform, Go, GoDepending, NextSentence, StopRun, Arms, Body, Range}
+use Rattle.control.specs.Language.{Act, Own, Set, Take, Lower, Test, Picker, If, By, ByCell, Control, Times, Until, Varying, Stmt, Choose, Loop, Perform, Go, GoDepending, NextSentence, ExitParagraph, ExitSection, ExitPerform, StopRun, Arms, Body, Range}
 use Rattle.control.specs.Language as language
 use Rattle.control.specs.Doing.{Acting, Doing, giving, arm_of, alone, alone_act, alone_test, alone_pick}
-use Rattle.control.specs.Items.{Turning, Counted, Tests, Steps, StepsAfter, Item, Do, SentenceEnd, Turn, before_body, before_arm, past_sentence, Way, On, Halts, Into, To, way_after, tried, on, first_turn, loop_begins, turns, tests, steps_on, turn_way, to_one, item_way}
+use Rattle.control.specs.Items.{Turning, Counted, Tests, Steps, StepsAfter, Item, Do, SentenceEnd, Turn, before_body, before_arm, past_sentence, from_loop, Way, On, Halts, Into, To, ToEnd, way_after, tried, on, first_turn, loop_begins, turns, tests, steps_on, turn_way, to_one, item_way}
 use Rattle.lowering.specs.Told.{Told, IsTold, MayGive, OwnPicker, arm_count}
 use Rattle.lowering.specs.flow.Paths.{is_first, is_below, first_arm, not_dead, arm_for, free_pick, free}
 use Rattle.lowering.proofs.rests.Wholes.{OwnItem, Gives, pick-gives}
@@ -17,6 +17,7 @@ Freely (On trace memory items) f = (ways : List ℕ) × ((more : List ℕ) → f
 Freely (Halts trace how memory) f = Unit {0}
 Freely (Into entry exit items) f = (more : List ℕ) → f more ≡ Into entry exit items
 Freely (To trace memory to) f = (ways : List ℕ) × ((more : List ℕ) → f (ways ++ more) ≡ To [] more to)
+Freely (ToEnd trace memory to) f = (ways : List ℕ) × ((more : List ℕ) → f (ways ++ more) ≡ ToEnd [] more to)
 
 below-told : (k n : ℕ) → k < n → is_below k n ≡ true
 below-told k zero lt = absurd (omega (arith, lt))
@@ -45,18 +46,21 @@ module _ {Memory : Type 0} where
   spent k (Halts t how m) f g plain e h = tt
   spent k (Into entry exit items) f g plain e h = absurd plain
   spent k (To t m to) f g plain e h = (k ∷ h.0, λ more. e (h.0 ++ more) ∙ ap (way_after []) (h.1 more))
+  spent k (ToEnd t m to) f g plain e h = (k ∷ h.0, λ more. e (h.0 ++ more) ∙ ap (way_after []) (h.1 more))
 
   unspent : (w : Way Memory) (f g : List ℕ → Way (List ℕ)) → ((more : List ℕ) → f more ≡ way_after [] (g more)) → Freely w g → Freely w f
   unspent (On t m items) f g e h = (h.0, λ more. e (h.0 ++ more) ∙ ap (way_after []) (h.1 more))
   unspent (Halts t how m) f g e h = tt
   unspent (Into entry exit items) f g e h = λ more. e more ∙ ap (way_after []) (h more)
   unspent (To t m to) f g e h = (h.0, λ more. e (h.0 ++ more) ∙ ap (way_after []) (h.1 more))
+  unspent (ToEnd t m to) f g e h = (h.0, λ more. e (h.0 ++ more) ∙ ap (way_after []) (h.1 more))
 
   after-freely : (t : Trace) (w : Way Memory) (f : List ℕ → Way (List ℕ)) → Freely w f → Freely (way_after t w) f
   after-freely t (On s m items) f h = h
   after-freely t (Halts s how m) f h = tt
   after-freely t (Into entry exit items) f h = h
   after-freely t (To s m to) f h = h
+  after-freely t (ToEnd s m to) f h = h
 
   -- a part that gives a value, which a way names
   tried-freely : {Value : Type 0} (P : Value → Type 0) (a : Tried Memory Value) (g : Value → Memory → Way Memory) (b : List ℕ → Tried (List ℕ) Value) (h : Value → List ℕ → Way (List ℕ)) (name : Value → ℕ) →
@@ -152,6 +156,9 @@ module _ {Memory : Type 0} (acting : Acting Memory) (told : Told) (is_told : IsT
   item-freely (Do (Go to)) rest m own = ([], λ more. refl)
   item-freely (Do (GoDepending to chooser)) rest m own = pick-freely (By chooser) (suc (length to)) m (λ k. to_one S (slice_get to k) rest) (λ k. to_one F (slice_get to k) rest) own.0 (λ k now. one-plain (slice_get to k) rest now) (λ k now. one-freely (slice_get to k) rest now)
   item-freely (Do NextSentence) rest m own = on-freely (past_sentence rest) m
+  item-freely (Do ExitParagraph) rest m own = on-freely [] m
+  item-freely (Do (ExitSection last)) rest m own = ([], λ more. refl)
+  item-freely (Do (ExitPerform cycle)) rest m own = on-freely (from_loop cycle rest) m
   item-freely (Do StopRun) rest m own = tt
   item-freely SentenceEnd rest m own = on-freely rest m
   item-freely (Turn turning body) rest m own = turn-freely turning body rest m

@@ -8,7 +8,7 @@ use Rattle.runs.proofs.Machines.{iterate-add}
 use Rattle.control.specs.Outcome.{Faulted, Reentry, Overlap, FlowFault, Standing}
 use Rattle.control.specs.Language.{Paragraph, Program, Perform, Range, Main, Part}
 use Rattle.control.specs.Doing.{Acting, alone}
-use Rattle.control.specs.Items.{Item, Do, Way, On, Halts, Into, To, item_way}
+use Rattle.control.specs.Items.{Item, Do, Way, On, Halts, Into, To, ToEnd, item_way}
 use Rattle.control.specs.Source.{Pending, ends_at, rest_of, comes_to, goes_to, goes, falls, end_step, rest_step, step_by, source_step, source_machine}
 use Rattle.control.specs.Graph.{Label}
 use Rattle.control.specs.Walk.{main_machine}
@@ -52,6 +52,7 @@ module _ (told : Told) (program : Program) (source : IsSource told program) (not
         | false ↦ (rest-fits told program source e, (adds.1, fit.1))
       ]
   goes-fits f (To t m to) heavy fit adds = (rest-fits told program source to, fit.1)
+  goes-fits f (ToEnd t m to) heavy fit adds = (tt, fit.1)
 
   falls-fits : (f : Flow) (found : Option Paragraph) → FlowFits f → FlowFits (falls (free told) nothing_left program found f)
   falls-fits f None fit = fit

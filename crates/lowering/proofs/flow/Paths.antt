@@ -8,7 +8,7 @@ use Rattle.control.specs.Doing.{Acting, alone}
 use Rattle.control.specs.Items.{Item, item_way}
 use Rattle.control.specs.Source.{Pending, rest_of, falls}
 use Rattle.lowering.specs.Told.{Told, IsTold, IsSource}
-use Rattle.lowering.specs.flow.Comes.{Comes, begins, enters, goes_on, goes_to, over, IsNoExit, AreReturning}
+use Rattle.lowering.specs.flow.Comes.{Comes, begins, enters, goes_on, goes_to, goes_to_end, over, IsNoExit, AreReturning}
 use Rattle.lowering.specs.flow.Comes as come
 use Rattle.lowering.specs.flow.Paths.{Flow, flow, free, nothing_left, free_goes, free_step, alone_pending, AreReturningByPath}
 use Rattle.lowering.proofs.rests.Fits.{FitsIn, comes-fits, rest-fits}
@@ -63,6 +63,11 @@ module _ {Memory : Type 0} (acting : Acting Memory) (told : Told) (is_told : IsT
       let fit = comes-fits told program source (alone acting) first first_rest first_fits r n (item ∷ others) c in
       let way = subst (λ w. Freely w (item_way (free told) item others)) is (item-freely acting told is_told (length program.paragraphs) item others m fit.0) in
       then-leads (entry_number r) n to (rest_of program (entry_number r)) (item ∷ others) (rest_of program to) pending pending pending (comes-by-path r n (item ∷ others) c pending s)
+      (way.0, 1, λ more. ap (λ w. free_goes told program w (flow n (item ∷ others) pending (way.0 ++ more))) (way.1 more))
+  comes-by-path range q rest (goes_to_end r n item others m t after to c is) pending s =
+      let fit = comes-fits told program source (alone acting) first first_rest first_fits r n (item ∷ others) c in
+      let way = subst (λ w. Freely w (item_way (free told) item others)) is (item-freely acting told is_told (length program.paragraphs) item others m fit.0) in
+      then-leads (entry_number r) n to (rest_of program (entry_number r)) (item ∷ others) [] pending pending pending (comes-by-path r n (item ∷ others) c pending s)
       (way.0, 1, λ more. ap (λ w. free_goes told program w (flow n (item ∷ others) pending (way.0 ++ more))) (way.1 more))
   comes-by-path range q rest (over r n item others m e x items c is d) pending s =
       let fit = comes-fits told program source (alone acting) first first_rest first_fits r n (item ∷ others) c in

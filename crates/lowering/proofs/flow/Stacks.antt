@@ -5,7 +5,7 @@ use Rattle.runs.specs.Run.{Going, Over}
 use Rattle.runs.specs.Machine.{iterate}
 use Rattle.control.specs.Outcome.{Trace, How, Normally, Stopped, Faulted, Reentry, Overlap, FlowFault}
 use Rattle.control.specs.Language.{Paragraph, Program}
-use Rattle.control.specs.Items.{Item, Way, On, Halts, Into, To, item_way}
+use Rattle.control.specs.Items.{Item, Way, On, Halts, Into, To, ToEnd, item_way}
 use Rattle.control.specs.Source.{Pending, ends_at, rest_of, comes_to, goes, falls, source_step}
 use Rattle.lowering.specs.Told.{Told}
 use Rattle.lowering.specs.flow.Paths.{Flow, free, nothing_left}
@@ -71,6 +71,7 @@ module _ (told : Told) (program : Program) (x q0 : ℕ) (r0 : List Item) (below 
             ]) refl f
       ] refl
   goes-bigger n ih q item rest tops ways tr fault (To t now to) f = ih to (rest_of program to) tops now (tr ++ t) fault f
+  goes-bigger n ih q item rest tops ways tr fault (ToEnd t now to) f = ih to [] tops now (tr ++ t) fault f
 
   falls-bigger : (n : ℕ) → Bigger n → (q : ℕ) (tops : List Pending) (ways : List ℕ) (tr : Trace) (fault : FlowFault) (found : Option Paragraph) →
       FaultsAt n (falls (free told) nothing_left program found (at q [] (tops ++ small) ways tr)) fault → AnyFault (falls (free told) nothing_left program found (at q [] (tops ++ big) ways tr))

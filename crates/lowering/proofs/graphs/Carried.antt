@@ -2,10 +2,10 @@
 use Rattle.std.proofs.Common.{◌≡◌, ℕ, zero, suc, Bool, true, false, List, [], ◌∷◌, refl, ap, ◌∙◌, Option, Some, None}
 use Rattle.std.specs.Prelude.{slice_get}
 use Rattle.control.specs.Outcome.{Trace, Tried, Got, Ends}
-use Rattle.control.specs.Language.{Act, Test, Picker, If, By, ByCell, Control, Times, Until, Varying, Stmt, Choose, Loop, Perform, Go, GoDepending, NextSentence, StopRun, Stmts, none, also, Arms, done, given, missing, Body, Nested, Performed}
+use Rattle.control.specs.Language.{Act, Test, Picker, If, By, ByCell, Control, Times, Until, Varying, Stmt, Choose, Loop, Perform, Go, GoDepending, NextSentence, ExitParagraph, ExitSection, ExitPerform, StopRun, Stmts, none, also, Arms, done, given, missing, Body, Nested, Performed}
 use Rattle.control.specs.Language as language
 use Rattle.control.specs.Doing.{Doing, keeping}
-use Rattle.control.specs.Items.{Turning, Counted, Tests, Steps, StepsAfter, Item, Do, SentenceEnd, Turn, before, before_body, before_arm, past_sentence, Way, On, Halts, Into, To, way_after, tried, on, first_turn, loop_begins, turns, tests, steps_on, turn_way, to_one, item_way}
+use Rattle.control.specs.Items.{Turning, Counted, Tests, Steps, StepsAfter, Item, Do, SentenceEnd, Turn, before, before_body, before_arm, past_sentence, from_loop, Way, On, Halts, Into, To, ToEnd, way_after, tried, on, first_turn, loop_begins, turns, tests, steps_on, turn_way, to_one, item_way}
 use Rattle.lowering.specs.Renamed.{act_anew, test_anew, picker_anew, control_anew, stmt_anew, stmts_anew, arms_anew, body_anew, turning_anew, item_anew, items_anew}
 
 -- with the memory changed
@@ -14,6 +14,7 @@ over_memory f (On t m items) = On t (f m) items
 over_memory f (Halts t how m) = Halts t how (f m)
 over_memory f (Into entry exit items) = Into entry exit items
 over_memory f (To t m to) = To t (f m) to
+over_memory f (ToEnd t m to) = ToEnd t (f m) to
 
 -- with the items changed
 abbrev pub over_items : {Memory : Type 0} → (List Item → List Item) → Way Memory → Way Memory
@@ -21,6 +22,7 @@ over_items f (On t m items) = On t m (f items)
 over_items f (Halts t how m) = Halts t how m
 over_items f (Into entry exit items) = Into entry exit (f items)
 over_items f (To t m to) = To t m to
+over_items f (ToEnd t m to) = ToEnd t m to
 
 -- the parts do the same on both memories
 pub record Carries {One Other : Type 0} (first : Doing One) (second : Doing Other) (f : Other → One) : Type 0 where
@@ -35,6 +37,7 @@ module _ {One Other : Type 0} (first : Doing One) (second : Doing Other) (f : Ot
   after-carried t (Halts s how m) = refl
   after-carried t (Into entry exit items) = refl
   after-carried t (To s m to) = refl
+  after-carried t (ToEnd s m to) = refl
 
   tried-carried : {Value : Type 0} (a : Tried Other Value) (b : Tried One Value) (g : Value → One → Way One) (h : Value → Other → Way Other) → b ≡ keeping f a → ((v : Value) (m : Other) → g v (f m) ≡ over_memory f (h v m)) → tried b g ≡ over_memory f (tried a h)
   tried-carried (Got t v m) b g h e k = ap (λ x. tried x g) e ∙ ap (way_after t) (k v m) ∙ after-carried t (h v m)
@@ -79,6 +82,9 @@ module _ {One Other : Type 0} (first : Doing One) (second : Doing Other) (f : Ot
   item-carried (Do (Go to)) rest m = refl
   item-carried (Do (GoDepending to chooser)) rest m = tried-carried (second.pick (By chooser) m) (first.pick (By chooser) (f m)) (λ k. to_one first (slice_get to k) rest) (λ k. to_one second (slice_get to k) rest) (carries.pick (By chooser) m) (λ k now. one-carried (slice_get to k) rest now)
   item-carried (Do NextSentence) rest m = refl
+  item-carried (Do ExitParagraph) rest m = refl
+  item-carried (Do (ExitSection last)) rest m = refl
+  item-carried (Do (ExitPerform cycle)) rest m = refl
   item-carried (Do StopRun) rest m = refl
   item-carried SentenceEnd rest m = refl
   item-carried (Turn turning body) rest m = turn-carried turning body rest m
@@ -117,11 +123,19 @@ module _ {Memory : Type 0} (doing : Doing Memory) (number : ℕ → ℕ) where
   past-anew (SentenceEnd ∷ rest) = refl
   past-anew (Turn turning body ∷ rest) = past-anew rest
 
+  left-anew : (cycle : Bool) (rest : List Item) → from_loop cycle (new rest) ≡ new (from_loop cycle rest)
+  left-anew cycle [] = refl
+  left-anew cycle (Do s ∷ rest) = left-anew cycle rest
+  left-anew cycle (SentenceEnd ∷ rest) = left-anew cycle rest
+  left-anew true (Turn turning body ∷ rest) = refl
+  left-anew false (Turn turning body ∷ rest) = refl
+
   after-anew : (t : Trace) (way : Way Memory) → way_after t (over_items new way) ≡ over_items new (way_after t way)
   after-anew t (On s m items) = refl
   after-anew t (Halts s how m) = refl
   after-anew t (Into entry exit items) = refl
   after-anew t (To s m to) = refl
+  after-anew t (ToEnd s m to) = refl
 
   tried-anew : {Value : Type 0} (a : Tried Memory Value) (g h : Value → Memory → Way Memory) → ((v : Value) (m : Memory) → g v m ≡ over_items new (h v m)) → tried a g ≡ over_items new (tried a h)
   tried-anew (Got t v m) g h k = ap (way_after t) (k v m) ∙ after-anew t (h v m)
@@ -178,6 +192,9 @@ module _ {Memory : Type 0} (doing : Doing Memory) (number : ℕ → ℕ) where
   item-numbered (Do (Go to)) rest m = refl
   item-numbered (Do (GoDepending to chooser)) rest m = tried-anew (doing.pick (By chooser) m) (λ k. to_one doing (slice_get to k) (new rest)) (λ k. to_one anew (slice_get to k) rest) (λ k now. one-anew (slice_get to k) rest now)
   item-numbered (Do NextSentence) rest m = on-anew (past_sentence (new rest)) (past_sentence rest) m (past-anew rest)
+  item-numbered (Do ExitParagraph) rest m = on-anew [] [] m refl
+  item-numbered (Do (ExitSection last)) rest m = refl
+  item-numbered (Do (ExitPerform cycle)) rest m = on-anew (from_loop cycle (new rest)) (from_loop cycle rest) m (left-anew cycle rest)
   item-numbered (Do StopRun) rest m = refl
   item-numbered SentenceEnd rest m = refl
   item-numbered (Turn turning body) rest m = turn-anew turning body rest m

@@ -2,12 +2,12 @@
 use Rattle.std.proofs.Common.{◌≡◌, ℕ, zero, suc, ◌+◌, ◌*◌, ◌≤◌, ◌<◌, true, false, if◌then◌else◌, List, [], ◌∷◌, ◌++◌, refl, ap, sym, ◌∙◌, subst, arith, inl, inr}
 use Rattle.std.specs.Prelude.{slice_get, length}
 use Rattle.std.proofs.lemmas.Bool.Decides.{eqb_tells}
-use Rattle.control.specs.Language.{Control, Times, Until, Varying, Stmt, Do, Choose, Loop, Perform, Go, GoDepending, NextSentence, StopRun, Stmts, none, also, Arms, done, given, missing, Nested, Performed, Paragraph, Program, unless_absent, paragraph_at, Range}
+use Rattle.control.specs.Language.{Control, Times, Until, Varying, Stmt, Do, Choose, Loop, Perform, Go, GoDepending, NextSentence, ExitParagraph, ExitSection, ExitPerform, StopRun, Stmts, none, also, Arms, done, given, missing, Nested, Performed, Paragraph, Program, unless_absent, paragraph_at, Range}
 use Rattle.control.specs.Graph.{Label, Tree, End, Jump}
 use Rattle.lowering.specs.Told.{Told}
 use Rattle.lowering.specs.Completes.{cuts, leave_sentence, size, sizes, size_arms}
-use Rattle.lowering.specs.Lower.{point, only, back, leaf, build, Node, loop_nodes, nodes, nodes_in, nodes_of_arms, end_leaf}
-use Rattle.lowering.specs.Rests.{Sent, rest_from, leaf_of, sentence_of, tree_of, Has, HasRest}
+use Rattle.lowering.specs.Lower.{point, only, back, leaf, build, Node, loop_nodes, nodes, nodes_in, nodes_of_arms, leaving_at, Leaving, within_loop}
+use Rattle.lowering.specs.Rests.{Sent, rest_from, leaf_of, leaving_of, tree_of, Has, HasRest}
 use Rattle.lowering.specs.flow.Comes.{IsLowered}
 use Rattle.lowering.specs.Lowered.{total, place_from, place_in, find, nodes_left, nodes_from, nodes_of, lowered, Within}
 use Rattle.lowering.proofs.rests.Counters.{has-left, has-right, uncut-from}
@@ -33,43 +33,47 @@ within-loop (Varying true set step test) n body after = (omega arith, (omega ari
 
 module _ (told : Told) (place_of : ℕ → ℕ) where
   mutual
-    within-in : (s : Stmt) (n : ℕ) (sentence after : End) (behind : Tree) → Within (3 * n + 1) (3 * (n + size s)) (nodes_in told place_of s n sentence after behind)
-    within-in (Do act) n sentence after behind = omega arith
-    within-in (Choose picker arms) n sentence after behind =
-        let xs = nodes_of_arms told place_of arms (n + 1) sentence after behind in
+    within-in : (s : Stmt) (n : ℕ) (leaving : Leaving) (after : End) (behind : Tree) → Within (3 * n + 1) (3 * (n + size s)) (nodes_in told place_of s n leaving after behind)
+    within-in (Do act) n leaving after behind = omega arith
+    within-in (Choose picker arms) n leaving after behind =
+        let xs = nodes_of_arms told place_of arms (n + 1) leaving after behind in
         within-lower (3 * (n + 1)) (3 * n + 1) (3 * (n + (1 + size_arms arms))) xs (omega arith)
-        (subst (λ e. Within (3 * (n + 1)) (3 * e) xs) (omega arith) (within-arms arms (n + 1) sentence after behind))
-    within-in (Loop control (Nested body)) n sentence after behind =
+        (subst (λ e. Within (3 * (n + 1)) (3 * e) xs) (omega arith) (within-arms arms (n + 1) leaving after behind))
+    within-in (Loop control (Nested body)) n leaving after behind =
         let leaf_back = Jump (back control n) in
-        let ys = nodes told place_of body (n + 1) sentence leaf_back (only leaf_back) in
-        within-append (3 * n + 1) (3 * (n + 1)) (3 * (n + (1 + sizes body))) (loop_nodes control n (build told place_of body (n + 1) sentence leaf_back (only leaf_back)) after) ys
-        (within-loop control n (build told place_of body (n + 1) sentence leaf_back (only leaf_back)) after)
-        (subst (λ e. Within (3 * (n + 1)) (3 * e) ys) (omega arith) (within-nodes body (n + 1) sentence leaf_back (only leaf_back)))
-    within-in (Loop control (Performed e x)) n sentence after behind = omega arith
-    within-in (Perform e x) n sentence after behind = omega arith
-    within-in (Go to) n sentence after behind = omega arith
-    within-in (GoDepending to on) n sentence after behind = omega arith
-    within-in NextSentence n sentence after behind = omega arith
-    within-in StopRun n sentence after behind = omega arith
+        let inner = within_loop leaving after leaf_back in
+        let ys = nodes told place_of body (n + 1) inner leaf_back (only leaf_back) in
+        within-append (3 * n + 1) (3 * (n + 1)) (3 * (n + (1 + sizes body))) (loop_nodes control n (build told place_of body (n + 1) inner leaf_back (only leaf_back)) after) ys
+        (within-loop control n (build told place_of body (n + 1) inner leaf_back (only leaf_back)) after)
+        (subst (λ e. Within (3 * (n + 1)) (3 * e) ys) (omega arith) (within-nodes body (n + 1) inner leaf_back (only leaf_back)))
+    within-in (Loop control (Performed e x)) n leaving after behind = omega arith
+    within-in (Perform e x) n leaving after behind = omega arith
+    within-in (Go to) n leaving after behind = omega arith
+    within-in (GoDepending to on) n leaving after behind = omega arith
+    within-in NextSentence n leaving after behind = omega arith
+    within-in ExitParagraph n leaving after behind = omega arith
+    within-in (ExitSection last) n leaving after behind = omega arith
+    within-in (ExitPerform cycle) n leaving after behind = omega arith
+    within-in StopRun n leaving after behind = omega arith
 
-    within-nodes : (ss : Stmts) (n : ℕ) (sentence after : End) (behind : Tree) → Within (3 * n) (3 * (n + sizes ss)) (nodes told place_of ss n sentence after behind)
-    within-nodes none n sentence after behind = omega arith
-    within-nodes (also s ss) n sentence after behind =
-        let ys = nodes told place_of ss (n + size s) sentence after behind in (
+    within-nodes : (ss : Stmts) (n : ℕ) (leaving : Leaving) (after : End) (behind : Tree) → Within (3 * n) (3 * (n + sizes ss)) (nodes told place_of ss n leaving after behind)
+    within-nodes none n leaving after behind = omega arith
+    within-nodes (also s ss) n leaving after behind =
+        let ys = nodes told place_of ss (n + size s) leaving after behind in (
           omega arith,
-          within-append (3 * n + 1) (3 * (n + size s)) (3 * (n + (size s + sizes ss))) (nodes_in told place_of s n sentence (leaf told place_of ss (n + size s) after) (build told place_of ss (n + size s) sentence after behind)) ys
-              (within-in s n sentence (leaf told place_of ss (n + size s) after) (build told place_of ss (n + size s) sentence after behind))
-              (subst (λ e. Within (3 * (n + size s)) (3 * e) ys) (omega arith) (within-nodes ss (n + size s) sentence after behind)),
+          within-append (3 * n + 1) (3 * (n + size s)) (3 * (n + (size s + sizes ss))) (nodes_in told place_of s n leaving (leaf told place_of ss (n + size s) after) (build told place_of ss (n + size s) leaving after behind)) ys
+              (within-in s n leaving (leaf told place_of ss (n + size s) after) (build told place_of ss (n + size s) leaving after behind))
+              (subst (λ e. Within (3 * (n + size s)) (3 * e) ys) (omega arith) (within-nodes ss (n + size s) leaving after behind)),
         )
 
-    within-arms : (arms : Arms) (n : ℕ) (sentence after : End) (behind : Tree) → Within (3 * n) (3 * (n + size_arms arms)) (nodes_of_arms told place_of arms n sentence after behind)
-    within-arms done n sentence after behind = omega arith
-    within-arms (given arm others) n sentence after behind =
-        let ys = nodes_of_arms told place_of others (n + sizes arm) sentence after behind in
-        within-append (3 * n) (3 * (n + sizes arm)) (3 * (n + (sizes arm + size_arms others))) (nodes told place_of arm n sentence after behind) ys
-        (within-nodes arm n sentence after behind)
-        (subst (λ e. Within (3 * (n + sizes arm)) (3 * e) ys) (omega arith) (within-arms others (n + sizes arm) sentence after behind))
-    within-arms (missing others) n sentence after behind = within-arms others n sentence after behind
+    within-arms : (arms : Arms) (n : ℕ) (leaving : Leaving) (after : End) (behind : Tree) → Within (3 * n) (3 * (n + size_arms arms)) (nodes_of_arms told place_of arms n leaving after behind)
+    within-arms done n leaving after behind = omega arith
+    within-arms (given arm others) n leaving after behind =
+        let ys = nodes_of_arms told place_of others (n + sizes arm) leaving after behind in
+        within-append (3 * n) (3 * (n + sizes arm)) (3 * (n + (sizes arm + size_arms others))) (nodes told place_of arm n leaving after behind) ys
+        (within-nodes arm n leaving after behind)
+        (subst (λ e. Within (3 * (n + sizes arm)) (3 * e) ys) (omega arith) (within-arms others (n + sizes arm) leaving after behind))
+    within-arms (missing others) n leaving after behind = within-arms others n leaving after behind
 
 -- each of these is found in the whole
 module _ (told : Told) (place_of : ℕ → ℕ) where
@@ -100,20 +104,20 @@ module _ (told : Told) (program : Program) where
   abbrev places : ℕ → ℕ
   places q = place_in program q
 
-  within-left : (end : End) (n : ℕ) (ss : Paragraph) → Within (3 * n) (3 * (n + total ss)) (nodes_left told program end (rest_from told n ss))
+  within-left : (end : Leaving) (n : ℕ) (ss : Paragraph) → Within (3 * n) (3 * (n + total ss)) (nodes_left told program end (rest_from told n ss))
   within-left end n [] = omega arith
   within-left end n (s ∷ ss) =
       let c = Sent (leave_sentence (cuts told s)) (rest_from told (n + sizes s) ss) in
-      let xs = nodes told places s n (sentence_of told places end c) (leaf_of told places end c) (tree_of told places end c) in
+      let xs = nodes told places s n (leaving_of told places end c) (leaf_of told places end c) (tree_of told places end c) in
       let ys = nodes_left told program end (rest_from told (n + sizes s) ss) in
       within-append (3 * n) (3 * (n + sizes s)) (3 * (n + (sizes s + total ss))) xs ys
-      (within-nodes told places s n (sentence_of told places end c) (leaf_of told places end c) (tree_of told places end c))
+      (within-nodes told places s n (leaving_of told places end c) (leaf_of told places end c) (tree_of told places end c))
       (subst (λ e. Within (3 * (n + sizes s)) (3 * e) ys) (omega arith) (within-left end (n + sizes s) ss))
 
   pub within-program : (r : Range) (q n : ℕ) (ps : List Paragraph) → (b : ℕ) × Within (3 * n) b (nodes_from told program r q n ps)
   within-program r q n [] = (3 * n, omega arith)
   within-program r q n (ss ∷ more) =
-      let end = end_leaf places program r q in
+      let end = leaving_at places program r q in
       let k = within-program r (suc q) (n + 1 + total ss) more in
       let xs = nodes_left told program end (rest_from told (n + 1) ss) in (
         k.0,
@@ -131,28 +135,28 @@ module _ (told : Told) (program : Program) where
     -- what is said of a paragraph's nodes
     abbrev AtParagraph : ℕ → ℕ → Paragraph → Type 0
     AtParagraph q n ss =
-        (graph (point n) ≡ tree_of told places (end_leaf places program r q) (rest_from told (n + 1) ss))
-        × Has told places graph (nodes_left told program (end_leaf places program r q) (rest_from told (n + 1) ss))
+        (graph (point n) ≡ tree_of told places (leaving_at places program r q) (rest_from told (n + 1) ss))
+        × Has told places graph (nodes_left told program (leaving_at places program r q) (rest_from told (n + 1) ss))
 
     paragraph-found : (q n k : ℕ) (ps : List Paragraph) → k < length ps → Has told places graph (nodes_from told program r q n ps) → AtParagraph (q + k) (place_from n ps k) (unless_absent (slice_get ps k))
     paragraph-found q n k [] lt f = absurd (omega (arith, lt))
     paragraph-found q n zero (ss ∷ more) lt f =
-        let end = end_leaf places program r q in
+        let end = leaving_at places program r q in
         let e : q ≡ q + 0 = omega arith in
         subst (λ x. AtParagraph x n ss) e (f.0, has-left graph told places (nodes_left told program end (rest_from told (n + 1) ss)) (nodes_from told program r (suc q) (n + 1 + total ss) more) f.1)
     paragraph-found q n (suc k) (ss ∷ more) lt f =
-        let end = end_leaf places program r q in
+        let end = leaving_at places program r q in
         let e : suc q + k ≡ q + suc k = omega arith in
         subst (λ x. AtParagraph x (place_from (n + 1 + total ss) more k) (unless_absent (slice_get more k))) e
         (paragraph-found (suc q) (n + 1 + total ss) k more (omega (arith, lt)) (has-right graph told places (nodes_left told program end (rest_from told (n + 1) ss)) (nodes_from told program r (suc q) (n + 1 + total ss) more) f.1))
 
-    rest-found : (end : End) (n : ℕ) (ss : Paragraph) → Has told places graph (nodes_left told program end (rest_from told n ss)) → HasRest told places graph end (rest_from told n ss)
+    rest-found : (end : Leaving) (n : ℕ) (ss : Paragraph) → Has told places graph (nodes_left told program end (rest_from told n ss)) → HasRest told places graph end (rest_from told n ss)
     rest-found end n [] f = tt
     rest-found end n (s ∷ ss) f =
         let c = Sent (leave_sentence (cuts told s)) (rest_from told (n + sizes s) ss) in
-        let xs = nodes told places s n (sentence_of told places end c) (leaf_of told places end c) (tree_of told places end c) in
+        let xs = nodes told places s n (leaving_of told places end c) (leaf_of told places end c) (tree_of told places end c) in
         let ys = nodes_left told program end (rest_from told (n + sizes s) ss) in
-        (subst (λ u. Has told places graph (nodes told places s n (sentence_of told places end c) (leaf_of told places end c) (tree_of told places end u))) (sym (ap (Sent (leave_sentence (cuts told s))) (uncut-from told (n + sizes s) ss))) (has-left graph told places xs ys f), rest-found end (n + sizes s) ss (has-right graph told places xs ys f))
+        (subst (λ u. Has told places graph (nodes told places s n (leaving_of told places end c) (leaf_of told places end c) (tree_of told places end u))) (sym (ap (Sent (leave_sentence (cuts told s))) (uncut-from told (n + sizes s) ss))) (has-left graph told places xs ys f), rest-found end (n + sizes s) ss (has-right graph told places xs ys f))
 
     all-found : (q : ℕ) → q < length program.paragraphs → AtParagraph q (places q) (paragraph_at program q)
     all-found q lt =
@@ -165,5 +169,5 @@ module _ (told : Told) (program : Program) where
   lowered-is-lowered = record {
     entry = λ r. refl;
     at = λ r q lt. (all-found r q lt).0;
-    has = λ r q lt. rest-found r (end_leaf places program r q) (places q + 1) (paragraph_at program q) (all-found r q lt).1;
+    has = λ r q lt. rest-found r (leaving_at places program r q) (places q + 1) (paragraph_at program q) (all-found r q lt).1;
   }

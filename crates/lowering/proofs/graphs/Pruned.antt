@@ -6,7 +6,7 @@ use Rattle.runs.specs.Machine.{iterate}
 use Rattle.control.specs.Outcome.{Standing, Tried, Got, Ends}
 use Rattle.control.specs.Language.{Program, Range, Part}
 use Rattle.control.specs.Doing.{Acting, Celled, celled}
-use Rattle.control.specs.Items.{Item, Way, On, Halts, Into, To, item_way}
+use Rattle.control.specs.Items.{Item, Way, On, Halts, Into, To, ToEnd, item_way}
 use Rattle.control.specs.Graph.{Label, Tree, tree, End, Pick, Jump, Return, Stop, Dead, Trees, no_more, more, end_of, Family}
 use Rattle.control.specs.Walk.{Level, Walk, level_at, walk_goes, picked, picks, tree_at, returns, walk_end, walk_items, walk_by, walk_step, walk_begun}
 use Rattle.lowering.specs.Told.{Told}
@@ -54,6 +54,7 @@ module _ {Memory Left : Type 0} (acting : Acting Memory) (left : Memory → Left
     (node-reached (Part e x) (family.entry (Part e x)) entered, h),
   )
   goes-same w (To t m to) h = (refl, h)
+  goes-same w (ToEnd t m to) h = (refl, h)
 
   picked-same : (w : Walking) (found : Option Tree) → AllReached w.callers → ((t : Tree) → found ≡ Some t → EndReached w.level.range (end_of t)) → WalkReached w → Same (picked acting left short found w) (picked acting left family found w)
   picked-same w None hs k h = (refl, h)

@@ -6,7 +6,7 @@ use Rattle.runs.specs.Machine.{iterate}
 use Rattle.control.specs.Outcome.{Trace, Standing, Tried, Got, Ends}
 use Rattle.control.specs.Language.{Act, Own, Set, Take, Lower, Test, Holds, Not, Is, Above, Picker, If, By, ByCell, Stmts, none, also, Range, Main, Part, same_range}
 use Rattle.control.specs.Doing.{Acting, giving, keeping, arm_of, Celled, own_is, put, taken, celled_act, celled_test, celled_pick, celled}
-use Rattle.control.specs.Items.{Item, Do, before, Way, On, Halts, Into, To, item_way}
+use Rattle.control.specs.Items.{Item, Do, before, Way, On, Halts, Into, To, ToEnd, item_way}
 use Rattle.control.specs.Graph.{Tree, tree, End, Pick, Jump, Return, Stop, Dead, Trees, no_more, more, Family}
 use Rattle.control.specs.Walk.{Level, Walk, tree_at, level_at, walk_goes, picked, picks, returns, walk_end, walk_items, walk_by, walk_step, walk_begun}
 use Rattle.lowering.specs.Renamed.{act_anew, test_anew, picker_anew, stmt_anew, stmts_anew, items_anew, end_anew, trees_anew, tree_anew, numbered_anew, as_before}
@@ -134,6 +134,7 @@ module _ {Memory Left : Type 0} (acting : Acting Memory) (left : Memory → Left
   old-goes (Halts t how m) w = refl
   old-goes (Into e x items) w = refl
   old-goes (To t m to) w = refl
+  old-goes (ToEnd t m to) w = refl
 
   old-picked : (found : Option Tree) (w : Walking) → picked acting left family found (old w) ≡ old (picked acting left family found w)
   old-picked None w = refl
@@ -177,6 +178,7 @@ module _ {Memory Left : Type 0} (acting : Acting Memory) (left : Memory → Left
   new-goes (Into e x items) w =
       ap (λ l. record { level = l; callers = level_anew (record { range = w.level.range; items = items; end = w.level.end }) ∷ levels_anew w.callers; memory = w.memory; run = w.run }) (level-anew (Part e x) (family.node (Part e x) (family.entry (Part e x))))
   new-goes (To t m to) w = refl
+  new-goes (ToEnd t m to) w = refl
 
   abbrev found_anew : (ℕ → ℕ) → Option Tree → Option Tree
   found_anew number None = None

@@ -1,12 +1,12 @@
 -- The form of lowered graphs.
 use Rattle.std.proofs.Common.{◌≡◌, ℕ, zero, suc, ◌+◌, ◌<◌, Bool, true, false, if◌then◌else◌, nat_eq, List, [], ◌∷◌, ◌++◌, refl, ap, sym, ◌∙◌, subst, arith, inl, inr, Option, Some, None}
 use Rattle.std.specs.Prelude.{slice_get, length}
-use Rattle.control.specs.Language.{Picker, If, By, ByCell, Control, Times, Until, Varying, Stmt, Do, Choose, Loop, Perform, Go, GoDepending, NextSentence, StopRun, Stmts, none, also, Arms, done, given, missing, Nested, Performed, Paragraph, Program, Range, Main, Part}
+use Rattle.control.specs.Language.{Picker, If, By, ByCell, Control, Times, Until, Varying, Stmt, Do, Choose, Loop, Perform, Go, GoDepending, NextSentence, ExitParagraph, ExitSection, ExitPerform, StopRun, Stmts, none, also, Arms, done, given, missing, Nested, Performed, Paragraph, Program, Range, Main, Part}
 use Rattle.control.specs.Graph.{Label, Tree, tree, End, Pick, Jump, Return, Dead, Trees, more}
 use Rattle.lowering.specs.Told.{Told, FirstMayBeMissing, IsSource, OwnPicker, OwnStmt, OwnStmts, OwnArms, OwnParagraph, OwnParagraphs, AllBelow, arm_count}
 use Rattle.lowering.specs.Completes.{completes, cut, cuts, whole, wholes, leave_sentence, size, sizes, skips, first_is_dead}
-use Rattle.lowering.specs.Lower.{point, head, only, with_first, push, back, leaf, build, build_stmt, build_arms, depending, loop_start, Node, loop_nodes, nodes, nodes_in, nodes_of_arms, fall_leaf, end_leaf}
-use Rattle.lowering.specs.Rests.{Rest, Sent, rest_from, leaf_of, sentence_of, tree_of}
+use Rattle.lowering.specs.Lower.{point, head, only, with_first, push, back, leaf, build, build_stmt, build_arms, depending, loop_start, Node, loop_nodes, nodes, nodes_in, nodes_of_arms, fall_leaf, end_leaf, Leaving, leaving_at, within_loop}
+use Rattle.lowering.specs.Rests.{Rest, Sent, rest_from, leaf_of, leaving_of, tree_of, after_loop, at_loop}
 use Rattle.lowering.specs.Lowered.{total, place_from, place_in, nodes_left, nodes_from, nodes_of}
 use Rattle.lowering.specs.WellFormed.{HasDeadFirst, IsLabelOf, tree_count, HasArms, IsWellEnd, AreWell, IsWellTree, AllAreWell}
 
@@ -51,7 +51,7 @@ module _ (told : Told) (place_of : ℕ → ℕ) (paragraphs : ℕ) (labels : Lis
   abbrev WellTree : Tree → Type 0
   WellTree t = IsWellTree told labels t
 
-  leaf-well : (ss : Stmts) (n : ℕ) (after : End) (s0 a0 : End) (b0 : Tree) → OwnStmts told paragraphs ss → Among labels (nodes told place_of ss n s0 a0 b0) → WellEnd after → WellEnd (leaf told place_of ss n after)
+  leaf-well : (ss : Stmts) (n : ℕ) (after : End) (s0 : Leaving) (a0 : End) (b0 : Tree) → OwnStmts told paragraphs ss → Among labels (nodes told place_of ss n s0 a0 b0) → WellEnd after → WellEnd (leaf told place_of ss n after)
   leaf-well none n after s0 a0 b0 own h w = w
   leaf-well (also (Do act) ss) n after s0 a0 b0 own h w =
       elim (skips told act) as (λ b. WellEnd (if b then leaf told place_of ss (n + 1) after else Jump (point n))) [
@@ -64,6 +64,9 @@ module _ (told : Told) (place_of : ℕ → ℕ) (paragraphs : ℕ) (labels : Lis
   leaf-well (also (Go to) ss) n after s0 a0 b0 own h w = named to own.0
   leaf-well (also (GoDepending to on) ss) n after s0 a0 b0 own h w = h.0
   leaf-well (also NextSentence ss) n after s0 a0 b0 own h w = h.0
+  leaf-well (also ExitParagraph ss) n after s0 a0 b0 own h w = h.0
+  leaf-well (also (ExitSection last) ss) n after s0 a0 b0 own h w = h.0
+  leaf-well (also (ExitPerform cycle) ss) n after s0 a0 b0 own h w = h.0
   leaf-well (also StopRun ss) n after s0 a0 b0 own h w = tt
 
   only-well : (end : End) → WellEnd end → WellTree (only end)
@@ -89,17 +92,21 @@ module _ (told : Told) (place_of : ℕ → ℕ) (paragraphs : ℕ) (labels : Lis
   depending-well [] after below w = (refl, w, tt)
   depending-well (t ∷ ts) after below w = (refl, named t below.0, depending-well ts after below.1 w)
 
-  arms-count : (first : Bool) (arms : Arms) (n : ℕ) (sentence after : End) → tree_count (build_arms told place_of first arms n sentence after) ≡ arm_count arms
-  arms-count first done n sentence after = refl
-  arms-count first (given arm others) n sentence after = ap suc (arms-count false others (n + sizes arm) sentence after)
-  arms-count first (missing others) n sentence after = ap suc (arms-count false others n sentence after)
+  -- wherever what leaves goes on, that is well formed
+  abbrev pub WellLeaving : Leaving → Type 0
+  WellLeaving leaving = WellEnd leaving.sentence × WellEnd leaving.paragraph × ((last : ℕ) → WellEnd (leaving.section last)) × WellEnd leaving.loop × WellEnd leaving.cycle
 
-  dead-first : (picker : Picker) (arms : Arms) (n : ℕ) (sentence after : End) → FirstMayBeMissing told picker arms → HasDeadFirst told picker (build_arms told place_of (first_is_dead told picker) arms n sentence after)
-  dead-first (If test) arms n sentence after own = tt
-  dead-first (By chooser) done n sentence after own = own
-  dead-first (By chooser) (given arm others) n sentence after own = λ e. absurd (own e)
-  dead-first (By chooser) (missing others) n sentence after own = λ e. ap (λ b. only (if b then Dead else after)) e
-  dead-first (ByCell cell) arms n sentence after own = tt
+  arms-count : (first : Bool) (arms : Arms) (n : ℕ) (leaving : Leaving) (after : End) → tree_count (build_arms told place_of first arms n leaving after) ≡ arm_count arms
+  arms-count first done n leaving after = refl
+  arms-count first (given arm others) n leaving after = ap suc (arms-count false others (n + sizes arm) leaving after)
+  arms-count first (missing others) n leaving after = ap suc (arms-count false others n leaving after)
+
+  dead-first : (picker : Picker) (arms : Arms) (n : ℕ) (leaving : Leaving) (after : End) → FirstMayBeMissing told picker arms → HasDeadFirst told picker (build_arms told place_of (first_is_dead told picker) arms n leaving after)
+  dead-first (If test) arms n leaving after own = tt
+  dead-first (By chooser) done n leaving after own = own
+  dead-first (By chooser) (given arm others) n leaving after own = λ e. absurd (own e)
+  dead-first (By chooser) (missing others) n leaving after own = λ e. ap (λ b. only (if b then Dead else after)) e
+  dead-first (ByCell cell) arms n leaving after own = tt
 
   head-label : (control : Control) (n : ℕ) (body : Tree) (after : End) (ys : List Node) → Among labels (loop_nodes control n body after ++ ys) → IsLabelOf labels (head n)
   head-label (Times amount) n body after ys h = h.0
@@ -121,57 +128,61 @@ module _ (told : Told) (place_of : ℕ → ℕ) (paragraphs : ℕ) (labels : Lis
   start-well (Varying after set step test) n h = (refl, h)
 
   mutual
-    build-stmt-well : (s : Stmt) (n : ℕ) (sentence after : End) (behind : Tree) (s0 a0 : End) (b0 : Tree) → OwnStmt told paragraphs s → Among labels (nodes_in told place_of s n s0 a0 b0) →
-        WellEnd sentence → WellEnd after → WellTree behind → WellTree (build_stmt told place_of s n sentence after behind)
-    build-stmt-well (Do act) n sentence after behind s0 a0 b0 own h ws wa wb =
+    build-stmt-well : (s : Stmt) (n : ℕ) (leaving : Leaving) (after : End) (behind : Tree) (s0 : Leaving) (a0 : End) (b0 : Tree) → OwnStmt told paragraphs s → Among labels (nodes_in told place_of s n s0 a0 b0) →
+        WellLeaving leaving → WellEnd after → WellTree behind → WellTree (build_stmt told place_of s n leaving after behind)
+    build-stmt-well (Do act) n leaving after behind s0 a0 b0 own h ws wa wb =
         elim (skips told act) as (λ b. WellTree (if b then behind else push told place_of (Do act) behind)) [ true ↦ wb | false ↦ push-well (Do act) behind refl wb ]
-    build-stmt-well (Choose picker arms) n sentence after behind s0 a0 b0 own h ws wa wb =
-        let trees = build_arms told place_of (first_is_dead told picker) arms (n + 1) sentence after in
+    build-stmt-well (Choose picker arms) n leaving after behind s0 a0 b0 own h ws wa wb =
+        let trees = build_arms told place_of (first_is_dead told picker) arms (n + 1) leaving after in
         elim (whole (cut told (Choose picker arms))) as (λ b. whole (cut told (Choose picker arms)) ≡ b → WellTree (if b then push told place_of (Choose picker arms) behind else only (Pick picker trees))) [
           | true ↦ λ e. push-well (Choose picker arms) behind e wb
           | false ↦ λ e. (
             refl,
             (
-              subst (HasArms told picker) (sym (arms-count (first_is_dead told picker) arms (n + 1) sentence after)) (own-arms told picker (arm_count arms) own.0),
-              arms-well (first_is_dead told picker) arms (n + 1) sentence after s0 a0 b0 own.1 h ws wa,
-              dead-first picker arms (n + 1) sentence after own.2,
+              subst (HasArms told picker) (sym (arms-count (first_is_dead told picker) arms (n + 1) leaving after)) (own-arms told picker (arm_count arms) own.0),
+              arms-well (first_is_dead told picker) arms (n + 1) leaving after s0 a0 b0 own.1 h ws wa,
+              dead-first picker arms (n + 1) leaving after own.2,
             ),
           )
         ] refl
-    build-stmt-well (Loop control (Nested body)) n sentence after behind s0 a0 b0 own h ws wa wb =
+    build-stmt-well (Loop control (Nested body)) n leaving after behind s0 a0 b0 own h ws wa wb =
         let b1 = Jump (back control n) in
         elim (wholes (cuts told body)) as (λ b. wholes (cuts told body) ≡ b → WellTree (if b then push told place_of (Loop control (Nested body)) behind else loop_start control n)) [
           | true ↦ λ e. push-well (Loop control (Nested body)) behind e wb
-          | false ↦ λ e. start-well control n (head-label control n (build told place_of body (n + 1) s0 b1 (only b1)) a0 (nodes told place_of body (n + 1) s0 b1 (only b1)) h)
+          | false ↦ λ e. start-well control n (head-label control n (build told place_of body (n + 1) (within_loop s0 a0 b1) b1 (only b1)) a0 (nodes told place_of body (n + 1) (within_loop s0 a0 b1) b1 (only b1)) h)
         ] refl
-    build-stmt-well (Loop control (Performed e x)) n sentence after behind s0 a0 b0 own h ws wa wb = push-well (Loop control (Performed e x)) behind refl wb
-    build-stmt-well (Perform e x) n sentence after behind s0 a0 b0 own h ws wa wb = push-well (Perform e x) behind refl wb
-    build-stmt-well (Go to) n sentence after behind s0 a0 b0 own h ws wa wb = (refl, named to own)
-    build-stmt-well (GoDepending to on) n sentence after behind s0 a0 b0 own h ws wa wb = (refl, (own.0 ∙ sym (depending-count to after), depending-well to after own.1 wa, λ e. absurd (let k : true ≡ false = sym e ∙ own.2 in cc)))
-    build-stmt-well NextSentence n sentence after behind s0 a0 b0 own h ws wa wb = (refl, ws)
-    build-stmt-well StopRun n sentence after behind s0 a0 b0 own h ws wa wb = (refl, tt)
+    build-stmt-well (Loop control (Performed e x)) n leaving after behind s0 a0 b0 own h ws wa wb = push-well (Loop control (Performed e x)) behind refl wb
+    build-stmt-well (Perform e x) n leaving after behind s0 a0 b0 own h ws wa wb = push-well (Perform e x) behind refl wb
+    build-stmt-well (Go to) n leaving after behind s0 a0 b0 own h ws wa wb = (refl, named to own)
+    build-stmt-well (GoDepending to on) n leaving after behind s0 a0 b0 own h ws wa wb = (refl, (own.0 ∙ sym (depending-count to after), depending-well to after own.1 wa, λ e. absurd (let k : true ≡ false = sym e ∙ own.2 in cc)))
+    build-stmt-well NextSentence n leaving after behind s0 a0 b0 own h ws wa wb = (refl, ws.0)
+    build-stmt-well ExitParagraph n leaving after behind s0 a0 b0 own h ws wa wb = (refl, ws.1)
+    build-stmt-well (ExitSection last) n leaving after behind s0 a0 b0 own h ws wa wb = (refl, ws.2 last)
+    build-stmt-well (ExitPerform false) n leaving after behind s0 a0 b0 own h ws wa wb = (refl, ws.3)
+    build-stmt-well (ExitPerform true) n leaving after behind s0 a0 b0 own h ws wa wb = (refl, ws.4)
+    build-stmt-well StopRun n leaving after behind s0 a0 b0 own h ws wa wb = (refl, tt)
 
-    build-well : (ss : Stmts) (n : ℕ) (sentence after : End) (behind : Tree) (s0 a0 : End) (b0 : Tree) → OwnStmts told paragraphs ss → Among labels (nodes told place_of ss n s0 a0 b0) →
-        WellEnd sentence → WellEnd after → WellTree behind → WellTree (build told place_of ss n sentence after behind)
-    build-well none n sentence after behind s0 a0 b0 own h ws wa wb = wb
-    build-well (also s ss) n sentence after behind s0 a0 b0 own h ws wa wb =
+    build-well : (ss : Stmts) (n : ℕ) (leaving : Leaving) (after : End) (behind : Tree) (s0 : Leaving) (a0 : End) (b0 : Tree) → OwnStmts told paragraphs ss → Among labels (nodes told place_of ss n s0 a0 b0) →
+        WellLeaving leaving → WellEnd after → WellTree behind → WellTree (build told place_of ss n leaving after behind)
+    build-well none n leaving after behind s0 a0 b0 own h ws wa wb = wb
+    build-well (also s ss) n leaving after behind s0 a0 b0 own h ws wa wb =
         let ins = nodes_in told place_of s n s0 (leaf told place_of ss (n + size s) a0) (build told place_of ss (n + size s) s0 a0 b0) in
         let rest = nodes told place_of ss (n + size s) s0 a0 b0 in
         let later = among-right labels ins rest h.1 in
-        build-stmt-well s n sentence (leaf told place_of ss (n + size s) after) (build told place_of ss (n + size s) sentence after behind) s0 (leaf told place_of ss (n + size s) a0) (build told place_of ss (n + size s) s0 a0 b0) own.0
-        (among-left labels ins rest h.1) ws (leaf-well ss (n + size s) after s0 a0 b0 own.1 later wa) (build-well ss (n + size s) sentence after behind s0 a0 b0 own.1 later ws wa wb)
+        build-stmt-well s n leaving (leaf told place_of ss (n + size s) after) (build told place_of ss (n + size s) leaving after behind) s0 (leaf told place_of ss (n + size s) a0) (build told place_of ss (n + size s) s0 a0 b0) own.0
+        (among-left labels ins rest h.1) ws (leaf-well ss (n + size s) after s0 a0 b0 own.1 later wa) (build-well ss (n + size s) leaving after behind s0 a0 b0 own.1 later ws wa wb)
 
-    arms-well : (first : Bool) (arms : Arms) (n : ℕ) (sentence after : End) (s0 a0 : End) (b0 : Tree) → OwnArms told paragraphs arms → Among labels (nodes_of_arms told place_of arms n s0 a0 b0) →
-        WellEnd sentence → WellEnd after → AreWell told labels (build_arms told place_of first arms n sentence after)
-    arms-well first done n sentence after s0 a0 b0 own h ws wa = tt
-    arms-well first (given arm others) n sentence after s0 a0 b0 own h ws wa =
+    arms-well : (first : Bool) (arms : Arms) (n : ℕ) (leaving : Leaving) (after : End) (s0 : Leaving) (a0 : End) (b0 : Tree) → OwnArms told paragraphs arms → Among labels (nodes_of_arms told place_of arms n s0 a0 b0) →
+        WellLeaving leaving → WellEnd after → AreWell told labels (build_arms told place_of first arms n leaving after)
+    arms-well first done n leaving after s0 a0 b0 own h ws wa = tt
+    arms-well first (given arm others) n leaving after s0 a0 b0 own h ws wa =
         let xs = nodes told place_of arm n s0 a0 b0 in
         let ys = nodes_of_arms told place_of others (n + sizes arm) s0 a0 b0 in
-        trees-more (build told place_of arm n sentence after (only after)) (build_arms told place_of false others (n + sizes arm) sentence after)
-        (build-well arm n sentence after (only after) s0 a0 b0 own.0 (among-left labels xs ys h) ws wa (only-well after wa))
-        (arms-well false others (n + sizes arm) sentence after s0 a0 b0 own.1 (among-right labels xs ys h) ws wa)
-    arms-well true (missing others) n sentence after s0 a0 b0 own h ws wa = (refl, tt, arms-well false others n sentence after s0 a0 b0 own h ws wa)
-    arms-well false (missing others) n sentence after s0 a0 b0 own h ws wa = (refl, wa, arms-well false others n sentence after s0 a0 b0 own h ws wa)
+        trees-more (build told place_of arm n leaving after (only after)) (build_arms told place_of false others (n + sizes arm) leaving after)
+        (build-well arm n leaving after (only after) s0 a0 b0 own.0 (among-left labels xs ys h) ws wa (only-well after wa))
+        (arms-well false others (n + sizes arm) leaving after s0 a0 b0 own.1 (among-right labels xs ys h) ws wa)
+    arms-well true (missing others) n leaving after s0 a0 b0 own h ws wa = (refl, tt, arms-well false others n leaving after s0 a0 b0 own h ws wa)
+    arms-well false (missing others) n leaving after s0 a0 b0 own h ws wa = (refl, wa, arms-well false others n leaving after s0 a0 b0 own h ws wa)
 
   loop-well : (control : Control) (n : ℕ) (body : Tree) (after : End) (ys : List Node) → Among labels (loop_nodes control n body after ++ ys) → WellTree body → WellEnd after → AllAreWell told labels (loop_nodes control n body after)
   loop-well (Times amount) n (tree stmts end) after ys h wb wa = ((refl, (refl, (wb.0, wb.1, (refl, wa, tt)), tt)), tt)
@@ -181,50 +192,55 @@ module _ (told : Told) (place_of : ℕ → ℕ) (paragraphs : ℕ) (labels : Lis
   loop-well (Varying true set step test) n (tree stmts end) after ys h wb wa = (wb, ((refl, (refl, (refl, wa, (refl, h.0, tt)), tt)), tt))
 
   mutual
-    nodes-in-well : (s : Stmt) (n : ℕ) (sentence after : End) (behind : Tree) → OwnStmt told paragraphs s → Among labels (nodes_in told place_of s n sentence after behind) →
-        WellEnd sentence → WellEnd after → WellTree behind → AllAreWell told labels (nodes_in told place_of s n sentence after behind)
-    nodes-in-well (Do act) n sentence after behind own h ws wa wb = tt
-    nodes-in-well (Choose picker arms) n sentence after behind own h ws wa wb = arms-nodes-well arms (n + 1) sentence after behind own.1 h ws wa wb
-    nodes-in-well (Loop control (Nested body)) n sentence after behind own h ws wa wb =
+    nodes-in-well : (s : Stmt) (n : ℕ) (leaving : Leaving) (after : End) (behind : Tree) → OwnStmt told paragraphs s → Among labels (nodes_in told place_of s n leaving after behind) →
+        WellLeaving leaving → WellEnd after → WellTree behind → AllAreWell told labels (nodes_in told place_of s n leaving after behind)
+    nodes-in-well (Do act) n leaving after behind own h ws wa wb = tt
+    nodes-in-well (Choose picker arms) n leaving after behind own h ws wa wb = arms-nodes-well arms (n + 1) leaving after behind own.1 h ws wa wb
+    nodes-in-well (Loop control (Nested body)) n leaving after behind own h ws wa wb =
         let b1 = Jump (back control n) in
-        let built = build told place_of body (n + 1) sentence b1 (only b1) in
-        let ys = nodes told place_of body (n + 1) sentence b1 (only b1) in
+        let in_body = within_loop leaving after b1 in
+        let built = build told place_of body (n + 1) in_body b1 (only b1) in
+        let ys = nodes told place_of body (n + 1) in_body b1 (only b1) in
         let inner = among-right labels (loop_nodes control n built after) ys h in
         let wj = back-label control n built after ys h in
+        let wl : WellLeaving in_body = (ws.0, ws.1, ws.2, wa, wj) in
         all-append told labels (loop_nodes control n built after) ys
-        (loop-well control n built after ys h (build-well body (n + 1) sentence b1 (only b1) sentence b1 (only b1) own.1 inner ws wj (refl, wj)) wa)
-        (nodes-well body (n + 1) sentence b1 (only b1) own.1 inner ws wj (refl, wj))
-    nodes-in-well (Loop control (Performed e x)) n sentence after behind own h ws wa wb = tt
-    nodes-in-well (Perform e x) n sentence after behind own h ws wa wb = tt
-    nodes-in-well (Go to) n sentence after behind own h ws wa wb = tt
-    nodes-in-well (GoDepending to on) n sentence after behind own h ws wa wb = tt
-    nodes-in-well NextSentence n sentence after behind own h ws wa wb = tt
-    nodes-in-well StopRun n sentence after behind own h ws wa wb = tt
+        (loop-well control n built after ys h (build-well body (n + 1) in_body b1 (only b1) in_body b1 (only b1) own.1 inner wl wj (refl, wj)) wa)
+        (nodes-well body (n + 1) in_body b1 (only b1) own.1 inner wl wj (refl, wj))
+    nodes-in-well (Loop control (Performed e x)) n leaving after behind own h ws wa wb = tt
+    nodes-in-well (Perform e x) n leaving after behind own h ws wa wb = tt
+    nodes-in-well (Go to) n leaving after behind own h ws wa wb = tt
+    nodes-in-well (GoDepending to on) n leaving after behind own h ws wa wb = tt
+    nodes-in-well NextSentence n leaving after behind own h ws wa wb = tt
+    nodes-in-well ExitParagraph n leaving after behind own h ws wa wb = tt
+    nodes-in-well (ExitSection last) n leaving after behind own h ws wa wb = tt
+    nodes-in-well (ExitPerform cycle) n leaving after behind own h ws wa wb = tt
+    nodes-in-well StopRun n leaving after behind own h ws wa wb = tt
 
-    nodes-well : (ss : Stmts) (n : ℕ) (sentence after : End) (behind : Tree) → OwnStmts told paragraphs ss → Among labels (nodes told place_of ss n sentence after behind) →
-        WellEnd sentence → WellEnd after → WellTree behind → AllAreWell told labels (nodes told place_of ss n sentence after behind)
-    nodes-well none n sentence after behind own h ws wa wb = tt
-    nodes-well (also s ss) n sentence after behind own h ws wa wb =
+    nodes-well : (ss : Stmts) (n : ℕ) (leaving : Leaving) (after : End) (behind : Tree) → OwnStmts told paragraphs ss → Among labels (nodes told place_of ss n leaving after behind) →
+        WellLeaving leaving → WellEnd after → WellTree behind → AllAreWell told labels (nodes told place_of ss n leaving after behind)
+    nodes-well none n leaving after behind own h ws wa wb = tt
+    nodes-well (also s ss) n leaving after behind own h ws wa wb =
         let lf = leaf told place_of ss (n + size s) after in
-        let bt = build told place_of ss (n + size s) sentence after behind in
-        let ins = nodes_in told place_of s n sentence lf bt in
-        let rest = nodes told place_of ss (n + size s) sentence after behind in
+        let bt = build told place_of ss (n + size s) leaving after behind in
+        let ins = nodes_in told place_of s n leaving lf bt in
+        let rest = nodes told place_of ss (n + size s) leaving after behind in
         let inside = among-left labels ins rest h.1 in
         let later = among-right labels ins rest h.1 in
-        let wl = leaf-well ss (n + size s) after sentence after behind own.1 later wa in
-        let wt = build-well ss (n + size s) sentence after behind sentence after behind own.1 later ws wa wb in (
-          build-stmt-well s n sentence lf bt sentence lf bt own.0 inside ws wl wt,
-          all-append told labels ins rest (nodes-in-well s n sentence lf bt own.0 inside ws wl wt) (nodes-well ss (n + size s) sentence after behind own.1 later ws wa wb),
+        let wl = leaf-well ss (n + size s) after leaving after behind own.1 later wa in
+        let wt = build-well ss (n + size s) leaving after behind leaving after behind own.1 later ws wa wb in (
+          build-stmt-well s n leaving lf bt leaving lf bt own.0 inside ws wl wt,
+          all-append told labels ins rest (nodes-in-well s n leaving lf bt own.0 inside ws wl wt) (nodes-well ss (n + size s) leaving after behind own.1 later ws wa wb),
         )
 
-    arms-nodes-well : (arms : Arms) (n : ℕ) (sentence after : End) (behind : Tree) → OwnArms told paragraphs arms → Among labels (nodes_of_arms told place_of arms n sentence after behind) →
-        WellEnd sentence → WellEnd after → WellTree behind → AllAreWell told labels (nodes_of_arms told place_of arms n sentence after behind)
-    arms-nodes-well done n sentence after behind own h ws wa wb = tt
-    arms-nodes-well (given arm others) n sentence after behind own h ws wa wb =
-        let xs = nodes told place_of arm n sentence after behind in
-        let ys = nodes_of_arms told place_of others (n + sizes arm) sentence after behind in
-        all-append told labels xs ys (nodes-well arm n sentence after behind own.0 (among-left labels xs ys h) ws wa wb) (arms-nodes-well others (n + sizes arm) sentence after behind own.1 (among-right labels xs ys h) ws wa wb)
-    arms-nodes-well (missing others) n sentence after behind own h ws wa wb = arms-nodes-well others n sentence after behind own h ws wa wb
+    arms-nodes-well : (arms : Arms) (n : ℕ) (leaving : Leaving) (after : End) (behind : Tree) → OwnArms told paragraphs arms → Among labels (nodes_of_arms told place_of arms n leaving after behind) →
+        WellLeaving leaving → WellEnd after → WellTree behind → AllAreWell told labels (nodes_of_arms told place_of arms n leaving after behind)
+    arms-nodes-well done n leaving after behind own h ws wa wb = tt
+    arms-nodes-well (given arm others) n leaving after behind own h ws wa wb =
+        let xs = nodes told place_of arm n leaving after behind in
+        let ys = nodes_of_arms told place_of others (n + sizes arm) leaving after behind in
+        all-append told labels xs ys (nodes-well arm n leaving after behind own.0 (among-left labels xs ys h) ws wa wb) (arms-nodes-well others (n + sizes arm) leaving after behind own.1 (among-right labels xs ys h) ws wa wb)
+    arms-nodes-well (missing others) n leaving after behind own h ws wa wb = arms-nodes-well others n leaving after behind own h ws wa wb
 
 module _ (told : Told) (program : Program) (range : Range) where
   abbrev places : ℕ → ℕ
@@ -235,7 +251,7 @@ module _ (told : Told) (program : Program) (range : Range) where
   paragraph-label q n k [] lt = absurd (omega (arith, lt))
   paragraph-label q n zero (ss ∷ others) lt = inl refl
   paragraph-label q n (suc k) (ss ∷ others) lt =
-      inr (label-right (nodes_left told program (end_leaf places program range q) (rest_from told (n + 1) ss)) (nodes_from told program range (suc q) (n + 1 + total ss) others) (point (place_from (n + 1 + total ss) others k))
+      inr (label-right (nodes_left told program (leaving_at places program range q) (rest_from told (n + 1) ss)) (nodes_from told program range (suc q) (n + 1 + total ss) others) (point (place_from (n + 1 + total ss) others k))
       (paragraph-label (suc q) (n + 1 + total ss) k others (omega (arith, lt))))
 
   pub named-label : (q : ℕ) → q < length program.paragraphs → IsLabelOf (nodes_of told program range) (point (places q))
@@ -244,48 +260,66 @@ module _ (told : Told) (program : Program) (range : Range) where
   abbrev WellE : End → Type 0
   WellE end = IsWellEnd told (nodes_of told program range) end
 
+  -- the ends of paragraphs are
+  abbrev WellParagraph : Leaving → Type 0
+  WellParagraph end = WellE end.paragraph × ((last : ℕ) → WellE (end.section last))
+
   abbrev AmongAll : List Node → Type 0
   AmongAll xs = Among (nodes_of told program range) xs
 
   abbrev count : ℕ
   count = length program.paragraphs
 
-  left-leaf-well : (end : End) (n : ℕ) (ss : Paragraph) → OwnParagraph told count ss → AmongAll (nodes_left told program end (rest_from told n ss)) → WellE end → WellE (leaf_of told places end (rest_from told n ss))
-  left-leaf-well end n [] own h w = w
+  left-leaf-well : (end : Leaving) (n : ℕ) (ss : Paragraph) → OwnParagraph told count ss → AmongAll (nodes_left told program end (rest_from told n ss)) → WellParagraph end → WellE (leaf_of told places end (rest_from told n ss))
+  left-leaf-well end n [] own h w = w.0
   left-leaf-well end n (s ∷ ss) own h w =
       let c = Sent (leave_sentence (cuts told s)) (rest_from told (n + sizes s) ss) in
-      let xs = nodes told places s n (sentence_of told places end c) (leaf_of told places end c) (tree_of told places end c) in
+      let xs = nodes told places s n (leaving_of told places end c) (leaf_of told places end c) (tree_of told places end c) in
       let ys = nodes_left told program end (rest_from told (n + sizes s) ss) in
-      leaf-well told places count (nodes_of told program range) named-label s n (leaf_of told places end c) (sentence_of told places end c) (leaf_of told places end c) (tree_of told places end c) own.0 (among-left (nodes_of told program range) xs ys h)
+      leaf-well told places count (nodes_of told program range) named-label s n (leaf_of told places end c) (leaving_of told places end c) (leaf_of told places end c) (tree_of told places end c) own.0 (among-left (nodes_of told program range) xs ys h)
       (left-leaf-well end (n + sizes s) ss own.1 (among-right (nodes_of told program range) xs ys h) w)
 
-  sent-tree-well : (end : End) (holds : Bool) (c : Rest) → WellE (leaf_of told places end c) → IsWellTree told (nodes_of told program range) (tree_of told places end c) → IsWellTree told (nodes_of told program range) (tree_of told places end (Sent holds c))
+  -- behind a sentence of the paragraph no loop is held
+  loop-well-left : (end : Leaving) (n : ℕ) (ss : Paragraph) → WellE end.paragraph → WellE (leaf_of told places end (after_loop (rest_from told n ss)))
+  loop-well-left end n [] w = w
+  loop-well-left end n (s ∷ ss) w = loop-well-left end (n + sizes s) ss w
+
+  turn-well-left : (end : Leaving) (n : ℕ) (ss : Paragraph) → WellE end.paragraph → WellE (leaf_of told places end (at_loop (rest_from told n ss)))
+  turn-well-left end n [] w = w
+  turn-well-left end n (s ∷ ss) w = turn-well-left end (n + sizes s) ss w
+
+  left-leaving-well : (end : Leaving) (n : ℕ) (ss : Paragraph) → WellE (leaf_of told places end (rest_from told n ss)) → WellParagraph end →
+      WellE (leaf_of told places end (rest_from told n ss)) × WellE end.paragraph × ((last : ℕ) → WellE (end.section last))
+      × WellE (leaf_of told places end (after_loop (rest_from told n ss))) × WellE (leaf_of told places end (at_loop (rest_from told n ss)))
+  left-leaving-well end n ss wl w = (wl, w.0, w.1, loop-well-left end n ss w.0, turn-well-left end n ss w.0)
+
+  sent-tree-well : (end : Leaving) (holds : Bool) (c : Rest) → WellE (leaf_of told places end c) → IsWellTree told (nodes_of told program range) (tree_of told places end c) → IsWellTree told (nodes_of told program range) (tree_of told places end (Sent holds c))
   sent-tree-well end true c w t = (refl, w)
   sent-tree-well end false c w t = t
 
-  left-tree-well : (end : End) (n : ℕ) (ss : Paragraph) → OwnParagraph told count ss → AmongAll (nodes_left told program end (rest_from told n ss)) → WellE end → IsWellTree told (nodes_of told program range) (tree_of told places end (rest_from told n ss))
-  left-tree-well end n [] own h w = (refl, w)
+  left-tree-well : (end : Leaving) (n : ℕ) (ss : Paragraph) → OwnParagraph told count ss → AmongAll (nodes_left told program end (rest_from told n ss)) → WellParagraph end → IsWellTree told (nodes_of told program range) (tree_of told places end (rest_from told n ss))
+  left-tree-well end n [] own h w = (refl, w.0)
   left-tree-well end n (s ∷ ss) own h w =
       let holds = leave_sentence (cuts told s) in
       let c = rest_from told (n + sizes s) ss in
-      let xs = nodes told places s n (leaf_of told places end c) (leaf_of told places end c) (tree_of told places end (Sent holds c)) in
+      let xs = nodes told places s n (leaving_of told places end (Sent holds c)) (leaf_of told places end c) (tree_of told places end (Sent holds c)) in
       let ys = nodes_left told program end c in
       let later = among-right (nodes_of told program range) xs ys h in
       let wl = left-leaf-well end (n + sizes s) ss own.1 later w in
-      build-well told places count (nodes_of told program range) named-label s n (leaf_of told places end c) (leaf_of told places end c) (tree_of told places end (Sent holds c)) (leaf_of told places end c) (leaf_of told places end c) (tree_of told places end (Sent holds c)) own.0
-      (among-left (nodes_of told program range) xs ys h) wl wl (sent-tree-well end holds c wl (left-tree-well end (n + sizes s) ss own.1 later w))
+      build-well told places count (nodes_of told program range) named-label s n (leaving_of told places end (Sent holds c)) (leaf_of told places end c) (tree_of told places end (Sent holds c)) (leaving_of told places end (Sent holds c)) (leaf_of told places end c) (tree_of told places end (Sent holds c)) own.0
+      (among-left (nodes_of told program range) xs ys h) (left-leaving-well end (n + sizes s) ss wl w) wl (sent-tree-well end holds c wl (left-tree-well end (n + sizes s) ss own.1 later w))
 
-  left-well : (end : End) (n : ℕ) (ss : Paragraph) → OwnParagraph told count ss → AmongAll (nodes_left told program end (rest_from told n ss)) → WellE end → AllAreWell told (nodes_of told program range) (nodes_left told program end (rest_from told n ss))
+  left-well : (end : Leaving) (n : ℕ) (ss : Paragraph) → OwnParagraph told count ss → AmongAll (nodes_left told program end (rest_from told n ss)) → WellParagraph end → AllAreWell told (nodes_of told program range) (nodes_left told program end (rest_from told n ss))
   left-well end n [] own h w = tt
   left-well end n (s ∷ ss) own h w =
       let holds = leave_sentence (cuts told s) in
       let c = rest_from told (n + sizes s) ss in
-      let xs = nodes told places s n (leaf_of told places end c) (leaf_of told places end c) (tree_of told places end (Sent holds c)) in
+      let xs = nodes told places s n (leaving_of told places end (Sent holds c)) (leaf_of told places end c) (tree_of told places end (Sent holds c)) in
       let ys = nodes_left told program end c in
       let later = among-right (nodes_of told program range) xs ys h in
       let wl = left-leaf-well end (n + sizes s) ss own.1 later w in
       all-append told (nodes_of told program range) xs ys
-      (nodes-well told places count (nodes_of told program range) named-label s n (leaf_of told places end c) (leaf_of told places end c) (tree_of told places end (Sent holds c)) own.0 (among-left (nodes_of told program range) xs ys h) wl wl
+      (nodes-well told places count (nodes_of told program range) named-label s n (leaving_of told places end (Sent holds c)) (leaf_of told places end c) (tree_of told places end (Sent holds c)) own.0 (among-left (nodes_of told program range) xs ys h) (left-leaving-well end (n + sizes s) ss wl w) wl
       (sent-tree-well end holds c wl (left-tree-well end (n + sizes s) ss own.1 later w)))
       (left-well end (n + sizes s) ss own.1 later w)
 
@@ -305,12 +339,12 @@ module _ (told : Told) (program : Program) (range : Range) where
   from-well : (q n : ℕ) (ps : List Paragraph) → OwnParagraphs told count ps → AmongAll (nodes_from told program range q n ps) → AllAreWell told (nodes_of told program range) (nodes_from told program range q n ps)
   from-well q n [] own h = tt
   from-well q n (ss ∷ others) own h =
-      let end = end_leaf places program range q in
+      let end = leaving_at places program range q in
       let xs = nodes_left told program end (rest_from told (n + 1) ss) in
       let ys = nodes_from told program range (suc q) (n + 1 + total ss) others in
       let here = among-left (nodes_of told program range) xs ys h.1 in (
-        left-tree-well end (n + 1) ss own.0 here (end-well range q),
-        all-append told (nodes_of told program range) xs ys (left-well end (n + 1) ss own.0 here (end-well range q)) (from-well (suc q) (n + 1 + total ss) others own.1 (among-right (nodes_of told program range) xs ys h.1)),
+        left-tree-well end (n + 1) ss own.0 here (end-well range q, end-well range),
+        all-append told (nodes_of told program range) xs ys (left-well end (n + 1) ss own.0 here (end-well range q, end-well range)) (from-well (suc q) (n + 1 + total ss) others own.1 (among-right (nodes_of told program range) xs ys h.1)),
       )
 
   pub all-well : IsSource told program → AllAreWell told (nodes_of told program range) (nodes_of told program range)

@@ -3,13 +3,13 @@ use Rattle.std.proofs.Common.{◌≡◌, ℕ, ◌+◌, ◌<◌, ◌≤◌, Bool,
 use Rattle.std.proofs.lemmas.Bool.Decides.{eqb_tells}
 use Rattle.control.specs.Language.{Times, Until, Varying, Program, Paragraph, Range, Main, Part, same_range, Loop, Nested, Stmts, none, also}
 use Rattle.control.specs.Doing.{Acting}
-use Rattle.control.specs.Items.{Item, SentenceEnd, Turn, before, items_of, past_sentence}
+use Rattle.control.specs.Items.{Item, SentenceEnd, Turn, before, items_of, past_sentence, from_loop}
 use Rattle.control.specs.Source.{ends_at}
 use Rattle.control.specs.Graph.{Tree, End, Family, Label}
 use Rattle.lowering.specs.Told.{Told}
 use Rattle.lowering.specs.Completes.{cuts, leave_sentence, sizes}
-use Rattle.lowering.specs.Lower.{Node, leaf, nodes, nodes_in}
-use Rattle.lowering.specs.Rests.{Rest, From, Sent, Turns, Cut, turning_of, items_in, rest_from, after_sentence, uncut, leaf_of, sentence_of, tree_of, Has, HasRest}
+use Rattle.lowering.specs.Lower.{Leaving, Node, leaf, nodes, nodes_in}
+use Rattle.lowering.specs.Rests.{Rest, From, Sent, Turns, Cut, turning_of, items_in, rest_from, after_sentence, after_loop, at_loop, uncut, leaf_of, leaving_of, tree_of, Has, HasRest}
 use Rattle.lowering.specs.Rests as rests
 use Rattle.lowering.proofs.rests.Joints.{Joint, pending_of, CellsHold, Outside, Apart, Fresh, RestOk, Waits, end_at}
 
@@ -61,6 +61,20 @@ outside-after a (Sent holds others) h = h
 outside-after a (Turns place control left reached body others) h = outside-after a others h.1
 outside-after a (Cut others) h = outside-after a others h
 
+outside-behind : (a : ℕ) (c : Rest) → Outside a c → Outside a (after_loop c)
+outside-behind a rests.Over h = tt
+outside-behind a (From place stmts others) h = outside-behind a others h
+outside-behind a (Sent holds others) h = outside-behind a others h
+outside-behind a (Turns place control left reached body others) h = h.1
+outside-behind a (Cut others) h = outside-behind a others h
+
+outside-turn : (a : ℕ) (c : Rest) → Outside a c → Outside a (at_loop c)
+outside-turn a rests.Over h = tt
+outside-turn a (From place stmts others) h = outside-turn a others h
+outside-turn a (Sent holds others) h = outside-turn a others h
+outside-turn a (Turns place control left reached body others) h = h
+outside-turn a (Cut others) h = outside-turn a others h
+
 apart-after : (c : Rest) → Apart c → Apart (after_sentence c)
 apart-after rests.Over h = tt
 apart-after (From place stmts others) h = apart-after others h.1
@@ -68,12 +82,40 @@ apart-after (Sent holds others) h = h
 apart-after (Turns place control left reached body others) h = apart-after others h.1
 apart-after (Cut others) h = apart-after others h
 
+apart-behind : (c : Rest) → Apart c → Apart (after_loop c)
+apart-behind rests.Over h = tt
+apart-behind (From place stmts others) h = apart-behind others h.1
+apart-behind (Sent holds others) h = apart-behind others h
+apart-behind (Turns place control left reached body others) h = h.1
+apart-behind (Cut others) h = apart-behind others h
+
+apart-turn : (c : Rest) → Apart c → Apart (at_loop c)
+apart-turn rests.Over h = tt
+apart-turn (From place stmts others) h = apart-turn others h.1
+apart-turn (Sent holds others) h = apart-turn others h
+apart-turn (Turns place control left reached body others) h = h
+apart-turn (Cut others) h = apart-turn others h
+
 holds-after : (cells : ℕ → ℕ) (c : Rest) → CellsHold cells c → CellsHold cells (after_sentence c)
 holds-after cells rests.Over h = tt
 holds-after cells (From place stmts others) h = holds-after cells others h
 holds-after cells (Sent holds others) h = h
 holds-after cells (Turns place control left reached body others) h = holds-after cells others h.1
 holds-after cells (Cut others) h = holds-after cells others h
+
+holds-behind : (cells : ℕ → ℕ) (c : Rest) → CellsHold cells c → CellsHold cells (after_loop c)
+holds-behind cells rests.Over h = tt
+holds-behind cells (From place stmts others) h = holds-behind cells others h
+holds-behind cells (Sent holds others) h = holds-behind cells others h
+holds-behind cells (Turns place control left reached body others) h = h.1
+holds-behind cells (Cut others) h = holds-behind cells others h
+
+holds-turn : (cells : ℕ → ℕ) (c : Rest) → CellsHold cells c → CellsHold cells (at_loop c)
+holds-turn cells rests.Over h = tt
+holds-turn cells (From place stmts others) h = holds-turn cells others h
+holds-turn cells (Sent holds others) h = holds-turn cells others h
+holds-turn cells (Turns place control left reached body others) h = h
+holds-turn cells (Cut others) h = holds-turn cells others h
 
 pub past-before : (ss : Stmts) (rest : List Item) → past_sentence (before ss rest) ≡ past_sentence rest
 past-before none rest = refl
@@ -85,6 +127,27 @@ past-items (From place stmts others) = past-before stmts (items_in others) ∙ p
 past-items (Sent holds others) = refl
 past-items (Turns place control left reached body others) = past-items others
 past-items (Cut others) = past-items others
+
+pub loop-before : (cycle : Bool) (ss : Stmts) (rest : List Item) → from_loop cycle (before ss rest) ≡ from_loop cycle rest
+loop-before cycle none rest = refl
+loop-before cycle (also s ss) rest = loop-before cycle ss rest
+
+-- the rest that EXIT PERFORM leaves
+abbrev pub left_by : Bool → Rest → Rest
+left_by false c = after_loop c
+left_by true c = at_loop c
+
+pub loop-items : (cycle : Bool) (c : Rest) → from_loop cycle (items_in c) ≡ items_in (left_by cycle c)
+loop-items false rests.Over = refl
+loop-items true rests.Over = refl
+loop-items false (From place stmts others) = loop-before false stmts (items_in others) ∙ loop-items false others
+loop-items true (From place stmts others) = loop-before true stmts (items_in others) ∙ loop-items true others
+loop-items false (Sent holds others) = loop-items false others
+loop-items true (Sent holds others) = loop-items true others
+loop-items false (Turns place control left reached body others) = refl
+loop-items true (Turns place control left reached body others) = refl
+loop-items false (Cut others) = loop-items false others
+loop-items true (Cut others) = loop-items true others
 
 pub items-from : (told : Told) (place : ℕ) (ss : Paragraph) → items_in (rest_from told place ss) ≡ items_of ss
 items-from told place [] = refl
@@ -141,7 +204,7 @@ pub uncut-from : (told : Told) (place : ℕ) (ss : Paragraph) → uncut (rest_fr
 uncut-from told place [] = refl
 uncut-from told place (s ∷ ss) = ap (λ c. From place s (Sent (leave_sentence (cuts told s)) c)) (uncut-from told (place + sizes s) ss)
 
-module _ (told : Told) (place_of : ℕ → ℕ) (end : End) where
+module _ (told : Told) (place_of : ℕ → ℕ) (end : Leaving) where
   pub leaf-uncut : (c : Rest) → leaf_of told place_of end (uncut c) ≡ leaf_of told place_of end c
   leaf-uncut rests.Over = refl
   leaf-uncut (From place stmts others) = ap (leaf told place_of stmts place) (leaf-uncut others)
@@ -149,30 +212,53 @@ module _ (told : Told) (place_of : ℕ → ℕ) (end : End) where
   leaf-uncut (Turns place control left reached body others) = refl
   leaf-uncut (Cut others) = leaf-uncut others
 
-  pub sentence-uncut : (c : Rest) → sentence_of told place_of end (uncut c) ≡ sentence_of told place_of end c
+  sentence-uncut : (c : Rest) → leaf_of told place_of end (after_sentence (uncut c)) ≡ leaf_of told place_of end (after_sentence c)
   sentence-uncut rests.Over = refl
   sentence-uncut (From place stmts others) = sentence-uncut others
   sentence-uncut (Sent holds others) = leaf-uncut others
   sentence-uncut (Turns place control left reached body others) = sentence-uncut others
   sentence-uncut (Cut others) = sentence-uncut others
 
+  loop-uncut : (c : Rest) → leaf_of told place_of end (after_loop (uncut c)) ≡ leaf_of told place_of end (after_loop c)
+  loop-uncut rests.Over = refl
+  loop-uncut (From place stmts others) = loop-uncut others
+  loop-uncut (Sent holds others) = loop-uncut others
+  loop-uncut (Turns place control left reached body others) = leaf-uncut others
+  loop-uncut (Cut others) = loop-uncut others
+
+  turn-uncut : (c : Rest) → leaf_of told place_of end (at_loop (uncut c)) ≡ leaf_of told place_of end (at_loop c)
+  turn-uncut rests.Over = refl
+  turn-uncut (From place stmts others) = turn-uncut others
+  turn-uncut (Sent holds others) = turn-uncut others
+  turn-uncut (Turns place control left reached body others) = refl
+  turn-uncut (Cut others) = turn-uncut others
+
+  abbrev leaving_by : End → End → End → Leaving
+  leaving_by sentence loop cycle = record { sentence = sentence; paragraph = end.paragraph; section = end.section; loop = loop; cycle = cycle }
+
+  pub leaving-uncut : (c : Rest) → leaving_of told place_of end (uncut c) ≡ leaving_of told place_of end c
+  leaving-uncut c =
+      ap (λ e. leaving_by e (leaf_of told place_of end (after_loop (uncut c))) (leaf_of told place_of end (at_loop (uncut c)))) (sentence-uncut c)
+      ∙ ap (λ e. leaving_by (leaf_of told place_of end (after_sentence c)) e (leaf_of told place_of end (at_loop (uncut c)))) (loop-uncut c)
+      ∙ ap (λ e. leaving_by (leaf_of told place_of end (after_sentence c)) (leaf_of told place_of end (after_loop c)) e) (turn-uncut c)
+
   -- a tree that is built from the continuations of a rest
-  pub built-uncut : {A : Type 0} (f : End → End → Tree → A) (c : Rest) →
-      f (sentence_of told place_of end (uncut c)) (leaf_of told place_of end (uncut c)) (tree_of told place_of end (uncut c)) ≡ f (sentence_of told place_of end c) (leaf_of told place_of end c) (tree_of told place_of end (uncut c))
+  pub built-uncut : {A : Type 0} (f : Leaving → End → Tree → A) (c : Rest) →
+      f (leaving_of told place_of end (uncut c)) (leaf_of told place_of end (uncut c)) (tree_of told place_of end (uncut c)) ≡ f (leaving_of told place_of end c) (leaf_of told place_of end c) (tree_of told place_of end (uncut c))
   built-uncut f c =
-      ap (λ e. f e (leaf_of told place_of end (uncut c)) (tree_of told place_of end (uncut c))) (sentence-uncut c)
-      ∙ ap (λ e. f (sentence_of told place_of end c) e (tree_of told place_of end (uncut c))) (leaf-uncut c)
+      ap (λ e. f e (leaf_of told place_of end (uncut c)) (tree_of told place_of end (uncut c))) (leaving-uncut c)
+      ∙ ap (λ e. f (leaving_of told place_of end c) e (tree_of told place_of end (uncut c))) (leaf-uncut c)
 
   pub has-uncut : (graph : Label → Tree) (c : Rest) → HasRest told place_of graph end c → HasRest told place_of graph end (uncut c)
   has-uncut graph rests.Over h = tt
   has-uncut graph (From place stmts others) h = (
-    subst (λ u. Has told place_of graph (nodes told place_of stmts place (sentence_of told place_of end (uncut others)) (leaf_of told place_of end (uncut others)) (tree_of told place_of end u))) (sym (uncut-twice others))
+    subst (λ u. Has told place_of graph (nodes told place_of stmts place (leaving_of told place_of end (uncut others)) (leaf_of told place_of end (uncut others)) (tree_of told place_of end u))) (sym (uncut-twice others))
         (subst (Has told place_of graph) (sym (built-uncut (nodes told place_of stmts place) others)) h.0),
     has-uncut graph others h.1,
   )
   has-uncut graph (Sent holds others) h = has-uncut graph others h
   has-uncut graph (Turns place control left reached body others) h = (
-    subst (λ u. Has told place_of graph (nodes_in told place_of (Loop control (Nested body)) place (sentence_of told place_of end (uncut others)) (leaf_of told place_of end (uncut others)) (tree_of told place_of end u))) (sym (uncut-twice others))
+    subst (λ u. Has told place_of graph (nodes_in told place_of (Loop control (Nested body)) place (leaving_of told place_of end (uncut others)) (leaf_of told place_of end (uncut others)) (tree_of told place_of end u))) (sym (uncut-twice others))
         (subst (Has told place_of graph) (sym (built-uncut (nodes_in told place_of (Loop control (Nested body)) place) others)) h.0),
     has-uncut graph others h.1,
   )
@@ -187,12 +273,26 @@ module _ (graph : Label → Tree) where
   has-right told place_of [] ys h = h
   has-right told place_of (x ∷ xs) ys h = has-right told place_of xs ys h.1
 
-  has-after : (told : Told) (place_of : ℕ → ℕ) (end : End) (c : Rest) → HasRest told place_of graph end c → HasRest told place_of graph end (after_sentence c)
+  pub has-after : (told : Told) (place_of : ℕ → ℕ) (end : Leaving) (c : Rest) → HasRest told place_of graph end c → HasRest told place_of graph end (after_sentence c)
   has-after told place_of end rests.Over h = tt
   has-after told place_of end (From place stmts others) h = has-after told place_of end others h.1
   has-after told place_of end (Sent holds others) h = h
   has-after told place_of end (Turns place control left reached body others) h = has-after told place_of end others h.1
   has-after told place_of end (Cut others) h = has-after told place_of end others h
+
+  pub has-behind : (told : Told) (place_of : ℕ → ℕ) (end : Leaving) (c : Rest) → HasRest told place_of graph end c → HasRest told place_of graph end (after_loop c)
+  has-behind told place_of end rests.Over h = tt
+  has-behind told place_of end (From place stmts others) h = has-behind told place_of end others h.1
+  has-behind told place_of end (Sent holds others) h =   has-behind told place_of end others h
+  has-behind told place_of end (Turns place control left reached body others) h = h.1
+  has-behind told place_of end (Cut others) h = has-behind told place_of end others h
+
+  pub has-turn : (told : Told) (place_of : ℕ → ℕ) (end : Leaving) (c : Rest) → HasRest told place_of graph end c → HasRest told place_of graph end (at_loop c)
+  has-turn told place_of end rests.Over h = tt
+  has-turn told place_of end (From place stmts others) h = has-turn told place_of end others h.1
+  has-turn told place_of end (Sent holds others) h =   has-turn told place_of end others h
+  has-turn told place_of end (Turns place control left reached body others) h = h
+  has-turn told place_of end (Cut others) h = has-turn told place_of end others h
 
 module _ {Memory : Type 0} (acting : Acting Memory) (told : Told) (program : Program) (place_of : ℕ → ℕ) (family : Family) (first : ℕ) (first_rest : List Item) where
   abbrev Wait : (Range → ℕ → ℕ) → Range → List Joint → Type 0
@@ -206,6 +306,12 @@ module _ {Memory : Type 0} (acting : Acting Memory) (told : Told) (program : Pro
 
   pub ok-after : (cells : Range → ℕ → ℕ) (range : Range) (q : ℕ) (c : Rest) → Right cells range q c → Right cells range q (after_sentence c)
   ok-after cells range q c h = (has-after (family.node range) told place_of (end_at acting told program place_of family first first_rest range q) c h.0, holds-after (cells range) c h.1, apart-after c h.2)
+
+  pub ok-behind : (cells : Range → ℕ → ℕ) (range : Range) (q : ℕ) (c : Rest) → Right cells range q c → Right cells range q (after_loop c)
+  ok-behind cells range q c h = (has-behind (family.node range) told place_of (end_at acting told program place_of family first first_rest range q) c h.0, holds-behind (cells range) c h.1, apart-behind c h.2)
+
+  pub ok-turn : (cells : Range → ℕ → ℕ) (range : Range) (q : ℕ) (c : Rest) → Right cells range q c → Right cells range q (at_loop c)
+  ok-turn cells range q c h = (has-turn (family.node range) told place_of (end_at acting told program place_of family first first_rest range q) c h.0, holds-turn (cells range) c h.1, apart-turn c h.2)
 
   -- a counter of a range that doesn't wait
   pub waits-put : (range : Range) (cell value : ℕ) (cells : Range → ℕ → ℕ) (inner : Range) (waiting : List Joint) → Fresh range waiting → Wait cells inner waiting → Wait (put_cells range cell value cells) inner waiting

@@ -2,13 +2,13 @@
 use Rattle.std.proofs.Common.{◌≡◌, ℕ, zero, suc, ◌+◌, ◌<◌, ◌≤◌, Bool, true, false, List, [], ◌∷◌, subst, arith}
 use Rattle.std.specs.Prelude.{slice_get, length}
 use Rattle.control.specs.Outcome.{Trace, Tried, Got, Ends}
-use Rattle.control.specs.Language.{Act, Test, Picker, If, By, ByCell, Control, Times, Until, Varying, Stmt, Choose, Loop, Perform, Go, GoDepending, NextSentence, StopRun, Stmts, none, also, Arms, done, given, missing, Body, Nested, Performed, Range, Main, Part, Paragraph, Program, unless_absent, paragraph_at}
+use Rattle.control.specs.Language.{Act, Test, Picker, If, By, ByCell, Control, Times, Until, Varying, Stmt, Choose, Loop, Perform, Go, GoDepending, NextSentence, ExitParagraph, ExitSection, ExitPerform, StopRun, Stmts, none, also, Arms, done, given, missing, Body, Nested, Performed, Range, Main, Part, Paragraph, Program, unless_absent, paragraph_at}
 use Rattle.control.specs.Language as language
 use Rattle.control.specs.Doing.{Doing}
-use Rattle.control.specs.Items.{Turning, Counted, Tests, Steps, StepsAfter, Item, Do, SentenceEnd, Turn, before, before_body, before_arm, items_of, past_sentence, Way, On, Halts, Into, To, way_after, tried, on, first_turn, loop_begins, turns, tests, steps_on, turn_way, to_one, item_way}
+use Rattle.control.specs.Items.{Turning, Counted, Tests, Steps, StepsAfter, Item, Do, SentenceEnd, Turn, before, before_body, before_arm, items_of, past_sentence, from_loop, Way, On, Halts, Into, To, ToEnd, way_after, tried, on, first_turn, loop_begins, turns, tests, steps_on, turn_way, to_one, item_way}
 use Rattle.control.specs.Source.{rest_of}
 use Rattle.lowering.specs.Told.{Told, OwnAct, OwnTest, OwnControl, OwnStmts, OwnArms, OwnBody, OwnParagraph, OwnParagraphs, IsSource, AllBelow}
-use Rattle.lowering.specs.flow.Comes.{Comes, begins, enters, goes_on, goes_to, over, falls}
+use Rattle.lowering.specs.flow.Comes.{Comes, begins, enters, goes_on, goes_to, goes_to_end, over, falls}
 use Rattle.lowering.proofs.rests.Wholes.{OwnTurning, OwnItem}
 
 -- a statement with all that is nested in it
@@ -21,6 +21,9 @@ abbrev mutual
   bulk (Go to) = 2
   bulk (GoDepending to on) = 2
   bulk NextSentence = 2
+  bulk ExitParagraph = 2
+  bulk (ExitSection last) = 2
+  bulk (ExitPerform cycle) = 2
   bulk StopRun = 2
 
   pub bulks : Stmts → ℕ
@@ -75,6 +78,9 @@ bulk-positive (Perform entry exit) = omega arith
 bulk-positive (Go to) = omega arith
 bulk-positive (GoDepending to on) = omega arith
 bulk-positive NextSentence = omega arith
+bulk-positive ExitParagraph = omega arith
+bulk-positive (ExitSection last) = omega arith
+bulk-positive (ExitPerform cycle) = omega arith
 bulk-positive StopRun = omega arith
 
 weight-before : (ss : Stmts) (xs : List Item) → weight (before ss xs) ≤ bulks ss + weight xs
@@ -97,6 +103,13 @@ past-light [] = omega arith
 past-light (Do s ∷ xs) = omega (arith, past-light xs)
 past-light (SentenceEnd ∷ xs) = omega arith
 past-light (Turn turning body ∷ xs) = omega (arith, past-light xs)
+
+pub loop-light : (cycle : Bool) (xs : List Item) → weight (from_loop cycle xs) ≤ weight xs
+loop-light cycle [] = omega arith
+loop-light cycle (Do s ∷ xs) = omega (arith, loop-light cycle xs)
+loop-light cycle (SentenceEnd ∷ xs) = omega (arith, loop-light cycle xs)
+loop-light true (Turn turning body ∷ xs) = omega arith
+loop-light false (Turn turning body ∷ xs) = omega arith
 
 weight-bulk : (xs : List Item) → weight xs ≤ items_bulk xs
 weight-bulk [] = omega arith
@@ -138,12 +151,20 @@ module _ (told : Told) (paragraphs most : ℕ) where
   fits-past (SentenceEnd ∷ xs) f = f.2
   fits-past (Turn turning body ∷ xs) f = fits-past xs f.2
 
+  fits-loop : (cycle : Bool) (xs : List Item) → Fit xs → Fit (from_loop cycle xs)
+  fits-loop cycle [] f = tt
+  fits-loop cycle (Do s ∷ xs) f = fits-loop cycle xs f.2
+  fits-loop cycle (SentenceEnd ∷ xs) f = fits-loop cycle xs f.2
+  fits-loop true (Turn turning body ∷ xs) f = f
+  fits-loop false (Turn turning body ∷ xs) f = f.2
+
   -- what a way adds to a rest of this weight
   abbrev pub Adds : {Memory : Type 0} → ℕ → Way Memory → Type 0
   Adds heavy (On trace memory items) = (weight items ≤ heavy) × Fit items
   Adds heavy (Halts trace how memory) = Unit {0}
   Adds heavy (Into entry exit items) = (weight items ≤ heavy) × Fit items × (entry < paragraphs) × (exit < paragraphs)
   Adds heavy (To trace memory to) = to < paragraphs
+  Adds heavy (ToEnd trace memory to) = to < paragraphs
 
   module _ {Memory : Type 0} (doing : Doing Memory) where
     after-adds : (heavy : ℕ) (trace : Trace) (way : Way Memory) → Adds heavy way → Adds heavy (way_after trace way)
@@ -151,6 +172,7 @@ module _ (told : Told) (paragraphs most : ℕ) where
     after-adds heavy trace (Halts t how memory) h = h
     after-adds heavy trace (Into entry exit items) h = h
     after-adds heavy trace (To t memory to) h = h
+    after-adds heavy trace (ToEnd t memory to) h = h
 
     tried-adds : {Value : Type 0} (heavy : ℕ) (a : Tried Memory Value) (f : Value → Memory → Way Memory) → ((value : Value) (m : Memory) → Adds heavy (f value m)) → Adds heavy (tried a f)
     tried-adds heavy (Got trace value memory) f h = after-adds heavy trace (f value memory) (h value memory)
@@ -208,6 +230,7 @@ module _ (told : Told) (paragraphs most : ℕ) where
     more-adds heavy higher (Halts t how memory) le h = tt
     more-adds heavy higher (Into entry exit items) le h = (omega (arith, h.0), h.1, h.2, h.3)
     more-adds heavy higher (To t memory to) le h = h
+    more-adds heavy higher (ToEnd t memory to) le h = h
 
     pub item-adds : (x : Item) (xs : List Item) (m : Memory) → OwnItem told paragraphs x → item_bulk x ≤ most → Fit xs → Adds (item_bulk x + weight xs) (item_way doing x xs m)
     item-adds (Do (language.Do act)) xs m own le f = tried-adds (2 + weight xs) (doing.act act m) (λ u. on doing xs) (λ u now. (omega arith, f))
@@ -218,6 +241,9 @@ module _ (told : Told) (paragraphs most : ℕ) where
     item-adds (Do (Go to)) xs m own le f = own
     item-adds (Do (GoDepending to chooser)) xs m own le f = tried-adds (2 + weight xs) (doing.pick (By chooser) m) (λ k. to_one doing (slice_get to k) xs) (λ k now. one-adds to k xs now own.1 f)
     item-adds (Do NextSentence) xs m own le f = (omega (arith, past-light xs), fits-past xs f)
+    item-adds (Do ExitParagraph) xs m own le f = (omega arith, tt)
+    item-adds (Do (ExitSection last)) xs m own le f = own
+    item-adds (Do (ExitPerform cycle)) xs m own le f = (omega (arith, loop-light cycle xs), fits-loop cycle xs f)
     item-adds (Do StopRun) xs m own le f = tt
     item-adds SentenceEnd xs m own le f = (omega arith, f)
     item-adds (Turn turning body) xs m own le f = turn-adds turning body xs m own.0 own.1 le f
@@ -251,6 +277,7 @@ module _ (told : Told) (program : Program) (source : IsSource told program) wher
       let h = comes-fits doing first first_rest f r n (item ∷ others) c in
       (subst (Adds told (length program.paragraphs) (program_bulk program) (item_bulk item + weight others)) e (item-adds told (length program.paragraphs) (program_bulk program) doing item others m h.0 h.1 h.2)).1
   comes-fits doing first first_rest f range q rest (goes_to r n item others m trace after to c e) = rest-fits to
+  comes-fits doing first first_rest f range q rest (goes_to_end r n item others m trace after to c e) = tt
   comes-fits doing first first_rest f range q rest (over r n item others m entry exit items c e d) =
       let h = comes-fits doing first first_rest f r n (item ∷ others) c in
       (subst (Adds told (length program.paragraphs) (program_bulk program) (item_bulk item + weight others)) e (item-adds told (length program.paragraphs) (program_bulk program) doing item others m h.0 h.1 h.2)).1

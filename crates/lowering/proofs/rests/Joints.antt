@@ -10,7 +10,7 @@ use Rattle.control.specs.Source.{Pending, SourceState}
 use Rattle.control.specs.Graph.{Tree, End, Family}
 use Rattle.control.specs.Walk.{Level, Walk, walk_step}
 use Rattle.lowering.specs.Told.{Told}
-use Rattle.lowering.specs.Lower.{end_leaf}
+use Rattle.lowering.specs.Lower.{Leaving, leaving_at}
 use Rattle.lowering.specs.Rests.{Rest, From, Sent, Turns, Cut, items_in, rest_from, tree_of, HasRest}
 use Rattle.lowering.specs.Rests as rests
 use Rattle.lowering.specs.flow.Comes.{Comes}
@@ -111,8 +111,8 @@ module _ {Memory : Type 0} (acting : Acting Memory) (told : Told) (program : Pro
   abbrev pub ComesTo : Range → ℕ → List Item → Type 0
   ComesTo range number rest = Comes (alone acting) program first first_rest range number rest
 
-  abbrev pub end_at : Range → ℕ → End
-  end_at range number = end_leaf place_of program range number
+  abbrev pub end_at : Range → ℕ → Leaving
+  end_at range number = leaving_at place_of program range number
 
   abbrev pub tree_in : Range → ℕ → Rest → Tree
   tree_in range number rest = tree_of told place_of (end_at range number) rest

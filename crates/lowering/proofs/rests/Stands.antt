@@ -22,6 +22,11 @@ pub or-right : (a b : Bool) → b ≡ true → (if a then true else b) ≡ true
 or-right true b h = refl
 or-right false b h = h
 
+-- what completes by the end of its body completes
+pub after-completes : (after a b : Bool) → (if after then a else true) ≡ true → (if after then (if a then true else b) else true) ≡ true
+after-completes true a b h = or-left a b h
+after-completes false a b h = refl
+
 pub before-append : (stmts : Stmts) (xs ys : List Item) → before stmts xs ++ ys ≡ before stmts (xs ++ ys)
 before-append none xs ys = refl
 before-append (also s ss) xs ys = ap (λ r. Do s ∷ r) (before-append ss xs ys)

@@ -1,15 +1,15 @@
 -- What an item does that came out of a statement without an escape is the same in the source and in the walk.
 use Rattle.std.proofs.Common.{◌≡◌, ℕ, zero, suc, Bool, true, false, if◌then◌else◌, List, ◌∷◌, ◌++◌, refl, ap, sym, subst, arith}
 use Rattle.control.specs.Outcome.{Trace, Tried, Got, Ends}
-use Rattle.control.specs.Language.{Act, Test, Picker, If, By, ByCell, Control, Times, Until, Varying, Stmt, Choose, Loop, Perform, Go, GoDepending, NextSentence, StopRun, Stmts, none, also, Arms, Body, Nested, Performed, Range}
+use Rattle.control.specs.Language.{Act, Test, Picker, If, By, ByCell, Control, Times, Until, Varying, Stmt, Choose, Loop, Perform, Go, GoDepending, NextSentence, ExitParagraph, ExitSection, ExitPerform, StopRun, Stmts, none, also, Arms, Body, Nested, Performed, Range}
 use Rattle.control.specs.Language as language
 use Rattle.control.specs.Doing.{Acting, Doing, giving, keeping, arm_of, alone, alone_act, alone_test, alone_pick, Celled, own_is, celled, celled_act}
-use Rattle.control.specs.Items.{Turning, Counted, Tests, Steps, StepsAfter, Item, Do, SentenceEnd, Turn, before_body, before_arm, Way, On, Halts, Into, To, way_after, tried, on, first_turn, varying, loop_begins, turns, tests, steps_on, turn_way, stmt_way, item_way}
+use Rattle.control.specs.Items.{Turning, Counted, Tests, Steps, StepsAfter, Item, Do, SentenceEnd, Turn, before_body, before_arm, Way, On, Halts, Into, To, ToEnd, way_after, tried, on, first_turn, varying, loop_begins, turns, tests, steps_on, turn_way, stmt_way, item_way}
 use Rattle.control.specs.Graph.{Tree, End}
 use Rattle.lowering.specs.Told.{Told, MayGive, ChoiceIsTold, IsTold, OwnAct, OwnTest, OwnControl, OwnPicker, OwnStmt, OwnBody, arm_count}
-use Rattle.lowering.specs.Completes.{first_is_dead, completes, body_completes, cut_arms, cut_body, whole_body}
+use Rattle.lowering.specs.Completes.{first_is_dead, completes, body_completes, body_leaves_loop, cut_arms, cut_body, whole_body}
 use Rattle.lowering.proofs.rests.Parts.{celled-acts, celled-tests, celled-picks}
-use Rattle.lowering.proofs.rests.Stands.{body-append, arm-append, cut_item, whole_item, item_completes, Stands, stands-body, stands-arm}
+use Rattle.lowering.proofs.rests.Stands.{body-append, arm-append, cut_item, whole_item, item_completes, Stands, stands-body, stands-arm, after-completes}
 
 abbrev pub OwnTurning : Turning → Type 0
 OwnTurning (Counted left) = Unit {0}
@@ -28,15 +28,19 @@ Alike cells R Q (On s m a) (On t c b) = (s ≡ t) × (c ≡ record { own = m; ce
 Alike cells R Q (On s m a) (Halts t how c) = ⊥
 Alike cells R Q (On s m a) (Into e x b) = ⊥
 Alike cells R Q (On s m a) (To t c to) = ⊥
+Alike cells R Q (On s m a) (ToEnd t c to) = ⊥
 Alike cells R Q (Halts s how m) (On t c b) = ⊥
 Alike cells R Q (Halts s how m) (Halts t so c) = (s ≡ t) × (how ≡ so) × (m ≡ c.own)
 Alike cells R Q (Halts s how m) (Into e x b) = ⊥
 Alike cells R Q (Halts s how m) (To t c to) = ⊥
+Alike cells R Q (Halts s how m) (ToEnd t c to) = ⊥
 Alike cells R Q (Into e x a) (On t c b) = ⊥
 Alike cells R Q (Into e x a) (Halts t how c) = ⊥
 Alike cells R Q (Into e x a) (Into f y b) = (e ≡ f) × (x ≡ y) × Q e x a b
 Alike cells R Q (Into e x a) (To t c to) = ⊥
+Alike cells R Q (Into e x a) (ToEnd t c to) = ⊥
 Alike cells R Q (To s m to) b = ⊥
+Alike cells R Q (ToEnd s m to) b = ⊥
 
 abbrev pub Gives : {Memory Value : Type 0} → (Value → Type 0) → Tried Memory Value → Type 0
 Gives P (Got trace value memory) = P value
@@ -162,10 +166,10 @@ module _ {Memory : Type 0} (acting : Acting Memory) (told : Told) (is_told : IsT
     loop-alike (Times amount) body xs zs m own w h =
         tried-alike cells Behind BehindWhere (λ v. Unit {0}) m (acting.count amount m) (λ left. on S (Turn (Counted left) body ∷ (xs ++ behind))) (λ left. on W (Turn (Counted left) (cut_body told body) ∷ zs)) (any (acting.count amount m))
         (λ left now p. on-alike (Turn (Counted left) body ∷ xs) (Turn (Counted left) body ∷ (xs ++ behind)) (Turn (Counted left) (cut_body told body) ∷ zs) now refl (refl, w, λ c. h refl))
-    loop-alike (Until after test) body xs zs m own w h = first-alike after (Tests test) body xs zs m w h
+    loop-alike (Until after test) body xs zs m own w h = first-alike after (Tests test) body xs zs m w (λ k. h (after-completes after (body_completes told body) (body_leaves_loop told body) k))
     loop-alike (Varying after set step test) body xs zs m own w h =
         act-alike set (on S (first_turn S after (varying S after step test) body (xs ++ behind))) (on W (first_turn W after (varying W after step test) (cut_body told body) zs)) m own.0
-        (λ now. first-alike after (varying S after step test) body xs zs now w h)
+        (λ now. first-alike after (varying S after step test) body xs zs now w (λ k. h (after-completes after (body_completes told body) (body_leaves_loop told body) k)))
 
     pub item-alike : (x : Item) (xs zs : List Item) (m : Memory) → OwnItem told paragraphs x → whole_item (cut_item told x) ≡ true → (item_completes told x ≡ true → These xs zs) →
         Both (item_way S x (xs ++ behind) m) (item_way W (cut_item told x) zs (here m))
@@ -179,6 +183,9 @@ module _ {Memory : Type 0} (acting : Acting Memory) (told : Told) (is_told : IsT
     item-alike (Do (Go to)) xs zs m own w h = cc
     item-alike (Do (GoDepending to on)) xs zs m own w h = cc
     item-alike (Do NextSentence) xs zs m own w h = cc
+    item-alike (Do ExitParagraph) xs zs m own w h = cc
+    item-alike (Do (ExitSection last)) xs zs m own w h = cc
+    item-alike (Do (ExitPerform cycle)) xs zs m own w h = cc
     item-alike (Do StopRun) xs zs m own w h = (refl, refl, refl)
     item-alike SentenceEnd xs zs m own w h = cc
     item-alike (Turn turning body) xs zs m own w h = turn-alike turning body xs zs m own.0 w (h refl)

@@ -4,14 +4,14 @@ use Rattle.std.specs.Prelude.{slice_get, length}
 use Rattle.control.specs.Outcome.{Trace, Tried, Got}
 use Rattle.control.specs.Language.{Picker, By, Program, Choose, GoDepending, Arms, done, given, missing, Range}
 use Rattle.control.specs.Doing.{Acting, alone, alone_pick, Celled}
-use Rattle.control.specs.Items.{Item, Do, before_arm, Way, To, tried, on, to_one}
+use Rattle.control.specs.Items.{Item, Do, before_arm, Way, To, ToEnd, tried, on, to_one}
 use Rattle.control.specs.Source.{SourceState}
 use Rattle.control.specs.Graph.{Tree, End, Pick, Jump, Family}
 use Rattle.control.specs.Walk.{Walk, picks, picked, tree_at}
 use Rattle.lowering.specs.Told.{Told, IsTold, IsSource, MayGive, OwnPicker, AllBelow, arm_count}
 use Rattle.lowering.specs.Completes.{sizes, first_is_dead}
-use Rattle.lowering.specs.Lower.{only, point, build_arms, depending, nodes, nodes_of_arms}
-use Rattle.lowering.specs.Rests.{Rest, From, Cut, items_in, uncut, leaf_of, sentence_of, tree_of, Has}
+use Rattle.lowering.specs.Lower.{only, point, build_arms, depending, nodes, nodes_of_arms, Leaving}
+use Rattle.lowering.specs.Rests.{Rest, From, Cut, items_in, uncut, leaf_of, leaving_of, tree_of, Has}
 use Rattle.lowering.specs.flow.Comes.{IsLowered}
 use Rattle.lowering.proofs.rests.Parts.{celled-picks}
 use Rattle.lowering.proofs.rests.Wholes.{pick-gives}
@@ -28,7 +28,7 @@ module _ {Memory Left : Type 0} (acting : Acting Memory) (left : Memory → Left
   abbrev tree_of_rest : Range → ℕ → Rest → Tree
   tree_of_rest range q c = tree_here acting left told program place_of family first first_rest range q c
 
-  abbrev ending : Range → ℕ → End
+  abbrev ending : Range → ℕ → Leaving
   ending range q = end_here acting left told program place_of family first first_rest range q
 
   -- the tree that is picked is that of the rest to which the source goes
@@ -39,25 +39,25 @@ module _ {Memory Left : Type 0} (acting : Acting Memory) (left : Memory → Left
     good : Good cells range q rest
 
   taken-arm : (range : Range) (q : ℕ) (cells : Range → ℕ → ℕ) (c : Rest) (arms : Arms) (dead : Bool) (place k : ℕ) → MayGive (arm_count arms) dead k → Good cells range q c → Outside place c →
-      Has told place_of (family.node range) (nodes_of_arms told place_of arms place (sentence_of told place_of (ending range q) c) (leaf_of told place_of (ending range q) c) (tree_of told place_of (ending range q) (uncut c))) →
-      Taken range q cells (before_arm arms k (items_in c)) (tree_at (build_arms told place_of dead arms place (sentence_of told place_of (ending range q) c) (leaf_of told place_of (ending range q) c)) k)
+      Has told place_of (family.node range) (nodes_of_arms told place_of arms place (leaving_of told place_of (ending range q) c) (leaf_of told place_of (ending range q) c) (tree_of told place_of (ending range q) (uncut c))) →
+      Taken range q cells (before_arm arms k (items_in c)) (tree_at (build_arms told place_of dead arms place (leaving_of told place_of (ending range q) c) (leaf_of told place_of (ending range q) c)) k)
   taken-arm range q cells c done dead place k may ok out h = absurd (let e = may.0 in omega (arith, e))
   taken-arm range q cells c (given arm others) dead place zero may ok out h =
-      let sentence = sentence_of told place_of (ending range q) c in
+      let leaving = leaving_of told place_of (ending range q) c in
       let after = leaf_of told place_of (ending range q) c in
       let behind = tree_of told place_of (ending range q) (uncut c) in
       record {
         rest = From place arm (Cut c);
         same = refl;
         tree_is = refl;
-        good = ((has-left (family.node range) told place_of (nodes told place_of arm place sentence after behind) (nodes_of_arms told place_of others (place + sizes arm) sentence after behind) h, ok.0), ok.1, (out, ok.2));
+        good = ((has-left (family.node range) told place_of (nodes told place_of arm place leaving after behind) (nodes_of_arms told place_of others (place + sizes arm) leaving after behind) h, ok.0), ok.1, (out, ok.2));
       }
   taken-arm range q cells c (given arm others) dead place (suc k) may ok out h =
-      let sentence = sentence_of told place_of (ending range q) c in
+      let leaving = leaving_of told place_of (ending range q) c in
       let after = leaf_of told place_of (ending range q) c in
       let behind = tree_of told place_of (ending range q) (uncut c) in
       taken-arm range q cells c others false (place + sizes arm) k (let e = may.0 in omega (arith, e), λ f. cc) ok (outside-more place (place + sizes arm) c (omega arith) out)
-      (has-right (family.node range) told place_of (nodes told place_of arm place sentence after behind) (nodes_of_arms told place_of others (place + sizes arm) sentence after behind) h)
+      (has-right (family.node range) told place_of (nodes told place_of arm place leaving after behind) (nodes_of_arms told place_of others (place + sizes arm) leaving after behind) h)
   taken-arm range q cells c (missing others) true place zero may ok out h = absurd (may.1 refl refl)
   taken-arm range q cells c (missing others) false place zero may ok out h = record { rest = Cut c; same = refl; tree_is = refl; good = ok }
   taken-arm range q cells c (missing others) dead place (suc k) may ok out h = taken-arm range q cells c others false place k (let e = may.0 in omega (arith, e), λ f. cc) ok out h
@@ -66,14 +66,14 @@ module _ {Memory Left : Type 0} (acting : Acting Memory) (left : Memory → Left
       (range : Range) (q : ℕ) (waiting : List Joint) (m : Memory) (cells : Range → ℕ → ℕ) (tr : Trace) (heavy : ℕ) where
     -- a choice with an escape
     pub pick-move : (picker : Picker) (arms : Arms) (place : ℕ) (c : Rest) → OwnPicker told picker (arm_count arms) → Good cells range q c → Outside place c →
-        Has told place_of (family.node range) (nodes_of_arms told place_of arms place (sentence_of told place_of (ending range q) c) (leaf_of told place_of (ending range q) c) (tree_of told place_of (ending range q) (uncut c))) →
+        Has told place_of (family.node range) (nodes_of_arms told place_of arms place (leaving_of told place_of (ending range q) c) (leaf_of told place_of (ending range q) c) (tree_of told place_of (ending range q) (uncut c))) →
         Wait acting left told program place_of family first first_rest cells range waiting → Come acting left told program place_of family first first_rest range q (Do (Choose picker arms) ∷ items_in c) →
         Move acting left told program place_of family first first_rest 1 heavy (step_s acting left told program place_of family first first_rest (at_rest acting left told program place_of family first first_rest range q (Do (Choose picker arms) ∷ items_in c) waiting m tr))
-        (at_tree acting left told program place_of family first first_rest range (only (Pick picker (build_arms told place_of (first_is_dead told picker) arms place (sentence_of told place_of (ending range q) c) (leaf_of told place_of (ending range q) c)))) waiting m cells tr)
+        (at_tree acting left told program place_of family first first_rest range (only (Pick picker (build_arms told place_of (first_is_dead told picker) arms place (leaving_of told place_of (ending range q) c) (leaf_of told place_of (ending range q) c)))) waiting m cells tr)
     pick-move picker arms place c own ok out h waits came =
         let x = Do (Choose picker arms) in
         let rest = items_in c in
-        let trees = build_arms told place_of (first_is_dead told picker) arms place (sentence_of told place_of (ending range q) c) (leaf_of told place_of (ending range q) c) in
+        let trees = build_arms told place_of (first_is_dead told picker) arms place (leaving_of told place_of (ending range q) c) (leaf_of told place_of (ending range q) c) in
         let v : Walk Memory Left = at_tree acting left told program place_of family first first_rest range (only (Pick picker trees)) waiting m cells tr in
         let f : ℕ → Memory → Way Memory = λ k. on (alone acting) (before_arm arms k rest) in
         let k : Tried (Celled Memory) ℕ → Walk Memory Left = λ b. picks acting left family trees b v in

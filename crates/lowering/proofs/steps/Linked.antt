@@ -8,7 +8,7 @@ use Rattle.runs.proofs.Machines.{simulated-tied}
 use Rattle.control.specs.Outcome.{Event, Trace, Ending, Faulted, Reentry, Overlap}
 use Rattle.control.specs.Language.{Paragraph, Program, Range, Main}
 use Rattle.control.specs.Doing.{Acting, alone}
-use Rattle.control.specs.Items.{Item, Do, SentenceEnd, Turn, before, Way, On, Halts, Into, To, item_way}
+use Rattle.control.specs.Items.{Item, Do, SentenceEnd, Turn, before, Way, On, Halts, Into, To, ToEnd, item_way}
 use Rattle.control.specs.Source.{Pending, SourceState, ends_at, rest_of, comes_to, goes_to, goes, falls, end_step, source_step, source_begun, source_machine}
 use Rattle.control.specs.Graph.{Family, body_of, end_of}
 use Rattle.control.specs.Walk.{Walk, walk_step, walk_begun, main_machine}
@@ -49,6 +49,7 @@ module _ {Memory Left : Type 0} (acting : Acting Memory) (left : Memory → Left
         | false ↦ omega (arith, le, li, e, rest-light told program source entry)
       ]
   goes-adds s x xs (To t m to) le li h = omega (arith, rest-light told program source to)
+  goes-adds s x xs (ToEnd t m to) le li h = omega arith
 
   falls-adds : (s : State) (found : Option Paragraph) → heft (falls (alone acting) left program found s) ≤ heft s + most
   falls-adds s None = omega arith

@@ -9,8 +9,8 @@ use Rattle.control.specs.Source.{SourceState}
 use Rattle.control.specs.Graph.{Tree, tree, End, Pick, Jump, no_more, more, Family}
 use Rattle.control.specs.Walk.{Walk, walk_goes, picks}
 use Rattle.lowering.specs.Told.{Told, OwnAct, OwnControl}
-use Rattle.lowering.specs.Lower.{only, head, third, back, loop_start, by_test, with_first, build, loop_nodes, nodes, nodes_in}
-use Rattle.lowering.specs.Rests.{Rest, From, Turns, Cut, turning_of, items_in, to_turn, leaf_of, sentence_of, tree_of, Has, HasRest}
+use Rattle.lowering.specs.Lower.{Leaving, within_loop, only, head, third, back, loop_start, by_test, with_first, build, loop_nodes, nodes, nodes_in}
+use Rattle.lowering.specs.Rests.{Rest, From, Turns, Cut, turning_of, items_in, to_turn, leaf_of, leaving_of, tree_of, Has, HasRest}
 use Rattle.lowering.proofs.rests.Joints.{Joint, pending_of, source_at, heft, CellHolds, CellsHold, Outside, Apart}
 use Rattle.lowering.proofs.rests.Wholes.{OwnTurning}
 use Rattle.lowering.proofs.rests.Counters.{has-left, has-right, outside-more, put_cells, put-here, holds-apart, waits-put, waits-fresh}
@@ -58,14 +58,18 @@ module _ {Memory Left : Type 0} (acting : Acting Memory) (left : Memory → Left
   abbrev Coming : List Item → Type 0
   Coming items = Come acting left told program place_of family first first_rest range q items
 
-  abbrev ending : End
+  abbrev ending : Leaving
   ending = end_here acting left told program place_of family first first_rest range q
 
   abbrev after : End
   after = leaf_of told place_of ending c
 
-  abbrev sentence : End
-  sentence = sentence_of told place_of ending c
+  abbrev leaving : Leaving
+  leaving = leaving_of told place_of ending c
+
+  -- where what leaves the body goes on
+  abbrev from_body : Control → Leaving
+  from_body control = within_loop leaving after (Jump (back control place))
 
   -- the remainder, and a turn before it
   abbrev remainder : Control → ℕ → Bool → Rest
@@ -79,25 +83,25 @@ module _ {Memory Left : Type 0} (acting : Acting Memory) (left : Memory → Left
 
   -- the graph has the loop's nodes
   abbrev pub HasLoop : Control → Type 0
-  HasLoop control = Has told place_of (family.node range) (nodes_in told place_of (Loop control (Nested body)) place sentence after (only after))
+  HasLoop control = Has told place_of (family.node range) (nodes_in told place_of (Loop control (Nested body)) place leaving after (only after))
 
   abbrev body_built : Control → Tree
-  body_built control = build told place_of body (place + 1) sentence (Jump (back control place)) (only (Jump (back control place)))
+  body_built control = build told place_of body (place + 1) (from_body control) (Jump (back control place)) (only (Jump (back control place)))
 
   abbrev own_nodes : Control → Type 0
   own_nodes control = Has told place_of (family.node range) (loop_nodes control place (body_built control) after)
 
   first-nodes : (control : Control) → HasLoop control → own_nodes control
-  first-nodes control h = has-left (family.node range) told place_of (loop_nodes control place (body_built control) after) (nodes told place_of body (place + 1) sentence (Jump (back control place)) (only (Jump (back control place)))) h
+  first-nodes control h = has-left (family.node range) told place_of (loop_nodes control place (body_built control) after) (nodes told place_of body (place + 1) (from_body control) (Jump (back control place)) (only (Jump (back control place)))) h
 
-  body-nodes : (control : Control) → HasLoop control → Has told place_of (family.node range) (nodes told place_of body (place + 1) sentence (Jump (back control place)) (only (Jump (back control place))))
-  body-nodes control h = has-right (family.node range) told place_of (loop_nodes control place (body_built control) after) (nodes told place_of body (place + 1) sentence (Jump (back control place)) (only (Jump (back control place)))) h
+  body-nodes : (control : Control) → HasLoop control → Has told place_of (family.node range) (nodes told place_of body (place + 1) (from_body control) (Jump (back control place)) (only (Jump (back control place))))
+  body-nodes control h = has-right (family.node range) told place_of (loop_nodes control place (body_built control) after) (nodes told place_of body (place + 1) (from_body control) (Jump (back control place)) (only (Jump (back control place)))) h
 
   module _ (good : HasRest told place_of (family.node range) ending c) (apart : Apart c) (out : Outside place c) where
     remainder-good : (control : Control) (n : ℕ) (reached : Bool) (cs : Range → ℕ → ℕ) → HasLoop control → CellHolds (cs range) place control n → CellsHold (cs range) c → Good cs (remainder control n reached)
     remainder-good control n reached cs h held hold = ((h, good), (held, hold), (out, apart))
 
-    inner-good : (control : Control) (n : ℕ) (cs : Range → ℕ → ℕ) → HasLoop control → Has told place_of (family.node range) (nodes told place_of body (place + 1) sentence (Jump (to_turn control true place)) (only (Jump (to_turn control true place)))) → CellHolds (cs range) place control n → CellsHold (cs range) c → Good cs (inner control n)
+    inner-good : (control : Control) (n : ℕ) (cs : Range → ℕ → ℕ) → HasLoop control → Has told place_of (family.node range) (nodes told place_of body (place + 1) (within_loop leaving after (Jump (to_turn control true place))) (Jump (to_turn control true place)) (only (Jump (to_turn control true place)))) → CellHolds (cs range) place control n → CellsHold (cs range) c → Good cs (inner control n)
     inner-good control n cs h k held hold = ((k, (h, good)), (held, hold), ((omega arith, outside-more place (place + 1) c (omega arith) out), (out, apart)))
 
     module _ (waits : Wait acting left told program place_of family first first_rest cells range waiting) (hold : CellsHold (cells range) c) where
@@ -106,7 +110,7 @@ module _ {Memory Left : Type 0} (acting : Acting Memory) (left : Memory → Left
       out-met now u v e came = arrives acting left told program place_of family first first_rest range q (Cut c) (items_in c) waiting now cells u v refl e (good, hold, apart) waits came
 
       -- at the body
-      in-met : (control : Control) (n : ℕ) (now : Memory) (u v : Trace) → v ≡ u → HasLoop control → Has told place_of (family.node range) (nodes told place_of body (place + 1) sentence (Jump (to_turn control true place)) (only (Jump (to_turn control true place)))) → CellHolds (cells range) place control n →
+      in-met : (control : Control) (n : ℕ) (now : Memory) (u v : Trace) → v ≡ u → HasLoop control → Has told place_of (family.node range) (nodes told place_of body (place + 1) (within_loop leaving after (Jump (to_turn control true place))) (Jump (to_turn control true place)) (only (Jump (to_turn control true place)))) → CellHolds (cells range) place control n →
           Coming (before body (Turn (turning_of control n true) (Nested body) ∷ items_in c)) → Meeting (rest_state (before body (Turn (turning_of control n true) (Nested body) ∷ items_in c)) now v) (tree_walk (inner_tree control n) now cells u)
       in-met control n now u v e h k held came =
           arrives acting left told program place_of family first first_rest range q (inner control n) (before body (Turn (turning_of control n true) (Nested body) ∷ items_in c)) waiting now cells u v refl e (inner-good control n cells h k held hold) waits came
@@ -193,7 +197,7 @@ module _ {Memory Left : Type 0} (acting : Acting Memory) (left : Memory → Left
       leads_to x way = Leads acting left told program place_of family first first_rest range q x (items_in c) waiting m cells way
 
       -- behind a test: the loop ends, or its body begins
-      round-reach : (x : Item) (control : Control) (n : ℕ) (ended : Bool) (now : Memory) (u : Trace) → HasLoop control → Has told place_of (family.node range) (nodes told place_of body (place + 1) sentence (Jump (to_turn control true place)) (only (Jump (to_turn control true place)))) → CellHolds (cells range) place control n →
+      round-reach : (x : Item) (control : Control) (n : ℕ) (ended : Bool) (now : Memory) (u : Trace) → HasLoop control → Has told place_of (family.node range) (nodes told place_of body (place + 1) (within_loop leaving after (Jump (to_turn control true place))) (Jump (to_turn control true place)) (only (Jump (to_turn control true place)))) → CellHolds (cells range) place control n →
           leads_to x (on (alone acting) (turns (alone acting) ended (turning_of control n true) (Nested body) (items_in c)) now) →
           Reaching 0 (rest_state (turns (alone acting) ended (turning_of control n true) (Nested body) (items_in c)) now (u ++ [])) (tree_walk (if ended then only after else inner_tree control n) now cells u)
       round-reach x control n true now u h k held leads =
@@ -203,7 +207,7 @@ module _ {Memory Left : Type 0} (acting : Acting Memory) (left : Memory → Left
           met-now acting left told program place_of family first first_rest (rest_state items now (u ++ [])) (tree_walk (inner_tree control n) now cells u) (in-met control n now u (u ++ []) (append-nil u) h k held (leads.0 [] now items refl))
 
       -- behind a test behind the body: the loop ends, or its head is jumped to
-      again-reach : (x : Item) (control : Control) (n : ℕ) (ended : Bool) (now : Memory) (u : Trace) → HasLoop control → Has told place_of (family.node range) (nodes told place_of body (place + 1) sentence (Jump (to_turn control true place)) (only (Jump (to_turn control true place)))) → CellHolds (cells range) place control n →
+      again-reach : (x : Item) (control : Control) (n : ℕ) (ended : Bool) (now : Memory) (u : Trace) → HasLoop control → Has told place_of (family.node range) (nodes told place_of body (place + 1) (within_loop leaving after (Jump (to_turn control true place))) (Jump (to_turn control true place)) (only (Jump (to_turn control true place)))) → CellHolds (cells range) place control n →
           family.node range (head place) ≡ inner_tree control n → leads_to x (on (alone acting) (turns (alone acting) ended (turning_of control n true) (Nested body) (items_in c)) now) →
           Reaching 1 (rest_state (turns (alone acting) ended (turning_of control n true) (Nested body) (items_in c)) now (u ++ [])) (tree_walk (if ended then only after else only (Jump (head place))) now cells u)
       again-reach x control n true now u h k held is leads =

@@ -2,23 +2,23 @@
 use Rattle.std.proofs.Common.{◌≡◌, ℕ, ◌+◌, ◌≤◌, Bool, true, false, if◌then◌else◌, List, [], ◌∷◌, ◌++◌, refl, ap, sym, ◌∙◌, subst, arith, append-nil}
 use Rattle.runs.specs.Run.{Over}
 use Rattle.control.specs.Outcome.{Trace, Normally, Stopped, Run}
-use Rattle.control.specs.Language.{Act, Own, Set, Take, Lower, Picker, Control, Program, Stmt, Choose, Loop, Perform, Go, GoDepending, NextSentence, StopRun, Stmts, none, also, Arms, Nested, Performed, Range, Main, Part}
+use Rattle.control.specs.Language.{Act, Own, Set, Take, Lower, Picker, Control, Program, Stmt, Choose, Loop, Perform, Go, GoDepending, NextSentence, ExitParagraph, ExitSection, ExitPerform, StopRun, Stmts, none, also, Arms, Nested, Performed, Range, Main, Part}
 use Rattle.control.specs.Language as language
 use Rattle.control.specs.Doing.{Acting, alone}
-use Rattle.control.specs.Items.{Item, Do, SentenceEnd, Turn, before, past_sentence, On, tried, on, item_way}
+use Rattle.control.specs.Items.{Item, Do, SentenceEnd, Turn, before, past_sentence, from_loop, On, tried, on, item_way}
 use Rattle.control.specs.Source.{SourceState, rest_of, goes}
 use Rattle.control.specs.Graph.{Tree, End, Pick, Jump, Stop, body_of, Family}
 use Rattle.control.specs.Walk.{Walk}
 use Rattle.lowering.specs.Told.{Told, IsTold, IsSource, OwnAct}
 use Rattle.lowering.specs.Completes.{cut, cuts, whole, wholes, size, skips, first_is_dead}
-use Rattle.lowering.specs.Lower.{only, point, leaf, build, build_arms, loop_start, push, nodes, nodes_in}
-use Rattle.lowering.specs.Rests.{Rest, From, Sent, Turns, Cut, turning_of, items_in, to_turn, after_sentence, uncut, leaf_of, sentence_of, tree_of, Has, HasRest}
+use Rattle.lowering.specs.Lower.{Leaving, only, point, leaf, build, build_arms, loop_start, push, nodes, nodes_in}
+use Rattle.lowering.specs.Rests.{Rest, From, Sent, Turns, Cut, turning_of, items_in, to_turn, after_sentence, after_loop, at_loop, uncut, leaf_of, leaving_of, tree_of, Has, HasRest}
 use Rattle.lowering.specs.Rests as rests
-use Rattle.lowering.specs.flow.Comes.{goes_on, goes_to, AreReturning, IsLowered}
+use Rattle.lowering.specs.flow.Comes.{goes_on, goes_to, goes_to_end, AreReturning, IsLowered}
 use Rattle.lowering.proofs.rests.Stands.{cut_item, whole_item}
-use Rattle.lowering.proofs.rests.Fits.{weight, FitsIn, past-light}
+use Rattle.lowering.proofs.rests.Fits.{weight, FitsIn, past-light, loop-light}
 use Rattle.lowering.proofs.rests.Joints.{Joint, joint, Both, both, rest_at, pending_of, callers_of, source_at, walk_at, source_of, walk_of, heft, IsFine, Ok}
-use Rattle.lowering.proofs.rests.Counters.{has-left, has-right, outside-more, past-items, ok-after, ok-uncut, items-uncut, built-uncut}
+use Rattle.lowering.proofs.rests.Counters.{has-left, has-right, outside-more, past-items, loop-items, ok-after, ok-behind, ok-turn, ok-uncut, items-uncut, built-uncut}
 use Rattle.lowering.proofs.steps.Moves.{Move, Come, Right, Wait, tree_here, end_here, step_s, step_w, at_tree, met-now, ended-now, move-after, move-now, move-more, move-later, arrives, arrives-whole, here-fits, item-move, pushed-move}
 use Rattle.lowering.proofs.steps.Falls.{over-move}
 use Rattle.lowering.proofs.steps.Choices.{pick-move, depending-move}
@@ -42,7 +42,7 @@ module _ {Memory Left : Type 0} (acting : Acting Memory) (left : Memory → Left
   abbrev tree_walk : Range → Tree → List Joint → Memory → (Range → ℕ → ℕ) → Trace → Walk Memory Left
   tree_walk range t waiting m cells tr = at_tree acting left told program place_of family first first_rest range t waiting m cells tr
 
-  abbrev ending : Range → ℕ → End
+  abbrev ending : Range → ℕ → Leaving
   ending range q = end_here acting left told program place_of family first first_rest range q
 
   abbrev tree_for : Range → ℕ → Rest → Tree
@@ -64,25 +64,25 @@ module _ {Memory Left : Type 0} (acting : Acting Memory) (left : Memory → Left
 
   -- the tree behind a statement, as the nodes have it
   abbrev behind_in : Range → ℕ → ℕ → Stmt → Stmts → Rest → Tree
-  behind_in range q place s ss c = build told place_of ss (place + size s) (sentence_of told place_of (ending range q) c) (leaf_of told place_of (ending range q) c) (tree_for range q (uncut c))
+  behind_in range q place s ss c = build told place_of ss (place + size s) (leaving_of told place_of (ending range q) c) (leaf_of told place_of (ending range q) c) (tree_for range q (uncut c))
 
   later-good : (cells : Range → ℕ → ℕ) (range : Range) (q place : ℕ) (s : Stmt) (ss : Stmts) (c : Rest) → Good cells range q (From place (also s ss) c) → Good cells range q (From (place + size s) ss c)
   later-good cells range q place s ss c ok =
-      let sentence = sentence_of told place_of (ending range q) c in
+      let leaving = leaving_of told place_of (ending range q) c in
       let after = leaf_of told place_of (ending range q) c in (
-        (has-right (family.node range) told place_of (nodes_in told place_of s place sentence (leaf told place_of ss (place + size s) after) (behind_in range q place s ss c)) (nodes told place_of ss (place + size s) sentence after (tree_for range q (uncut c))) ok.0.0.1, ok.0.1),
+        (has-right (family.node range) told place_of (nodes_in told place_of s place leaving (leaf told place_of ss (place + size s) after) (behind_in range q place s ss c)) (nodes told place_of ss (place + size s) leaving after (tree_for range q (uncut c))) ok.0.0.1, ok.0.1),
         ok.1,
         (outside-more place (place + size s) c (omega arith) ok.2.0, ok.2.1),
       )
 
   in-has : (cells : Range → ℕ → ℕ) (range : Range) (q place : ℕ) (s : Stmt) (ss : Stmts) (c : Rest) → Good cells range q (From place (also s ss) c) →
       (let behind = From (place + size s) ss c in
-      Has told place_of (family.node range) (nodes_in told place_of s place (sentence_of told place_of (ending range q) behind) (leaf_of told place_of (ending range q) behind) (tree_for range q (uncut behind))))
+      Has told place_of (family.node range) (nodes_in told place_of s place (leaving_of told place_of (ending range q) behind) (leaf_of told place_of (ending range q) behind) (tree_for range q (uncut behind))))
   in-has cells range q place s ss c ok =
-      let sentence = sentence_of told place_of (ending range q) c in
+      let leaving = leaving_of told place_of (ending range q) c in
       let after = leaf_of told place_of (ending range q) c in
-      subst (λ t. Has told place_of (family.node range) (nodes_in told place_of s place sentence (leaf told place_of ss (place + size s) after) t)) (sym (built-uncut told place_of (ending range q) (build told place_of ss (place + size s)) c))
-      (has-left (family.node range) told place_of (nodes_in told place_of s place sentence (leaf told place_of ss (place + size s) after) (behind_in range q place s ss c)) (nodes told place_of ss (place + size s) sentence after (tree_for range q (uncut c))) ok.0.0.1)
+      subst (λ t. Has told place_of (family.node range) (nodes_in told place_of s place leaving (leaf told place_of ss (place + size s) after) t)) (sym (built-uncut told place_of (ending range q) (build told place_of ss (place + size s)) c))
+      (has-left (family.node range) told place_of (nodes_in told place_of s place leaving (leaf told place_of ss (place + size s) after) (behind_in range q place s ss c)) (nodes told place_of ss (place + size s) leaving after (tree_for range q (uncut c))) ok.0.0.1)
 
   push-moves : (range : Range) (q place : ℕ) (s : Stmt) (ss : Stmts) (c : Rest) → whole (cut told s) ≡ true → Moves 5 range q (From place (also s ss) c) (push told place_of s (tree_for range q (From (place + size s) ss c)))
   push-moves range q place s ss c w waiting m cells tr ok waits came fine =
@@ -132,7 +132,7 @@ module _ {Memory Left : Type 0} (acting : Acting Memory) (left : Memory → Left
       let heavy = heft (rest_state range q (x ∷ items_in behind) waiting m tr) in
       let s = stepped (rest_state range q (x ∷ items_in behind) waiting m tr) in
       let t = tree_for range q behind in
-      let picks = only (Pick picker (build_arms told place_of (first_is_dead told picker) arms (place + 1) (sentence_of told place_of (ending range q) behind) (leaf_of told place_of (ending range q) behind))) in
+      let picks = only (Pick picker (build_arms told place_of (first_is_dead told picker) arms (place + 1) (leaving_of told place_of (ending range q) behind) (leaf_of told place_of (ending range q) behind))) in
       let fit = here-fits acting left told program place_of family first first_rest is_told source lowered first_fits range q (x ∷ items_in behind) came in
       elim (whole (cut told (Choose picker arms))) as (λ b. whole (cut told (Choose picker arms)) ≡ b → Moving 5 heavy s (tree_walk range (if b then push told place_of (Choose picker arms) t else picks) waiting m cells tr)) [
         | true ↦ λ e. push-moves range q place (Choose picker arms) ss c e waiting m cells tr ok waits came fine
@@ -176,9 +176,38 @@ module _ {Memory Left : Type 0} (acting : Acting Memory) (left : Memory → Left
       let behind = From (place + 1) ss c in
       let heavy = heft (rest_state range q (Do NextSentence ∷ items_in behind) waiting m tr) in
       let light = past-light (items_in behind) in
-      move-more acting left told program place_of family first first_rest 0 5 heavy (stepped (rest_state range q (Do NextSentence ∷ items_in behind) waiting m tr)) (tree_walk range (only (sentence_of told place_of (ending range q) c)) waiting m cells tr) (omega arith)
-      (still range q (Do NextSentence) (items_in behind) (past_sentence (items_in behind)) (Cut (after_sentence c)) (only (sentence_of told place_of (ending range q) c)) waiting m cells tr refl (past-items behind) refl (omega (arith, light))
+      move-more acting left told program place_of family first first_rest 0 5 heavy (stepped (rest_state range q (Do NextSentence ∷ items_in behind) waiting m tr)) (tree_walk range (only (leaving_of told place_of (ending range q) c).sentence) waiting m cells tr) (omega arith)
+      (still range q (Do NextSentence) (items_in behind) (past_sentence (items_in behind)) (Cut (after_sentence c)) (only (leaving_of told place_of (ending range q) c).sentence) waiting m cells tr refl (past-items behind) refl (omega (arith, light))
       (ok-after acting told program place_of family first first_rest cells range q c (ok.0.1, ok.1, ok.2.1)) waits came)
+  head-move range q place ExitParagraph ss c = λ waiting m cells tr ok waits came fine.
+      let behind = From (place + 1) ss c in
+      let x = Do ExitParagraph in
+      move-more acting left told program place_of family first first_rest 0 5 (heft (rest_state range q (x ∷ items_in behind) waiting m tr)) (stepped (rest_state range q (x ∷ items_in behind) waiting m tr)) (tree_walk range (only (ending range q).paragraph) waiting m cells tr) (omega arith)
+      (still range q x (items_in behind) [] rests.Over (only (ending range q).paragraph) waiting m cells tr refl refl refl (omega arith) (tt, tt, tt) waits came)
+  head-move range q place (ExitSection last) ss c = λ waiting m cells tr ok waits came fine.
+      let behind = From (place + 1) ss c in
+      let x = Do (ExitSection last) in
+      let heavy = heft (rest_state range q (x ∷ items_in behind) waiting m tr) in
+      let s = rest_state range last [] waiting m (tr ++ []) in
+      let w = tree_walk range (only ((ending range q).section last)) waiting m cells tr in
+      move-more acting left told program place_of family first first_rest 0 5 heavy s w (omega arith)
+      (move-now acting left told program place_of family first first_rest heavy s w
+      (arrives acting left told program place_of family first first_rest range last rests.Over [] waiting m cells tr (tr ++ []) refl (append-nil tr) (tt, tt, tt) waits (goes_to_end range q x (items_in behind) m [] m last came refl))
+      (omega arith))
+  head-move range q place (ExitPerform false) ss c = λ waiting m cells tr ok waits came fine.
+      let behind = From (place + 1) ss c in
+      let x = Do (ExitPerform false) in
+      let light = loop-light false (items_in behind) in
+      move-more acting left told program place_of family first first_rest 0 5 (heft (rest_state range q (x ∷ items_in behind) waiting m tr)) (stepped (rest_state range q (x ∷ items_in behind) waiting m tr)) (tree_walk range (only (leaving_of told place_of (ending range q) c).loop) waiting m cells tr) (omega arith)
+      (still range q x (items_in behind) (from_loop false (items_in behind)) (Cut (after_loop c)) (only (leaving_of told place_of (ending range q) c).loop) waiting m cells tr refl (loop-items false behind) refl (omega (arith, light))
+      (ok-behind acting told program place_of family first first_rest cells range q c (ok.0.1, ok.1, ok.2.1)) waits came)
+  head-move range q place (ExitPerform true) ss c = λ waiting m cells tr ok waits came fine.
+      let behind = From (place + 1) ss c in
+      let x = Do (ExitPerform true) in
+      let light = loop-light true (items_in behind) in
+      move-more acting left told program place_of family first first_rest 0 5 (heft (rest_state range q (x ∷ items_in behind) waiting m tr)) (stepped (rest_state range q (x ∷ items_in behind) waiting m tr)) (tree_walk range (only (leaving_of told place_of (ending range q) c).cycle) waiting m cells tr) (omega arith)
+      (still range q x (items_in behind) (from_loop true (items_in behind)) (Cut (at_loop c)) (only (leaving_of told place_of (ending range q) c).cycle) waiting m cells tr refl (loop-items true behind) refl (omega (arith, light))
+      (ok-turn acting told program place_of family first first_rest cells range q c (ok.0.1, ok.1, ok.2.1)) waits came)
   head-move range q place StopRun ss c = λ waiting m cells tr ok waits came fine.
       let behind = From (place + 1) ss c in
       let heavy = heft (rest_state range q (Do StopRun ∷ items_in behind) waiting m tr) in
@@ -224,6 +253,9 @@ module _ {Memory Left : Type 0} (acting : Acting Memory) (left : Memory → Left
   leaf-head-move range q place (Go to) ss c = more-moves range q (From place (also (Go to) ss) c) (tree_for range q (From place (also (Go to) ss) c)) 5 (omega arith) (head-move range q place (Go to) ss c)
   leaf-head-move range q place (GoDepending to chooser) ss c = jumped range q place (GoDepending to chooser) ss c
   leaf-head-move range q place NextSentence ss c = jumped range q place NextSentence ss c
+  leaf-head-move range q place ExitParagraph ss c = jumped range q place ExitParagraph ss c
+  leaf-head-move range q place (ExitSection last) ss c = jumped range q place (ExitSection last) ss c
+  leaf-head-move range q place (ExitPerform cycle) ss c = jumped range q place (ExitPerform cycle) ss c
   leaf-head-move range q place StopRun ss c = more-moves range q (From place (also StopRun ss) c) (tree_for range q (From place (also StopRun ss) c)) 5 (omega arith) (head-move range q place StopRun ss c)
 
   -- the end of a sentence
@@ -233,10 +265,10 @@ module _ {Memory Left : Type 0} (acting : Acting Memory) (left : Memory → Left
       (still range q SentenceEnd (items_in c) (items_in c) d (tree_for range q d) waiting m cells tr refl same refl (omega arith) (good cells ok) waits came)
 
   -- the end of the paragraph
-  end-moves : (range : Range) (q : ℕ) → Moves 6 range q rests.Over (only (ending range q))
+  end-moves : (range : Range) (q : ℕ) → Moves 6 range q rests.Over (only (ending range q).paragraph)
   end-moves range q = λ waiting m cells tr ok waits came fine.
       let heavy = heft (rest_state range q [] waiting m tr) in
-      move-more acting left told program place_of family first first_rest 1 6 heavy (stepped (rest_state range q [] waiting m tr)) (tree_walk range (only (ending range q)) waiting m cells tr) (omega arith)
+      move-more acting left told program place_of family first first_rest 1 6 heavy (stepped (rest_state range q [] waiting m tr)) (tree_walk range (only (ending range q).paragraph) waiting m cells tr) (omega arith)
       (over-move acting left told program place_of family first first_rest is_told source lowered first_fits returning range q waiting m cells tr heavy waits came fine)
 
   -- the remainder of a loop

@@ -11,7 +11,7 @@ use Rattle.control.specs.Graph.{Tree, tree, End, Dead, body_of, end_of, Family}
 use Rattle.control.specs.Walk.{Walk, walk_step, walk_goes}
 use Rattle.lowering.specs.Told.{Told, IsTold, IsSource}
 use Rattle.lowering.specs.Completes.{completes, cut, whole, size}
-use Rattle.lowering.specs.Lower.{point, with_first, push}
+use Rattle.lowering.specs.Lower.{point, with_first, push, Leaving}
 use Rattle.lowering.specs.Rests.{Rest, From, items_in}
 use Rattle.lowering.specs.flow.Comes.{Comes, goes_on, over, AreReturning, IsLowered}
 use Rattle.lowering.specs.flow.Comes as come
@@ -49,7 +49,7 @@ module _ {Memory Left : Type 0} (acting : Acting Memory) (left : Memory → Left
   abbrev pub tree_here : Range → ℕ → Rest → Tree
   tree_here range q c = tree_in acting told program place_of family first first_rest range q c
 
-  abbrev pub end_here : Range → ℕ → End
+  abbrev pub end_here : Range → ℕ → Leaving
   end_here range q = end_at acting told program place_of family first first_rest range q
 
   abbrev pub whole_from : ℕ → Rest

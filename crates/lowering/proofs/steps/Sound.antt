@@ -7,7 +7,7 @@ use Rattle.runs.specs.Machine.{iterate, meaning}
 use Rattle.control.specs.Outcome.{Event, Ending, Returned, Lost, Faulted, Reentry, Overlap, Run, Standing, Tried, Got, Ends}
 use Rattle.control.specs.Language.{Paragraph, Program, Perform, Range, Main, Part}
 use Rattle.control.specs.Doing.{Doing, Acting, alone, Celled, celled}
-use Rattle.control.specs.Items.{Item, Do, before, Way, On, Halts, Into, To, item_way}
+use Rattle.control.specs.Items.{Item, Do, before, Way, On, Halts, Into, To, ToEnd, item_way}
 use Rattle.control.specs.Source.{Pending, SourceState, ends_at, rest_of, comes_to, goes_to, goes, falls, end_step, rest_step, step_by, source_step, source_begun}
 use Rattle.control.specs.Graph.{Tree, End, Pick, Jump, Return, Stop, Dead, Trees, Family, body_of, end_of}
 use Rattle.control.specs.Walk.{Level, Walk, walk_goes, picked, picks, tree_at, returns, walk_end, walk_items, walk_by, walk_step, walk_begun, walk_machine}
@@ -40,6 +40,7 @@ module _ {Memory Left : Type 0} (doing : Doing Memory) (left : Memory → Left) 
         | false ↦ h
       ]
   goes-not-lost s (To t m to) h = h
+  goes-not-lost s (ToEnd t m to) h = h
 
   falls-not-lost : (s : State) (found : Option Paragraph) → NotLost s → NotLost (falls doing left program found s)
   falls-not-lost s None h = λ e. cc
@@ -84,6 +85,8 @@ comes-anywhere doing program first other first_rest other_rest range q rest part
     goes_on r n item others m t after items (comes-anywhere doing program first other first_rest other_rest r n (item ∷ others) part c) is
 comes-anywhere doing program first other first_rest other_rest range q rest part (come.goes_to r n item others m t after to c is) =
     come.goes_to r n item others m t after to (comes-anywhere doing program first other first_rest other_rest r n (item ∷ others) part c) is
+comes-anywhere doing program first other first_rest other_rest range q rest part (come.goes_to_end r n item others m t after to c is) =
+    come.goes_to_end r n item others m t after to (comes-anywhere doing program first other first_rest other_rest r n (item ∷ others) part c) is
 comes-anywhere doing program first other first_rest other_rest range q rest part (come.over r n item others m e x items c is d) =
     come.over r n item others m e x items (comes-anywhere doing program first other first_rest other_rest r n (item ∷ others) part c) is (comes-anywhere doing program first other first_rest other_rest (Part e x) x [] tt d)
 comes-anywhere doing program first other first_rest other_rest range q rest part (come.falls r n next is out c) =
@@ -110,6 +113,7 @@ module _ {Memory Left : Type 0} (acting : Acting Memory) (left : Memory → Left
   walk-goes-same w (Halts t how m) = refl
   walk-goes-same w (Into entry exit items) = refl
   walk-goes-same w (To t m to) = refl
+  walk-goes-same w (ToEnd t m to) = refl
 
   picked-same : (w : Walking) (found : Option Tree) → picked acting left family found (on_bottom w) ≡ on_bottom (picked acting left family found w)
   picked-same w None = refl

@@ -1,11 +1,11 @@
 -- What both do where a part gives a value or ends the run: an act, a test, a choice.
-use Rattle.std.proofs.Common.{◌≡◌, ℕ, suc, Bool, true, false, if◌then◌else◌, List, ◌∷◌, ◌++◌, refl, ap, sym, ◌∙◌, subst, arith, append-nil, append_assoc}
+use Rattle.std.proofs.Common.{◌≡◌, ℕ, suc, Bool, true, false, if◌then◌else◌, List, [], ◌∷◌, ◌++◌, refl, ap, sym, ◌∙◌, subst, arith, append-nil, append_assoc}
 use Rattle.runs.specs.Run.{Over}
 use Rattle.control.specs.Outcome.{Trace, How, Abend, Stopped, Tried, Got, Ends}
 use Rattle.control.specs.Language.{Act, Test, Picker, If, By, Program, Stmt, Range}
 use Rattle.control.specs.Language as language
 use Rattle.control.specs.Doing.{Acting, alone, giving, keeping, arm_of, alone_act, alone_test, Celled, own_is, celled}
-use Rattle.control.specs.Items.{Item, Do, Way, On, Halts, Into, To, way_after, tried, on, item_way}
+use Rattle.control.specs.Items.{Item, Do, Way, On, Halts, Into, To, ToEnd, way_after, tried, on, item_way}
 use Rattle.control.specs.Source.{SourceState, rest_of, goes}
 use Rattle.control.specs.Graph.{Tree, End, no_more, more, Family}
 use Rattle.control.specs.Walk.{Walk, walk_goes, picks}
@@ -27,12 +27,14 @@ NoInto (On trace memory items) = Unit {0}
 NoInto (Halts trace how memory) = Unit {0}
 NoInto (Into entry exit items) = ⊥
 NoInto (To trace memory to) = Unit {0}
+NoInto (ToEnd trace memory to) = Unit {0}
 
 after-no-into : {Memory : Type 0} (trace : Trace) (way : Way Memory) → NoInto way → NoInto (way_after trace way)
 after-no-into trace (On t memory items) h = tt
 after-no-into trace (Halts t how memory) h = tt
 after-no-into trace (Into entry exit items) h = h
 after-no-into trace (To t memory to) h = tt
+after-no-into trace (ToEnd t memory to) h = tt
 
 pub tried-no-into : {Memory Value : Type 0} (a : Tried Memory Value) (f : Value → Memory → Way Memory) → ((value : Value) (now : Memory) → NoInto (f value now)) → NoInto (tried a f)
 tried-no-into (Got trace value now) f h = after-no-into trace (f value now) (h value now)
@@ -82,6 +84,7 @@ module _ {Memory Left : Type 0} (acting : Acting Memory) (left : Memory → Left
   goes-after tr t (Halts s how now) h = ap (λ u. over_at how now u) (sym (append_assoc tr t s))
   goes-after tr t (Into entry exit items) h = absurd h
   goes-after tr t (To s now to) h = ap (λ u. source_at to (rest_of program to) (pending_of range waiting) now u) (sym (append_assoc tr t s))
+  goes-after tr t (ToEnd s now to) h = ap (λ u. source_at to [] (pending_of range waiting) now u) (sym (append_assoc tr t s))
 
   -- a part that gives a value, with which the source goes on, and so does the walk
   pub try-move : {Value : Type 0} (m1 : Memory) (P : Value → Type 0) (a : Tried Memory Value) (f : Value → Memory → Way Memory) (k : Tried (Celled Memory) Value → Walking) (tr : Trace) (v : Walking) (most heavy : ℕ) →

@@ -1,6 +1,6 @@
 -- What a range's level performs: each PERFORM in a node that is reached is come to by a free flow path of that level.
 use Rattle.std.specs.Prelude.{ℕ, ◌≡◌, true, List, [], ◌∷◌}
-use Rattle.control.specs.Language.{Stmt, Choose, Loop, Perform, Go, GoDepending, NextSentence, StopRun, Stmts, none, also, Arms, done, given, missing, Body, Nested, Performed, Program, Range, Part}
+use Rattle.control.specs.Language.{Stmt, Choose, Loop, Perform, Go, GoDepending, NextSentence, ExitParagraph, ExitSection, ExitPerform, StopRun, Stmts, none, also, Arms, done, given, missing, Body, Nested, Performed, Program, Range, Part}
 use Rattle.control.specs.Language as language
 use Rattle.control.specs.Items.{Item, Do}
 use Rattle.control.specs.Graph.{Label, Tree, tree, End, Pick, Jump, Return, Stop, Dead, Trees, no_more, more}
@@ -24,6 +24,9 @@ module _ (told : Told) (program : Program) (range : Range) where
     CallsStmt (Go to) = Unit {0}
     CallsStmt (GoDepending to on) = Unit {0}
     CallsStmt NextSentence = Unit {0}
+    CallsStmt ExitParagraph = Unit {0}
+    CallsStmt (ExitSection last) = Unit {0}
+    CallsStmt (ExitPerform cycle) = Unit {0}
     CallsStmt StopRun = Unit {0}
 
     pub CallsStmts : Stmts → Type 0

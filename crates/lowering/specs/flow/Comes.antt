@@ -3,11 +3,11 @@ use Rattle.std.specs.Prelude.{ℕ, suc, ◌≡◌, ◌+◌, ◌<◌, ◌==◌, B
 use Rattle.control.specs.Outcome.{Trace}
 use Rattle.control.specs.Language.{Paragraph, Program, paragraph_at, Range, Main, Part}
 use Rattle.control.specs.Doing.{Doing}
-use Rattle.control.specs.Items.{Item, On, To, Into, item_way}
+use Rattle.control.specs.Items.{Item, On, To, ToEnd, Into, item_way}
 use Rattle.control.specs.Source.{rest_of}
 use Rattle.control.specs.Graph.{Family}
 use Rattle.lowering.specs.Told.{Told}
-use Rattle.lowering.specs.Lower.{point, end_leaf}
+use Rattle.lowering.specs.Lower.{point, leaving_at}
 use Rattle.lowering.specs.Rests.{rest_from, tree_of, HasRest}
 
 abbrev pub IsNoExit : Range → ℕ → Type 0
@@ -23,6 +23,8 @@ pub data Comes {Memory : Type 0} (doing : Doing Memory) (program : Program) (fir
       Comes doing program first first_rest range number (item ∷ rest) → item_way doing item rest memory ≡ On trace after items → Comes doing program first first_rest range number items
   goes_to : (range : Range) (number : ℕ) (item : Item) (rest : List Item) (memory : Memory) (trace : Trace) (after : Memory) (to : ℕ) →
       Comes doing program first first_rest range number (item ∷ rest) → item_way doing item rest memory ≡ To trace after to → Comes doing program first first_rest range to (rest_of program to)
+  goes_to_end : (range : Range) (number : ℕ) (item : Item) (rest : List Item) (memory : Memory) (trace : Trace) (after : Memory) (to : ℕ) →
+      Comes doing program first first_rest range number (item ∷ rest) → item_way doing item rest memory ≡ ToEnd trace after to → Comes doing program first first_rest range to []
   over : (range : Range) (number : ℕ) (item : Item) (rest : List Item) (memory : Memory) (entry exit : ℕ) (items : List Item) →
       Comes doing program first first_rest range number (item ∷ rest) → item_way doing item rest memory ≡ Into entry exit items →
       Comes doing program first first_rest (Part entry exit) exit [] → Comes doing program first first_rest range number items
@@ -41,6 +43,6 @@ entry_of (Part entry exit) = entry
 pub record IsLowered (told : Told) (program : Program) (place_of : ℕ → ℕ) (family : Family) : Type 0 where
   pub entry : (range : Range) → family.entry range ≡ point (place_of (entry_of range))
   pub at : (range : Range) (number : ℕ) → number < length program.paragraphs →
-      family.node range (point (place_of number)) ≡ tree_of told place_of (end_leaf place_of program range number) (rest_from told (place_of number + 1) (paragraph_at program number))
+      family.node range (point (place_of number)) ≡ tree_of told place_of (leaving_at place_of program range number) (rest_from told (place_of number + 1) (paragraph_at program number))
   pub has : (range : Range) (number : ℕ) → number < length program.paragraphs →
-      HasRest told place_of (family.node range) (end_leaf place_of program range number) (rest_from told (place_of number + 1) (paragraph_at program number))
+      HasRest told place_of (family.node range) (leaving_at place_of program range number) (rest_from told (place_of number + 1) (paragraph_at program number))

@@ -5,7 +5,7 @@ use Rattle.runs.specs.Machine.{iterate, meaning}
 use Rattle.control.specs.Outcome.{Tried, Got, Faulted, FlowFault, Standing}
 use Rattle.control.specs.Language.{Picker, If, By, ByCell, Program}
 use Rattle.control.specs.Doing.{Doing, arm_of}
-use Rattle.control.specs.Items.{Item, Way, On, Halts, Into, To, item_way}
+use Rattle.control.specs.Items.{Item, Way, On, Halts, Into, To, ToEnd, item_way}
 use Rattle.control.specs.Source.{Pending, SourceState, rest_of, goes_to, goes, falls, source_machine}
 use Rattle.lowering.specs.Told.{Told}
 
@@ -77,6 +77,7 @@ module _ (told : Told) (program : Program) where
   free_goes (Into entry exit rest) state =
       goes_to (free told) nothing_left program entry (record state { pending = record { end = exit; paragraph = state.paragraph; rest = rest } ∷ state.pending })
   free_goes (To trace ways number) state = goes (free told) nothing_left program (To trace ways number) state
+  free_goes (ToEnd trace ways number) state = goes (free told) nothing_left program (ToEnd trace ways number) state
 
   abbrev pub free_end : List Pending → Flow → Flow
   free_end [] state = falls (free told) nothing_left program (slice_get program.paragraphs (suc state.paragraph)) state
