@@ -1,5 +1,4 @@
 -- Laws of machines: a step shows more, and a state that is over stays.
-use Rattle.std.specs.Prelude.{[]}
 use Rattle.runs.specs.Machine.{Grows}
 use Rattle.control.specs.Language.{Program, Range}
 use Rattle.control.specs.Doing.{Acting, Doing}
