@@ -2,7 +2,7 @@
 
 ghost use Rattle.lowering.specs.Laws.{LoweringKeepsMeaning, LoweredMainIsSound, LoweredRangeIsSound, NotFaultyHasNoFlowFault, LoweredFamilyKeepsMeaning, LoweredFamilyIsSound, NumberedFamilyKeepsMeaning, WhatCompletesIsPassed};
 ghost use Rattle.lowering.specs.Reached.{UnreachedMakesNoDifference, KeptNodesAreFound};
-ghost use Rattle.lowering.specs.Examples.{LabelInsideAnArmRunsOn, CuttingComesFirst};
+ghost use Rattle.lowering.specs.Examples.{LabelInsideAnArmRunsOn, CuttingComesFirst, LoopsAreLeft, SectionsAreLeft, LoopsCompleteByExit};
 ghost use Rattle.lowering.specs.Renamed.{NumberingMakesNoDifference};
 ghost use Rattle.lowering.specs.WellFormed.{LoweredGraphsAreWellFormed, ReachedGraphsAreWellFormed};
 ghost use Rattle.lowering.specs.flow.Called.{ReachedNodesPerformWhatIsCalled};
@@ -58,8 +58,12 @@ pub fn lowered_graphs_are_well_formed()
     ensures reached { ReachedGraphsAreWellFormed }
 {}
 
-/// Of two small programs: the tree of a label inside an arm runs on behind the arm, and cutting comes first.
+/// Of small programs: the tree of a label inside an arm runs on behind the arm, cutting comes first, EXIT PERFORM and EXIT
+/// SECTION go on behind their loop and their section, and a loop tested after completes where it is left.
 pub fn lowered_examples()
     ensures runs_on { LabelInsideAnArmRunsOn }
     ensures cut_first { CuttingComesFirst }
+    ensures loops { LoopsAreLeft }
+    ensures sections { SectionsAreLeft }
+    ensures completes { LoopsCompleteByExit }
 {}
