@@ -12,5 +12,5 @@ pub mod AllClosed
 pub mod ClosedEnding
 -- What a rule keeps of every walk it keeps of the walk of the whole program.
 pub mod Mains
--- Two worked programs: a loop with two exits, and two labels that jump into each other from two entries.
+-- The premises of the rules' laws hold of a worked program.
 pub mod Examples

@@ -12,3 +12,5 @@ pub mod Keeps
 pub mod Closes
 -- What is said of the rules that bring a number in a cell, and of all rules in their order.
 pub mod Laws
+-- Two worked programs: a loop with two exits, and two labels that jump into each other from two entries.
+pub mod Examples

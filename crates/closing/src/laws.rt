@@ -1,6 +1,7 @@
 //! Nodes that are closed by a number in a cell, and all rules in their order.
 
 ghost use Rattle.closing.specs.Laws.{GatheringKeeps, FlagKeeps, ExitsKeep, NodeExitsKeep, ExitsGraphKeeps, DispatchKeeps, DispatchGraphKeeps, TargetsRise, ClosedEnds, ClosedKeeps, RulesEnd, KeptMainsAreTied, SameMainsAreTied};
+ghost use Rattle.closing.specs.Examples.{ALoopWithTwoExits, TwoLabelsFromTwoEntries, TheDispatchWalksAlike, ItMeetsThePremises, ItTakesSevenUnits};
 
 /// A set of nodes that has become one loop, whose turns walk their trees and leave a number in a cell, walks as it did:
 /// by steps, within eight times the units, and never lost where it never was.
@@ -42,4 +43,14 @@ pub fn closed_keeps<Memory, Left>()
 pub fn closing_ends()
     ensures one { ClosedEnds }
     ensures none { RulesEnd }
+{}
+
+/// Of two small graphs: a loop with two exits takes an exit number, and two labels that jump into each other from two
+/// entries a state; the second walks alike before and behind, and the premises of the laws hold of it.
+pub fn worked_graphs_close_as_said()
+    ensures exits { ALoopWithTwoExits }
+    ensures state { TwoLabelsFromTwoEntries }
+    ensures walks { TheDispatchWalksAlike }
+    ensures premises { ItMeetsThePremises }
+    ensures units { ItTakesSevenUnits }
 {}

@@ -14,5 +14,3 @@ pub mod Ending
 pub mod Closed
 -- What is left of a shaped graph with one node: a body, and an end that is no jump and no choice.
 pub mod Single
--- Small graphs, shaped.
-pub mod Examples

@@ -20,3 +20,5 @@ pub mod Shapes
 pub mod Reduced
 -- What is said of the rules: the walk by recursion is the walk step by step, each rule keeps what a walk does, and a shaped family does what it did.
 pub mod Laws
+-- Small graphs, and what shaping makes of them.
+pub mod Examples

@@ -1,6 +1,7 @@
 //! The walk by recursion, and that the rules on graphs keep what a walk does.
 
 ghost use Rattle.graph_rules.specs.Laws.{JoinGives, OneJoinGives, JoinsAddUp, NoJoinIsLeft, InlineGives, EndlessGives, FlagGives, FormGives, ShapingEnds, ShapedIsClosed, SingleIsLast, ShapedKeeps, ShapedMainIsTied, WalkTakesItsUnits, WalksAreTied, JoinKeeps, PruneKeeps, InlineKeeps, TestedKeeps, LoopKeeps, WalkSeesItsCells, KeptFromAgreeing, SoundBySteps};
+ghost use Rattle.graph_rules.specs.Examples.{AFlagLoop, ALoopBefore, ALoopAfter, AnEndlessLoop, AJoinAndAnInline};
 
 /// The walk of a range by recursion is its walk step by step, and takes exactly the units that the steps cost.
 pub fn a_walk_takes_its_units<Memory, Left>()
@@ -68,4 +69,13 @@ pub fn shaping_ends()
 pub fn shaped_keeps<Memory, Left>()
     ensures all { ShapedKeeps Memory Left }
     ensures main { ShapedMainIsTied Memory Left }
+{}
+
+/// Of small graphs: a loop with a flag, tested before, tested after and endless, a join and a node in place of a jump.
+pub fn small_graphs_are_shaped_as_said()
+    ensures flag { AFlagLoop }
+    ensures before { ALoopBefore }
+    ensures after { ALoopAfter }
+    ensures endless { AnEndlessLoop }
+    ensures joined { AJoinAndAnInline }
 {}
