@@ -10,3 +10,5 @@ pub mod Chain
 pub mod SomeResult
 -- A plan of one small program.
 pub mod PlanExample
+-- The premises in records, and that they can be met.
+pub mod Whole

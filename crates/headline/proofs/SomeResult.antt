@@ -14,7 +14,7 @@ use Rattle.headline.proofs.Chain.{headline-over-control}
 use Rattle.headline.proofs.graphs.LoweredStand.{closed-at, closed-graphs-stand}
 use Rattle.headline.proofs.calls.PerformedProcedures.{closed-performed}
 
-abbrev every-kind : Kinds
+abbrev pub every-kind : Kinds
 every-kind = record {
   simples = λ simple. true;
   conds = λ cond. true;
@@ -27,7 +27,7 @@ every-kind = record {
   chooses = λ range cell arms. true;
 }
 
-every-cell : CellsServed every-kind
+pub every-cell : CellsServed every-kind
 every-cell = record {
   sets = λ range cell value. refl;
   compares = λ range cell value. refl;
@@ -98,7 +98,7 @@ module _ (naming : Naming) (procedures : List Procedure) (range : Range) (R W : 
     trees-served no_more = λ h. tt
     trees-served (more (tree body end) others) = λ h. (stmts-served body h.0, end-served end h.1, trees-served others h.2)
 
-  tree-served : (t : Tree) → TreeNames R W t → TreeServed naming every-kind procedures range t
+  pub tree-served : (t : Tree) → TreeNames R W t → TreeServed naming every-kind procedures range t
   tree-served (tree body end) h = (stmts-served body h.0, end-served end h.1)
 
 pub some-result-behaves : {Memory Left World : Type 0} → SomeResultBehaves Memory Left World

@@ -8,3 +8,5 @@ pub mod NamedCells
 pub mod PlanExample
 -- The counter of a small program: of its two loops by TIMES one is counted, and its counter is numbered 0.
 pub mod NamedCellsExample
+-- The whole headline, with its premises in two records: on the program and its plan, and on the parts.
+pub mod Headline

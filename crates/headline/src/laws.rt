@@ -5,6 +5,7 @@ ghost use Rattle.headline.specs.CallsReached.{WhatIsCalledStands, OrderByPathsIs
 ghost use Rattle.headline.specs.NamedCells.{LoweredNodesNameCounters, NumberedCountersAreNamed};
 ghost use Rattle.headline.specs.NamedCellsExample.{OneCounterIsNamed};
 ghost use Rattle.headline.specs.PlanExample.{APlanCanBeMade, ThePlanIsFollowed};
+ghost use Rattle.headline.specs.Headline.{WhatIsWrittenBehavesAlike, SomePartsAgree};
 use rendering::laws::Carrying;
 
 /// A program that isn't faulty, lowered, closed by the rules and written, is structured and behaves as it did.
@@ -55,4 +56,11 @@ pub fn lowered_nodes_name_counters()
 pub fn a_plan_can_be_made<Memory, Left, World>()
     ensures plan { APlanCanBeMade }
     ensures result { ThePlanIsFollowed Memory Left World }
+{}
+
+/// The headline, with its premises on the program's plan and on the parts in two records: what is written is structured and
+/// behaves as the source. Whatever a source's parts do, some parts of a result meet the premises.
+pub fn what_is_written_behaves_alike<Memory, Other, Left, World, C: Carrying<Memory, Other>>()
+    ensures headline { WhatIsWrittenBehavesAlike C.carries Left World }
+    ensures met { SomePartsAgree Memory Left World }
 {}
