@@ -5,7 +5,7 @@ use Rattle.control.specs.Language as language
 use Rattle.control.specs.Graph.{Tree, tree, End, Pick, Jump, Return, Stop, Dead, Trees, no_more, more}
 use Rattle.lowering.specs.WellFormed.{tree_count}
 use Rattle.graph_rules.specs.Families.{Has, MaySet}
-use Rattle.graph_rules.specs.Reduced.{family_of, kinds_of}
+use Rattle.graph_rules.specs.Reduced.{family_of, kinds_of, size}
 use Rattle.rendering.specs.Rendering.{Naming, Procedure, count_arms}
 use Rattle.rendering.specs.Procedures.{Kinds, ActFits, TestFits, ControlFits}
 use Rattle.headline.specs.Chain.{lowered_graphs, procedures_of, PickerNames, StmtNames, StmtsName, ArmsName, BodyNames, EndNames, TreesName, TreeNames, CellsServed, PickerServed, StmtServed, StmtsServed, ArmsServed, BodyServed, EndServed, TreesServed, TreeServed, SomeResultBehaves}
@@ -27,13 +27,8 @@ every-kind = record {
   chooses = λ range cell arms. true;
 }
 
-pub every-cell : CellsServed every-kind
-every-cell = record {
-  sets = λ range cell value. refl;
-  compares = λ range cell value. refl;
-  aboves = λ range cell. refl;
-  chooses = λ range cell arms. refl;
-}
+pub every-cell : (range : Range) (nodes : ℕ) → CellsServed every-kind range nodes
+every-cell range nodes = record { sets = λ cell value le. refl; compares = λ cell value le. refl; aboves = λ cell. refl; chooses = λ cell arms le. refl }
 
 -- every part is served, where no choice is by a cell
 module _ (naming : Naming) (procedures : List Procedure) (range : Range) (R W : ℕ → Type 0) where
@@ -108,6 +103,6 @@ some-result-behaves = λ acting left first empty told program keep numbers added
     let naming = names acting left first every-kind empty in
     let same = headline-over-control acting left first result (λ memory. left memory.own) (λ world. record { own = first world; cells = λ range cell. 0 }) (λ memory other. memory ≡ other) naming every-kind
     told program keep numbers added others is_told source some fair plan
-    (closed-graphs-stand naming every-kind told program keep numbers added others every-cell source some plan
-    (λ range here label. tree-served naming (procedures_of (Main ∷ others) graphs) range (Has (kinds_of graphs) range) (MaySet (kinds_of graphs) range) ((family_of graphs).node range label) (plan.names range here label))) (closed-performed (Main ∷ others) graphs (closed-at naming every-kind told program keep numbers added others every-cell source some plan (λ range here label. tree-served naming (procedures_of (Main ∷ others) graphs) range (Has (kinds_of graphs) range) (MaySet (kinds_of graphs) range) ((family_of graphs).node range label) (plan.names range here label))) called) (whole-serves acting left first every-kind empty) in
+    (closed-graphs-stand naming every-kind told program keep numbers added others (λ r. every-cell r (size (lowered_graphs told program keep numbers added r).nodes)) source some plan
+    (λ range here label. tree-served naming (procedures_of (Main ∷ others) graphs) range (Has (kinds_of graphs) range) (MaySet (kinds_of graphs) range) ((family_of graphs).node range label) (plan.names range here label))) (closed-performed (Main ∷ others) graphs (closed-at naming every-kind told program keep numbers added others (λ r. every-cell r (size (lowered_graphs told program keep numbers added r).nodes)) source some plan (λ range here label. tree-served naming (procedures_of (Main ∷ others) graphs) range (Has (kinds_of graphs) range) (MaySet (kinds_of graphs) range) ((family_of graphs).node range label) (plan.names range here label))) called) (whole-serves acting left first every-kind empty) in
     (result, naming, refl, same.0, same.1)

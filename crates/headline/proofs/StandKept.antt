@@ -1,5 +1,5 @@
 -- What the rules make of statements that can be written can be written: each choice by a cell stands where the cell isn't zero.
-use Rattle.std.proofs.Common.{◌≡◌, ℕ, zero, suc, ◌-◌, ◌*◌, Bool, true, false, if◌then◌else◌, ◌==◌, List, [], ◌∷◌, Option, Some, None, refl, ap, sym, ◌∙◌, subst, inl, inr}
+use Rattle.std.proofs.Common.{◌≡◌, ℕ, zero, suc, ◌-◌, ◌*◌, ◌≤◌, arith, Bool, true, false, if◌then◌else◌, ◌==◌, List, [], ◌∷◌, Option, Some, None, refl, ap, sym, ◌∙◌, subst, inl, inr}
 use Rattle.control.specs.Language.{Set, Test, Is, Picker, If, ByCell, Until, Do, Choose, Loop, StopRun, Stmts, none, also, Arms, done, given, Nested, Range}
 use Rattle.control.specs.Doing.{is_above}
 use Rattle.control.specs.Graph.{Label, Tree, tree, End, Pick, Jump, Return, Stop, Dead, Trees, no_more, more, body_of, end_of}
@@ -12,9 +12,11 @@ use Rattle.graph_rules.specs.Reduced.{Node, Graph, tree_in, count, with_tree, wi
 use Rattle.closing.specs.Dispatches.{stated_end, stated_tree, stated_arms, number_in, length_of, set_to, exit_jump, bare, state_jump, node_arms, some_returns, return_if, labels_of}
 use Rattle.closing.specs.Dispatches as dispatches
 use Rattle.closing.specs.Targets.{targets_of, with_exits}
-use Rattle.closing.specs.Closes.{none_left_out, has_exits, exits_graph, exits_step, or_exits, any_step, reduced_by_all, dispatch_graph, dispatch_rest, closed_graph}
+use Rattle.closing.specs.Closes.{none_left_out, has_exits, exits_graph, exits_step, or_exits, any_step, reduced_by_all, dispatch_graph, dispatch_rest, closed_graph, IsClosed}
 use Rattle.headline.specs.Chain.{CellsServed}
 use Rattle.graph_rules.proofs.shapes.Reducing.{form-is}
+use Rattle.closing.proofs.closing.RulesStayClosed.{shaped-closed, any-step-closed}
+use Rattle.headline.proofs.graphs.Bounds.{number-most, labels-size, targets-most, bare-most, node-arms-count, step-fewer, by-all-fewer, shaped-fewer}
 
 assoc : (a b c : Stmts) → followed (followed a b) c ≡ followed a (followed b c)
 assoc none b c = refl
@@ -45,7 +47,7 @@ stated-count : (jump : Label → Stmts) (return : Stmts) (picker : Picker) (k : 
 stated-count jump return picker k no_more = refl
 stated-count jump return picker k (more first others) = ap suc (stated-count jump return picker (suc k) others)
 
-module _ (naming : Naming) (kinds : Kinds) (procedures : List Procedure) (range : Range) (all : CellsServed kinds) where
+module _ {most_nodes : ℕ} (naming : Naming) (kinds : Kinds) (procedures : List Procedure) (range : Range) (all : CellsServed kinds range most_nodes) where
   abbrev Stands : Stmts → Type 0
   Stands stmts = StmtsStand naming kinds procedures range stmts
 
@@ -168,11 +170,11 @@ module _ (naming : Naming) (kinds : Kinds) (procedures : List Procedure) (range 
 
   -- Loops.
 
-  set-stands : (cell value : ℕ) → Stands (set_to cell value)
-  set-stands cell value = (all.sets range cell value, inl tt)
+  set-stands : (cell value : ℕ) → value ≤ suc most_nodes → Stands (set_to cell value)
+  set-stands cell value le = (all.sets cell value le, inl tt)
 
   leaving-stands : (keeper : Keeper) (cell : ℕ) → Stands (leaving keeper cell)
-  leaving-stands Flagged cell = set-stands cell 1
+  leaving-stands Flagged cell = set-stands cell 1 (omega arith)
   leaving-stands Endless cell = tt
 
   module _ (keeper : Keeper) (cell : ℕ) (label : Label) where
@@ -283,14 +285,14 @@ module _ (naming : Naming) (kinds : Kinds) (procedures : List Procedure) (range 
       let body = flat Flagged cell label (tree_in graph.nodes label) in
       let loop = also (Do (Set cell 0)) (also (Loop (Until false (Is cell 1)) (Nested body)) none) in
       with-stands label (tree loop (end_at live))
-      (live-stands loop live (all.sets range cell 0, inl ((all.compares range cell 1, inl (flat-stands Flagged cell label (tree_in graph.nodes label) (at-stands graph.nodes label h))), inl tt))) graph.nodes h
+      (live-stands loop live (all.sets cell 0 (omega arith), inl ((all.compares cell 1 (omega arith), inl (flat-stands Flagged cell label (tree_in graph.nodes label) (at-stands graph.nodes label h))), inl tt))) graph.nodes h
 
   close-by-stands : (label : Label) (graph : Graph) (targets : Targets) → GraphStands graph → GraphStands (close_by label graph targets)
   close-by-stands label graph NoTarget h =
       let cell = count graph.added in
       let body = flat Endless cell label (tree_in graph.nodes label) in
       with-stands label (tree (also (Loop (Until false (Is cell 1)) (Nested body)) none) Dead)
-      ((all.compares range cell 1, inl (flat-stands Endless cell label (tree_in graph.nodes label) (at-stands graph.nodes label h))), inl tt) graph.nodes h
+      ((all.compares cell 1 (omega arith), inl (flat-stands Endless cell label (tree_in graph.nodes label) (at-stands graph.nodes label h))), inl tt) graph.nodes h
   close-by-stands label graph (Only live) h = close-form-stands label live graph (form_of label live (tree_in graph.nodes label)) refl h
   close-by-stands label graph Several h = h
 
@@ -299,39 +301,56 @@ module _ (naming : Naming) (kinds : Kinds) (procedures : List Procedure) (range 
   bare-stands [] true = (tt, tt)
   bare-stands (first ∷ others) returns = (tt, bare-stands others returns)
 
-  exit-jump-stands : (exit : ℕ) (label : Label) (targets : List Label) (to : Label) → Stands (exit_jump exit label targets to)
-  exit-jump-stands exit label targets to = elim (to == label) as (λ b. Stands (if b then none else set_to exit (number_in targets to))) [ true ↦ tt | false ↦ set-stands exit (number_in targets to) ]
+  exit-jump-stands : (exit : ℕ) (label : Label) (targets : List Label) → length_of targets ≤ most_nodes → (to : Label) → Stands (exit_jump exit label targets to)
+  exit-jump-stands exit label targets few to =
+      let n = number-most targets to in
+      elim (to == label) as (λ b. Stands (if b then none else set_to exit (number_in targets to))) [
+        | true ↦ tt
+        | false ↦ set-stands exit (number_in targets to) (omega (arith, n, few))
+      ]
 
-  exits-stands : (label : Label) (graph : Graph) → GraphStands graph → GraphStands (exits_graph label graph)
-  exits-stands label graph h =
+  -- its jumps are to its nodes, of which there are so many at most
+  abbrev pub Kept : Graph → Type 0
+  Kept graph = IsClosed graph × (size graph.nodes ≤ most_nodes)
+
+  exits-stands : (label : Label) (graph : Graph) → Kept graph → GraphStands graph → GraphStands (exits_graph label graph)
+  exits-stands label graph k h =
       let exit = count graph.added in
       let t = tree_in graph.nodes label in
       let targets = targets_of label t in
-      let turn = stated-stands (exit_jump exit label targets) (set_to exit (suc (length_of targets))) (exit-jump-stands exit label targets) (set-stands exit (suc (length_of targets))) t (at-stands graph.nodes label h) in
+      let few = k.1 in
+      let some = targets-most graph label k.0 in
+      let less : length_of targets ≤ most_nodes = omega (arith, some, few) in
+      let turn = stated-stands (exit_jump exit label targets) (set_to exit (suc (length_of targets))) (exit-jump-stands exit label targets less) (set-stands exit (suc (length_of targets)) (omega (arith, less))) t (at-stands graph.nodes label h) in
+      let bare_few = bare-most targets (dispatches.tree_returns t) in
       with-stands label (with_exits none_left_out exit label t) (
-        (λ arms e s. (all.sets range exit 0, inl ((all.aboves range exit, inl turn), inr (exit, refl, (refl, all.chooses range exit (count_arms arms), s), tt)))),
+        (λ arms e s. (all.sets exit 0 (omega arith), inl ((all.aboves exit, inl turn), inr (exit, refl, (refl, all.chooses exit (count_arms arms) (omega (arith, e, bare_few, less)), s), tt)))),
         bare-stands targets (dispatches.tree_returns t),
       ) graph.nodes h
 
-  node-arms-stand : (state : ℕ) (labels : List Label) (nodes : List Node) → AllStand nodes → Arms-stand (node_arms none_left_out state labels nodes)
-  node-arms-stand state labels [] h = tt
-  node-arms-stand state labels (node ∷ nodes) h = (
-    stated-stands (state_jump state labels) (set_to state 0) (λ to. set-stands state (number_in labels to)) (set-stands state 0) node.tree h.0,
-    node-arms-stand state labels nodes h.1,
+  node-arms-stand : (state : ℕ) (labels : List Label) → length_of labels ≤ most_nodes → (nodes : List Node) → AllStand nodes → Arms-stand (node_arms none_left_out state labels nodes)
+  node-arms-stand state labels few [] h = tt
+  node-arms-stand state labels few (node ∷ nodes) h = (
+    stated-stands (state_jump state labels) (set_to state 0) (λ to. (let n = number-most labels to in set-stands state (number_in labels to) (omega (arith, n, few)))) (set-stands state 0 (omega arith)) node.tree h.0,
+    node-arms-stand state labels few nodes h.1,
   )
 
   return-stands : (body : Stmts) (returns : Bool) → Stands body → TreeStands (tree body (return_if returns))
   return-stands body true h = h
   return-stands body false h = h
 
-  dispatch-stands : (graph : Graph) → GraphStands graph → GraphStands (dispatch_graph graph)
-  dispatch-stands graph h =
+  dispatch-stands : (graph : Graph) → size graph.nodes ≤ most_nodes → GraphStands graph → GraphStands (dispatch_graph graph)
+  dispatch-stands graph few h =
       let state = count graph.added in
       let labels = labels_of graph.nodes in
       let arms = node_arms none_left_out state labels graph.nodes in
-      let first = number_in labels graph.entry in (
+      let first = number_in labels graph.entry in
+      let as_many = labels-size graph.nodes in
+      let less : length_of labels ≤ most_nodes = omega (arith, as_many, few) in
+      let n = number-most labels graph.entry in
+      let arms_are = node-arms-count state labels graph.nodes in (
         return-stands (also (Do (Set state first)) (also (Loop (Until false (Is state 0)) (Nested (also (Choose (ByCell state) arms) none))) none)) (some_returns graph.nodes)
-            (all.sets range state first, inl ((all.compares range state 0, inr (state, refl, (refl, all.chooses range state (count_arms arms), node-arms-stand state labels graph.nodes h))), inl tt)),
+            (all.sets state first (omega (arith, n, less)), inl ((all.compares state 0 (omega arith), inr (state, refl, (refl, all.chooses state (count_arms arms) (omega (arith, arms_are, few)), node-arms-stand state labels less graph.nodes h))), inl tt)),
         tt,
       )
 
@@ -345,26 +364,33 @@ module _ (naming : Naming) (kinds : Kinds) (procedures : List Procedure) (range 
   loop-step-stands graph None h = inline-step-stands graph (lowest (inlines graph) graph.nodes) h
   loop-step-stands graph (Some label) h = close-by-stands label graph (other_targets label (tree_in graph.nodes label)) h
 
-  exits-step-stands : (graph : Graph) (found : Option Label) → GraphStands graph → GraphStands (stepped graph (exits_step graph found))
-  exits-step-stands graph None h = h
-  exits-step-stands graph (Some label) h = join-graph-stands (exits_graph label graph) (exits-stands label graph h)
+  exits-step-stands : (graph : Graph) (found : Option Label) → Kept graph → GraphStands graph → GraphStands (stepped graph (exits_step graph found))
+  exits-step-stands graph None k h = h
+  exits-step-stands graph (Some label) k h = join-graph-stands (exits_graph label graph) (exits-stands label graph k h)
 
-  or-exits-stands : (graph : Graph) (next : Option Graph) → GraphStands (stepped graph next) → GraphStands graph → GraphStands (stepped graph (or_exits graph next))
-  or-exits-stands graph None k h = exits-step-stands graph (lowest (has_exits graph) graph.nodes) h
-  or-exits-stands graph (Some next) k h = k
+  or-exits-stands : (graph : Graph) (next : Option Graph) → Kept graph → GraphStands (stepped graph next) → GraphStands graph → GraphStands (stepped graph (or_exits graph next))
+  or-exits-stands graph None k s h = exits-step-stands graph (lowest (has_exits graph) graph.nodes) k h
+  or-exits-stands graph (Some next) k s h = s
 
   reduced-stands : (most : ℕ) (graph : Graph) → GraphStands graph → GraphStands (reduced most graph)
   reduced-stands zero graph h = h
   reduced-stands (suc most) graph h = reduced-stands most (stepped graph (rule_step graph)) (loop-step-stands graph (lowest (loops graph) graph.nodes) h)
 
-  by-all-stands : (most : ℕ) (graph : Graph) → GraphStands graph → GraphStands (reduced_by_all most graph)
-  by-all-stands zero graph h = h
-  by-all-stands (suc most) graph h = by-all-stands most (stepped graph (any_step graph)) (or-exits-stands graph (rule_step graph) (loop-step-stands graph (lowest (loops graph) graph.nodes) h) h)
+  by-all-stands : (most : ℕ) (graph : Graph) → Kept graph → GraphStands graph → GraphStands (reduced_by_all most graph)
+  by-all-stands zero graph k h = h
+  by-all-stands (suc most) graph k h =
+      let few = k.1 in
+      let fewer = step-fewer graph in
+      by-all-stands most (stepped graph (any_step graph)) (any-step-closed graph k.0, omega (arith, few, fewer)) (or-exits-stands graph (rule_step graph) k (loop-step-stands graph (lowest (loops graph) graph.nodes) h) h)
 
-  rest-stands : (graph : Graph) → GraphStands graph → GraphStands (dispatch_rest graph)
-  rest-stands graph h = elim (is_above (size graph.nodes - 1)) as (λ b. GraphStands (if b then dispatch_graph graph else graph)) [ true ↦ dispatch-stands graph h | false ↦ h ]
+  rest-stands : (graph : Graph) → size graph.nodes ≤ most_nodes → GraphStands graph → GraphStands (dispatch_rest graph)
+  rest-stands graph few h = elim (is_above (size graph.nodes - 1)) as (λ b. GraphStands (if b then dispatch_graph graph else graph)) [ true ↦ dispatch-stands graph few h | false ↦ h ]
 
-  pub closed-stands : (graph : Graph) → GraphStands graph → GraphStands (closed_graph graph)
-  closed-stands graph h =
+  pub closed-stands : (graph : Graph) → Kept graph → GraphStands graph → GraphStands (closed_graph graph)
+  closed-stands graph k h =
       let most = 3 * size graph.nodes in
-      rest-stands (reduced_by_all most (shaped graph)) (by-all-stands most (shaped graph) (reduced-stands most (join_graph graph) (join-graph-stands graph h)))
+      let few = k.1 in
+      let a = shaped-fewer graph in
+      let b = by-all-fewer most (shaped graph) in
+      rest-stands (reduced_by_all most (shaped graph)) (omega (arith, few, a, b))
+      (by-all-stands most (shaped graph) (shaped-closed graph k.0, omega (arith, few, a)) (reduced-stands most (join_graph graph) (join-graph-stands graph h)))

@@ -3,7 +3,7 @@ use Rattle.std.proofs.Common.{ℕ, List, ◌∷◌, refl}
 use Rattle.control.specs.Language.{Program, Range, Main}
 use Rattle.control.specs.Doing.{Celled}
 use Rattle.graph_rules.specs.Families.{Has, MaySet}
-use Rattle.graph_rules.specs.Reduced.{family_of, kinds_of}
+use Rattle.graph_rules.specs.Reduced.{family_of, kinds_of, size}
 use Rattle.headline.specs.Chain.{EachIsPerformed}
 use Rattle.headline.specs.Headline.{Plan, graphs_by, procedures_by, Parts, CanBeRestructured, PartsAgree, WhatIsWrittenBehavesAlike, SomePartsAgree}
 use Rattle.rendering.proofs.Serviceable.{whole, names, whole-serves}
@@ -43,7 +43,7 @@ some-parts {Memory} {Left} {World} = λ acting left first empty plan program can
       record {
         told = is_told;
         serves = whole-serves acting left first every-kind empty;
-        cells = every-cell;
+        cells = λ range. every-cell range (size (graphs range).nodes);
         stand = λ range here label. tree-served naming (procedures_by plan program) range (Has (kinds_of graphs) range) (MaySet (kinds_of graphs) range) ((family_of graphs).node range label) (can.planned.names range here label);
       },
     )

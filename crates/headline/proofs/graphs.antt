@@ -8,3 +8,5 @@ pub mod LoweredStand
 pub mod NamedCells
 -- The counter of a small program.
 pub mod NamedCellsExample
+-- How large the numbers are that the rules put into cells: no larger than the number of a range's nodes, and one more.
+pub mod Bounds

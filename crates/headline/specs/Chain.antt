@@ -1,5 +1,5 @@
 -- From a source to the written program, over what lowering, the rules and rendering give: the whole headline of this theory.
-use Rattle.std.specs.Prelude.{ℕ, ◌⊎◌, ◌≡◌, ◌<◌, ◌≤◌, Bool, true, false, List, [], ◌∷◌, length, Some, slice_get}
+use Rattle.std.specs.Prelude.{ℕ, suc, ◌⊎◌, ◌≡◌, ◌<◌, ◌≤◌, Bool, true, false, List, [], ◌∷◌, length, Some, slice_get}
 use Rattle.runs.specs.Machine.{meaning}
 use Rattle.control.specs.Language.{Picker, If, By, ByCell, Stmt, Do, Choose, Loop, Perform, Go, GoDepending, NextSentence, ExitParagraph, ExitSection, ExitPerform, StopRun, Stmts, none, also, Arms, done, given, missing, Body, Nested, Performed, Program, Range, Main, Part}
 use Rattle.control.specs.Doing.{Acting, Celled, alone}
@@ -20,7 +20,7 @@ use Rattle.lowering.specs.flow.Called.{IsCalled}
 use Rattle.graph_rules.specs.Fits as fits
 use Rattle.graph_rules.specs.Walked.{is_in, In}
 use Rattle.graph_rules.specs.Families.{Added, Has, MaySet}
-use Rattle.graph_rules.specs.Reduced.{Node, Graph, tree_in, Graphs, family_of, kinds_of}
+use Rattle.graph_rules.specs.Reduced.{Node, Graph, tree_in, size, Graphs, family_of, kinds_of}
 use Rattle.closing.specs.Closes.{IsClosed, closed_graph}
 use Rattle.rendering.specs.Rendering.{Empty, Naming, Procedure, count_arms, rendered}
 use Rattle.rendering.specs.Procedures.{Kinds, ActFits, TestFits, ControlFits, StmtsStand, stmts_call}
@@ -126,12 +126,16 @@ pub record IsPlan (told : Told) (program : Program) (keep : Range → Label → 
   pub performed : (entry exit : ℕ) → In (Part entry exit) (Main ∷ others) → (entry < length program.paragraphs) × IsPerformed told program entry exit
   pub order : CallsStandLater told program (Main ∷ others)
 
--- every word of the rules on a cell may be written: a number is moved to it or compared with it, it is tested for being above zero, and it chooses among arms
-pub record CellsServed (kinds : Kinds) : Type 0 where
-  pub sets : (range : Range) (cell value : ℕ) → kinds.sets range cell value ≡ true
-  pub compares : (range : Range) (cell value : ℕ) → kinds.compares range cell value ≡ true
-  pub aboves : (range : Range) (cell : ℕ) → kinds.aboves range cell ≡ true
-  pub chooses : (range : Range) (cell arms : ℕ) → kinds.chooses range cell arms ≡ true
+-- The words of the rules on the cells of a range with so many nodes may be written: 0 to one more than its nodes is moved to a
+-- cell, which is compared with 0 or 1 or tested for being above zero, and chooses among at most so many arms.
+pub record CellsServed (kinds : Kinds) (range : Range) (nodes : ℕ) : Type 0 where
+  pub sets : (cell value : ℕ) → value ≤ suc nodes → kinds.sets range cell value ≡ true
+  pub compares : (cell value : ℕ) → value ≤ 1 → kinds.compares range cell value ≡ true
+  pub aboves : (cell : ℕ) → kinds.aboves range cell ≡ true
+  pub chooses : (cell arms : ℕ) → arms ≤ suc nodes → kinds.chooses range cell arms ≡ true
+
+abbrev pub EachCellServed : Kinds → Graphs → Type 0
+EachCellServed kinds graphs = (range : Range) → CellsServed kinds range (size (graphs range).nodes)
 
 -- The parts that stand in a tree may be written, whatever is performed, wherever a jump leads and whichever arms stand.
 module _ (naming : Naming) (kinds : Kinds) (procedures : List Procedure) (range : Range) where
@@ -234,7 +238,7 @@ EachStands naming kinds procedures = (number : ℕ) (procedure : Procedure) → 
 abbrev pub ClosedGraphsStand : Type 0
 ClosedGraphsStand =
     (naming : Naming) (kinds : Kinds) (told : Told) (program : Program) (keep : Range → Label → Bool) (numbers : Range → ℕ → ℕ) (added : Range → List Added) (others : List Range) →
-    CellsServed kinds → IsSource told program → 0 < length program.paragraphs → IsPlan told program keep numbers added others →
+    EachCellServed kinds (lowered_graphs told program keep numbers added) → IsSource told program → 0 < length program.paragraphs → IsPlan told program keep numbers added others →
     GraphsServed naming kinds (Main ∷ others) (lowered_graphs told program keep numbers added) →
     EachStands naming kinds (procedures_of (Main ∷ others) (lowered_graphs told program keep numbers added))
 

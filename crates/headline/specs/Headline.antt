@@ -17,7 +17,7 @@ use Rattle.graph_rules.specs.Reduced.{Graphs}
 use Rattle.rendering.specs.Rendering.{Empty, Naming, Procedure, rendered}
 use Rattle.rendering.specs.Procedures.{Kinds}
 use Rattle.rendering.specs.Serving.{Serves}
-use Rattle.headline.specs.Chain.{lowered_graphs, procedures_of, IsPlan, CellsServed, GraphsServed}
+use Rattle.headline.specs.Chain.{lowered_graphs, procedures_of, IsPlan, EachCellServed, GraphsServed}
 use Rattle.headline.specs.CallsReached.{GivesSome, CalledByPaths}
 
 -- how a program is restructured: what lowering is told, which nodes are kept, how the cells of a range are numbered and what
@@ -68,7 +68,7 @@ pub record PartsAgree {Memory Other Left World : Type 0} (Carries : Celled Memor
   pub serves : Serves parts.acting parts.left parts.first parts.result parts.other_left parts.other_first Carries
       parts.naming parts.kinds
   -- each word of the rules on a cell may be written, and each part that stands in the lowered graphs
-  pub cells : CellsServed parts.kinds
+  pub cells : EachCellServed parts.kinds (graphs_by plan program)
   pub stand : GraphsServed parts.naming parts.kinds (Main ∷ plan.others) (graphs_by plan program)
 
 -- the program that is written

@@ -7,11 +7,12 @@ use Rattle.control.specs.Graph.{Label, Tree, tree, End, Pick, Jump, Return, Stop
 use Rattle.graph_rules.specs.Families.{Added}
 use Rattle.graph_rules.specs.Shapes.{followed, Live, ToLabel, Back, end_at, Targets, NoTarget, Only, Several, same_live, both_targets, leaf_targets, arms_targets, join_by, joined, join_end, joined_arms, inlined, inline_end, inlined_arms, leaves_to, end_leaves_to, arms_leaves_to, other_targets, end_targets, other_arms_targets}
 use Rattle.graph_rules.specs.Reduced.{Node, Graph, tree_in, each_tree, without, with_tree, join_graph, inline_graph, all_leaves_to, inlines, Form, form_of, looped_graph, close_form, close_by, close_graph, lowest, inline_step, loop_step, loops, rule_step, stepped, reduced, shaped, size}
+use Rattle.closing.specs.Targets.{RisingLabels}
 use Rattle.closing.specs.Dispatches.{LeavesEnd, LeavesTree, LeavesTrees, Numbered, labels_of, Rising}
 use Rattle.closing.specs.Closes.{has_exits, exits_graph, exits_step, or_exits, any_step, reduced_by_all, dispatch_graph, closed_graph, AllNumbered, IsClosed}
 use Rattle.closing.proofs.gathering.Targets.{numbered-here, numbered-there, numbered-cases}
 use Rattle.closing.proofs.closing.Closes.{AllAbove, rising-above}
-use Rattle.closing.proofs.closing.StayClosed.{with-labels, RisingLabels, by-labels, from-labels, with-numbered, tree-numbered, exits-closed, dispatch-closed}
+use Rattle.closing.proofs.closing.StayClosed.{with-labels, by-labels, from-labels, with-numbered, tree-numbered, exits-closed, dispatch-closed}
 
 -- Targets that are such labels.
 module _ (P : Label → Type 0) where

@@ -3,7 +3,7 @@ use Rattle.std.proofs.Common.{◌≡◌, ◌<◌, Bool, true, false, if◌then�
 use Rattle.control.specs.Graph.{Label, Tree, tree, End, Pick, Jump, Return, Stop, Dead, Trees, no_more, more}
 use Rattle.graph_rules.specs.Reduced.{Node, Graph, tree_in, count, with_tree}
 use Rattle.closing.specs.Dispatches.{LeavesEnd, LeavesTree, LeavesTrees, one_further, Numbered, labels_of, Rising, bare, some_returns, return_if}
-use Rattle.closing.specs.Targets.{is_below, inserted, end_targets, tree_targets, trees_targets, targets_of, with_exits}
+use Rattle.closing.specs.Targets.{is_below, inserted, end_targets, tree_targets, trees_targets, targets_of, RisingLabels, with_exits}
 use Rattle.closing.specs.Closes.{none_left_out, exits_graph, dispatch_graph, AllNumbered, IsClosed}
 use Rattle.control.proofs.Ranges.{eq-self}
 
@@ -31,7 +31,7 @@ module _ (P : Label → Type 0) where
       end-all Stop = λ found l all. all
       end-all Dead = λ found l all. all
 
-      tree-all : (t : Tree) (found : List Label) → LeavesTree P (Unit {0}) t → All found → All (tree_targets label t found)
+      pub tree-all : (t : Tree) (found : List Label) → LeavesTree P (Unit {0}) t → All found → All (tree_targets label t found)
       tree-all (tree body end) = λ found l all. end-all end found l all
 
       trees-all : (arms : Trees) (found : List Label) → LeavesTrees P (Unit {0}) arms → All found → All (trees_targets label arms found)
@@ -52,12 +52,8 @@ with-labels label t (node ∷ nodes) =
       | false ↦ ap (λ l. node.label ∷ l) next
     ]
 
--- nodes rise by their labels alone
-abbrev pub RisingLabels : List Label → Type 0
-RisingLabels [] = Unit {0}
-RisingLabels (first ∷ []) = Unit {0}
-RisingLabels (first ∷ next ∷ others) = (first < next) × RisingLabels (next ∷ others)
 
+-- nodes rise by their labels alone
 pub by-labels : (nodes : List Node) → Rising nodes → RisingLabels (labels_of nodes)
 by-labels [] r = tt
 by-labels (node ∷ []) r = tt

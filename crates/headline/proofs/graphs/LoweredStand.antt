@@ -15,7 +15,7 @@ use Rattle.closing.specs.Dispatches.{Numbered, labels_of, AreNodes}
 use Rattle.closing.specs.Closes.{IsClosed, closed_graph}
 use Rattle.rendering.specs.Rendering.{Empty, Naming, Procedure, place_of, count_arms, standing}
 use Rattle.rendering.specs.Procedures.{Kinds, PickerFits, StandsLater, IsLast, StmtStands, StmtsStand, ArmsStand, BodyStands}
-use Rattle.headline.specs.Chain.{lowered_graphs, procedures_of, IsPlan, CellsServed, EachStands, ClosedGraphsStand, PickerServed, StmtServed, StmtsServed, ArmsServed, BodyServed, EndServed, TreesServed, TreeServed, GraphsServed}
+use Rattle.headline.specs.Chain.{lowered_graphs, procedures_of, IsPlan, CellsServed, EachCellServed, EachStands, ClosedGraphsStand, PickerServed, StmtServed, StmtsServed, ArmsServed, BodyServed, EndServed, TreesServed, TreeServed, GraphsServed}
 use Rattle.graph_rules.proofs.walks.Orders.{place, Behind, ordered-fits}
 use Rattle.closing.proofs.closing.Closes.{are-nodes}
 use Rattle.headline.proofs.graphs.LoweredGraphs.{graphs-closed}
@@ -40,7 +40,7 @@ module _ (graphs : Graphs) where
       let e = same-place ranges r in let f = same-place ranges to in
       (subst (λ n. n < place_of (procedures_of ranges graphs) to) (sym e) (subst (λ n. place ranges r < n) (sym f) h.1), subst (λ n. n < length (procedures_of ranges graphs)) (sym f) (below ranges to h.0))
 
-module _ (naming : Naming) (kinds : Kinds) (procedures : List Procedure) (range : Range) (all : CellsServed kinds) (C : Range → Type 0) (R W : ℕ → Type 0)
+module _ {nodes : ℕ} (naming : Naming) (kinds : Kinds) (procedures : List Procedure) (range : Range) (all : CellsServed kinds range nodes) (C : Range → Type 0) (R W : ℕ → Type 0)
     (stands_later : (entry exit : ℕ) → C (Part entry exit) → StandsLater naming kinds procedures range (Part entry exit)) where
   standing-length : (empty : ℕ → Empty) (k : ℕ) (arms : Arms) → length (standing empty k arms) ≡ count_arms arms
   standing-length empty k done = refl
@@ -110,7 +110,7 @@ module _ (naming : Naming) (kinds : Kinds) (procedures : List Procedure) (range 
   body-stands (tree body Dead) last h = h
 
 module _ (naming : Naming) (kinds : Kinds) (told : Told) (program : Program) (keep : Range → Label → Bool) (numbers : Range → ℕ → ℕ) (added : Range → List Added) (others : List Range)
-    (all : CellsServed kinds) (source : IsSource told program) (some : 0 < length program.paragraphs) (plan : IsPlan told program keep numbers added others)
+    (all : EachCellServed kinds (lowered_graphs told program keep numbers added)) (source : IsSource told program) (some : 0 < length program.paragraphs) (plan : IsPlan told program keep numbers added others)
     (served : GraphsServed naming kinds (Main ∷ others) (lowered_graphs told program keep numbers added)) where
   abbrev graphs : Graphs
   graphs = lowered_graphs told program keep numbers added
@@ -135,24 +135,24 @@ module _ (naming : Naming) (kinds : Kinds) (told : Told) (program : Program) (ke
     behind-later : (entry exit : ℕ) → Behind order r (Part entry exit) → StandsLater naming kinds procedures r (Part entry exit)
     behind-later entry exit b = later graphs order r (Part entry exit) b
 
-    node-stands : (label : Label) → TreeStands naming kinds procedures r all ((family_of graphs).node r label)
+    node-stands : (label : Label) → TreeStands naming kinds procedures r (all r) ((family_of graphs).node r label)
     node-stands label =
-        tree-stands naming kinds procedures r all (Behind order r) R W behind-later ((family_of graphs).node r label)
+        tree-stands naming kinds procedures r (all r) (Behind order r) R W behind-later ((family_of graphs).node r label)
         (ordered-fits (family_of graphs) (Has (kinds_of graphs)) (MaySet (kinds_of graphs)) order (plan-fits told program keep numbers added others source some plan) r here label) (served r here label)
 
-    graph-stands : AllStand naming kinds procedures r all (graphs r).nodes
+    graph-stands : AllStand naming kinds procedures r (all r) (graphs r).nodes
     graph-stands =
         let closed = closed-at r here in
         let labels = labels_of (graphs r).nodes in
-        all-stand naming kinds procedures r all (Behind order r) R W behind-later (family_of graphs) (Numbered labels) (graphs r).nodes
+        all-stand naming kinds procedures r (all r) (Behind order r) R W behind-later (family_of graphs) (Numbered labels) (graphs r).nodes
         (are-nodes (family_of graphs) r labels (graphs r).nodes closed.rising (λ l t e n. e) closed.jumps) node-stands
 
     entry-stands : StmtsStand naming kinds procedures r (body_of (tree_in (closed_graph (graphs r)).nodes (closed_graph (graphs r)).entry))
     entry-stands =
-        let whole = closed-stands naming kinds procedures r all (graphs r) graph-stands in
+        let whole = closed-stands naming kinds procedures r (all r) (graphs r) (closed-at r here, omega arith) graph-stands in
         let t = tree_in (closed_graph (graphs r)).nodes (closed_graph (graphs r)).entry in
-        body-stands naming kinds procedures r all (Behind order r) R W behind-later t (entry-last graphs (graphs r) (closed-at r here))
-        (at-stands naming kinds procedures r all (closed_graph (graphs r)).nodes (closed_graph (graphs r)).entry whole)
+        body-stands naming kinds procedures r (all r) (Behind order r) R W behind-later t (entry-last graphs (graphs r) (closed-at r here))
+        (at-stands naming kinds procedures r (all r) (closed_graph (graphs r)).nodes (closed_graph (graphs r)).entry whole)
 
   each-stands : EachStands naming kinds procedures
   each-stands number procedure is =
