@@ -20,11 +20,16 @@ are_several Several = true
 
 -- a leaf of the node jumps to it, and the other live leaves have two targets or more
 abbrev pub has_exits : Graph → Label → Bool
-has_exits graph label = if is_above (leaves_to label (tree_in graph.nodes label)) then are_several (other_targets label (tree_in graph.nodes label)) else false
+has_exits graph label =
+    if is_above (leaves_to label (tree_in graph.nodes label))
+    then are_several (other_targets label (tree_in graph.nodes label)) else false
 
 -- the node becomes a loop, and then a Pick of its targets by a new cell
 abbrev pub exits_graph : Label → Graph → Graph
-exits_graph label graph = looped_graph label (with_exits none_left_out (count graph.added) label (tree_in graph.nodes label)) (Exit ∷ []) graph
+exits_graph label graph =
+    looped_graph label
+    (with_exits none_left_out (count graph.added) label (tree_in graph.nodes label)) (Exit ∷ [])
+    graph
 
 -- Exits on the lowest label where neither Loop nor Inline applies, and Join.
 
@@ -47,7 +52,9 @@ reduced_by_all (suc most) graph = reduced_by_all most (stepped graph (any_step g
 abbrev pub dispatch_graph : Graph → Graph
 dispatch_graph graph = record {
   entry = graph.entry;
-  nodes = record { label = graph.entry; tree = dispatched none_left_out (count graph.added) graph.entry graph.nodes } ∷ [];
+  nodes = record
+      { label = graph.entry; tree =
+      dispatched none_left_out (count graph.added) graph.entry graph.nodes } ∷ [];
   added = graph.added ++ State ∷ [];
 }
 
@@ -62,7 +69,8 @@ closed_graph graph = dispatch_rest (reduced_by_all (3 * size graph.nodes) (shape
 -- the jumps of each node are to nodes
 abbrev pub AllNumbered : List Label → List Node → Type 0
 AllNumbered labels [] = Unit {0}
-AllNumbered labels (node ∷ nodes) = LeavesTree (Numbered labels) (Unit {0}) node.tree × AllNumbered labels nodes
+AllNumbered labels (node ∷ nodes) =
+    LeavesTree (Numbered labels) (Unit {0}) node.tree × AllNumbered labels nodes
 
 -- its nodes stand in label order, and its entry and its jumps are to nodes
 pub record IsClosed (graph : Graph) : Type 0 where
@@ -73,4 +81,5 @@ pub record IsClosed (graph : Graph) : Type 0 where
 -- the graphs of these ranges closed
 abbrev pub all_closed : List Range → Graphs → Graphs
 all_closed [] graphs = graphs
-all_closed (range ∷ ranges) graphs = with_graph (all_closed ranges graphs) range (closed_graph (all_closed ranges graphs range))
+all_closed (range ∷ ranges) graphs =
+    with_graph (all_closed ranges graphs) range (closed_graph (all_closed ranges graphs range))

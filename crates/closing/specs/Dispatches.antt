@@ -1,4 +1,5 @@
--- The rules that close nodes by a number in a cell: a loop with a flag, a loop with several exits, and the dispatch over all nodes that are left.
+-- The rules that close nodes by a number in a cell: a loop with a flag, a loop with several exits,
+-- and the dispatch over all nodes that are left.
 use Rattle.std.specs.Prelude.{ℕ, zero, suc, ◌≡◌, ◌≢◌, ◌<◌, Bool, true, false, if◌then◌else◌, ◌==◌, List, [], ◌∷◌, ◌⊎◌}
 use Rattle.control.specs.Language.{Set, Test, Is, Above, Picker, ByCell, Stmt, Choose, StopRun, Stmts, none, also, Arms, done, given, missing, Range}
 use Rattle.control.specs.Language as language
@@ -13,7 +14,8 @@ arm_or_none false arm others = given arm others
 arm_or_none true none others = missing others
 arm_or_none true (also stmt stmts) others = given (also stmt stmts) others
 
--- Statements that stand for a tree, where such statements stand for its jumps and its returns, and such arms are left out where they are empty.
+-- Statements that stand for a tree, where such statements stand for its jumps and its returns, and
+-- such arms are left out where they are empty.
 module _ (left_out : Picker → ℕ → Bool) (jump : Label → Stmts) (return : Stmts) where
   abbrev mutual
     pub stated_end : End → Stmts
@@ -28,7 +30,8 @@ module _ (left_out : Picker → ℕ → Bool) (jump : Label → Stmts) (return :
 
     pub stated_arms : Picker → ℕ → Trees → Arms
     stated_arms picker k no_more = done
-    stated_arms picker k (more first others) = arm_or_none (left_out picker k) (stated_tree first) (stated_arms picker (suc k) others)
+    stated_arms picker k (more first others) =
+        arm_or_none (left_out picker k) (stated_tree first) (stated_arms picker (suc k) others)
 
 -- What the live leaves of a tree are.
 module _ (P : Label → Type 0) (Q : Type 0) where
@@ -74,7 +77,8 @@ one_further (suc number) = suc (suc number)
 -- the number of the label in the list, from 1; 0 where it isn't there
 abbrev pub number_in : List Label → Label → ℕ
 number_in [] label = 0
-number_in (first ∷ others) label = if first == label then 1 else one_further (number_in others label)
+number_in (first ∷ others) label =
+    if first == label then 1 else one_further (number_in others label)
 
 abbrev pub Numbered : List Label → Label → Type 0
 Numbered labels label = (n : ℕ) × (number_in labels label ≡ suc n)
@@ -90,10 +94,13 @@ abbrev pub flag_jump : ℕ → Label → Label → Stmts
 flag_jump flag label to = if to == label then none else set_to flag 1
 
 abbrev pub flagged : (Picker → ℕ → Bool) → ℕ → Label → End → Tree → Tree
-flagged left_out flag label out t = loop_from flag (Is flag 1) (stated_tree left_out (flag_jump flag label) (set_to flag 1) t) out 0
+flagged left_out flag label out t =
+    loop_from flag (Is flag 1) (stated_tree left_out (flag_jump flag label) (set_to flag 1) t) out 0
 
--- the family with the loop in place of the node, each of whose live leaves is a jump to it or the one end behind it
-pub record Flagged (left_out : Picker → ℕ → Bool) (range : Range) (label : Label) (flag : ℕ) (out : End) (g h : Family) : Type 0 where
+-- the family with the loop in place of the node, each of whose live leaves is a jump to it or the
+-- one end behind it
+pub record Flagged (left_out : Picker → ℕ → Bool) (range : Range) (label : Label) (flag : ℕ)
+    (out : End) (g h : Family) : Type 0 where
   pub entries : (r : Range) → h.entry r ≡ g.entry r
   pub leaves : LeavesTree (λ to. (to ≡ label) ⊎ (out ≡ Jump to)) (out ≡ Return) (g.node range label)
   pub node : h.node range label ≡ flagged left_out flag label out (g.node range label)
@@ -116,12 +123,17 @@ bare (first ∷ others) returns = more (tree none (Jump first)) (bare others ret
 
 abbrev pub exited : (Picker → ℕ → Bool) → ℕ → Label → List Label → Bool → Tree → Tree
 exited left_out exit label targets returns t =
-    loop_from exit (Above exit) (stated_tree left_out (exit_jump exit label targets) (set_to exit (suc (length_of targets))) t) (Pick (ByCell exit) (bare targets returns)) 0
+    loop_from exit (Above exit)
+        (stated_tree left_out (exit_jump exit label targets) (set_to exit (suc (length_of targets)))
+        t) (Pick (ByCell exit) (bare targets returns)) 0
 
--- the family with the loop in place of the node, whose other live leaves jump to such targets, or return where that is one
-pub record Exited (left_out : Picker → ℕ → Bool) (range : Range) (label : Label) (exit : ℕ) (targets : List Label) (returns : Bool) (g h : Family) : Type 0 where
+-- the family with the loop in place of the node, whose other live leaves jump to such targets, or
+-- return where that is one
+pub record Exited (left_out : Picker → ℕ → Bool) (range : Range) (label : Label) (exit : ℕ)
+    (targets : List Label) (returns : Bool) (g h : Family) : Type 0 where
   pub entries : (r : Range) → h.entry r ≡ g.entry r
-  pub leaves : LeavesTree (λ to. (to ≡ label) ⊎ Numbered targets to) (returns ≡ true) (g.node range label)
+  pub leaves : LeavesTree (λ to. (to ≡ label) ⊎ Numbered targets to) (returns ≡ true)
+      (g.node range label)
   pub node : h.node range label ≡ exited left_out exit label targets returns (g.node range label)
   pub others : (r : Range) (l : Label) → ((r ≡ range) × (l ≡ label) → ⊥) → h.node r l ≡ g.node r l
 
@@ -147,7 +159,9 @@ state_jump state labels to = set_to state (number_in labels to)
 -- one arm for each node
 abbrev pub node_arms : (Picker → ℕ → Bool) → ℕ → List Label → List Node → Arms
 node_arms left_out state labels [] = done
-node_arms left_out state labels (node ∷ others) = given (stated_tree left_out (state_jump state labels) (set_to state 0) node.tree) (node_arms left_out state labels others)
+node_arms left_out state labels (node ∷ others) =
+    given (stated_tree left_out (state_jump state labels) (set_to state 0) node.tree)
+    (node_arms left_out state labels others)
 
 -- a return, where some leaf returns
 abbrev pub return_if : Bool → End
@@ -157,20 +171,25 @@ return_if false = Dead
 -- the one node in place of the nodes, entered at this label
 abbrev pub dispatched : (Picker → ℕ → Bool) → ℕ → Label → List Node → Tree
 dispatched left_out state entry nodes =
-    loop_from state (Is state 0) (also (Choose (ByCell state) (node_arms left_out state (labels_of nodes) nodes)) none) (return_if (some_returns nodes)) (number_in (labels_of nodes) entry)
+    loop_from state (Is state 0)
+        (also (Choose (ByCell state) (node_arms left_out state (labels_of nodes) nodes)) none)
+        (return_if (some_returns nodes)) (number_in (labels_of nodes) entry)
 
 -- these are the family's nodes, and their jumps lead to such labels
 abbrev pub AreNodes : Family → Range → (Label → Type 0) → List Node → Type 0
 AreNodes family range P [] = Unit {0}
-AreNodes family range P (node ∷ others) = (family.node range node.label ≡ node.tree) × LeavesTree P (Unit {0}) node.tree × AreNodes family range P others
+AreNodes family range P (node ∷ others) = (family.node range node.label ≡ node.tree)
+    × LeavesTree P (Unit {0}) node.tree × AreNodes family range P others
 
 -- the family with the one node in place of the range's nodes
-pub record Dispatched (left_out : Picker → ℕ → Bool) (range : Range) (state : ℕ) (nodes : List Node) (g h : Family) : Type 0 where
+pub record Dispatched (left_out : Picker → ℕ → Bool) (range : Range) (state : ℕ) (nodes : List Node)
+    (g h : Family) : Type 0 where
   pub entries : (r : Range) → h.entry r ≡ g.entry r
   pub rising : Rising nodes
   pub entry : Numbered (labels_of nodes) (g.entry range)
   pub nodes_are : AreNodes g range (Numbered (labels_of nodes)) nodes
   pub node : h.node range (g.entry range) ≡ dispatched left_out state (g.entry range) nodes
   -- the other nodes of the range are gone, or are what they were
-  pub rest : (l : Label) → l ≢ g.entry range → (h.node range l ≡ g.node range l) ⊎ (h.node range l ≡ tree none Dead)
+  pub rest : (l : Label) → l ≢ g.entry range →
+      (h.node range l ≡ g.node range l) ⊎ (h.node range l ≡ tree none Dead)
   pub others : (r : Range) → r ≢ range → (l : Label) → h.node r l ≡ g.node r l

@@ -1,4 +1,5 @@
--- Two worked programs: a loop with two exits, and two labels that jump into each other from two entries.
+-- Two worked programs: a loop with two exits, and two labels that jump into each other from two
+-- entries.
 use Rattle.std.specs.Prelude.{ℕ, zero, suc, ◌≡◌, Bool, true, false, ◌==◌, List, [], ◌∷◌}
 use Rattle.runs.specs.Run.{Over}
 use Rattle.runs.specs.Machine.{meaning}
@@ -62,13 +63,17 @@ ALoopWithTwoExits =
 
 -- A (at 0) goes to C (at 6) or B (at 3), B goes to C, and C stops or goes to B
 abbrev pub last_nodes : List Node
-last_nodes = record { label = 6; tree = tree (also (language.Do (Own 2)) (one (Choose (If (Holds 2)) (given (one StopRun) (missing done))))) (Jump 3) } ∷ []
+last_nodes =
+    record { label = 6; tree =
+    tree (also (language.Do (Own 2))
+    (one (Choose (If (Holds 2)) (given (one StopRun) (missing done))))) (Jump 3) } ∷ []
 
 abbrev pub tail_nodes : List Node
 tail_nodes = record { label = 3; tree = tree (one (language.Do (Own 1))) (Jump 6) } ∷ last_nodes
 
 abbrev pub state_nodes : List Node
-state_nodes = record { label = 0; tree = tree none (Pick (If (Holds 1)) (two (go 6) (go 3))) } ∷ tail_nodes
+state_nodes =
+    record { label = 0; tree = tree none (Pick (If (Holds 1)) (two (go 6) (go 3))) } ∷ tail_nodes
 
 abbrev pub TwoLabelsFromTwoEntries : Type 0
 TwoLabelsFromTwoEntries =
@@ -78,7 +83,8 @@ TwoLabelsFromTwoEntries =
     (one (Loop (Until false (Is 9 0)) (Nested (one (Choose (ByCell 9)
     (given (one (if_else 1 (put 3) (put 2)))
     (given (also (language.Do (Own 1)) (put 3))
-    (given (also (language.Do (Own 2)) (also (Choose (If (Holds 2)) (given (one StopRun) (missing done))) (put 2))) done))))))))
+    (given (also (language.Do (Own 2))
+        (also (Choose (If (Holds 2)) (given (one StopRun) (missing done))) (put 2))) done))))))))
     )
     Dead
 
@@ -88,7 +94,9 @@ abbrev pub does : ℕ → ℕ → Tried ℕ (Unit {0})
 does simple n = Got ((simple ∷ []) ∷ []) tt n
 
 abbrev pub acting : Acting ℕ
-acting = record { act = does; test = λ cond n. Got [] (n == cond) n; choose = λ chooser n. Got [] 0 n; count = λ amount n. Got [] amount n }
+acting = record
+    { act = does; test = λ cond n. Got [] (n == cond) n; choose = λ chooser n. Got [] 0 n; count =
+    λ amount n. Got [] amount n }
 
 abbrev pub graphs : Graphs
 graphs range = record { entry = 0; nodes = state_nodes; added = [] }
@@ -99,13 +107,16 @@ shown = record { trace = (1 ∷ []) ∷ (2 ∷ []) ∷ []; standing = Over (Stop
 abbrev pub TheDispatchWalksAlike : Type 0
 TheDispatchWalksAlike =
     (meaning (main_machine acting (λ n. n) (family_of graphs)) 2 20 ≡ shown)
-    × (meaning (main_machine acting (λ n. n) (family_of (with_graph graphs Main (dispatch_graph (graphs Main))))) 2 40 ≡ shown)
+    × (meaning (main_machine acting (λ n. n)
+        (family_of (with_graph graphs Main (dispatch_graph (graphs Main))))) 2 40 ≡ shown)
 
 -- the premises of the rules' laws hold of the second
 abbrev pub ItMeetsThePremises : Type 0
-ItMeetsThePremises = IsClosed (graphs Main) × IsFamily (kinds_of graphs) (family_of graphs) (Main ∷ [])
+ItMeetsThePremises =
+    IsClosed (graphs Main) × IsFamily (kinds_of graphs) (family_of graphs) (Main ∷ [])
 
 -- seven units by recursion are enough
 abbrev pub ItTakesSevenUnits : Type 0
 ItTakesSevenUnits =
-    walked acting (λ n. n) (family_of graphs) (Main ∷ []) Main (record { own = 2; cells = λ range cell. 0 }) 7 ≡ shown
+    walked acting (λ n. n) (family_of graphs) (Main ∷ []) Main
+        (record { own = 2; cells = λ range cell. 0 }) 7 ≡ shown

@@ -12,7 +12,9 @@ is_below a b = is_above (b - a)
 abbrev pub inserted : Label → List Label → List Label
 inserted label [] = label ∷ []
 inserted label (first ∷ others) =
-    if label == first then first ∷ others else (if is_below label first then label ∷ first ∷ others else first ∷ inserted label others)
+    if label == first then first ∷ others
+        else (if is_below label first then label ∷ first ∷ others
+        else first ∷ inserted label others)
 
 -- the labels but this one to which leaves jump, with those that were found before
 module _ (label : Label) where
@@ -42,10 +44,12 @@ RisingLabels (first ∷ next ∷ others) = (first < next) × RisingLabels (next 
 
 -- the node as a loop with its exits
 abbrev pub with_exits : (Picker → ℕ → Bool) → ℕ → Label → Tree → Tree
-with_exits left_out exit label t = exited left_out exit label (targets_of label t) (tree_returns t) t
+with_exits left_out exit label t =
+    exited left_out exit label (targets_of label t) (tree_returns t) t
 
 -- the family with the node closed by its exits
-pub record ClosedByExits (left_out : Picker → ℕ → Bool) (range : Range) (label : Label) (exit : ℕ) (g h : Family) : Type 0 where
+pub record ClosedByExits (left_out : Picker → ℕ → Bool) (range : Range) (label : Label) (exit : ℕ)
+    (g h : Family) : Type 0 where
   pub entries : (r : Range) → h.entry r ≡ g.entry r
   pub node : h.node range label ≡ with_exits left_out exit label (g.node range label)
   pub others : (r : Range) (l : Label) → ((r ≡ range) × (l ≡ label) → ⊥) → h.node r l ≡ g.node r l

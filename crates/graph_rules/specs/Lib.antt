@@ -1,4 +1,5 @@
--- What the statements of a range may name: the ranges that they perform, and the cells that they read and write. No jump is among them.
+-- What the statements of a range may name: the ranges that they perform, and the cells that they
+-- read and write. No jump is among them.
 pub mod Fits
 -- Steps that cost units, and meanings that take units in place of steps.
 pub mod Charged
@@ -18,7 +19,8 @@ pub mod Loops
 pub mod Shapes
 -- Graphs of ranges as lists of nodes, and how Join, Loop and Inline reduce them.
 pub mod Reduced
--- What is said of the rules: the walk by recursion is the walk step by step, each rule keeps what a walk does, and a shaped family does what it did.
+-- What is said of the rules: the walk by recursion is the walk step by step, each rule keeps what a
+-- walk does, and a shaped family does what it did.
 pub mod Laws
 -- Small graphs, and what shaping makes of them.
 pub mod Examples

@@ -37,7 +37,9 @@ abbrev pub Graphs : Type 0
 Graphs = Range → Graph
 
 abbrev pub family_of : Graphs → Family
-family_of graphs = record { entry = λ range. (graphs range).entry; node = λ range label. tree_in (graphs range).nodes label }
+family_of graphs =
+    record { entry = λ range. (graphs range).entry; node =
+    λ range label. tree_in (graphs range).nodes label }
 
 abbrev pub kinds_of : Graphs → Kinds
 kinds_of graphs range cell = kind_at (graphs range).added cell
@@ -51,22 +53,29 @@ each_tree f (node ∷ nodes) = record { label = node.label; tree = f node.tree }
 
 abbrev pub without : Label → List Node → List Node
 without label [] = []
-without label (node ∷ nodes) = if node.label == label then without label nodes else node ∷ without label nodes
+without label (node ∷ nodes) =
+    if node.label == label then without label nodes else node ∷ without label nodes
 
 -- the tree at the label is this one
 abbrev pub with_tree : Label → Tree → List Node → List Node
 with_tree label t [] = []
-with_tree label t (node ∷ nodes) = if node.label == label then record { label = node.label; tree = t } ∷ with_tree label t nodes else node ∷ with_tree label t nodes
+with_tree label t (node ∷ nodes) =
+    if node.label == label then record { label = node.label; tree = t } ∷ with_tree label t nodes
+    else node ∷ with_tree label t nodes
 
 -- Join, everywhere.
 
 abbrev pub join_graph : Graph → Graph
-join_graph graph = record { entry = graph.entry; nodes = each_tree joined graph.nodes; added = graph.added }
+join_graph graph =
+    record { entry = graph.entry; nodes = each_tree joined graph.nodes; added = graph.added }
 
 -- Inline of a node.
 
 abbrev pub inline_graph : Label → Graph → Graph
-inline_graph label graph = record { entry = graph.entry; nodes = each_tree (inlined label (tree_in graph.nodes label)) (without label graph.nodes); added = graph.added }
+inline_graph label graph =
+    record { entry = graph.entry; nodes =
+    each_tree (inlined label (tree_in graph.nodes label)) (without label graph.nodes); added =
+    graph.added }
 
 abbrev pub all_leaves_to : Label → List Node → ℕ
 all_leaves_to label [] = 0
@@ -74,7 +83,10 @@ all_leaves_to label (node ∷ nodes) = leaves_to label node.tree + all_leaves_to
 
 -- exactly one leaf of the graph jumps to it, from another node, and it isn't the entry
 abbrev pub inlines : Graph → Label → Bool
-inlines graph label = if label == graph.entry then false else (if leaves_to label (tree_in graph.nodes label) == 0 then all_leaves_to label graph.nodes == 1 else false)
+inlines graph label =
+    if label == graph.entry then false
+    else (if leaves_to label (tree_in graph.nodes label) == 0
+    then all_leaves_to label graph.nodes == 1 else false)
 
 -- Loop on a node.
 
@@ -106,19 +118,25 @@ pub record Form : Type 0 where
   pub body : Stmts
 
 abbrev pub pretest : Bool → Test → Bool → Option Stmts → Option Form → Option Form
-pretest turned test true (Some body) other = Some (record { after = false; turned = turned; test = test; body = body })
+pretest turned test true (Some body) other =
+    Some (record { after = false; turned = turned; test = test; body = body })
 pretest turned test true None other = other
 pretest turned test false found other = other
 
 abbrev pub posttest : Bool → Test → Stmts → Bool → Bool → Option Form → Option Form
-posttest turned test body true true other = Some (record { after = true; turned = turned; test = test; body = body })
+posttest turned test body true true other =
+    Some (record { after = true; turned = turned; test = test; body = body })
 posttest turned test body true false other = other
 posttest turned test body false bare other = other
 
 abbrev pub form_two : Label → Live → Stmts → Test → Tree → Tree → Option Form
-form_two label live none test one two = pretest false test (is_bare live one) (stays label two) (pretest true test (is_bare live two) (stays label one) None)
+form_two label live none test one two =
+    pretest false test (is_bare live one) (stays label two)
+    (pretest true test (is_bare live two) (stays label one) None)
 form_two label live (also first others) test one two =
-    posttest false test (also first others) (is_bare live one) (is_bare (ToLabel label) two) (posttest true test (also first others) (is_bare live two) (is_bare (ToLabel label) one) None)
+    posttest false test (also first others) (is_bare live one) (is_bare (ToLabel label) two)
+        (posttest true test (also first others) (is_bare live two) (is_bare (ToLabel label) one)
+        None)
 
 abbrev pub form_arms : Label → Live → Stmts → Test → Trees → Option Form
 form_arms label live body test no_more = None
@@ -143,17 +161,29 @@ form_of label live (tree body end) = form_end label live body end
 
 -- the graph with this tree at the label
 abbrev pub looped_graph : Label → Tree → List Added → Graph → Graph
-looped_graph label t kinds graph = record { entry = graph.entry; nodes = with_tree label t graph.nodes; added = graph.added ++ kinds }
+looped_graph label t kinds graph =
+    record { entry = graph.entry; nodes = with_tree label t graph.nodes; added =
+    graph.added ++ kinds }
 
 abbrev pub close_form : Label → Live → Graph → Option Form → Graph
-close_form label live graph (Some form) = looped_graph label (tree (alone (Loop (Until form.after (turned_test form.turned form.test)) (Nested form.body))) (end_at live)) [] graph
+close_form label live graph (Some form) =
+    looped_graph label
+    (tree (alone (Loop (Until form.after (turned_test form.turned form.test)) (Nested form.body)))
+    (end_at live)) [] graph
 close_form label live graph None =
-    looped_graph label (tree (loop_of Flagged (count graph.added) (flat Flagged (count graph.added) label (tree_in graph.nodes label))) (end_at live)) (Flag ∷ []) graph
+    looped_graph label
+        (tree (loop_of Flagged (count graph.added)
+        (flat Flagged (count graph.added) label (tree_in graph.nodes label))) (end_at live))
+        (Flag ∷ []) graph
 
 -- the first of these forms that fits is taken: endless, tested before, tested after, with a flag
 abbrev pub close_by : Label → Graph → Targets → Graph
-close_by label graph NoTarget = looped_graph label (tree (loop_of Endless (count graph.added) (flat Endless (count graph.added) label (tree_in graph.nodes label))) Dead) (Never ∷ []) graph
-close_by label graph (Only live) = close_form label live graph (form_of label live (tree_in graph.nodes label))
+close_by label graph NoTarget =
+    looped_graph label
+    (tree (loop_of Endless (count graph.added)
+    (flat Endless (count graph.added) label (tree_in graph.nodes label))) Dead) (Never ∷ []) graph
+close_by label graph (Only live) =
+    close_form label live graph (form_of label live (tree_in graph.nodes label))
 close_by label graph Several = graph
 
 abbrev pub close_graph : Label → Graph → Graph
@@ -165,9 +195,12 @@ at_most_one (Only live) = true
 at_most_one Several = false
 
 abbrev pub loops : Graph → Label → Bool
-loops graph label = if is_above (leaves_to label (tree_in graph.nodes label)) then at_most_one (other_targets label (tree_in graph.nodes label)) else false
+loops graph label =
+    if is_above (leaves_to label (tree_in graph.nodes label))
+    then at_most_one (other_targets label (tree_in graph.nodes label)) else false
 
--- The order of the rules: Join always; then Loop on the lowest label where it applies, else Inline on the lowest.
+-- The order of the rules: Join always; then Loop on the lowest label where it applies, else Inline
+-- on the lowest.
 
 abbrev pub lowest : (Label → Bool) → List Node → Option Label
 lowest applies [] = None
@@ -205,7 +238,8 @@ shaped graph = reduced (3 * size graph.nodes) (join_graph graph)
 -- the graphs of these ranges shaped
 abbrev pub all_shaped : List Range → Graphs → Graphs
 all_shaped [] graphs = graphs
-all_shaped (range ∷ ranges) graphs = with_graph (all_shaped ranges graphs) range (shaped (all_shaped ranges graphs range))
+all_shaped (range ∷ ranges) graphs =
+    with_graph (all_shaped ranges graphs) range (shaped (all_shaped ranges graphs range))
 
 -- A graph is closed where its entry and each label that a leaf jumps to are labels of its nodes.
 
@@ -218,4 +252,5 @@ JumpsAmong P [] = Unit {0}
 JumpsAmong P (node ∷ nodes) = JumpsTree P node.tree × JumpsAmong P nodes
 
 abbrev pub IsClosed : Graph → Type 0
-IsClosed graph = (has_node graph.nodes graph.entry ≡ true) × JumpsAmong (λ label. has_node graph.nodes label ≡ true) graph.nodes
+IsClosed graph = (has_node graph.nodes graph.entry ≡ true)
+    × JumpsAmong (λ label. has_node graph.nodes label ≡ true) graph.nodes

@@ -45,7 +45,8 @@ both_targets NoTarget others = others
 both_targets (Only live) others = with_live live others
 both_targets Several others = Several
 
--- Join: a Pick whose arms end in leaves with at most one target becomes a statement. Inner Picks come first.
+-- Join: a Pick whose arms end in leaves with at most one target becomes a statement. Inner Picks
+-- come first.
 
 -- of one end, where a Pick counts as several
 abbrev pub leaf_targets : End → Targets
@@ -75,8 +76,10 @@ arms_stmts no_more = done
 arms_stmts (more first others) = given (arm_stmts first) (arms_stmts others)
 
 abbrev pub join_by : Stmts → Picker → Trees → Targets → Tree
-join_by body picker arms NoTarget = tree (followed body (alone (Choose picker (arms_stmts arms)))) Dead
-join_by body picker arms (Only live) = tree (followed body (alone (Choose picker (arms_stmts arms)))) (end_at live)
+join_by body picker arms NoTarget =
+    tree (followed body (alone (Choose picker (arms_stmts arms)))) Dead
+join_by body picker arms (Only live) =
+    tree (followed body (alone (Choose picker (arms_stmts arms)))) (end_at live)
 join_by body picker arms Several = tree body (Pick picker arms)
 
 abbrev mutual
@@ -85,7 +88,8 @@ abbrev mutual
   joined (tree body end) = join_end body end
 
   pub join_end : Stmts → End → Tree
-  join_end body (Pick picker arms) = join_by body picker (joined_arms arms) (arms_targets (joined_arms arms))
+  join_end body (Pick picker arms) =
+      join_by body picker (joined_arms arms) (arms_targets (joined_arms arms))
   join_end body (Jump to) = tree body (Jump to)
   join_end body Return = tree body Return
   join_end body Stop = tree body Stop
@@ -95,7 +99,8 @@ abbrev mutual
   joined_arms no_more = no_more
   joined_arms (more first others) = more (joined first) (joined_arms others)
 
--- the tree after one join: of the first Pick in text order to which the rule applies, which is one whose arms hold no Pick
+-- the tree after one join: of the first Pick in text order to which the rule applies, which is one
+-- whose arms hold no Pick
 
 abbrev pub later_arm : Tree → Option Trees → Option Trees
 later_arm first None = None
@@ -127,7 +132,8 @@ abbrev mutual
 
   pub once_arms : Trees → Option Trees
   once_arms no_more = None
-  once_arms (more first others) = first_arm (joined_once first) others (later_arm first (once_arms others))
+  once_arms (more first others) =
+      first_arm (joined_once first) others (later_arm first (once_arms others))
 
 -- Inline: the tree of a node takes the place of the jumps to it.
 
@@ -136,15 +142,18 @@ abbrev mutual
   inlined label node (tree body end) = inline_end label node body end
 
   pub inline_end : Label → Tree → Stmts → End → Tree
-  inline_end label node body (Pick picker arms) = tree body (Pick picker (inlined_arms label node arms))
-  inline_end label node body (Jump to) = if to == label then tree (followed body (body_of node)) (end_of node) else tree body (Jump to)
+  inline_end label node body (Pick picker arms) =
+      tree body (Pick picker (inlined_arms label node arms))
+  inline_end label node body (Jump to) =
+      if to == label then tree (followed body (body_of node)) (end_of node) else tree body (Jump to)
   inline_end label node body Return = tree body Return
   inline_end label node body Stop = tree body Stop
   inline_end label node body Dead = tree body Dead
 
   pub inlined_arms : Label → Tree → Trees → Trees
   inlined_arms label node no_more = no_more
-  inlined_arms label node (more first others) = more (inlined label node first) (inlined_arms label node others)
+  inlined_arms label node (more first others) =
+      more (inlined label node first) (inlined_arms label node others)
 
 -- the number of leaves that jump to a label
 abbrev mutual
@@ -177,7 +186,8 @@ abbrev mutual
 
   pub other_arms_targets : Label → Trees → Targets
   other_arms_targets label no_more = NoTarget
-  other_arms_targets label (more first others) = both_targets (other_targets label first) (other_arms_targets label others)
+  other_arms_targets label (more first others) =
+      both_targets (other_targets label first) (other_arms_targets label others)
 
 -- a leaf to the target sets the flag, where there is one
 abbrev pub leaving : Keeper → ℕ → Stmts
@@ -190,7 +200,8 @@ abbrev mutual
   flat keeper cell label (tree body end) = followed body (flat_end keeper cell label end)
 
   pub flat_end : Keeper → ℕ → Label → End → Stmts
-  flat_end keeper cell label (Pick picker arms) = alone (Choose picker (flat_arms keeper cell label arms))
+  flat_end keeper cell label (Pick picker arms) =
+      alone (Choose picker (flat_arms keeper cell label arms))
   flat_end keeper cell label (Jump to) = if to == label then none else leaving keeper cell
   flat_end keeper cell label Return = leaving keeper cell
   flat_end keeper cell label Stop = alone StopRun
@@ -198,4 +209,5 @@ abbrev mutual
 
   pub flat_arms : Keeper → ℕ → Label → Trees → Arms
   flat_arms keeper cell label no_more = done
-  flat_arms keeper cell label (more first others) = given (flat keeper cell label first) (flat_arms keeper cell label others)
+  flat_arms keeper cell label (more first others) =
+      given (flat keeper cell label first) (flat_arms keeper cell label others)

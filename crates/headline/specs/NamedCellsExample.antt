@@ -1,4 +1,5 @@
--- The counter of a small program: of its two loops by TIMES one is counted, and its counter is numbered 0.
+-- The counter of a small program: of its two loops by TIMES one is counted, and its counter is
+-- numbered 0.
 use Rattle.std.specs.Prelude.{ℕ, Bool, true, if◌then◌else◌, ◌==◌, List, [], ◌∷◌}
 use Rattle.control.specs.Language.{Range, Main}
 use Rattle.control.specs.Graph.{Label}
@@ -20,4 +21,5 @@ one_counter range = Count ∷ []
 
 -- these are just the nodes that are reached, and they name that counter alone
 abbrev pub OneCounterIsNamed : Type 0
-OneCounterIsNamed = AreJustReached plainly counted Main (counted_kept Main) × NamesItsCells (lowered_graphs plainly counted counted_kept counter_first one_counter) Main
+OneCounterIsNamed = AreJustReached plainly counted Main (counted_kept Main)
+    × NamesItsCells (lowered_graphs plainly counted counted_kept counter_first one_counter) Main

@@ -20,7 +20,9 @@ abbrev mutual
   pub completes : Told → Stmt → Bool
   completes told (Do act) = true
   completes told (Choose picker arms) = choice_completes told (first_is_dead told picker) arms
-  completes told (Loop control body) = if is_after control then (if body_completes told body then true else body_leaves_loop told body) else true
+  completes told (Loop control body) =
+      if is_after control
+      then (if body_completes told body then true else body_leaves_loop told body) else true
   completes told (Perform entry exit) = told.returning entry exit
   completes told (Go to) = false
   completes told (GoDepending to on) = true
@@ -34,17 +36,21 @@ abbrev mutual
   complete told none = true
   complete told (also stmt stmts) = if completes told stmt then complete told stmts else false
 
-  -- an arm is missing or can complete; a missing first arm that is never given counts as one that can't
+  -- an arm is missing or can complete; a missing first arm that is never given counts as one that
+  -- can't
   pub choice_completes : Told → Bool → Arms → Bool
   choice_completes told first done = false
-  choice_completes told first (given arm others) = if complete told arm then true else choice_completes told false others
-  choice_completes told first (missing others) = if first then choice_completes told false others else true
+  choice_completes told first (given arm others) =
+      if complete told arm then true else choice_completes told false others
+  choice_completes told first (missing others) =
+      if first then choice_completes told false others else true
 
   pub body_completes : Told → Body → Bool
   body_completes told (Nested stmts) = complete told stmts
   body_completes told (Performed entry exit) = told.returning entry exit
 
-  -- an EXIT PERFORM of the loop around stands in it, with or without CYCLE, and not behind what can't complete
+  -- an EXIT PERFORM of the loop around stands in it, with or without CYCLE, and not behind what
+  -- can't complete
   pub leaves_loop : Told → Stmt → Bool
   leaves_loop told (Do act) = false
   leaves_loop told (Choose picker arms) = arms_leave_loop told arms
@@ -60,11 +66,14 @@ abbrev mutual
 
   pub leave_loop : Told → Stmts → Bool
   leave_loop told none = false
-  leave_loop told (also stmt stmts) = if leaves_loop told stmt then true else (if completes told stmt then leave_loop told stmts else false)
+  leave_loop told (also stmt stmts) =
+      if leaves_loop told stmt then true
+      else (if completes told stmt then leave_loop told stmts else false)
 
   pub arms_leave_loop : Told → Arms → Bool
   arms_leave_loop told done = false
-  arms_leave_loop told (given arm others) = if leave_loop told arm then true else arms_leave_loop told others
+  arms_leave_loop told (given arm others) =
+      if leave_loop told arm then true else arms_leave_loop told others
   arms_leave_loop told (missing others) = arms_leave_loop told others
 
   pub body_leaves_loop : Told → Body → Bool
@@ -88,7 +97,8 @@ abbrev mutual
 
   pub cuts : Told → Stmts → Stmts
   cuts told none = none
-  cuts told (also stmt stmts) = also (cut told stmt) (if completes told stmt then cuts told stmts else none)
+  cuts told (also stmt stmts) =
+      also (cut told stmt) (if completes told stmt then cuts told stmts else none)
 
   pub cut_arms : Told → Arms → Arms
   cut_arms told done = done
@@ -99,7 +109,8 @@ abbrev mutual
   cut_body told (Nested stmts) = Nested (cuts told stmts)
   cut_body told (Performed entry exit) = Performed entry exit
 
--- no escape stands in it: GO TO, GO TO DEPENDING, NEXT SENTENCE, EXIT PARAGRAPH, EXIT SECTION or EXIT PERFORM
+-- no escape stands in it: GO TO, GO TO DEPENDING, NEXT SENTENCE, EXIT PARAGRAPH, EXIT SECTION or
+-- EXIT PERFORM
 abbrev mutual
   pub whole : Stmt → Bool
   whole (Do act) = true
@@ -148,14 +159,16 @@ abbrev mutual
 
   pub arms_leave_sentence : Arms → Bool
   arms_leave_sentence done = false
-  arms_leave_sentence (given arm others) = if leave_sentence arm then true else arms_leave_sentence others
+  arms_leave_sentence (given arm others) =
+      if leave_sentence arm then true else arms_leave_sentence others
   arms_leave_sentence (missing others) = arms_leave_sentence others
 
   pub body_leaves_sentence : Body → Bool
   body_leaves_sentence (Nested stmts) = leave_sentence stmts
   body_leaves_sentence (Performed entry exit) = false
 
--- how many places it takes: its own, and those of what is nested in it; a PERFORM with a loop takes one
+-- how many places it takes: its own, and those of what is nested in it; a PERFORM with a loop takes
+-- one
 abbrev mutual
   pub size : Stmt → ℕ
   size (Do act) = 1

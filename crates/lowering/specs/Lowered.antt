@@ -17,7 +17,8 @@ total (sentence ∷ sentences) = sizes sentence + total sentences
 abbrev pub place_from : ℕ → List Paragraph → ℕ → ℕ
 place_from place [] number = place
 place_from place (paragraph ∷ others) zero = place
-place_from place (paragraph ∷ others) (suc number) = place_from (place + 1 + total paragraph) others number
+place_from place (paragraph ∷ others) (suc number) =
+    place_from (place + 1 + total paragraph) others number
 
 abbrev pub place_in : Program → ℕ → ℕ
 place_in program number = place_from 0 program.paragraphs number
@@ -32,7 +33,10 @@ module _ (told : Told) (program : Program) where
   abbrev pub nodes_left : Leaving → Rest → List Node
   nodes_left paragraph Over = []
   nodes_left paragraph (From place stmts others) =
-      nodes told (place_in program) stmts place (leaving_of told (place_in program) paragraph others) (leaf_of told (place_in program) paragraph others) (tree_of told (place_in program) paragraph others)
+      nodes told (place_in program) stmts place
+          (leaving_of told (place_in program) paragraph others)
+          (leaf_of told (place_in program) paragraph others)
+          (tree_of told (place_in program) paragraph others)
       ++ nodes_left paragraph others
   nodes_left paragraph (Sent holds others) = nodes_left paragraph others
   nodes_left paragraph (Turns place control left reached body others) = nodes_left paragraph others
@@ -42,15 +46,21 @@ module _ (told : Told) (program : Program) where
   abbrev pub nodes_from : Range → ℕ → ℕ → List Paragraph → List Node
   nodes_from range number place [] = []
   nodes_from range number place (paragraph ∷ others) =
-      node (point place) (tree_of told (place_in program) (leaving_at (place_in program) program range number) (rest_from told (place + 1) paragraph))
-      ∷ (nodes_left (leaving_at (place_in program) program range number) (rest_from told (place + 1) paragraph) ++ nodes_from range (suc number) (place + 1 + total paragraph) others)
+      node (point place)
+          (tree_of told (place_in program) (leaving_at (place_in program) program range number)
+          (rest_from told (place + 1) paragraph))
+      ∷ (nodes_left (leaving_at (place_in program) program range number)
+          (rest_from told (place + 1) paragraph) ++ nodes_from range (suc number)
+          (place + 1 + total paragraph) others)
 
   abbrev pub nodes_of : Range → List Node
   nodes_of range = nodes_from range 0 0 program.paragraphs
 
   -- the lowered family, with all nodes of each range
   abbrev pub lowered : Family
-  lowered = record { entry = λ range. point (place_in program (entry_of range)); node = λ range label. find label (nodes_of range) }
+  lowered = record
+      { entry = λ range. point (place_in program (entry_of range)); node =
+      λ range label. find label (nodes_of range) }
 
 -- the keys rise, from the first number on and below the second
 abbrev pub Within : ℕ → ℕ → List Node → Type 0

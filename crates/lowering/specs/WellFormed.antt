@@ -1,4 +1,5 @@
--- What holds of each lowered graph by its form: no escape stands in a body, each Pick has its arms, each jump leads to a node,
+-- What holds of each lowered graph by its form: no escape stands in a body, each Pick has its arms,
+-- each jump leads to a node,
 -- and the labels rise.
 use Rattle.std.specs.Prelude.{ℕ, suc, ◌≡◌, ◌<◌, ◌⊎◌, Bool, true, List, [], ◌∷◌, length}
 use Rattle.control.specs.Language.{Picker, If, By, ByCell, Program, Range}
@@ -36,7 +37,8 @@ HasDeadFirst told (ByCell cell) arms = Unit {0}
 
 abbrev mutual
   pub IsWellEnd : Told → List Node → End → Type 0
-  IsWellEnd told labels (Pick picker arms) = HasArms told picker (tree_count arms) × AreWell told labels arms × HasDeadFirst told picker arms
+  IsWellEnd told labels (Pick picker arms) = HasArms told picker (tree_count arms)
+      × AreWell told labels arms × HasDeadFirst told picker arms
   IsWellEnd told labels (Jump to) = IsLabelOf labels to
   IsWellEnd told labels Return = Unit {0}
   IsWellEnd told labels Stop = Unit {0}
@@ -44,14 +46,16 @@ abbrev mutual
 
   pub AreWell : Told → List Node → Trees → Type 0
   AreWell told labels no_more = Unit {0}
-  AreWell told labels (more (tree body end) others) = (wholes body ≡ true) × IsWellEnd told labels end × AreWell told labels others
+  AreWell told labels (more (tree body end) others) =
+      (wholes body ≡ true) × IsWellEnd told labels end × AreWell told labels others
 
 abbrev pub IsWellTree : Told → List Node → Tree → Type 0
 IsWellTree told labels (tree body end) = (wholes body ≡ true) × IsWellEnd told labels end
 
 abbrev pub AllAreWell : Told → List Node → List Node → Type 0
 AllAreWell told labels [] = Unit {0}
-AllAreWell told labels (one ∷ others) = IsWellTree told labels one.tree × AllAreWell told labels others
+AllAreWell told labels (one ∷ others) =
+    IsWellTree told labels one.tree × AllAreWell told labels others
 
 -- the range is of this program
 abbrev pub IsRangeOf : Program → Range → Type 0
@@ -59,7 +63,8 @@ IsRangeOf program range = entry_of range < length program.paragraphs
 
 -- the nodes of a range
 abbrev pub LoweredGraphsAreWellFormed : Type 0
-LoweredGraphsAreWellFormed = (told : Told) (program : Program) (range : Range) → IsSource told program → IsRangeOf program range →
+LoweredGraphsAreWellFormed = (told : Told) (program : Program) (range : Range) →
+    IsSource told program → IsRangeOf program range →
     AllAreWell told (nodes_of told program range) (nodes_of told program range)
     × IsLabelOf (nodes_of told program range) ((lowered told program).entry range)
     × ((high : ℕ) × Within 0 high (nodes_of told program range))
@@ -72,7 +77,10 @@ AreJustReached told program range keep =
 
 -- and the same of those that are reached
 abbrev pub ReachedGraphsAreWellFormed : Type 0
-ReachedGraphsAreWellFormed = (told : Told) (program : Program) (range : Range) (keep : Label → Bool) → IsSource told program → IsRangeOf program range → AreJustReached told program range keep →
-    AllAreWell told (kept_nodes keep (nodes_of told program range)) (kept_nodes keep (nodes_of told program range))
+ReachedGraphsAreWellFormed =
+    (told : Told) (program : Program) (range : Range) (keep : Label → Bool) →
+    IsSource told program → IsRangeOf program range → AreJustReached told program range keep →
+    AllAreWell told (kept_nodes keep (nodes_of told program range))
+        (kept_nodes keep (nodes_of told program range))
     × IsLabelOf (kept_nodes keep (nodes_of told program range)) ((lowered told program).entry range)
     × ((high : ℕ) × Within 0 high (kept_nodes keep (nodes_of told program range)))

@@ -1,4 +1,5 @@
--- How the procedures of a shaped family are written as a program: one paragraph for each range, with items for its cells.
+-- How the procedures of a shaped family are written as a program: one paragraph for each range,
+-- with items for its cells.
 pub mod Rendering
 -- When the procedures of a shaped family can be written.
 pub mod Procedures

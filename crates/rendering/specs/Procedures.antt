@@ -48,7 +48,8 @@ module _ (naming : Naming) (kinds : Kinds) (procedures : List Procedure) (range 
 
   -- a procedure that stands later in the list
   abbrev pub StandsLater : Range → Type 0
-  StandsLater other = (place_of procedures range < place_of procedures other) × (place_of procedures other < length procedures)
+  StandsLater other = (place_of procedures range < place_of procedures other)
+      × (place_of procedures other < length procedures)
 
   -- the loop that ends where the cell is above zero
   abbrev pub StmtLeaves : ℕ → Stmt → Type 0
@@ -65,11 +66,15 @@ module _ (naming : Naming) (kinds : Kinds) (procedures : List Procedure) (range 
   StmtLeaves cell StopRun = ⊥
 
   abbrev mutual
-    -- no jump stands in it, each range that it performs stands later, each part is one of the program, and each word on a cell one of its kind
+    -- no jump stands in it, each range that it performs stands later, each part is one of the
+    -- program, and each word on a cell one of its kind
     pub StmtStands : Stmt → Type 0
     StmtStands (Do act) = ActFits act
-    StmtStands (Choose picker arms) = PickerFits picker (standing (naming.empty range picker) 0 arms) × ArmsStand arms
-    StmtStands (Loop control body) = ControlFits control × (BodyStands body ⊎ ((cell : ℕ) × (control ≡ Until false (Is cell 0)) × BodyChooses cell body))
+    StmtStands (Choose picker arms) =
+        PickerFits picker (standing (naming.empty range picker) 0 arms) × ArmsStand arms
+    StmtStands (Loop control body) = ControlFits control
+        × (BodyStands body ⊎
+        ((cell : ℕ) × (control ≡ Until false (Is cell 0)) × BodyChooses cell body))
     StmtStands (Perform entry exit) = StandsLater (Part entry exit)
     StmtStands (Go to) = ⊥
     StmtStands (GoDepending to chooser) = ⊥
@@ -86,7 +91,8 @@ module _ (naming : Naming) (kinds : Kinds) (procedures : List Procedure) (range 
     -- behind the statement, that leaves a cell above zero, stands a choice by that cell
     pub StmtsLeft : Stmts → Stmt → Type 0
     StmtsLeft none stmt = ⊥
-    StmtsLeft (also next stmts) stmt = (cell : ℕ) × StmtLeaves cell stmt × StmtChooses cell next × StmtsStand stmts
+    StmtsLeft (also next stmts) stmt =
+        (cell : ℕ) × StmtLeaves cell stmt × StmtChooses cell next × StmtsStand stmts
 
     pub ArmsStand : Arms → Type 0
     ArmsStand done = Unit {0}
@@ -97,9 +103,11 @@ module _ (naming : Naming) (kinds : Kinds) (procedures : List Procedure) (range 
     BodyStands (Nested stmts) = StmtsStand stmts
     BodyStands (Performed entry exit) = StandsLater (Part entry exit)
 
-    -- a choice by a cell: it is the whole body of the loop that ends where the cell is zero, or stands behind the loop that ends where it is above zero
+    -- a choice by a cell: it is the whole body of the loop that ends where the cell is zero, or
+    -- stands behind the loop that ends where it is above zero
     pub StmtChooses : ℕ → Stmt → Type 0
-    StmtChooses cell (Choose (ByCell by) arms) = (by ≡ cell) × (kinds.chooses range cell (count_arms arms) ≡ true) × ArmsStand arms
+    StmtChooses cell (Choose (ByCell by) arms) =
+        (by ≡ cell) × (kinds.chooses range cell (count_arms arms) ≡ true) × ArmsStand arms
     StmtChooses cell (Choose (If test) arms) = ⊥
     StmtChooses cell (Choose (By chooser) arms) = ⊥
     StmtChooses cell (Do act) = ⊥
@@ -136,7 +144,8 @@ abbrev mutual
 
   pub stmts_call : Range → Stmts → Bool
   stmts_call range none = false
-  stmts_call range (also stmt stmts) = if stmt_calls range stmt then true else stmts_call range stmts
+  stmts_call range (also stmt stmts) =
+      if stmt_calls range stmt then true else stmts_call range stmts
 
   pub arms_call : Range → Arms → Bool
   arms_call range done = false
@@ -159,15 +168,23 @@ abbrev pub FirstIsMain : List Procedure → Type 0
 FirstIsMain [] = ⊥
 FirstIsMain (procedure ∷ others) = procedure.range ≡ Main
 
--- each range that can be performed has one node, and they stand in an order in which each performs later ones alone
-pub record AreProcedures (family : Family) (naming : Naming) (kinds : Kinds) (procedures : List Procedure) : Type 0 where
+-- each range that can be performed has one node, and they stand in an order in which each performs
+-- later ones alone
+pub record AreProcedures (family : Family) (naming : Naming) (kinds : Kinds)
+    (procedures : List Procedure) : Type 0 where
   pub main : FirstIsMain procedures
   -- no range stands twice
-  pub alone : (number : ℕ) (procedure : Procedure) → slice_get procedures number ≡ Some procedure → place_of procedures procedure.range ≡ number
+  pub alone : (number : ℕ) (procedure : Procedure) → slice_get procedures number ≡ Some procedure →
+      place_of procedures procedure.range ≡ number
   pub node : (number : ℕ) (procedure : Procedure) → slice_get procedures number ≡ Some procedure →
       family.node procedure.range (family.entry procedure.range) ≡ tree procedure.body procedure.end
-  pub last : (number : ℕ) (procedure : Procedure) → slice_get procedures number ≡ Some procedure → IsLast procedure.end
-  pub stands : (number : ℕ) (procedure : Procedure) → slice_get procedures number ≡ Some procedure → StmtsStand naming kinds procedures procedure.range procedure.body
+  pub last : (number : ℕ) (procedure : Procedure) → slice_get procedures number ≡ Some procedure →
+      IsLast procedure.end
+  pub stands : (number : ℕ) (procedure : Procedure) → slice_get procedures number ≡ Some procedure →
+      StmtsStand naming kinds procedures procedure.range procedure.body
   -- each but the first is performed by an earlier one
-  pub performed : (number : ℕ) (procedure : Procedure) → slice_get procedures number ≡ Some procedure → 1 ≤ number →
-      (from : ℕ) × (caller : Procedure) × (from < number) × (slice_get procedures from ≡ Some caller) × (stmts_call procedure.range caller.body ≡ true)
+  pub performed : (number : ℕ) (procedure : Procedure) →
+      slice_get procedures number ≡ Some procedure → 1 ≤ number →
+      (from : ℕ) × (caller : Procedure) × (from < number)
+          × (slice_get procedures from ≡ Some caller)
+          × (stmts_call procedure.range caller.body ≡ true)

@@ -20,7 +20,9 @@ abbrev pub jumping_procedure : Procedure
 jumping_procedure = record { range = Main; body = also (act 11) (one (act 13)); end = Stop }
 
 abbrev pub jumping_family : Family
-jumping_family = record { entry = λ range. 0; node = λ range label. tree jumping_procedure.body jumping_procedure.end }
+jumping_family =
+    record { entry = λ range. 0; node =
+    λ range label. tree jumping_procedure.body jumping_procedure.end }
 
 abbrev pub no_cells : Kinds
 no_cells = record {
@@ -41,4 +43,5 @@ TheJumpIsRestructured =
     (result : Acting (Celled ℕ)) × (naming : Naming)
     × IsStructured (rendered naming (jumping_procedure ∷ []))
     × SameBehaviour (λ (n : ℕ). meaning (source_machine (alone small) (λ n. n) jumping_program) n)
-    (λ (n : ℕ). structural (alone result) (λ memory. memory.own) (rendered naming (jumping_procedure ∷ [])) (record { own = n; cells = λ range cell. 0 }))
+    (λ (n : ℕ). structural (alone result) (λ memory. memory.own)
+        (rendered naming (jumping_procedure ∷ [])) (record { own = n; cells = λ range cell. 0 }))

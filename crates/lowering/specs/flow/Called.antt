@@ -1,4 +1,5 @@
--- What a range's level performs: each PERFORM in a node that is reached is come to by a free flow path of that level.
+-- What a range's level performs: each PERFORM in a node that is reached is come to by a free flow
+-- path of that level.
 use Rattle.std.specs.Prelude.{ℕ, ◌≡◌, true, List, [], ◌∷◌}
 use Rattle.control.specs.Language.{Stmt, Choose, Loop, Perform, Go, GoDepending, NextSentence, ExitParagraph, ExitSection, ExitPerform, StopRun, Stmts, none, also, Arms, done, given, missing, Body, Nested, Performed, Program, Range, Part}
 use Rattle.control.specs.Language as language
@@ -13,7 +14,8 @@ use Rattle.lowering.specs.Laws.{FreelyComes}
 module _ (told : Told) (program : Program) (range : Range) where
   -- a free flow path of the range's level performs the other range
   abbrev pub IsCalled : ℕ → ℕ → Type 0
-  IsCalled entry exit = (number : ℕ) × (rest : List Item) × FreelyComes told program range number (Do (Perform entry exit) ∷ rest)
+  IsCalled entry exit = (number : ℕ) × (rest : List Item)
+      × FreelyComes told program range number (Do (Perform entry exit) ∷ rest)
 
   abbrev mutual
     pub CallsStmt : Stmt → Type 0
@@ -57,10 +59,13 @@ module _ (told : Told) (program : Program) (range : Range) where
   abbrev pub CallsTree : Tree → Type 0
   CallsTree (tree body end) = CallsStmts body × CallsEnd end
 
--- where the table names only ranges that return, a reached node performs only what its range's level calls
+-- where the table names only ranges that return, a reached node performs only what its range's
+-- level calls
 abbrev pub ReachedNodesPerformWhatIsCalled : Type 0
 ReachedNodesPerformWhatIsCalled =
     (told : Told) (program : Program) → IsSource told program →
-    ((entry exit : ℕ) → told.returning entry exit ≡ true → FreelyComes told program (Part entry exit) exit []) →
-    (range : Range) → IsRangeOf program range → (label : Label) → IsReached (lowered told program) range label →
+    ((entry exit : ℕ) → told.returning entry exit ≡ true →
+        FreelyComes told program (Part entry exit) exit []) →
+    (range : Range) → IsRangeOf program range → (label : Label) →
+        IsReached (lowered told program) range label →
     CallsTree told program range ((lowered told program).node range label)
