@@ -99,7 +99,7 @@ flagged left_out flag label out t =
 
 -- the family with the loop in place of the node, each of whose live leaves is a jump to it or the
 -- one end behind it
-pub record Flagged (left_out : Picker → ℕ → Bool) (range : Range) (label : Label) (flag : ℕ)
+pub record ClosedByFlag (left_out : Picker → ℕ → Bool) (range : Range) (label : Label) (flag : ℕ)
     (out : End) (g h : Family) : Type 0 where
   pub entries : (r : Range) → h.entry r ≡ g.entry r
   pub leaves : LeavesTree (λ to. (to ≡ label) ⊎ (out ≡ Jump to)) (out ≡ Return) (g.node range label)
@@ -124,8 +124,8 @@ bare (first ∷ others) returns = more (tree none (Jump first)) (bare others ret
 abbrev pub exited : (Picker → ℕ → Bool) → ℕ → Label → List Label → Bool → Tree → Tree
 exited left_out exit label targets returns t =
     loop_from exit (Above exit)
-        (stated_tree left_out (exit_jump exit label targets) (set_to exit (suc (length_of targets)))
-        t) (Pick (ByCell exit) (bare targets returns)) 0
+    (stated_tree left_out (exit_jump exit label targets) (set_to exit (suc (length_of targets)))
+    t) (Pick (ByCell exit) (bare targets returns)) 0
 
 -- the family with the loop in place of the node, whose other live leaves jump to such targets, or
 -- return where that is one
@@ -172,8 +172,8 @@ return_if false = Dead
 abbrev pub dispatched : (Picker → ℕ → Bool) → ℕ → Label → List Node → Tree
 dispatched left_out state entry nodes =
     loop_from state (Is state 0)
-        (also (Choose (ByCell state) (node_arms left_out state (labels_of nodes) nodes)) none)
-        (return_if (some_returns nodes)) (number_in (labels_of nodes) entry)
+    (also (Choose (ByCell state) (node_arms left_out state (labels_of nodes) nodes)) none)
+    (return_if (some_returns nodes)) (number_in (labels_of nodes) entry)
 
 -- these are the family's nodes, and their jumps lead to such labels
 abbrev pub AreNodes : Family → Range → (Label → Type 0) → List Node → Type 0

@@ -64,9 +64,7 @@ ALoopWithTwoExits =
 -- A (at 0) goes to C (at 6) or B (at 3), B goes to C, and C stops or goes to B
 abbrev pub last_nodes : List Node
 last_nodes =
-    record { label = 6; tree =
-    tree (also (language.Do (Own 2))
-    (one (Choose (If (Holds 2)) (given (one StopRun) (missing done))))) (Jump 3) } ∷ []
+    record { label = 6; tree = tree (also (language.Do (Own 2)) (one (Choose (If (Holds 2)) (given (one StopRun) (missing done))))) (Jump 3) } ∷ []
 
 abbrev pub tail_nodes : List Node
 tail_nodes = record { label = 3; tree = tree (one (language.Do (Own 1))) (Jump 6) } ∷ last_nodes
@@ -84,7 +82,7 @@ TwoLabelsFromTwoEntries =
     (given (one (if_else 1 (put 3) (put 2)))
     (given (also (language.Do (Own 1)) (put 3))
     (given (also (language.Do (Own 2))
-        (also (Choose (If (Holds 2)) (given (one StopRun) (missing done))) (put 2))) done))))))))
+    (also (Choose (If (Holds 2)) (given (one StopRun) (missing done))) (put 2))) done))))))))
     )
     Dead
 
@@ -94,9 +92,12 @@ abbrev pub does : ℕ → ℕ → Tried ℕ (Unit {0})
 does simple n = Got ((simple ∷ []) ∷ []) tt n
 
 abbrev pub acting : Acting ℕ
-acting = record
-    { act = does; test = λ cond n. Got [] (n == cond) n; choose = λ chooser n. Got [] 0 n; count =
-    λ amount n. Got [] amount n }
+acting = record {
+  act = does;
+  test = λ cond n. Got [] (n == cond) n;
+  choose = λ chooser n. Got [] 0 n;
+  count = λ amount n. Got [] amount n;
+}
 
 abbrev pub graphs : Graphs
 graphs range = record { entry = 0; nodes = state_nodes; added = [] }
@@ -108,7 +109,7 @@ abbrev pub TheDispatchWalksAlike : Type 0
 TheDispatchWalksAlike =
     (meaning (main_machine acting (λ n. n) (family_of graphs)) 2 20 ≡ shown)
     × (meaning (main_machine acting (λ n. n)
-        (family_of (with_graph graphs Main (dispatch_graph (graphs Main))))) 2 40 ≡ shown)
+    (family_of (with_graph graphs Main (dispatch_graph (graphs Main))))) 2 40 ≡ shown)
 
 -- the premises of the rules' laws hold of the second
 abbrev pub ItMeetsThePremises : Type 0
@@ -119,4 +120,4 @@ ItMeetsThePremises =
 abbrev pub ItTakesSevenUnits : Type 0
 ItTakesSevenUnits =
     walked acting (λ n. n) (family_of graphs) (Main ∷ []) Main
-        (record { own = 2; cells = λ range cell. 0 }) 7 ≡ shown
+    (record { own = 2; cells = λ range cell. 0 }) 7 ≡ shown

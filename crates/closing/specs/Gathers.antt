@@ -47,7 +47,7 @@ module _ (cell : ℕ) (test : Test) (out : End) where
           (news : Arms) × (tail ≡ Do (Choose picker news) ∷ []) × GathersArms arms news
       GathersEnd (Jump to) tail =
           ((number : ℕ) × inside number to
-              × ((tail ≡ sets cell number ∷ []) ⊎ ((number ≡ now) × (tail ≡ []))))
+          × ((tail ≡ sets cell number ∷ []) ⊎ ((number ≡ now) × (tail ≡ []))))
           ⊎ ((number : ℕ) × reached to × (tail ≡ sets cell number ∷ []) × Leads number (Jump to))
       GathersEnd Return tail = (number : ℕ) × (tail ≡ sets cell number ∷ []) × Leads number Return
       GathersEnd Stop tail = tail ≡ Do StopRun ∷ []
@@ -63,8 +63,8 @@ module _ (cell : ℕ) (test : Test) (out : End) where
       GathersArms no_more news = news ≡ done
       GathersArms (more first others) news =
           (arm : Stmts) × (rest : Arms)
-              × ((news ≡ given arm rest) ⊎ ((news ≡ missing rest) × (arm ≡ none)))
-              × GathersTree first (before arm []) × GathersArms others rest
+          × ((news ≡ given arm rest) ⊎ ((news ≡ missing rest) × (arm ≡ none)))
+          × GathersTree first (before arm []) × GathersArms others rest
 
 -- a turn of the loop comes to these items: they are its body, or the body chooses them by the cell,
 -- which holds this number
@@ -72,7 +72,7 @@ abbrev pub Opens : ℕ → Stmts → ℕ → List Item → Type 0
 Opens cell body number items =
     (items ≡ before body [])
     ⊎ ((arms : Arms) × (body ≡ also (Choose (ByCell cell) arms) none)
-        × (items ≡ before_arm arms (number - 1) []))
+    × (items ≡ before_arm arms (number - 1) []))
 
 -- the loop, begun at this number
 abbrev pub loop_from : ℕ → Test → Stmts → End → ℕ → Tree
@@ -90,8 +90,8 @@ pub record Gathered (reached : Range → Label → Type 0) (inside : ℕ → Lab
   pub nodes : (r : Range) (l : Label) → reached r l →
       ((h.node r l ≡ g.node r l) × JumpsTree (reached r) (g.node r l))
       ⊎ ((r ≡ range) × (number : ℕ) × inside number l
-          × (h.node r l ≡ loop_from cell test body out number))
+      × (h.node r l ≡ loop_from cell test body out number))
   -- each turn walks its node's tree
   pub turns : (number : ℕ) (l : Label) → inside number l →
       (says test number ≡ false) × (items : List Item) × Opens cell body number items
-          × GathersTree cell test out inside (reached range) number (g.node range l) items
+      × GathersTree cell test out inside (reached range) number (g.node range l) items

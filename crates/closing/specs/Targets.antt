@@ -13,8 +13,8 @@ abbrev pub inserted : Label → List Label → List Label
 inserted label [] = label ∷ []
 inserted label (first ∷ others) =
     if label == first then first ∷ others
-        else (if is_below label first then label ∷ first ∷ others
-        else first ∷ inserted label others)
+    else (if is_below label first then label ∷ first ∷ others
+    else first ∷ inserted label others)
 
 -- the labels but this one to which leaves jump, with those that were found before
 module _ (label : Label) where

@@ -7,7 +7,7 @@ use Rattle.runs.specs.Tied.{Tied}
 use Rattle.runs.specs.Machine.{meaning}
 use Rattle.control.specs.Language.{Range, Stmts, Test, Main}
 use Rattle.control.specs.Doing.{Acting, Celled}
-use Rattle.control.specs.Graph.{Label, End, Family, Tree, Pick, Jump, Return, Stop, Dead, body_of, end_of}
+use Rattle.control.specs.Graph.{Label, End, Family, Tree, body_of, end_of, IsLast}
 use Rattle.control.specs.Walk.{walk_machine, main_machine}
 use Rattle.graph_rules.specs.Charged.{Paid, Matched}
 use Rattle.graph_rules.specs.Costs.{cost, parted}
@@ -18,7 +18,7 @@ use Rattle.graph_rules.specs.Loops.{Keeper, Endless, Looped, Tested, Flagged, Lo
 use Rattle.graph_rules.specs.Families.{Kinds, Has, IsFamily, Ready, Extends, IsSound, Never}
 use Rattle.control.specs.Items.{before}
 use Rattle.graph_rules.specs.Shapes.{Live, end_at, NoTarget, Only, joined, joined_once, inlined, other_targets, flat}
-use Rattle.graph_rules.specs.Reduced.{Node, Graph, Graphs, IsClosed, rule_step, shaped, family_of, kinds_of, Form, form_of, all_shaped}
+use Rattle.graph_rules.specs.Reduced.{Node, Graph, Graphs, LeadsToNodes, rule_step, shaped, family_of, kinds_of, Form, form_of, all_shaped}
 
 module _ (Memory Left : Type 0) where
   -- the walk by recursion takes exactly the units that its steps cost
@@ -27,7 +27,7 @@ module _ (Memory Left : Type 0) where
       (acting : Acting Memory) (left : Memory → Left) (kinds : Kinds) (family : Family)
       (order : List Range) → IsFamily kinds family order → (range : Range) → In range order →
       Paid (walked acting left family order range) (walk_machine acting left family range)
-          (cost acting) parted
+      (cost acting) parted
 
   abbrev pub WalksAreTied : Type 0
   WalksAreTied =
@@ -43,16 +43,16 @@ module _ (Memory Left : Type 0) where
   DoesTheSame acting left kinds g h order =
       IsSound acting left kinds h order
       × ((range : Range) → In range order →
-          Matched 8 (walked_from acting left (λ (start : Ready Memory kinds). start.memory)
-          g order range)
-          (walked_from acting left (λ (start : Ready Memory kinds). start.memory) h order range))
+      Matched 8 (walked_from acting left (λ (start : Ready Memory kinds). start.memory)
+      g order range)
+      (walked_from acting left (λ (start : Ready Memory kinds). start.memory) h order range))
 
   abbrev pub JoinKeeps : Type 0
   JoinKeeps = (acting : Acting Memory) (left : Memory → Left) (kinds : Kinds) (g h : Family)
       (order : List Range) → IsFamily kinds g order → IsFamily kinds h order →
       IsSound acting left kinds g order →
       (reached : Range → Label → Bool) → Joined (λ r l. reached r l ≡ true) g h →
-          DoesTheSame acting left kinds g h order
+      DoesTheSame acting left kinds g h order
 
   -- nodes to which no jump leads may be left out
   abbrev pub PruneKeeps : Type 0
@@ -61,7 +61,7 @@ module _ (Memory Left : Type 0) where
       (order : List Range) → IsFamily kinds g order → IsFamily kinds h order →
       IsSound acting left kinds g order →
       (reached : Range → Label → Bool) → Pruned (λ r l. reached r l ≡ true) g h →
-          DoesTheSame acting left kinds g h order
+      DoesTheSame acting left kinds g h order
 
   abbrev pub InlineKeeps : Type 0
   InlineKeeps =
@@ -69,7 +69,7 @@ module _ (Memory Left : Type 0) where
       (order : List Range) → IsFamily kinds g order → IsFamily kinds h order →
       IsSound acting left kinds g order →
       (range : Range) (label : Label) → Inlined range label g h →
-          DoesTheSame acting left kinds g h order
+      DoesTheSame acting left kinds g h order
 
   abbrev pub TestedKeeps : Type 0
   TestedKeeps =
@@ -77,8 +77,8 @@ module _ (Memory Left : Type 0) where
       (order : List Range) → IsFamily kinds g order → IsFamily kinds h order →
       IsSound acting left kinds g order →
       (after turned : Bool) (test : Test) (range : Range) (label : Label) (out : End) (body : Stmts)
-          → Tested after turned test range label out body g h →
-          DoesTheSame acting left kinds g h order
+      → Tested after turned test range label out body g h →
+      DoesTheSame acting left kinds g h order
 
   -- the cell of an endless loop is one that never changes
   abbrev pub LoopKeeps : Type 0
@@ -86,8 +86,8 @@ module _ (Memory Left : Type 0) where
       (order : List Range) → Extends kinds more → IsFamily kinds g order → IsFamily more h order →
       IsSound acting left kinds g order →
       (keeper : Keeper) (cell : ℕ) (range : Range) (label : Label) (out : End) (body : Stmts) →
-          (keeper ≡ Endless → more range cell ≡ Some Never) →
-          Looped keeper cell range label out body g h order → DoesTheSame acting left more g h order
+      (keeper ≡ Endless → more range cell ≡ Some Never) →
+      Looped keeper cell range label out body g h order → DoesTheSame acting left more g h order
 
   -- memories that agree on the program's own and on these cells
   abbrev pub SameCells : Kinds → Celled Memory → Celled Memory → Type 0
@@ -111,11 +111,11 @@ module _ (Memory Left : Type 0) where
       (order : List Range) → IsFamily kinds g order → Extends kinds more →
       DoesTheSame acting left more g h order →
       (range : Range) → In range order → (s : Celled Memory) (t : Ready Memory more) →
-          SameCells kinds s t.memory → (m : ℕ) →
+      SameCells kinds s t.memory → (m : ℕ) →
       Covers (walked acting left g order range s m)
-          (walked acting left h order range t.memory (8 * (m + 1)))
-          × Covers (walked acting left h order range t.memory m)
-          (walked acting left g order range s (8 * (m + 1)))
+      (walked acting left h order range t.memory (8 * (m + 1)))
+      × Covers (walked acting left h order range t.memory m)
+      (walked acting left g order range s (8 * (m + 1)))
 
   -- a family is sound where no step of its walks is lost
   abbrev pub SoundBySteps : Type 0
@@ -123,8 +123,8 @@ module _ (Memory Left : Type 0) where
       (acting : Acting Memory) (left : Memory → Left) (kinds : Kinds) (family : Family)
       (order : List Range) → IsFamily kinds family order →
       ((range : Range) → In range order → (start : Ready Memory kinds) (n : ℕ) →
-          (meaning (walk_machine acting left family range) start.memory n).standing ≢ Over Lost)
-          ↔ IsSound acting left kinds family order
+      (meaning (walk_machine acting left family range) start.memory n).standing ≢ Over Lost)
+      ↔ IsSound acting left kinds family order
 
 -- the tree after all joins
 abbrev pub JoinGives : Type 0
@@ -166,19 +166,11 @@ FormGives = (label : Label) (live : Live) (t : Tree) (form : Form) →
 
 -- a closed graph stays closed
 abbrev pub ShapedIsClosed : Type 0
-ShapedIsClosed = (graph : Graph) → IsClosed graph → IsClosed (shaped graph)
-
--- no choice and no jump
-abbrev pub IsLast : End → Type 0
-IsLast (Pick picker arms) = ⊥
-IsLast (Jump to) = ⊥
-IsLast Return = Unit {0}
-IsLast Stop = Unit {0}
-IsLast Dead = Unit {0}
+ShapedIsClosed = (graph : Graph) → LeadsToNodes graph → LeadsToNodes (shaped graph)
 
 -- where one node is left, it is a body and a last end
 abbrev pub SingleIsLast : Type 0
-SingleIsLast = (graph : Graph) (node : Node) → IsClosed graph → (shaped graph).nodes ≡ node ∷ [] →
+SingleIsLast = (graph : Graph) (node : Node) → LeadsToNodes graph → (shaped graph).nodes ≡ node ∷ [] →
     IsLast (end_of node.tree)
 
 -- shaping ends where no rule applies
@@ -213,4 +205,4 @@ ShapedMainIsTied Memory Left =
     IsFamily (kinds_of graphs) (family_of graphs) order →
     IsSound acting left (kinds_of graphs) (family_of graphs) order → In Main order →
     Tied (meaning (main_machine acting left (family_of graphs)))
-        (meaning (main_machine acting left (family_of (all_shaped order graphs))))
+    (meaning (main_machine acting left (family_of (all_shaped order graphs))))

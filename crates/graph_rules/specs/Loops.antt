@@ -33,9 +33,9 @@ abbrev mutual
   LoopsArms keeper cell label out no_more news = news ≡ done
   LoopsArms keeper cell label out (more first others) news =
       (arm : Stmts) × (rest : Arms)
-          × ((news ≡ given arm rest) ⊎ ((news ≡ missing rest) × (arm ≡ none)))
-          × LoopsTree keeper cell label out first (before arm [])
-          × LoopsArms keeper cell label out others rest
+      × ((news ≡ given arm rest) ⊎ ((news ≡ missing rest) × (arm ≡ none)))
+      × LoopsTree keeper cell label out first (before arm [])
+      × LoopsArms keeper cell label out others rest
 
 -- the loop, before which a flag is cleared
 abbrev pub loop_of : Keeper → ℕ → Stmts → Stmts

@@ -38,8 +38,10 @@ Graphs = Range → Graph
 
 abbrev pub family_of : Graphs → Family
 family_of graphs =
-    record { entry = λ range. (graphs range).entry; node =
-    λ range label. tree_in (graphs range).nodes label }
+    record {
+      entry = λ range. (graphs range).entry;
+      node = λ range label. tree_in (graphs range).nodes label;
+    }
 
 abbrev pub kinds_of : Graphs → Kinds
 kinds_of graphs range cell = kind_at (graphs range).added cell
@@ -73,9 +75,11 @@ join_graph graph =
 
 abbrev pub inline_graph : Label → Graph → Graph
 inline_graph label graph =
-    record { entry = graph.entry; nodes =
-    each_tree (inlined label (tree_in graph.nodes label)) (without label graph.nodes); added =
-    graph.added }
+    record {
+      entry = graph.entry;
+      nodes = each_tree (inlined label (tree_in graph.nodes label)) (without label graph.nodes);
+      added = graph.added;
+    }
 
 abbrev pub all_leaves_to : Label → List Node → ℕ
 all_leaves_to label [] = 0
@@ -135,8 +139,8 @@ form_two label live none test one two =
     (pretest true test (is_bare live two) (stays label one) None)
 form_two label live (also first others) test one two =
     posttest false test (also first others) (is_bare live one) (is_bare (ToLabel label) two)
-        (posttest true test (also first others) (is_bare live two) (is_bare (ToLabel label) one)
-        None)
+    (posttest true test (also first others) (is_bare live two) (is_bare (ToLabel label) one)
+    None)
 
 abbrev pub form_arms : Label → Live → Stmts → Test → Trees → Option Form
 form_arms label live body test no_more = None
@@ -162,8 +166,11 @@ form_of label live (tree body end) = form_end label live body end
 -- the graph with this tree at the label
 abbrev pub looped_graph : Label → Tree → List Added → Graph → Graph
 looped_graph label t kinds graph =
-    record { entry = graph.entry; nodes = with_tree label t graph.nodes; added =
-    graph.added ++ kinds }
+    record {
+      entry = graph.entry;
+      nodes = with_tree label t graph.nodes;
+      added = graph.added ++ kinds;
+    }
 
 abbrev pub close_form : Label → Live → Graph → Option Form → Graph
 close_form label live graph (Some form) =
@@ -172,9 +179,9 @@ close_form label live graph (Some form) =
     (end_at live)) [] graph
 close_form label live graph None =
     looped_graph label
-        (tree (loop_of Flagged (count graph.added)
-        (flat Flagged (count graph.added) label (tree_in graph.nodes label))) (end_at live))
-        (Flag ∷ []) graph
+    (tree (loop_of Flagged (count graph.added)
+    (flat Flagged (count graph.added) label (tree_in graph.nodes label))) (end_at live))
+    (Flag ∷ []) graph
 
 -- the first of these forms that fits is taken: endless, tested before, tested after, with a flag
 abbrev pub close_by : Label → Graph → Targets → Graph
@@ -251,6 +258,6 @@ abbrev pub JumpsAmong : (Label → Type 0) → List Node → Type 0
 JumpsAmong P [] = Unit {0}
 JumpsAmong P (node ∷ nodes) = JumpsTree P node.tree × JumpsAmong P nodes
 
-abbrev pub IsClosed : Graph → Type 0
-IsClosed graph = (has_node graph.nodes graph.entry ≡ true)
+abbrev pub LeadsToNodes : Graph → Type 0
+LeadsToNodes graph = (has_node graph.nodes graph.entry ≡ true)
     × JumpsAmong (λ label. has_node graph.nodes label ≡ true) graph.nodes

@@ -106,8 +106,8 @@ module _ {Memory Left : Type 0} (acting : Acting Memory) (left : Memory → Left
     performed [] range = lost
     performed (first ∷ others) range =
         if same_range first range
-            then graph_walks first (performed others) (family.node first) (family.entry first)
-            else performed others range
+        then graph_walks first (performed others) (family.node first) (family.entry first)
+        else performed others range
 
     abbrev pub run_of : Outcome (Celled Memory) Left → Run Left
     run_of (Went trace memory units) =
@@ -119,12 +119,14 @@ module _ {Memory Left : Type 0} (acting : Acting Memory) (left : Memory → Left
     walked order range memory units = run_of (performed order range memory units)
 
 -- The same walks, from the memories of some worlds.
-module _ {Memory Left World : Type 0} (acting : Acting Memory) (left : Memory → Left)
-    (memory : World → Celled Memory) where
+module _ {Memory Left World : Type 0} (acting : Acting Memory) (left : Memory → Left) (memory : World → Celled Memory) where
   abbrev pub machine_from : Family → Range → Machine World Event (Ending Left) (Walk Memory Left)
   machine_from family range =
-      record { step = walk_step acting left family; run = λ walk. walk.run; begun =
-      λ world. walk_begun acting left family range (memory world) }
+      record {
+        step = walk_step acting left family;
+        run = λ walk. walk.run;
+        begun = λ world. walk_begun acting left family range (memory world);
+      }
 
   abbrev pub walked_from : Family → List Range → Range → Meaning World Event (Ending Left)
   walked_from family order range world units =

@@ -7,7 +7,7 @@ use Rattle.runs.proofs.Ties.{tied-sym, tied-trans, tied-at}
 use Rattle.control.specs.Language.{none, Program, Range, Main, Part, same_range}
 use Rattle.control.specs.Doing.{Acting, Celled, alone}
 use Rattle.control.specs.Source.{source_machine}
-use Rattle.control.specs.Graph.{Label, Tree, tree, End, Pick, Jump, Return, Stop, Dead, body_of, end_of, Family}
+use Rattle.control.specs.Graph.{Label, Tree, tree, End, Pick, Jump, Return, Stop, Dead, body_of, end_of, Family, IsLast}
 use Rattle.control.specs.Walk.{walk_machine, main_machine}
 use Rattle.control.specs.Structural.{structural}
 use Rattle.agreement.specs.Structured.{IsStructured}
@@ -25,7 +25,7 @@ use Rattle.graph_rules.specs.Laws.{AsBefore}
 use Rattle.closing.specs.Closes.{IsClosed, closed_graph, all_closed}
 use Rattle.closing.specs.Laws.{PlainEnd}
 use Rattle.rendering.specs.Rendering.{Naming, Procedure, place_of, rendered}
-use Rattle.rendering.specs.Procedures.{Kinds, IsLast, AreProcedures}
+use Rattle.rendering.specs.Procedures.{Writable, AreProcedures}
 use Rattle.rendering.specs.Serving.{Serves}
 use Rattle.headline.specs.Chain.{lowered_graphs, procedure_of, procedures_of, EachIsPerformed, EachStands, IsPlan}
 use Rattle.rendering.proofs.Written.{or_else}
@@ -120,7 +120,7 @@ module _ (graphs : Graphs) where
       subst (λ t. IsLast (end_of t)) (sym e) (plain-last (end_of k.0) k.2)
 
   -- the closed family has these procedures
-  pub are-procedures : (naming : Naming) (kinds : Kinds) (others : List Range) → Apart (Main ∷ others) → ((r : Range) → In r (Main ∷ others) → IsClosed (graphs r)) → EachStands naming kinds (procedures_of (Main ∷ others) graphs) → EachIsPerformed (procedures_of (Main ∷ others) graphs) →
+  pub are-procedures : (naming : Naming) (kinds : Writable) (others : List Range) → Apart (Main ∷ others) → ((r : Range) → In r (Main ∷ others) → IsClosed (graphs r)) → EachStands naming kinds (procedures_of (Main ∷ others) graphs) → EachIsPerformed (procedures_of (Main ∷ others) graphs) →
       AreProcedures (family_of (all_closed (Main ∷ others) graphs)) naming kinds (procedures_of (Main ∷ others) graphs)
   are-procedures naming kinds others apart closed stands performed =
       let order = Main ∷ others in
@@ -197,7 +197,7 @@ module _ {Memory Left : Type 0} (acting : Acting Memory) (left : Memory → Left
     pub closed-walks : Tied (meaning (main_machine acting left (family_of graphs))) (meaning (main_machine acting left (family_of (all_closed order graphs))))
     closed-walks = before-main-tied graphs (all_closed order graphs) order graphs-fit closed-before refl
 
-pub headline-over-control : {Memory Other Left World : Type 0} (acting : Acting Memory) (left : Memory → Left) (first : World → Memory) (result : Acting Other) (other_left : Other → Left) (other_first : World → Other) (Carries : Celled Memory → Other → Type 0) (naming : Naming) (kinds : Kinds)
+pub headline-over-control : {Memory Other Left World : Type 0} (acting : Acting Memory) (left : Memory → Left) (first : World → Memory) (result : Acting Other) (other_left : Other → Left) (other_first : World → Other) (Carries : Celled Memory → Other → Type 0) (naming : Naming) (kinds : Writable)
     (told : Told) (program : Program) (keep : Range → Label → Bool) (numbers : Range → ℕ → ℕ) (added : Range → List Added) (others : List Range) →
     IsTold told acting → IsSource told program → 0 < length program.paragraphs → (IsFaulty told program → ⊥) →
     IsPlan told program keep numbers added others →

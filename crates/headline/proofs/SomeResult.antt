@@ -7,14 +7,14 @@ use Rattle.lowering.specs.WellFormed.{tree_count}
 use Rattle.graph_rules.specs.Families.{Has, MaySet}
 use Rattle.graph_rules.specs.Reduced.{family_of, kinds_of, size}
 use Rattle.rendering.specs.Rendering.{Naming, Procedure, count_arms}
-use Rattle.rendering.specs.Procedures.{Kinds, ActFits, TestFits, ControlFits}
+use Rattle.rendering.specs.Procedures.{Writable, ActFits, TestFits, ControlFits}
 use Rattle.headline.specs.Chain.{lowered_graphs, procedures_of, PickerNames, StmtNames, StmtsName, ArmsName, BodyNames, EndNames, TreesName, TreeNames, CellsServed, PickerServed, StmtServed, StmtsServed, ArmsServed, BodyServed, EndServed, TreesServed, TreeServed, SomeResultBehaves}
 use Rattle.rendering.proofs.Serviceable.{whole, names, whole-serves}
 use Rattle.headline.proofs.Chain.{headline-over-control}
 use Rattle.headline.proofs.graphs.LoweredStand.{closed-at, closed-graphs-stand}
 use Rattle.headline.proofs.calls.PerformedProcedures.{closed-performed}
 
-abbrev pub every-kind : Kinds
+abbrev pub every-kind : Writable
 every-kind = record {
   simples = λ simple. true;
   conds = λ cond. true;

@@ -5,7 +5,7 @@ use Rattle.control.specs.Doing.{is_above}
 use Rattle.control.specs.Graph.{Label, Tree, tree, End, Pick, Jump, Return, Stop, Dead, Trees, no_more, more, body_of, end_of}
 use Rattle.lowering.specs.WellFormed.{tree_count}
 use Rattle.rendering.specs.Rendering.{Naming, Procedure, count_arms}
-use Rattle.rendering.specs.Procedures.{Kinds, TestFits, StmtsStand, ArmsStand}
+use Rattle.rendering.specs.Procedures.{Writable, TestFits, StmtsStand, ArmsStand}
 use Rattle.graph_rules.specs.Loops.{Keeper, Flagged, Endless, turned_test, tested_node}
 use Rattle.graph_rules.specs.Shapes.{followed, alone, Live, ToLabel, Back, end_at, Targets, NoTarget, Only, Several, both_targets, leaf_targets, arms_targets, last_stmts, arms_stmts, join_by, joined, join_end, joined_arms, inlined, inline_end, inlined_arms, other_targets, leaving, flat, flat_end, flat_arms}
 use Rattle.graph_rules.specs.Reduced.{Node, Graph, tree_in, count, with_tree, without, each_tree, join_graph, inline_graph, inlines, lowest, loops, Form, form_of, close_form, close_by, inline_step, loop_step, rule_step, stepped, size, reduced, shaped}
@@ -47,7 +47,7 @@ stated-count : (jump : Label → Stmts) (return : Stmts) (picker : Picker) (k : 
 stated-count jump return picker k no_more = refl
 stated-count jump return picker k (more first others) = ap suc (stated-count jump return picker (suc k) others)
 
-module _ {most_nodes : ℕ} (naming : Naming) (kinds : Kinds) (procedures : List Procedure) (range : Range) (all : CellsServed kinds range most_nodes) where
+module _ {most_nodes : ℕ} (naming : Naming) (kinds : Writable) (procedures : List Procedure) (range : Range) (all : CellsServed kinds range most_nodes) where
   abbrev Stands : Stmts → Type 0
   Stands stmts = StmtsStand naming kinds procedures range stmts
 

@@ -1,11 +1,10 @@
 -- The premises in records, and that they can be met.
-use Rattle.std.proofs.Common.{ℕ, List, ◌∷◌, refl}
-use Rattle.control.specs.Language.{Program, Range, Main}
+use Rattle.std.proofs.Common.{◌∷◌, refl}
+use Rattle.control.specs.Language.{Main}
 use Rattle.control.specs.Doing.{Celled}
 use Rattle.graph_rules.specs.Families.{Has, MaySet}
 use Rattle.graph_rules.specs.Reduced.{family_of, kinds_of, size}
-use Rattle.headline.specs.Chain.{EachIsPerformed}
-use Rattle.headline.specs.Headline.{Plan, graphs_by, procedures_by, Parts, CanBeRestructured, PartsAgree, WhatIsWrittenBehavesAlike, SomePartsAgree}
+use Rattle.headline.specs.Headline.{graphs_by, procedures_by, Parts, WhatIsWrittenBehavesAlike, SomePartsAgree}
 use Rattle.rendering.proofs.Serviceable.{whole, names, whole-serves}
 use Rattle.headline.proofs.graphs.LoweredStand.{closed-graphs-stand, closed-at}
 use Rattle.headline.proofs.calls.PerformedProcedures.{closed-performed}
@@ -37,9 +36,12 @@ some-parts {Memory} {Left} {World} = λ acting left first empty plan program can
       naming = naming;
       kinds = every-kind;
     } in
-    let graphs = graphs_by plan program in
-    (
-      parts, refl, refl, refl, refl,
+    let graphs = graphs_by plan program in (
+      parts,
+      refl,
+      refl,
+      refl,
+      refl,
       record {
         told = is_told;
         serves = whole-serves acting left first every-kind empty;

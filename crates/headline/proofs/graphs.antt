@@ -10,3 +10,5 @@ pub mod NamedCells
 pub mod NamedCellsExample
 -- How large the numbers are that the rules put into cells: no larger than the number of a range's nodes, and one more.
 pub mod Bounds
+-- The counters of a range's kept loops are numbered apart, and listed.
+pub mod Numbering

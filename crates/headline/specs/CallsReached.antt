@@ -34,44 +34,44 @@ NamesWhatReturns told program = (entry exit : ℕ) →
 abbrev pub WhatIsCalledStands : Type 0
 WhatIsCalledStands =
     (told : Told) (program : Program) → IsSource told program → GivesSome told →
-        AreReturningByPath told program →
+    AreReturningByPath told program →
     (range : Range) → IsRangeOf program range → (entry exit : ℕ) →
-        IsCalled told program range entry exit →
+    IsCalled told program range entry exit →
     (label : Label) × IsReached (lowered told program) range label
-        × TreeCalls (Part entry exit) ((lowered told program).node range label)
+    × TreeCalls (Part entry exit) ((lowered told program).node range label)
 
 -- each range of the order but main is performed by a free flow path of an earlier one's level
 abbrev pub CalledByPaths : Told → Program → List Range → Type 0
 CalledByPaths told program order =
     (number : ℕ) (entry exit : ℕ) → slice_get order number ≡ Some (Part entry exit) → 1 ≤ number →
     (from : ℕ) × (caller : Range) × (from < number) × (slice_get order from ≡ Some caller)
-        × IsCalled told program caller entry exit
+    × IsCalled told program caller entry exit
 
 -- so each is performed by a kept node of an earlier one
 abbrev pub OrderByPathsIsOfGraphs : Type 0
 OrderByPathsIsOfGraphs =
     (told : Told) (program : Program) (keep : Range → Label → Bool) (numbers : Range → ℕ → ℕ)
-        (added : Range → List Added) (others : List Range) →
+    (added : Range → List Added) (others : List Range) →
     IsSource told program → GivesSome told → 0 < length program.paragraphs →
-        IsPlan told program keep numbers added others →
+    IsPlan told program keep numbers added others →
     CalledByPaths told program (Main ∷ others) →
-        CalledFromEarlier (Main ∷ others) (lowered_graphs told program keep numbers added)
+    CalledFromEarlier (Main ∷ others) (lowered_graphs told program keep numbers added)
 
 -- so, by paths alone, for any parts there is a structured result of the same behaviour
 abbrev pub SomeResultByPaths : Type 0 → Type 0 → Type 0 → Type 0
 SomeResultByPaths Memory Left World =
     (acting : Acting Memory) (left : Memory → Left) (first : World → Memory)
-        (empty : Range → Picker → ℕ → Empty)
+    (empty : Range → Picker → ℕ → Empty)
     (told : Told) (program : Program) (keep : Range → Label → Bool) (numbers : Range → ℕ → ℕ)
-        (added : Range → List Added) (others : List Range) →
+    (added : Range → List Added) (others : List Range) →
     IsTold told acting → IsSource told program → 0 < length program.paragraphs →
-        (IsFaulty told program → ⊥) →
+    (IsFaulty told program → ⊥) →
     IsPlan told program keep numbers added others →
     let procedures =
-        procedures_of (Main ∷ others) (lowered_graphs told program keep numbers added) in
+    procedures_of (Main ∷ others) (lowered_graphs told program keep numbers added) in
     GivesSome told → CalledByPaths told program (Main ∷ others) →
     (result : Acting (Celled Memory)) × (naming : Naming) × (naming.empty ≡ empty)
-        × IsStructured (rendered naming procedures)
+    × IsStructured (rendered naming procedures)
     × SameBehaviour (λ world. meaning (source_machine (alone acting) left program) (first world))
     (λ world. structural (alone result) (λ memory. left memory.own) (rendered naming procedures)
-        (record { own = first world; cells = λ range cell. 0 }))
+    (record { own = first world; cells = λ range cell. 0 }))

@@ -24,7 +24,7 @@ use Rattle.graph_rules.specs.Families.{Added, Has, MaySet}
 use Rattle.graph_rules.specs.Reduced.{Node, Graph, tree_in, size, Graphs, family_of, kinds_of}
 use Rattle.closing.specs.Closes.{IsClosed, closed_graph}
 use Rattle.rendering.specs.Rendering.{Empty, Naming, Procedure, count_arms, rendered}
-use Rattle.rendering.specs.Procedures.{Kinds, ActFits, TestFits, ControlFits, StmtsStand, stmts_call}
+use Rattle.rendering.specs.Procedures.{Writable, ActFits, TestFits, ControlFits, StmtsStand, stmts_call}
 use Rattle.rendering.specs.Serving.{Serves}
 
 -- the nodes of lowering as those that the rules reduce, with their cells numbered anew
@@ -45,8 +45,11 @@ lowered_graphs told program keep numbers added range = record {
 -- what is written of a range: the tree at the entry of its graph
 abbrev pub procedure_of : Range → Graph → Procedure
 procedure_of range graph =
-    record { range = range; body = body_of (tree_in graph.nodes graph.entry); end =
-    end_of (tree_in graph.nodes graph.entry) }
+    record {
+      range = range;
+      body = body_of (tree_in graph.nodes graph.entry);
+      end = end_of (tree_in graph.nodes graph.entry);
+    }
 
 -- the procedures of the closed graphs, in this order
 abbrev pub procedures_of : List Range → Graphs → List Procedure
@@ -60,8 +63,8 @@ abbrev pub CallsStandLater : Told → Program → List Range → Type 0
 CallsStandLater told program [] = Unit {0}
 CallsStandLater told program (range ∷ ranges) =
     (is_in range ranges ≡ false)
-        × ((entry exit : ℕ) → IsCalled told program range entry exit → In (Part entry exit) ranges)
-        × CallsStandLater told program ranges
+    × ((entry exit : ℕ) → IsCalled told program range entry exit → In (Part entry exit) ranges)
+    × CallsStandLater told program ranges
 
 -- The cells that are read and written, whatever is performed and wherever a jump leads.
 module _ (Reads Writes : ℕ → Type 0) where
@@ -148,18 +151,18 @@ pub record IsPlan (told : Told) (program : Program) (keep : Range → Label → 
 -- than its nodes is moved to a
 -- cell, which is compared with 0 or 1 or tested for being above zero, and chooses among at most so
 -- many arms.
-pub record CellsServed (kinds : Kinds) (range : Range) (nodes : ℕ) : Type 0 where
+pub record CellsServed (kinds : Writable) (range : Range) (nodes : ℕ) : Type 0 where
   pub sets : (cell value : ℕ) → value ≤ suc nodes → kinds.sets range cell value ≡ true
   pub compares : (cell value : ℕ) → value ≤ 1 → kinds.compares range cell value ≡ true
   pub aboves : (cell : ℕ) → kinds.aboves range cell ≡ true
   pub chooses : (cell arms : ℕ) → arms ≤ suc nodes → kinds.chooses range cell arms ≡ true
 
-abbrev pub EachCellServed : Kinds → Graphs → Type 0
+abbrev pub EachCellServed : Writable → Graphs → Type 0
 EachCellServed kinds graphs = (range : Range) → CellsServed kinds range (size (graphs range).nodes)
 
 -- The parts that stand in a tree may be written, whatever is performed, wherever a jump leads and
 -- whichever arms stand.
-module _ (naming : Naming) (kinds : Kinds) (procedures : List Procedure) (range : Range) where
+module _ (naming : Naming) (kinds : Writable) (procedures : List Procedure) (range : Range) where
   abbrev pub PickerServed : Picker → ℕ → Type 0
   PickerServed (If test) arms = TestFits naming kinds procedures range test
   PickerServed (By chooser) arms =
@@ -211,7 +214,7 @@ module _ (naming : Naming) (kinds : Kinds) (procedures : List Procedure) (range 
   TreeServed (tree body end) = StmtsServed body × EndServed end
 
 -- what stands in the graphs of these ranges may be written
-abbrev pub GraphsServed : Naming → Kinds → List Range → Graphs → Type 0
+abbrev pub GraphsServed : Naming → Writable → List Range → Graphs → Type 0
 GraphsServed naming kinds order graphs = (range : Range) → In range order → (label : Label) →
     TreeServed naming kinds (procedures_of order graphs) range ((family_of graphs).node range label)
 
@@ -220,7 +223,7 @@ abbrev pub EachIsPerformed : List Procedure → Type 0
 EachIsPerformed procedures = (number : ℕ) (procedure : Procedure) →
     slice_get procedures number ≡ Some procedure → 1 ≤ number →
     (from : ℕ) × (caller : Procedure) × (from < number) × (slice_get procedures from ≡ Some caller)
-        × (stmts_call procedure.range caller.body ≡ true)
+    × (stmts_call procedure.range caller.body ≡ true)
 
 -- A PERFORM of the range stands in the tree.
 abbrev mutual
@@ -248,14 +251,14 @@ abbrev pub ClosingLosesNoPerform : Type 0
 ClosingLosesNoPerform =
     (range : Range) (graph : Graph) → IsClosed graph → NodesCall range graph.nodes →
     stmts_call range (body_of (tree_in (closed_graph graph).nodes (closed_graph graph).entry))
-        ≡ true
+    ≡ true
 
 -- each range but the first is performed by a node of an earlier one
 abbrev pub CalledFromEarlier : List Range → Graphs → Type 0
 CalledFromEarlier order graphs =
     (number : ℕ) (range : Range) → slice_get order number ≡ Some range → 1 ≤ number →
     (from : ℕ) × (caller : Range) × (from < number) × (slice_get order from ≡ Some caller)
-        × NodesCall range (graphs caller).nodes
+    × NodesCall range (graphs caller).nodes
 
 -- and so is each closed one
 abbrev pub ClosedGraphsArePerformed : Type 0
@@ -265,7 +268,7 @@ ClosedGraphsArePerformed = (order : List Range) (graphs : Graphs) →
 
 -- the bodies hold parts of the program and words on cells that are served, and each choice by a
 -- cell stands where the cell isn't zero
-abbrev pub EachStands : Naming → Kinds → List Procedure → Type 0
+abbrev pub EachStands : Naming → Writable → List Procedure → Type 0
 EachStands naming kinds procedures = (number : ℕ) (procedure : Procedure) →
     slice_get procedures number ≡ Some procedure →
     StmtsStand naming kinds procedures procedure.range procedure.body
@@ -274,14 +277,14 @@ EachStands naming kinds procedures = (number : ℕ) (procedure : Procedure) →
 -- graphs can be written
 abbrev pub ClosedGraphsStand : Type 0
 ClosedGraphsStand =
-    (naming : Naming) (kinds : Kinds) (told : Told) (program : Program)
-        (keep : Range → Label → Bool) (numbers : Range → ℕ → ℕ) (added : Range → List Added)
-        (others : List Range) →
+    (naming : Naming) (kinds : Writable) (told : Told) (program : Program)
+    (keep : Range → Label → Bool) (numbers : Range → ℕ → ℕ) (added : Range → List Added)
+    (others : List Range) →
     EachCellServed kinds (lowered_graphs told program keep numbers added) → IsSource told program →
-        0 < length program.paragraphs → IsPlan told program keep numbers added others →
+    0 < length program.paragraphs → IsPlan told program keep numbers added others →
     GraphsServed naming kinds (Main ∷ others) (lowered_graphs told program keep numbers added) →
     EachStands naming kinds
-        (procedures_of (Main ∷ others) (lowered_graphs told program keep numbers added))
+    (procedures_of (Main ∷ others) (lowered_graphs told program keep numbers added))
 
 -- the headline: lowered by this plan, closed by the rules and written, a program that isn't faulty
 -- is structured and behaves as it did
@@ -289,37 +292,37 @@ abbrev pub TheHeadline : {Memory Other : Type 0} → (Celled Memory → Other �
     Type 0 → Type 0
 TheHeadline {Memory} {Other} Carries Left World =
     (acting : Acting Memory) (left : Memory → Left) (first : World → Memory) (result : Acting Other)
-        (other_left : Other → Left) (other_first : World → Other) (naming : Naming) (kinds : Kinds)
+    (other_left : Other → Left) (other_first : World → Other) (naming : Naming) (kinds : Writable)
     (told : Told) (program : Program) (keep : Range → Label → Bool) (numbers : Range → ℕ → ℕ)
-        (added : Range → List Added) (others : List Range) →
+    (added : Range → List Added) (others : List Range) →
     IsTold told acting → IsSource told program → 0 < length program.paragraphs →
-        (IsFaulty told program → ⊥) →
+    (IsFaulty told program → ⊥) →
     IsPlan told program keep numbers added others →
     let procedures =
-        procedures_of (Main ∷ others) (lowered_graphs told program keep numbers added) in
+    procedures_of (Main ∷ others) (lowered_graphs told program keep numbers added) in
     EachStands naming kinds procedures → EachIsPerformed procedures →
-        Serves acting left first result other_left other_first Carries naming kinds →
+    Serves acting left first result other_left other_first Carries naming kinds →
     IsStructured (rendered naming procedures)
     × SameBehaviour (λ world. meaning (source_machine (alone acting) left program) (first world))
-        (λ world. structural (alone result) other_left (rendered naming procedures)
-        (other_first world))
+    (λ world. structural (alone result) other_left (rendered naming procedures)
+    (other_first world))
 
 -- so for any parts there is a result of the same behaviour, structured, whose parts do the same and
 -- keep cells beside
 abbrev pub SomeResultBehaves : Type 0 → Type 0 → Type 0 → Type 0
 SomeResultBehaves Memory Left World =
     (acting : Acting Memory) (left : Memory → Left) (first : World → Memory)
-        (empty : Range → Picker → ℕ → Empty)
+    (empty : Range → Picker → ℕ → Empty)
     (told : Told) (program : Program) (keep : Range → Label → Bool) (numbers : Range → ℕ → ℕ)
-        (added : Range → List Added) (others : List Range) →
+    (added : Range → List Added) (others : List Range) →
     IsTold told acting → IsSource told program → 0 < length program.paragraphs →
-        (IsFaulty told program → ⊥) →
+    (IsFaulty told program → ⊥) →
     IsPlan told program keep numbers added others →
     let procedures =
-        procedures_of (Main ∷ others) (lowered_graphs told program keep numbers added) in
+    procedures_of (Main ∷ others) (lowered_graphs told program keep numbers added) in
     CalledFromEarlier (Main ∷ others) (lowered_graphs told program keep numbers added) →
     (result : Acting (Celled Memory)) × (naming : Naming) × (naming.empty ≡ empty)
-        × IsStructured (rendered naming procedures)
+    × IsStructured (rendered naming procedures)
     × SameBehaviour (λ world. meaning (source_machine (alone acting) left program) (first world))
     (λ world. structural (alone result) (λ memory. left memory.own) (rendered naming procedures)
-        (record { own = first world; cells = λ range cell. 0 }))
+    (record { own = first world; cells = λ range cell. 0 }))

@@ -16,7 +16,7 @@ use Rattle.lowering.specs.flow.Paths.{IsFaulty}
 use Rattle.graph_rules.specs.Families.{Added}
 use Rattle.graph_rules.specs.Reduced.{Graphs}
 use Rattle.rendering.specs.Rendering.{Empty, Naming, Procedure, rendered}
-use Rattle.rendering.specs.Procedures.{Kinds}
+use Rattle.rendering.specs.Procedures.{Writable}
 use Rattle.rendering.specs.Serving.{Serves}
 use Rattle.headline.specs.Chain.{lowered_graphs, procedures_of, IsPlan, EachCellServed, GraphsServed}
 use Rattle.headline.specs.CallsReached.{GivesSome, CalledByPaths}
@@ -49,7 +49,7 @@ pub record Parts (Memory Other Left World : Type 0) : Type 0 where
   pub other_left : Other → Left
   pub other_first : World → Other
   pub naming : Naming
-  pub kinds : Kinds
+  pub kinds : Writable
 
 -- the program is a source with a paragraph, isn't faulty, and the plan is one for it
 pub record CanBeRestructured (plan : Plan) (program : Program) : Type 0 where
@@ -112,9 +112,9 @@ Beside Memory Left World = Parts Memory (Celled Memory) Left World
 abbrev pub SomePartsAgree : Type 0 → Type 0 → Type 0 → Type 0
 SomePartsAgree Memory Left World =
     (acting : Acting Memory) (left : Memory → Left) (first : World → Memory)
-        (empty : Range → Picker → ℕ → Empty)
+    (empty : Range → Picker → ℕ → Empty)
     (plan : Plan) (program : Program) → CanBeRestructured plan program → IsTold plan.told acting →
     (parts : Beside Memory Left World)
     × (parts.acting ≡ acting) × (parts.left ≡ left) × (parts.first ≡ first)
-        × (parts.naming.empty ≡ empty)
+    × (parts.naming.empty ≡ empty)
     × PartsAgree (λ memory other. memory ≡ other) parts plan program

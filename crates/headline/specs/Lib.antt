@@ -9,6 +9,8 @@ pub mod CallsReached
 pub mod NamedCells
 -- A program of one paragraph that jumps to itself, and its plan.
 pub mod PlanExample
+-- A numbering of the counters of a range's kept loops, under which no two numbers are one.
+pub mod Numbering
 -- The counter of a small program: of its two loops by TIMES one is counted, and its counter is
 -- numbered 0.
 pub mod NamedCellsExample

@@ -72,7 +72,7 @@ abbrev pub LoweredNodesNameCounters : Type 0
 LoweredNodesNameCounters =
     (told : Told) (program : Program) (range : Range) (counters : ℕ → Bool) →
     IsSource told program → ProgramCounts (λ place. counters place ≡ true) program →
-        NodesName (λ place. counters place ≡ true) (nodes_of told program range)
+    NodesName (λ place. counters place ≡ true) (nodes_of told program range)
 
 -- the counter of this place, where its loop's head is kept, has its number among the cells of the
 -- range, as a count
@@ -85,7 +85,7 @@ IsCounted keep number added place =
 abbrev pub NumberedCountersAreNamed : Type 0
 NumberedCountersAreNamed =
     (told : Told) (program : Program) (keep : Range → Label → Bool) (numbers : Range → ℕ → ℕ)
-        (added : Range → List Added) (range : Range) →
+    (added : Range → List Added) (range : Range) →
     IsSource told program → AreJustReached told program range (keep range) →
     ProgramCounts (IsCounted (keep range) (numbers range) (added range)) program →
     NamesItsCells (lowered_graphs told program keep numbers added) range

@@ -26,8 +26,12 @@ returns_past (suc entry) exit = exit == suc entry
 -- a chooser may give as many arms as its number and one more; none stands in the program
 abbrev pub again_told : Told
 again_told =
-    record { returning = returns_past; skipped = λ simple. false; never_first =
-    λ chooser. false; width = λ chooser. suc chooser }
+    record {
+      returning = returns_past;
+      skipped = λ simple. false;
+      never_first = λ chooser. false;
+      width = λ chooser. suc chooser;
+    }
 
 -- of main, the paragraph's node
 abbrev pub again_kept : Range → Label → Bool
@@ -49,12 +53,12 @@ APlanCanBeMade = IsSource again_told again × (IsFaulty again_told again → ⊥
 abbrev pub ThePlanIsFollowed : Type 0 → Type 0 → Type 0 → Type 0
 ThePlanIsFollowed Memory Left World =
     (acting : Acting Memory) (left : Memory → Left) (first : World → Memory)
-        (empty : Range → Picker → ℕ → Empty) → IsTold again_told acting →
+    (empty : Range → Picker → ℕ → Empty) → IsTold again_told acting →
     let procedures =
-        procedures_of (Main ∷ []) (lowered_graphs again_told again again_kept same_numbers no_added)
-        in
+    procedures_of (Main ∷ []) (lowered_graphs again_told again again_kept same_numbers no_added)
+    in
     (result : Acting (Celled Memory)) × (naming : Naming) × (naming.empty ≡ empty)
-        × IsStructured (rendered naming procedures)
+    × IsStructured (rendered naming procedures)
     × SameBehaviour (λ world. meaning (source_machine (alone acting) left again) (first world))
     (λ world. structural (alone result) (λ memory. left memory.own) (rendered naming procedures)
-        (record { own = first world; cells = λ range cell. 0 }))
+    (record { own = first world; cells = λ range cell. 0 }))

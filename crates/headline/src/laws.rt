@@ -5,7 +5,9 @@ ghost use Rattle.headline.specs.CallsReached.{WhatIsCalledStands, OrderByPathsIs
 ghost use Rattle.headline.specs.NamedCells.{LoweredNodesNameCounters, NumberedCountersAreNamed};
 ghost use Rattle.headline.specs.NamedCellsExample.{OneCounterIsNamed};
 ghost use Rattle.headline.specs.PlanExample.{APlanCanBeMade, ThePlanIsFollowed};
+ghost use Rattle.headline.specs.Numbering.{CountersCanBeNumbered};
 ghost use Rattle.headline.specs.Headline.{WhatIsWrittenBehavesAlike, SomePartsAgree};
+
 use rendering::laws::Carrying;
 
 /// A program that isn't faulty, lowered, closed by the rules and written, is structured and behaves as it did.
@@ -45,10 +47,12 @@ pub fn some_result_by_paths<Memory, Left, World>()
 
 /// A lowered node of a source names no cell but the counter of a loop by TIMES, by the number of its place, and holds no
 /// choice by a cell; so where the counters of kept loops are numbered and listed, each kept node names its range's cells.
+/// Numbering them by their place among the kept ones is such a numbering.
 pub fn lowered_nodes_name_counters()
     ensures node { LoweredNodesNameCounters }
     ensures graph { NumberedCountersAreNamed }
     ensures example { OneCounterIsNamed }
+    ensures numbering { CountersCanBeNumbered }
 {}
 
 /// A program that jumps to its own paragraph is a source, isn't faulty and has a plan; so for any parts that do what is

@@ -9,9 +9,12 @@ use Rattle.lowering.specs.Lowered.{lowered}
 
 -- every range returns, nothing is skipped
 abbrev pub plainly : Told
-plainly = record
-    { returning = λ entry exit. true; skipped = λ simple. false; never_first =
-    λ chooser. false; width = λ chooser. 0 }
+plainly = record {
+  returning = λ entry exit. true;
+  skipped = λ simple. false;
+  never_first = λ chooser. false;
+  width = λ chooser. 0;
+}
 
 abbrev pub shows : ℕ → Stmt
 shows number = Do (Own number)
@@ -21,8 +24,8 @@ abbrev pub inside_an_arm : Program
 inside_an_arm = record {
   paragraphs =
       (also (Choose (If (Holds 0))
-          (given (also (Choose (If (Holds 3)) (given (also (Go 1) none) (missing done)))
-          (also (shows 1) none)) (missing done))) (also (shows 2) none) ∷ [])
+      (given (also (Choose (If (Holds 3)) (given (also (Go 1) none) (missing done)))
+      (also (shows 1) none)) (missing done))) (also (shows 2) none) ∷ [])
       ∷ (also (shows 3) none ∷ [])
       ∷ [];
 }
@@ -34,10 +37,10 @@ abbrev pub LabelInsideAnArmRunsOn : Type 0
 LabelInsideAnArmRunsOn =
     ((lowered plainly inside_an_arm).node Main 0 ≡
     only (Pick (If (Holds 0))
-        (more (only (Pick (If (Holds 3)) (more (only (Jump 18)) (more (only (Jump 12)) no_more))))
+    (more (only (Pick (If (Holds 3)) (more (only (Jump 18)) (more (only (Jump 12)) no_more))))
     (more (only (Jump 15)) no_more))))
     × ((lowered plainly inside_an_arm).node Main 12
-        ≡ tree (also (shows 1) (also (shows 2) none)) (Jump 18))
+    ≡ tree (also (shows 1) (also (shows 2) none)) (Jump 18))
     × ((lowered plainly inside_an_arm).node Main 15 ≡ tree (also (shows 2) none) (Jump 18))
     × ((lowered plainly inside_an_arm).node Main 18 ≡ tree (also (shows 3) none) Stop)
 
@@ -48,8 +51,8 @@ counted = record {
   paragraphs =
       (also (Loop (Times 5) (Nested (also StopRun (also (Go 0) none)))) none
       ∷ also (Loop (Times 6)
-          (Nested (also (Choose (If (Holds 0)) (given (also (Go 0) none) (missing done)))
-          (also (shows 1) none)))) none
+      (Nested (also (Choose (If (Holds 0)) (given (also (Go 0) none) (missing done)))
+      (also (shows 1) none)))) none
       ∷ [])
       ∷ [];
 }
@@ -58,13 +61,13 @@ counted = record {
 abbrev pub CuttingComesFirst : Type 0
 CuttingComesFirst =
     ((lowered plainly counted).node Main 0
-        ≡ tree (also (Loop (Times 5) (Nested (also StopRun none))) (also (Do (Take 4 6)) none))
-        (Jump 13))
+    ≡ tree (also (Loop (Times 5) (Nested (also StopRun none))) (also (Do (Take 4 6)) none))
+    (Jump 13))
     × ((lowered plainly counted).node Main 13 ≡
     only (Pick (If (Above 4))
-        (more (tree (also (Do (Lower 4)) none)
-        (Pick (If (Holds 0)) (more (only (Jump 0)) (more (only (Jump 21)) no_more))))
-        (more (only Stop) no_more))))
+    (more (tree (also (Do (Lower 4)) none)
+    (Pick (If (Holds 0)) (more (only (Jump 0)) (more (only (Jump 21)) no_more))))
+    (more (only Stop) no_more))))
     × ((lowered plainly counted).node Main 21 ≡ tree (also (shows 1) none) (Jump 13))
 
 abbrev pub when : ℕ → Stmt → Stmt
@@ -76,7 +79,7 @@ abbrev pub left_within : Bool → Program
 left_within cycle = record {
   paragraphs =
       (also (Loop (Until false (Holds 5)) (Nested
-          (also (shows 1) (also (when 3 (ExitPerform cycle)) (also (shows 2) none))))) none
+      (also (shows 1) (also (when 3 (ExitPerform cycle)) (also (shows 2) none))))) none
       ∷ also (shows 4) none ∷ [])
       ∷ [];
 }
@@ -127,4 +130,4 @@ LoopsCompleteByExit =
     × (completes plainly (after_body (also (ExitPerform true) (also (Go 0) none))) ≡ true)
     × (completes plainly (after_body (also (Go 0) (also (ExitPerform true) none))) ≡ false)
     × (completes plainly
-        (after_body (also (after_body (also (ExitPerform false) none)) (also (Go 0) none))) ≡ false)
+    (after_body (also (after_body (also (ExitPerform false) none)) (also (Go 0) none))) ≡ false)

@@ -28,13 +28,13 @@ NoFlowFault {Memory} acting left program = (memory : Memory) (n : ℕ) (fault : 
 abbrev pub LoweringKeepsMeaning : Type 0 → Type 0 → Type 0
 LoweringKeepsMeaning Memory Left =
     (acting : Acting Memory) (left : Memory → Left) (told : Told) (program : Program)
-        (place_of : ℕ → ℕ) (family : Family) →
+    (place_of : ℕ → ℕ) (family : Family) →
     IsTold told acting → IsSource told program → 0 < length program.paragraphs →
-        IsLowered told program place_of family →
+    IsLowered told program place_of family →
     AreReturning (alone acting) program 0 (rest_of program 0) told.returning →
-        NoFlowFault acting left program →
+    NoFlowFault acting left program →
     Tied (meaning (source_machine (alone acting) left program))
-        (meaning (main_machine acting left family))
+    (meaning (main_machine acting left family))
 
 -- a source that is about to perform the range, and then has nothing to do: it stands past the last
 -- paragraph
@@ -53,8 +53,8 @@ abbrev pub RangeHasNoFlowFault : {Memory Left : Type 0} → Acting Memory → (M
     Program → ℕ → ℕ → Type 0
 RangeHasNoFlowFault {Memory} acting left program entry exit =
     (memory : Memory) (n : ℕ) (fault : FlowFault) →
-        (iterate (source_step (alone acting) left program) n
-        (before_range program entry exit memory)).run.standing ≢ Over (Faulted fault)
+    (iterate (source_step (alone acting) left program) n
+    (before_range program entry exit memory)).run.standing ≢ Over (Faulted fault)
 
 -- no walk of the range, from any memory and any cells, is lost
 abbrev pub IsSoundAt : {Memory Left : Type 0} → Acting Memory → (Memory → Left) → Family → Range →
@@ -65,21 +65,21 @@ IsSoundAt {Memory} acting left family range = (memory : Celled Memory) (n : ℕ)
 abbrev pub LoweredRangeIsSound : Type 0 → Type 0 → Type 0
 LoweredRangeIsSound Memory Left =
     (acting : Acting Memory) (left : Memory → Left) (told : Told) (program : Program)
-        (place_of : ℕ → ℕ) (family : Family) →
+    (place_of : ℕ → ℕ) (family : Family) →
     IsTold told acting → IsSource told program → IsLowered told program place_of family →
     AreReturning (alone acting) program 0 (rest_of program 0) told.returning →
     (entry exit : ℕ) → entry < length program.paragraphs → exit < length program.paragraphs →
-        RangeHasNoFlowFault acting left program entry exit →
+    RangeHasNoFlowFault acting left program entry exit →
     IsSoundAt acting left family (Part entry exit)
 
 abbrev pub LoweredMainIsSound : Type 0 → Type 0 → Type 0
 LoweredMainIsSound Memory Left =
     (acting : Acting Memory) (left : Memory → Left) (told : Told) (program : Program)
-        (place_of : ℕ → ℕ) (family : Family) →
+    (place_of : ℕ → ℕ) (family : Family) →
     IsTold told acting → IsSource told program → 0 < length program.paragraphs →
-        IsLowered told program place_of family →
+    IsLowered told program place_of family →
     AreReturning (alone acting) program 0 (rest_of program 0) told.returning →
-        NoFlowFault acting left program →
+    NoFlowFault acting left program →
     IsSoundAt acting left family Main
 
 -- some free flow path is about to perform the range
@@ -87,38 +87,38 @@ abbrev pub IsPerformed : Told → Program → ℕ → ℕ → Type 0
 IsPerformed told program entry exit =
     (ways : List ℕ) × (n : ℕ) × (number : ℕ) × (rest : List Item) × (pending : List Pending)
     × ((more : List ℕ) →
-        iterate (free_step told program) n (flow 0 (rest_of program 0) [] (ways ++ more))
-        ≡ flow number (Do (Perform entry exit) ∷ rest) pending more)
+    iterate (free_step told program) n (flow 0 (rest_of program 0) [] (ways ++ more))
+    ≡ flow number (Do (Perform entry exit) ∷ rest) pending more)
 
 -- no run of a program that isn't faulty meets a fault of its flow
 abbrev pub NotFaultyHasNoFlowFault : Type 0 → Type 0 → Type 0
 NotFaultyHasNoFlowFault Memory Left =
     (acting : Acting Memory) (left : Memory → Left) (told : Told) (program : Program) →
     IsTold told acting → IsSource told program → (IsFaulty told program → ⊥) →
-        NoFlowFault acting left program
+    NoFlowFault acting left program
 
 -- the walk of the reached nodes of a program that isn't faulty does what the program does
 abbrev pub LoweredFamilyKeepsMeaning : Type 0 → Type 0 → Type 0
 LoweredFamilyKeepsMeaning Memory Left =
     (acting : Acting Memory) (left : Memory → Left) (told : Told) (program : Program)
-        (keep : Range → Label → Bool) →
+    (keep : Range → Label → Bool) →
     IsTold told acting → IsSource told program → 0 < length program.paragraphs →
-        AreReturningByPath told program → (IsFaulty told program → ⊥) →
+    AreReturningByPath told program → (IsFaulty told program → ⊥) →
     AreReached (lowered told program) keep →
     Tied (meaning (source_machine (alone acting) left program))
-        (meaning (main_machine acting left (kept keep (lowered told program))))
+    (meaning (main_machine acting left (kept keep (lowered told program))))
 
 -- and no walk of main, or of a range that is performed, is lost
 abbrev pub LoweredFamilyIsSound : Type 0 → Type 0 → Type 0
 LoweredFamilyIsSound Memory Left =
     (acting : Acting Memory) (left : Memory → Left) (told : Told) (program : Program)
-        (keep : Range → Label → Bool) →
+    (keep : Range → Label → Bool) →
     IsTold told acting → IsSource told program → 0 < length program.paragraphs →
-        AreReturningByPath told program → (IsFaulty told program → ⊥) →
+    AreReturningByPath told program → (IsFaulty told program → ⊥) →
     AreReached (lowered told program) keep →
     IsSoundAt acting left (kept keep (lowered told program)) Main
     × ((entry exit : ℕ) → IsPerformed told program entry exit →
-        IsSoundAt acting left (kept keep (lowered told program)) (Part entry exit))
+    IsSoundAt acting left (kept keep (lowered told program)) (Part entry exit))
 
 -- a numbering of each range's cells, under which no two are one
 abbrev pub KeepsApart : (Range → ℕ → ℕ) → Type 0
@@ -129,17 +129,17 @@ KeepsApart numbers =
 abbrev pub NumberedFamilyKeepsMeaning : Type 0 → Type 0 → Type 0
 NumberedFamilyKeepsMeaning Memory Left =
     (acting : Acting Memory) (left : Memory → Left) (told : Told) (program : Program)
-        (keep : Range → Label → Bool) (numbers : Range → ℕ → ℕ) →
+    (keep : Range → Label → Bool) (numbers : Range → ℕ → ℕ) →
     IsTold told acting → IsSource told program → 0 < length program.paragraphs →
-        AreReturningByPath told program → (IsFaulty told program → ⊥) →
+    AreReturningByPath told program → (IsFaulty told program → ⊥) →
     AreReached (lowered told program) keep → KeepsApart numbers →
     Tied (meaning (source_machine (alone acting) left program))
-        (meaning (main_machine acting left
-        (numbered_anew numbers (kept keep (lowered told program)))))
+    (meaning (main_machine acting left
+    (numbered_anew numbers (kept keep (lowered told program)))))
     × IsSoundAt acting left (numbered_anew numbers (kept keep (lowered told program))) Main
     × ((entry exit : ℕ) → IsPerformed told program entry exit →
-        IsSoundAt acting left (numbered_anew numbers (kept keep (lowered told program)))
-        (Part entry exit))
+    IsSoundAt acting left (numbered_anew numbers (kept keep (lowered told program)))
+    (Part entry exit))
 
 -- a free flow path of the program comes to this rest, in the level of this range
 abbrev pub FreelyComes : Told → Program → Range → ℕ → List Item → Type 0
@@ -152,8 +152,8 @@ abbrev pub WhatCompletesIsPassed : Type 0
 WhatCompletesIsPassed =
     (told : Told) (program : Program) (paragraphs : ℕ) →
     ((entry exit : ℕ) → told.returning entry exit ≡ true →
-        FreelyComes told program (Part entry exit) exit []) →
+    FreelyComes told program (Part entry exit) exit []) →
     (range : Range) (number : ℕ) (stmt : Stmt) (rest : List Item) → OwnStmt told paragraphs stmt →
-        completes told stmt ≡ true →
+    completes told stmt ≡ true →
     FreelyComes told program range number (Do stmt ∷ rest) →
-        FreelyComes told program range number rest
+    FreelyComes told program range number rest

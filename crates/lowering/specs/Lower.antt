@@ -65,7 +65,7 @@ loop_nodes (Varying false set step test) place body after =
 loop_nodes (Varying true set step test) place body after =
     node (head place) body
     ∷ node (third place)
-        (by_test test (only after) (tree (also (Do step) none) (Jump (head place)))) ∷ []
+    (by_test test (only after) (tree (also (Do step) none) (Jump (head place)))) ∷ []
 
 -- where what leaves a rest goes on: behind its sentence, at the end of its paragraph or of the one
 -- with a number, behind
@@ -135,10 +135,10 @@ module _ (told : Told) (place_of : ℕ → ℕ) where
         if whole (cut told (Choose picker arms))
         then push (Choose picker arms) behind
         else only (Pick picker
-            (build_arms (first_is_dead told picker) arms (place + 1) leaving after))
+        (build_arms (first_is_dead told picker) arms (place + 1) leaving after))
     build_stmt (Loop control body) place leaving after behind =
         if whole_body (cut_body told body) then push (Loop control body) behind
-            else loop_start control place
+        else loop_start control place
     build_stmt (Perform entry exit) place leaving after behind = push (Perform entry exit) behind
     build_stmt (Go to) place leaving after behind = only (Jump (point (place_of to)))
     build_stmt (GoDepending to on) place leaving after behind =
@@ -153,14 +153,14 @@ module _ (told : Told) (place_of : ℕ → ℕ) where
     build none place leaving after behind = behind
     build (also stmt stmts) place leaving after behind =
         build_stmt stmt place leaving (leaf stmts (place + size stmt) after)
-            (build stmts (place + size stmt) leaving after behind)
+        (build stmts (place + size stmt) leaving after behind)
 
     -- the arms of a choice with an escape; a missing first arm that is never given is Dead
     pub build_arms : Bool → Arms → ℕ → Leaving → End → Trees
     build_arms first done place leaving after = no_more
     build_arms first (given arm others) place leaving after =
         more (build arm place leaving after (only after))
-            (build_arms false others (place + sizes arm) leaving after)
+        (build_arms false others (place + sizes arm) leaving after)
     build_arms first (missing others) place leaving after =
         more (only (if first then Dead else after)) (build_arms false others place leaving after)
 
@@ -188,10 +188,10 @@ module _ (told : Told) (place_of : ℕ → ℕ) where
     nodes none place leaving after behind = []
     nodes (also stmt stmts) place leaving after behind =
         node (point place)
-            (build_stmt stmt place leaving (leaf stmts (place + size stmt) after)
-            (build stmts (place + size stmt) leaving after behind))
+        (build_stmt stmt place leaving (leaf stmts (place + size stmt) after)
+        (build stmts (place + size stmt) leaving after behind))
         ∷ (nodes_in stmt place leaving (leaf stmts (place + size stmt) after)
-            (build stmts (place + size stmt) leaving after behind)
+        (build stmts (place + size stmt) leaving after behind)
         ++ nodes stmts (place + size stmt) leaving after behind)
 
     pub nodes_of_arms : Arms → ℕ → Leaving → End → Tree → List Node
@@ -205,10 +205,10 @@ module _ (told : Told) (place_of : ℕ → ℕ) where
     pub nodes_of_body : Body → Control → ℕ → Leaving → End → List Node
     nodes_of_body (Nested stmts) control place leaving after =
         loop_nodes control place
-            (build stmts (place + 1) (within_loop leaving after (Jump (back control place)))
-            (Jump (back control place)) (only (Jump (back control place)))) after
+        (build stmts (place + 1) (within_loop leaving after (Jump (back control place)))
+        (Jump (back control place)) (only (Jump (back control place)))) after
         ++ nodes stmts (place + 1) (within_loop leaving after (Jump (back control place)))
-            (Jump (back control place)) (only (Jump (back control place)))
+        (Jump (back control place)) (only (Jump (back control place)))
     nodes_of_body (Performed entry exit) control place leaving after = []
 
 -- where a range goes on behind a paragraph that isn't its exit

@@ -1,7 +1,7 @@
 -- The nodes of a range in the order of their labels, and the family that looks them up.
 use Rattle.std.specs.Prelude.{ℕ, zero, suc, ◌+◌, ◌≤◌, if◌then◌else◌, ◌==◌, List, [], ◌∷◌, ◌++◌}
 use Rattle.control.specs.Language.{Paragraph, Program, Range}
-use Rattle.control.specs.Graph.{Label, Tree, End, Dead, Family}
+use Rattle.control.specs.Graph.{Label, Tree, Dead, Family}
 use Rattle.lowering.specs.Told.{Told}
 use Rattle.lowering.specs.Completes.{sizes}
 use Rattle.lowering.specs.Lower.{point, only, Node, node, nodes, Leaving, leaving_at}
@@ -34,9 +34,9 @@ module _ (told : Told) (program : Program) where
   nodes_left paragraph Over = []
   nodes_left paragraph (From place stmts others) =
       nodes told (place_in program) stmts place
-          (leaving_of told (place_in program) paragraph others)
-          (leaf_of told (place_in program) paragraph others)
-          (tree_of told (place_in program) paragraph others)
+      (leaving_of told (place_in program) paragraph others)
+      (leaf_of told (place_in program) paragraph others)
+      (tree_of told (place_in program) paragraph others)
       ++ nodes_left paragraph others
   nodes_left paragraph (Sent holds others) = nodes_left paragraph others
   nodes_left paragraph (Turns place control left reached body others) = nodes_left paragraph others
@@ -47,20 +47,21 @@ module _ (told : Told) (program : Program) where
   nodes_from range number place [] = []
   nodes_from range number place (paragraph ∷ others) =
       node (point place)
-          (tree_of told (place_in program) (leaving_at (place_in program) program range number)
-          (rest_from told (place + 1) paragraph))
+      (tree_of told (place_in program) (leaving_at (place_in program) program range number)
+      (rest_from told (place + 1) paragraph))
       ∷ (nodes_left (leaving_at (place_in program) program range number)
-          (rest_from told (place + 1) paragraph) ++ nodes_from range (suc number)
-          (place + 1 + total paragraph) others)
+      (rest_from told (place + 1) paragraph) ++ nodes_from range (suc number)
+      (place + 1 + total paragraph) others)
 
   abbrev pub nodes_of : Range → List Node
   nodes_of range = nodes_from range 0 0 program.paragraphs
 
   -- the lowered family, with all nodes of each range
   abbrev pub lowered : Family
-  lowered = record
-      { entry = λ range. point (place_in program (entry_of range)); node =
-      λ range label. find label (nodes_of range) }
+  lowered = record {
+    entry = λ range. point (place_in program (entry_of range));
+    node = λ range label. find label (nodes_of range);
+  }
 
 -- the keys rise, from the first number on and below the second
 abbrev pub Within : ℕ → ℕ → List Node → Type 0

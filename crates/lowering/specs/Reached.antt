@@ -31,8 +31,10 @@ pub data IsReached (family : Family) (range : Range) : Label → Type 0 where
 -- the family with these nodes alone
 abbrev pub kept : (Range → Label → Bool) → Family → Family
 kept keep family =
-    record { entry = family.entry; node =
-    λ range label. if keep range label then family.node range label else only Dead }
+    record {
+      entry = family.entry;
+      node = λ range label. if keep range label then family.node range label else only Dead;
+    }
 
 abbrev pub kept_nodes : (Label → Bool) → List Node → List Node
 kept_nodes keep [] = []
@@ -48,10 +50,10 @@ AreReached family keep =
 abbrev pub UnreachedMakesNoDifference : Type 0 → Type 0 → Type 0
 UnreachedMakesNoDifference Memory Left =
     (acting : Acting Memory) (left : Memory → Left) (family : Family) (keep : Range → Label → Bool)
-        → AreReached family keep →
+    → AreReached family keep →
     (range : Range) (memory : Celled Memory) (n : ℕ) →
     meaning (walk_machine acting left (kept keep family) range) memory n
-        ≡ meaning (walk_machine acting left family range) memory n
+    ≡ meaning (walk_machine acting left family range) memory n
 
 -- the family of the kept nodes is the one that looks them up in the shorter list
 abbrev pub KeptNodesAreFound : Type 0
@@ -59,4 +61,4 @@ KeptNodesAreFound =
     (told : Told) (program : Program) (keep : Range → Label → Bool) (range : Range) (label : Label)
     →
     (kept keep (lowered told program)).node range label
-        ≡ find label (kept_nodes (keep range) (nodes_of told program range))
+    ≡ find label (kept_nodes (keep range) (nodes_of told program range))

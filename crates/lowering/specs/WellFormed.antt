@@ -81,6 +81,6 @@ ReachedGraphsAreWellFormed =
     (told : Told) (program : Program) (range : Range) (keep : Label → Bool) →
     IsSource told program → IsRangeOf program range → AreJustReached told program range keep →
     AllAreWell told (kept_nodes keep (nodes_of told program range))
-        (kept_nodes keep (nodes_of told program range))
+    (kept_nodes keep (nodes_of told program range))
     × IsLabelOf (kept_nodes keep (nodes_of told program range)) ((lowered told program).entry range)
     × ((high : ℕ) × Within 0 high (kept_nodes keep (nodes_of told program range)))

@@ -15,9 +15,9 @@ use Rattle.control.specs.Structural.{structural}
 use Rattle.agreement.specs.Structured.{IsStructured}
 use Rattle.agreement.specs.Same.{EndsFairly, SameBehaviour}
 use Rattle.rendering.specs.Rendering.{Naming, Procedure, rendered}
-use Rattle.rendering.specs.Procedures.{Kinds, AreProcedures}
+use Rattle.rendering.specs.Procedures.{Writable, AreProcedures}
 use Rattle.rendering.specs.Serving.{Serves}
-use Rattle.rendering.specs.Laws.{IsSound, NeverFaults, Follows, WalkAlike, IsRestructured}
+use Rattle.rendering.specs.Laws.{IsNeverLost, NeverFaults, Follows, WalkAlike, IsRestructured}
 use Rattle.agreement.proofs.Agreement.{structured-tied}
 use Rattle.agreement.proofs.Tying.{tied-same}
 use Rattle.rendering.proofs.Written.{walks_from, written_from, written-tied}
@@ -99,12 +99,12 @@ tied-fair a b tied fair world n =
           subst (λ r. EndsFairly r.standing) comes.1 (fair world comes.0)
     ]
 
-pub follows-sound : {Memory Left : Type 0} (acting : Acting Memory) (left : Memory → Left) (program : Program) (family : Family) → NeverFaults acting left program → Follows acting left program family → IsSound acting left family
+pub follows-sound : {Memory Left : Type 0} (acting : Acting Memory) (left : Memory → Left) (program : Program) (family : Family) → NeverFaults acting left program → Follows acting left program family → IsNeverLost acting left family
 follows-sound acting left program family fine follows =
     tied-fair (meaning (source_machine (alone acting) left program)) (meaning (main_machine acting left family)) follows
     (λ memory n. sober-fair (meaning (source_machine (alone acting) left program) memory n).standing (source-sober (alone acting) left program memory n) (fine memory n))
 
-pub alike-sound : {Memory Left : Type 0} (acting : Acting Memory) (left : Memory → Left) (family other : Family) → IsSound acting left family → WalkAlike acting left family other → IsSound acting left other
+pub alike-sound : {Memory Left : Type 0} (acting : Acting Memory) (left : Memory → Left) (family other : Family) → IsNeverLost acting left family → WalkAlike acting left family other → IsNeverLost acting left other
 alike-sound acting left family other sound alike = tied-fair (meaning (main_machine acting left family)) (meaning (main_machine acting left other)) alike sound
 
 -- with each run replaced by the same one
@@ -126,12 +126,12 @@ main-walks-alike acting left first second celled_of world_of same tied =
     (λ memory n. ap (λ m. walk first m n) (same memory)) (λ memory n. ap (λ m. walk second m n) (same memory))
     (tied-at world_of (λ world. walk first (celled_of world)) (λ world. walk second (celled_of world)) tied)
 
-module _ {Memory Other Left World : Type 0} (acting : Acting Memory) (left : Memory → Left) (first : World → Memory) (result : Acting Other) (other_left : Other → Left) (other_first : World → Other) (Carries : Celled Memory → Other → Type 0) (naming : Naming) (kinds : Kinds)
+module _ {Memory Other Left World : Type 0} (acting : Acting Memory) (left : Memory → Left) (first : World → Memory) (result : Acting Other) (other_left : Other → Left) (other_first : World → Other) (Carries : Celled Memory → Other → Type 0) (naming : Naming) (kinds : Writable)
     (serves : Serves acting left first result other_left other_first Carries naming kinds) where
   abbrev shown : List Procedure → Meaning World Event (Ending Left)
   shown procedures = λ world. structural (alone result) other_left (rendered naming procedures) (other_first world)
 
-  pub rendered-tied : (family : Family) (procedures : List Procedure) → AreProcedures family naming kinds procedures → IsSound acting left family →
+  pub rendered-tied : (family : Family) (procedures : List Procedure) → AreProcedures family naming kinds procedures → IsNeverLost acting left family →
       Tied (λ world. meaning (main_machine acting left family) (first world)) (shown procedures)
   rendered-tied family procedures are sound =
       let walks = meaning (walks_from acting left first result other_left other_first Carries naming kinds serves family procedures are) in

@@ -1,9 +1,9 @@
 -- The small family meets the premises, and is written as said.
 use Rattle.std.proofs.Common.{◌≡◌, ℕ, zero, suc, ◌+◌, ◌<◌, ◌≤◌, true, List, [], ◌∷◌, Some, slice_get, refl, ap, sym, subst, arith, inl, inr}
 use Rattle.control.specs.Language.{Main}
-use Rattle.control.specs.Graph.{tree, Stop}
+use Rattle.control.specs.Graph.{tree, Stop, IsLast}
 use Rattle.rendering.specs.Rendering.{Naming, Procedure, place_of}
-use Rattle.rendering.specs.Procedures.{IsLast, StmtsStand, stmts_call}
+use Rattle.rendering.specs.Procedures.{StmtsStand, stmts_call}
 use Rattle.rendering.specs.Example.{state, exit_number, main_body, family_procedures, small_family, small_kinds, named, IsWrittenAs, IsWritable, IsThenStructured}
 use Rattle.rendering.proofs.Written.{or_else}
 use Rattle.rendering.proofs.Structure.{rendered-structured}

@@ -4,7 +4,7 @@ use Rattle.control.specs.Outcome.{Tried, Got, Ends}
 use Rattle.control.specs.Language.{Picker, Range, Main, Part}
 use Rattle.control.specs.Doing.{Acting, Celled, own_is, put, keeping, taken, is_above}
 use Rattle.rendering.specs.Rendering.{Empty, Naming}
-use Rattle.rendering.specs.Procedures.{Kinds}
+use Rattle.rendering.specs.Procedures.{Writable}
 use Rattle.rendering.specs.Serving.{SameArm, Alike, Serves}
 
 -- Two numbers in one: (0, 0), (1, 0), (0, 1), (2, 0), (1, 1), (0, 2) and so on.
@@ -77,7 +77,7 @@ module _ {A : Type 0} (on_word : Range → ℕ → ℕ → A) where
       ∙ ap (λ n. on_word range n (two_of (one_of cell value)).1) (first_two cell value)
       ∙ ap (on_word range cell) (second_two cell value)
 
-module _ {Memory Left World : Type 0} (acting : Acting Memory) (left : Memory → Left) (first : World → Memory) (kinds : Kinds) (empty : Range → Picker → ℕ → Empty) where
+module _ {Memory Left World : Type 0} (acting : Acting Memory) (left : Memory → Left) (first : World → Memory) (kinds : Writable) (empty : Range → Picker → ℕ → Empty) where
   abbrev Cells : Type 0
   Cells = Celled Memory
 

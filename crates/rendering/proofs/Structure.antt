@@ -5,7 +5,7 @@ use Rattle.control.specs.Graph.{Family}
 use Rattle.control.specs.Graph as graph
 use Rattle.agreement.specs.Structured.{StmtNests, StmtsNest, ArmsNest, BodyNests, NamesLater, ParagraphsNest, EndsInStop, FirstStops, stmt_performs, stmts_perform, arms_perform, body_performs, paragraph_performs, IsStructured}
 use Rattle.rendering.specs.Rendering.{Empty, Continues, Stays, Goes, Naming, Procedure, place_of, required, written_arm, then_stmts, closing, written_stmt, written_stmts, written_arms, written_body, written_paragraph, rendered}
-use Rattle.rendering.specs.Procedures.{Kinds, StmtStands, StmtsStand, StmtsLeft, ArmsStand, BodyStands, StmtChooses, BodyChooses, stmt_calls, stmts_call, arms_call, body_calls, FirstIsMain, AreProcedures}
+use Rattle.rendering.specs.Procedures.{Writable, StmtStands, StmtsStand, StmtsLeft, ArmsStand, BodyStands, StmtChooses, BodyChooses, stmt_calls, stmts_call, arms_call, body_calls, FirstIsMain, AreProcedures}
 use Rattle.agreement.proofs.Agreement.{same_number}
 use Rattle.rendering.proofs.Written.{same-range, map-get}
 
@@ -74,7 +74,7 @@ performs-others number nothing Stays true none others h = h
 performs-others number nothing Stays false none others h = h
 performs-others number nothing Goes was_given none others h = h
 
-module _ (naming : Naming) (kinds : Kinds) (procedures : List Procedure) (range : Range) where
+module _ (naming : Naming) (kinds : Writable) (procedures : List Procedure) (range : Range) where
   abbrev place : Range → ℕ
   place = place_of procedures
 
@@ -174,7 +174,7 @@ module _ (naming : Naming) (kinds : Kinds) (procedures : List Procedure) (range 
     body-performs to (Nested stmts) = λ h. performs-required (place to) naming.nothing (written_stmts naming place range stmts) (stmts-perform to stmts h)
     body-performs to (Performed entry exit) = λ h. calls-place entry exit to h
 
-module _ (naming : Naming) (kinds : Kinds) (family : Family) (procedures : List Procedure) (are : AreProcedures family naming kinds procedures) where
+module _ (naming : Naming) (kinds : Writable) (family : Family) (procedures : List Procedure) (are : AreProcedures family naming kinds procedures) where
   abbrev write : Procedure → Paragraph
   write = written_paragraph naming (place_of procedures)
 

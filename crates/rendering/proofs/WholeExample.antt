@@ -10,9 +10,9 @@ use Rattle.control.specs.Language.{Picker, Range}
 use Rattle.control.specs.Doing.{alone}
 use Rattle.control.specs.Source.{source_machine}
 use Rattle.control.specs.Walk.{main_machine}
-use Rattle.control.specs.Graph.{tree}
+use Rattle.control.specs.Graph.{tree, IsLast}
 use Rattle.rendering.specs.Rendering.{Empty, Stays, Naming, Procedure, place_of}
-use Rattle.rendering.specs.Procedures.{IsLast, StmtsStand, stmts_call, AreProcedures}
+use Rattle.rendering.specs.Procedures.{StmtsStand, stmts_call, AreProcedures}
 use Rattle.rendering.specs.Laws.{NeverFaults}
 use Rattle.control.specs.Examples.{small, stopped}
 use Rattle.rendering.specs.WholeExample.{jumping_program, jumping_procedure, jumping_family, no_cells, TheJumpIsRestructured}

@@ -6,10 +6,10 @@ use Rattle.control.specs.Language as language
 use Rattle.control.specs.Doing.{Acting, Doing, Celled, own_is, keeping, giving, arm_of, is_above, alone, alone_act, alone_test, alone_pick, celled, celled_act, celled_test, celled_pick}
 use Rattle.control.specs.Items.{Turning, Counted, Tests, Steps, StepsAfter, Item, Do, SentenceEnd, Turn, before, before_body, before_arm, Way, On, Halts, Into, To, ToEnd, way_after, tried, on, first_turn, varying, loop_begins, turns, tests, steps_on, turn_way, stmt_way, item_way}
 use Rattle.rendering.specs.Rendering.{Empty, Continues, Stays, Goes, Naming, Procedure, place_of, count_arms, standing, required, written_arm, written_act, written_test, written_picker, written_control, written_stmt, written_stmts, written_arms, written_body}
-use Rattle.rendering.specs.Procedures.{Kinds, ActFits, TestFits, PickerFits, ControlFits, StandsLater, StmtLeaves, StmtStands, StmtsStand, ArmsStand, BodyStands, StmtChooses, BodyChooses}
+use Rattle.rendering.specs.Procedures.{Writable, ActFits, TestFits, PickerFits, ControlFits, StandsLater, StmtLeaves, StmtStands, StmtsStand, ArmsStand, BodyStands, StmtChooses, BodyChooses}
 use Rattle.rendering.specs.Serving.{SameArm, Alike, Serves}
 
-module _ {Memory Other Left World : Type 0} (acting : Acting Memory) (left : Memory → Left) (first : World → Memory) (result : Acting Other) (other_left : Other → Left) (other_first : World → Other) (Carries : Celled Memory → Other → Type 0) (naming : Naming) (kinds : Kinds)
+module _ {Memory Other Left World : Type 0} (acting : Acting Memory) (left : Memory → Left) (first : World → Memory) (result : Acting Other) (other_left : Other → Left) (other_first : World → Other) (Carries : Celled Memory → Other → Type 0) (naming : Naming) (kinds : Writable)
     (serves : Serves acting left first result other_left other_first Carries naming kinds) (procedures : List Procedure) (range : Range) where
   abbrev place : Range → ℕ
   place = place_of procedures

@@ -11,11 +11,11 @@ use Rattle.control.specs.Language as language
 use Rattle.control.specs.Doing.{Acting, Celled, celled, alone}
 use Rattle.control.specs.Items.{Item, Do, SentenceEnd, Turn, before, items_of, Way, On, Halts, Into, To, ToEnd, tried, on, item_way}
 use Rattle.control.specs.Source.{Pending, SourceState, ends_at, rest_of, comes_to, goes, falls, source_step, source_begun}
-use Rattle.control.specs.Graph.{Tree, tree, End, Pick, Jump, Return, Stop, Dead, body_of, end_of, Family}
+use Rattle.control.specs.Graph.{Tree, tree, End, Pick, Jump, Return, Stop, Dead, body_of, end_of, Family, IsLast}
 use Rattle.control.specs.Walk.{Level, Walk, walk_goes, walk_end, walk_step, walk_begun}
 use Rattle.agreement.specs.Same.{EndsFairly}
 use Rattle.rendering.specs.Rendering.{Naming, Procedure, place_of, required, then_stmts, closing, written_stmts, written_paragraph, rendered}
-use Rattle.rendering.specs.Procedures.{Kinds, IsLast, FirstIsMain, AreProcedures}
+use Rattle.rendering.specs.Procedures.{Writable, FirstIsMain, AreProcedures}
 use Rattle.rendering.specs.Serving.{Alike, Serves}
 use Rattle.control.proofs.Growth.{source-grows, main-grows}
 use Rattle.agreement.proofs.Agreement.{same_number}
@@ -68,7 +68,7 @@ main-first : (procedures : List Procedure) → FirstIsMain procedures → place_
 main-first [] h = absurd h
 main-first (procedure ∷ others) h = subst (λ r. (if same_range r Main then 0 else suc (place_of others Main)) ≡ 0) (sym h) refl
 
-module _ {Memory Other Left World : Type 0} (acting : Acting Memory) (left : Memory → Left) (first : World → Memory) (result : Acting Other) (other_left : Other → Left) (other_first : World → Other) (Carries : Celled Memory → Other → Type 0) (naming : Naming) (kinds : Kinds)
+module _ {Memory Other Left World : Type 0} (acting : Acting Memory) (left : Memory → Left) (first : World → Memory) (result : Acting Other) (other_left : Other → Left) (other_first : World → Other) (Carries : Celled Memory → Other → Type 0) (naming : Naming) (kinds : Writable)
     (serves : Serves acting left first result other_left other_first Carries naming kinds) (family : Family) (procedures : List Procedure) (are : AreProcedures family naming kinds procedures) where
   abbrev place : Range → ℕ
   place = place_of procedures

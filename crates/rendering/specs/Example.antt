@@ -4,7 +4,7 @@ use Rattle.control.specs.Language.{Own, Set, Take, Lower, Holds, Is, Above, Pick
 use Rattle.control.specs.Graph.{Tree, tree, Return, Stop, Family}
 use Rattle.agreement.specs.Structured.{IsStructured}
 use Rattle.rendering.specs.Rendering.{Empty, Continues, Goes, Naming, Procedure, rendered}
-use Rattle.rendering.specs.Procedures.{Kinds, AreProcedures}
+use Rattle.rendering.specs.Procedures.{Writable, AreProcedures}
 
 -- main's cells: a flag, a state, what is left of a TIMES, and an exit number
 abbrev pub flag : ℕ
@@ -25,29 +25,29 @@ exit_number = 3
 abbrev pub main_body : Stmts
 main_body =
     also (Do (Own 1))
-        (also (Do (Set flag 0))
-        (also (Loop (Until false (Is flag 1))
-        (Nested (also
-        (Choose (By 7) (given (also (Do (Set flag 1)) none) (given (also (Perform 4 6) none) done)))
-        none)))
+    (also (Do (Set flag 0))
+    (also (Loop (Until false (Is flag 1))
+    (Nested (also
+    (Choose (By 7) (given (also (Do (Set flag 1)) none) (given (also (Perform 4 6) none) done)))
+    none)))
     (also (Choose (If (Holds 2)) (given none (given (also (Do (Own 3)) none) done)))
     (also (Choose (By 8) (given none (given none done)))
     (also (Do (Set state 1))
-        (also (Loop (Until false (Is state 0))
-        (Nested (also
-        (Choose (ByCell state)
-        (given (also (Do (Set state 2)) none) (given (also (Do (Set state 0)) none) done))) none)))
+    (also (Loop (Until false (Is state 0))
+    (Nested (also
+    (Choose (ByCell state)
+    (given (also (Do (Set state 2)) none) (given (also (Do (Set state 0)) none) done))) none)))
     (also (Do (Take count 5))
-        (also (Loop (Until false (Is flag 1))
-        (Nested (also
-        (Choose (If (Above count))
-        (given (also (Do (Lower count)) none) (given (also (Do (Set flag 1)) none) done))) none)))
+    (also (Loop (Until false (Is flag 1))
+    (Nested (also
+    (Choose (If (Above count))
+    (given (also (Do (Lower count)) none) (given (also (Do (Set flag 1)) none) done))) none)))
     (also (Do (Set exit_number 0))
-        (also (Loop (Until false (Above exit_number))
-        (Nested (also
-        (Choose (If (Holds 2))
-        (given (also (Do (Set exit_number 1)) none)
-        (given (also (Do (Set exit_number 2)) none) done))) none)))
+    (also (Loop (Until false (Above exit_number))
+    (Nested (also
+    (Choose (If (Holds 2))
+    (given (also (Do (Set exit_number 1)) none)
+    (given (also (Do (Set exit_number 2)) none) done))) none)))
     (also (Choose (ByCell exit_number) (given (also (Do (Own 3)) none) (given none done)))
     (also (Loop (Times 5) (Performed 9 9)) none))))))))))))
 
@@ -72,7 +72,7 @@ abbrev pub is_main : Range → Bool
 is_main Main = true
 is_main (Part entry exit) = false
 
-abbrev pub small_kinds : Kinds
+abbrev pub small_kinds : Writable
 small_kinds = record {
   simples = λ simple. true;
   conds = λ cond. true;
@@ -104,36 +104,36 @@ abbrev pub written_program : Naming → Program
 written_program n = record {
   paragraphs =
       (also (Do (Own (n.simple 1)))
-          (also (Do (Own (n.set Main flag 0)))
-          (also (Loop (Until false (Holds (n.is Main flag 1)))
-          (Nested (also
-          (Choose (By (n.chooser 7 (true ∷ true ∷ [])))
-          (given (also (Do (Own (n.set Main flag 1))) none) (given (also (Perform 1 1) none) done)))
-          none)))
+      (also (Do (Own (n.set Main flag 0)))
+      (also (Loop (Until false (Holds (n.is Main flag 1)))
+      (Nested (also
+      (Choose (By (n.chooser 7 (true ∷ true ∷ [])))
+      (given (also (Do (Own (n.set Main flag 1))) none) (given (also (Perform 1 1) none) done)))
+      none)))
       (also (Choose (If (Holds (n.cond 2)))
-          (given (also (Do (Own n.nothing)) none) (given (also (Do (Own (n.simple 3))) none) done)))
+      (given (also (Do (Own n.nothing)) none) (given (also (Do (Own (n.simple 3))) none) done)))
       (also (Choose (By (n.chooser 8 (true ∷ false ∷ [])))
-          (given (also (Do (Own n.nothing)) none) (missing done)))
+      (given (also (Do (Own n.nothing)) none) (missing done)))
       (also (Do (Own (n.set Main state 1)))
-          (also (Loop (Until false (Holds (n.is Main state 0)))
-          (Nested (also
-          (Choose (By (n.by_cell Main state (true ∷ true ∷ [])))
-          (given (also (Do (Own (n.set Main state 2))) none)
-          (given (also (Do (Own (n.set Main state 0))) none) done))) none)))
+      (also (Loop (Until false (Holds (n.is Main state 0)))
+      (Nested (also
+      (Choose (By (n.by_cell Main state (true ∷ true ∷ [])))
+      (given (also (Do (Own (n.set Main state 2))) none)
+      (given (also (Do (Own (n.set Main state 0))) none) done))) none)))
       (also (Do (Own (n.take Main count 5)))
-          (also (Loop (Until false (Holds (n.is Main flag 1)))
-          (Nested (also
-          (Choose (If (Holds (n.above Main count)))
-          (given (also (Do (Own (n.lower Main count))) none)
-          (given (also (Do (Own (n.set Main flag 1))) none) done))) none)))
+      (also (Loop (Until false (Holds (n.is Main flag 1)))
+      (Nested (also
+      (Choose (If (Holds (n.above Main count)))
+      (given (also (Do (Own (n.lower Main count))) none)
+      (given (also (Do (Own (n.set Main flag 1))) none) done))) none)))
       (also (Do (Own (n.set Main exit_number 0)))
-          (also (Loop (Until false (Holds (n.above Main exit_number)))
-          (Nested (also
-          (Choose (If (Holds (n.cond 2)))
-          (given (also (Do (Own (n.set Main exit_number 1))) none)
-          (given (also (Do (Own (n.set Main exit_number 2))) none) done))) none)))
+      (also (Loop (Until false (Holds (n.above Main exit_number)))
+      (Nested (also
+      (Choose (If (Holds (n.cond 2)))
+      (given (also (Do (Own (n.set Main exit_number 1))) none)
+      (given (also (Do (Own (n.set Main exit_number 2))) none) done))) none)))
       (also (Choose (By (n.by_cell Main exit_number (true ∷ false ∷ [])))
-          (given (also (Do (Own (n.simple 3))) none) (missing done)))
+      (given (also (Do (Own (n.simple 3))) none) (missing done)))
       (also (Loop (Times (n.amount 5)) (Performed 2 2)) (also StopRun none))))))))))))) ∷ [])
       ∷ (also (Perform 2 2) none ∷ [])
       ∷ (also (Do (Own n.nothing)) none ∷ [])

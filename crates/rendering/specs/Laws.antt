@@ -13,12 +13,12 @@ use Rattle.control.specs.Structural.{structural}
 use Rattle.agreement.specs.Structured.{IsStructured}
 use Rattle.agreement.specs.Same.{EndsFairly, SameBehaviour}
 use Rattle.rendering.specs.Rendering.{Empty, Naming, Procedure, rendered}
-use Rattle.rendering.specs.Procedures.{Kinds, AreProcedures}
+use Rattle.rendering.specs.Procedures.{Writable, AreProcedures}
 use Rattle.rendering.specs.Serving.{Serves}
 
 -- no walk from the start is lost, or returns
-abbrev pub IsSound : {Memory Left : Type 0} → Acting Memory → (Memory → Left) → Family → Type 0
-IsSound {Memory} acting left family = (memory : Memory) (n : ℕ) →
+abbrev pub IsNeverLost : {Memory Left : Type 0} → Acting Memory → (Memory → Left) → Family → Type 0
+IsNeverLost {Memory} acting left family = (memory : Memory) (n : ℕ) →
     EndsFairly (meaning (main_machine acting left family) memory n).standing
 
 -- the source meets no fault of its flow
@@ -46,15 +46,15 @@ MainWalksAlike Memory Left World =
     (acting : Acting Memory) (left : Memory → Left) (first second : Family)
     (celled_of : World → Celled Memory) (world_of : Memory → World) →
     ((memory : Memory) →
-        celled_of (world_of memory) ≡ record { own = memory; cells = λ range cell. 0 }) →
+    celled_of (world_of memory) ≡ record { own = memory; cells = λ range cell. 0 }) →
     Tied (λ world. meaning (walk_machine acting left first Main) (celled_of world))
-        (λ world. meaning (walk_machine acting left second Main) (celled_of world)) →
+    (λ world. meaning (walk_machine acting left second Main) (celled_of world)) →
     WalkAlike acting left first second
 
 -- the written program is structured
 abbrev pub RenderingIsStructured : Type 0
 RenderingIsStructured =
-    (naming : Naming) (kinds : Kinds) (family : Family) (procedures : List Procedure) →
+    (naming : Naming) (kinds : Writable) (family : Family) (procedures : List Procedure) →
     AreProcedures family naming kinds procedures → IsStructured (rendered naming procedures)
 
 -- what follows a source that meets no fault is sound
@@ -62,41 +62,41 @@ abbrev pub FollowersAreSound : Type 0 → Type 0 → Type 0
 FollowersAreSound Memory Left =
     (acting : Acting Memory) (left : Memory → Left) (program : Program) (family : Family) →
     NeverFaults acting left program → Follows acting left program family →
-    IsSound acting left family
+    IsNeverLost acting left family
 
 -- what walks alike is sound alike
 abbrev pub SoundnessIsKept : Type 0 → Type 0 → Type 0
 SoundnessIsKept Memory Left =
     (acting : Acting Memory) (left : Memory → Left) (family other : Family) →
-    IsSound acting left family → WalkAlike acting left family other → IsSound acting left other
+    IsNeverLost acting left family → WalkAlike acting left family other → IsNeverLost acting left other
 
 -- the parts of the written program, with a relation of the two memories
 abbrev pub RenderingKeepsMeaning : {Memory Other : Type 0} → (Celled Memory → Other → Type 0) →
     Type 0 → Type 0 → Type 0
 RenderingKeepsMeaning {Memory} {Other} Carries Left World =
     (acting : Acting Memory) (left : Memory → Left) (first : World → Memory) (result : Acting Other)
-        (other_left : Other → Left) (other_first : World → Other) (naming : Naming) (kinds : Kinds)
-        (family : Family) (procedures : List Procedure) →
+    (other_left : Other → Left) (other_first : World → Other) (naming : Naming) (kinds : Writable)
+    (family : Family) (procedures : List Procedure) →
     Serves acting left first result other_left other_first Carries naming kinds →
-        AreProcedures family naming kinds procedures → IsSound acting left family →
+    AreProcedures family naming kinds procedures → IsNeverLost acting left family →
     Tied (λ world. meaning (main_machine acting left family) (first world))
-        (λ world. structural (alone result) other_left (rendered naming procedures)
-        (other_first world))
+    (λ world. structural (alone result) other_left (rendered naming procedures)
+    (other_first world))
 
 -- for any parts there are a naming and parts of a result that serve: the premises of a written
 -- program can be met
 abbrev pub AnyPartsCanBeServed : Type 0 → Type 0 → Type 0 → Type 0
 AnyPartsCanBeServed Memory Left World =
-    (acting : Acting Memory) (left : Memory → Left) (first : World → Memory) (kinds : Kinds)
+    (acting : Acting Memory) (left : Memory → Left) (first : World → Memory) (kinds : Writable)
     (empty : Range → Picker → ℕ → Empty) →
     (result : Acting (Celled Memory)) × (naming : Naming) × (naming.empty ≡ empty)
     × Serves acting left first result (λ memory. left memory.own)
-        (λ world. record { own = first world; cells = λ range cell. 0 })
-        (λ memory other. memory ≡ other) naming kinds
+    (λ world. record { own = first world; cells = λ range cell. 0 })
+    (λ memory other. memory ≡ other) naming kinds
 
 -- the source is lowered to one family and that is shaped to another, whose procedures are written
 pub record IsRestructured {Memory Left : Type 0} (acting : Acting Memory) (left : Memory → Left)
-    (program : Program) (naming : Naming) (kinds : Kinds) (procedures : List Procedure)
+    (program : Program) (naming : Naming) (kinds : Writable) (procedures : List Procedure)
     : Type 0 where
   pub lowered : Family
   pub shaped : Family
@@ -109,12 +109,12 @@ abbrev pub RestructuringKeepsMeaning : {Memory Other : Type 0} → (Celled Memor
     Type 0 → Type 0 → Type 0
 RestructuringKeepsMeaning {Memory} {Other} Carries Left World =
     (acting : Acting Memory) (left : Memory → Left) (first : World → Memory) (result : Acting Other)
-        (other_left : Other → Left) (other_first : World → Other) (naming : Naming) (kinds : Kinds)
-        (program : Program) (procedures : List Procedure) →
+    (other_left : Other → Left) (other_first : World → Other) (naming : Naming) (kinds : Writable)
+    (program : Program) (procedures : List Procedure) →
     NeverFaults acting left program → IsRestructured acting left program naming kinds procedures →
-        Serves acting left first result other_left other_first Carries naming kinds →
+    Serves acting left first result other_left other_first Carries naming kinds →
     IsStructured (rendered naming procedures)
-        × SameBehaviour
-        (λ world. meaning (source_machine (alone acting) left program) (first world))
-        (λ world. structural (alone result) other_left (rendered naming procedures)
-        (other_first world))
+    × SameBehaviour
+    (λ world. meaning (source_machine (alone acting) left program) (first world))
+    (λ world. structural (alone result) other_left (rendered naming procedures)
+    (other_first world))

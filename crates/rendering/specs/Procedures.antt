@@ -1,11 +1,11 @@
 -- When the procedures of a shaped family can be written.
 use Rattle.std.specs.Prelude.{ℕ, ◌≡◌, ◌<◌, ◌≤◌, Bool, true, false, if◌then◌else◌, List, [], ◌∷◌, length, Some, slice_get, ◌⊎◌}
 use Rattle.control.specs.Language.{Simple, Cond, Chooser, Amount, Act, Own, Set, Take, Lower, Test, Holds, Not, Is, Above, Picker, If, By, ByCell, Control, Times, Until, Varying, Stmt, Do, Choose, Loop, Perform, Go, GoDepending, NextSentence, ExitParagraph, ExitSection, ExitPerform, StopRun, Stmts, none, also, Arms, done, given, missing, Body, Nested, Performed, Range, Main, Part, same_range}
-use Rattle.control.specs.Graph.{tree, End, Pick, Jump, Return, Stop, Dead, Family}
+use Rattle.control.specs.Graph.{tree, Family, IsLast}
 use Rattle.rendering.specs.Rendering.{Naming, Procedure, place_of, count_arms, standing}
 
 -- which parts the program has, and what the cells of each range are for
-pub record Kinds : Type 0 where
+pub record Writable : Type 0 where
   pub simples : Simple → Bool
   pub conds : Cond → Bool
   -- a chooser with these arms, written or left out
@@ -22,7 +22,7 @@ pub record Kinds : Type 0 where
   -- the cell chooses among so many arms
   pub chooses : Range → (cell arms : ℕ) → Bool
 
-module _ (naming : Naming) (kinds : Kinds) (procedures : List Procedure) (range : Range) where
+module _ (naming : Naming) (kinds : Writable) (procedures : List Procedure) (range : Range) where
   abbrev pub ActFits : Act → Type 0
   ActFits (Own simple) = kinds.simples simple ≡ true
   ActFits (Set cell value) = kinds.sets range cell value ≡ true
@@ -156,21 +156,13 @@ abbrev mutual
   body_calls range (Nested stmts) = stmts_call range stmts
   body_calls range (Performed entry exit) = same_range (Part entry exit) range
 
--- it has no choice and no jump
-abbrev pub IsLast : End → Type 0
-IsLast (Pick picker arms) = ⊥
-IsLast (Jump to) = ⊥
-IsLast Return = Unit {0}
-IsLast Stop = Unit {0}
-IsLast Dead = Unit {0}
-
 abbrev pub FirstIsMain : List Procedure → Type 0
 FirstIsMain [] = ⊥
 FirstIsMain (procedure ∷ others) = procedure.range ≡ Main
 
 -- each range that can be performed has one node, and they stand in an order in which each performs
 -- later ones alone
-pub record AreProcedures (family : Family) (naming : Naming) (kinds : Kinds)
+pub record AreProcedures (family : Family) (naming : Naming) (kinds : Writable)
     (procedures : List Procedure) : Type 0 where
   pub main : FirstIsMain procedures
   -- no range stands twice
@@ -186,5 +178,5 @@ pub record AreProcedures (family : Family) (naming : Naming) (kinds : Kinds)
   pub performed : (number : ℕ) (procedure : Procedure) →
       slice_get procedures number ≡ Some procedure → 1 ≤ number →
       (from : ℕ) × (caller : Procedure) × (from < number)
-          × (slice_get procedures from ≡ Some caller)
-          × (stmts_call procedure.range caller.body ≡ true)
+      × (slice_get procedures from ≡ Some caller)
+      × (stmts_call procedure.range caller.body ≡ true)

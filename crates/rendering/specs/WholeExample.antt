@@ -9,7 +9,7 @@ use Rattle.control.specs.Structural.{structural}
 use Rattle.agreement.specs.Structured.{IsStructured}
 use Rattle.agreement.specs.Same.{SameBehaviour}
 use Rattle.rendering.specs.Rendering.{Naming, Procedure, rendered}
-use Rattle.rendering.specs.Procedures.{Kinds}
+use Rattle.rendering.specs.Procedures.{Writable}
 use Rattle.control.specs.Examples.{small, act, one, jumping}
 
 abbrev pub jumping_program : Program
@@ -21,10 +21,12 @@ jumping_procedure = record { range = Main; body = also (act 11) (one (act 13)); 
 
 abbrev pub jumping_family : Family
 jumping_family =
-    record { entry = λ range. 0; node =
-    λ range label. tree jumping_procedure.body jumping_procedure.end }
+    record {
+      entry = λ range. 0;
+      node = λ range label. tree jumping_procedure.body jumping_procedure.end;
+    }
 
-abbrev pub no_cells : Kinds
+abbrev pub no_cells : Writable
 no_cells = record {
   simples = λ simple. true;
   conds = λ cond. true;
@@ -44,4 +46,4 @@ TheJumpIsRestructured =
     × IsStructured (rendered naming (jumping_procedure ∷ []))
     × SameBehaviour (λ (n : ℕ). meaning (source_machine (alone small) (λ n. n) jumping_program) n)
     (λ (n : ℕ). structural (alone result) (λ memory. memory.own)
-        (rendered naming (jumping_procedure ∷ [])) (record { own = n; cells = λ range cell. 0 }))
+    (rendered naming (jumping_procedure ∷ [])) (record { own = n; cells = λ range cell. 0 }))

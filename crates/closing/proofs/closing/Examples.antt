@@ -1,14 +1,14 @@
 -- The premises of the rules' laws hold of a worked program.
-use Rattle.std.proofs.Common.{◌≡◌, ℕ, Bool, true, false, if◌then◌else◌, ◌==◌, List, [], ◌∷◌, refl, arith}
+use Rattle.std.proofs.Common.{ℕ, true, false, if◌then◌else◌, ◌==◌, [], ◌∷◌, refl, arith}
 use Rattle.control.specs.Language.{Own, Holds, If, Stmt, Choose, StopRun, Stmts, none, also, given, missing, done, Main}
 use Rattle.control.specs.Language as language
 use Rattle.control.specs.Graph.{tree, Pick, Jump, Dead}
-use Rattle.graph_rules.specs.Walked.{walked, In}
+use Rattle.graph_rules.specs.Walked.{In}
 use Rattle.graph_rules.specs.Fits.{TreeFits}
 use Rattle.graph_rules.specs.Families.{Has, MaySet, IsFamily}
-use Rattle.graph_rules.specs.Reduced.{Node, tree_in, family_of, kinds_of}
+use Rattle.graph_rules.specs.Reduced.{tree_in, family_of, kinds_of}
 use Rattle.closing.specs.Closes.{IsClosed}
-use Rattle.closing.specs.Examples.{one, two, go, last_nodes, tail_nodes, state_nodes, acting, graphs, shown}
+use Rattle.closing.specs.Examples.{one, two, go, last_nodes, tail_nodes, state_nodes, graphs}
 
 pub closed-before : IsClosed (graphs Main)
 closed-before = record { rising = (omega arith, (omega arith, tt)); entry = (0, refl); jumps = (((2, refl), ((1, refl), tt)), ((2, refl), ((1, refl), tt))) }

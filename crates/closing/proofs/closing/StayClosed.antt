@@ -1,5 +1,5 @@
 -- A graph whose jumps are to its nodes stays one: after Exits, and after the dispatch.
-use Rattle.std.proofs.Common.{◌≡◌, ◌<◌, Bool, true, false, if◌then◌else◌, ◌==◌, List, [], ◌∷◌, refl, ap, sym, subst}
+use Rattle.std.proofs.Common.{◌≡◌, Bool, true, false, if◌then◌else◌, ◌==◌, List, [], ◌∷◌, refl, ap, sym, subst}
 use Rattle.control.specs.Graph.{Label, Tree, tree, End, Pick, Jump, Return, Stop, Dead, Trees, no_more, more}
 use Rattle.graph_rules.specs.Reduced.{Node, Graph, tree_in, count, with_tree}
 use Rattle.closing.specs.Dispatches.{LeavesEnd, LeavesTree, LeavesTrees, one_further, Numbered, labels_of, Rising, bare, some_returns, return_if}
@@ -51,7 +51,6 @@ with-labels label t (node ∷ nodes) =
       | true ↦ ap (λ l. node.label ∷ l) next
       | false ↦ ap (λ l. node.label ∷ l) next
     ]
-
 
 -- nodes rise by their labels alone
 pub by-labels : (nodes : List Node) → Rising nodes → RisingLabels (labels_of nodes)

@@ -2,7 +2,7 @@
 use Rattle.std.proofs.Common.{◌≡◌, ℕ, zero, suc, ◌+◌, ◌-◌, Bool, true, false, not, if◌then◌else◌, ◌==◌, List, [], ◌∷◌, refl, ap, sym, ◌∙◌, subst, inl, inr}
 use Rattle.std.proofs.lemmas.Bool.Decides.{eqb_tells}
 use Rattle.control.specs.Outcome.{Trace, Tried, Got, Ends}
-use Rattle.control.specs.Language.{Act, Own, Set, Take, Lower, Test, Holds, Not, Is, Above, Picker, If, By, ByCell, Control, Times, Until, Varying, Stmt, Choose, Loop, Perform, Go, GoDepending, NextSentence, ExitParagraph, ExitSection, ExitPerform, StopRun, Body, Range, same_range}
+use Rattle.control.specs.Language.{Amount, Act, Own, Set, Take, Lower, Test, Holds, Not, Is, Above, Picker, If, By, ByCell, Control, Times, Until, Varying, Stmt, Choose, Loop, Perform, Go, GoDepending, NextSentence, ExitParagraph, ExitSection, ExitPerform, StopRun, Body, Range, same_range}
 use Rattle.control.specs.Language as language
 use Rattle.control.specs.Doing.{Acting, Doing, Celled, celled, celled_act, celled_test, celled_pick, own_is, put, taken, giving, keeping, arm_of, is_above}
 use Rattle.control.specs.Items.{Turning, Counted, Tests, Steps, StepsAfter, Item, Do, SentenceEnd, Turn, before_body, before_arm, Way, On, Halts, Into, To, ToEnd, way_after, tried, on, first_turn, varying, loop_begins, turns, tests, steps_on, turn_way, stmt_way, item_way}
@@ -143,7 +143,7 @@ module _ {Memory : Type 0} (acting : Acting Memory) (range : Range) (cell : ℕ)
     pick-agrees number (By chooser) s t fits a = agree-keeping number s t (acting.choose chooser s.own) (acting.choose chooser t.own) (ap (acting.choose chooser) a.own) a
     pick-agrees number (ByCell c) s t fits a = (t, ap (λ v. Got [] (v - 1) t) (sym (a.cells r c (reads c fits))), a)
 
-    count-agrees : (number amount : ℕ) (s t : Celled Memory) → Agree number s t → AgreeTried number ((celled acting r).count amount s) ((celled acting r).count amount t)
+    count-agrees : (number : ℕ) (amount : Amount) (s t : Celled Memory) → Agree number s t → AgreeTried number ((celled acting r).count amount s) ((celled acting r).count amount t)
     count-agrees number amount s t a = agree-keeping number s t (acting.count amount s.own) (acting.count amount t.own) (ap (acting.count amount) a.own) a
 
     abbrev doing : Doing (Celled Memory)

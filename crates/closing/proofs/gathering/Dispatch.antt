@@ -9,7 +9,7 @@ use Rattle.graph_rules.specs.Joins.{JumpsEnd, JumpsTree, JumpsTrees}
 use Rattle.closing.specs.Gathers.{OnCell, says, Leads, GathersEnd, GathersTree, GathersArms, loop_from, Gathered}
 use Rattle.graph_rules.specs.Shapes.{followed}
 use Rattle.graph_rules.specs.Reduced.{Node}
-use Rattle.closing.specs.Dispatches.{arm_or_none, stated_end, stated_tree, stated_arms, LeavesEnd, LeavesTree, LeavesTrees, either, end_returns, tree_returns, trees_return, one_further, number_in, Numbered, set_to, flag_jump, Flagged, length_of, exit_jump, bare, Exited, labels_of, some_returns, state_jump, node_arms, return_if, dispatched, AreNodes, Dispatched}
+use Rattle.closing.specs.Dispatches.{arm_or_none, stated_end, stated_tree, stated_arms, LeavesEnd, LeavesTree, LeavesTrees, either, end_returns, tree_returns, trees_return, one_further, number_in, Numbered, set_to, flag_jump, ClosedByFlag, length_of, exit_jump, bare, Exited, labels_of, some_returns, state_jump, node_arms, return_if, dispatched, AreNodes, Dispatched}
 use Rattle.control.proofs.Ranges.{range-tells}
 
 before-followed : (one two : Stmts) (rest : List Item) → before (followed one two) rest ≡ before one (before two rest)
@@ -99,7 +99,7 @@ module _ (range : Range) (label : Label) (cell : ℕ) (test : Test) (body : Stmt
   }
 
 -- A loop with a flag.
-module _ (left_out : Picker → ℕ → Bool) (range : Range) (label : Label) (flag : ℕ) (out : End) (g h : Family) (flagged_is : Flagged left_out range label flag out g h) where
+module _ (left_out : Picker → ℕ → Bool) (range : Range) (label : Label) (flag : ℕ) (out : End) (g h : Family) (flagged_is : ClosedByFlag left_out range label flag out g h) where
   abbrev pub flag_body : Stmts
   flag_body = stated_tree left_out (flag_jump flag label) (set_to flag 1) (g.node range label)
 

@@ -10,7 +10,7 @@ use Rattle.graph_rules.specs.Families.{Kinds, Has, MaySet, IsFamily, IsSound}
 use Rattle.closing.specs.Gathers.{loop_from}
 use Rattle.graph_rules.specs.Shapes.{followed}
 use Rattle.graph_rules.specs.Reduced.{Node}
-use Rattle.closing.specs.Dispatches.{arm_or_none, stated_end, stated_tree, stated_arms, number_in, set_to, flag_jump, Flagged, length_of, exit_jump, bare, Exited, labels_of, some_returns, state_jump, node_arms, return_if, AreNodes, Dispatched}
+use Rattle.closing.specs.Dispatches.{arm_or_none, stated_end, stated_tree, stated_arms, number_in, set_to, flag_jump, ClosedByFlag, length_of, exit_jump, bare, Exited, labels_of, some_returns, state_jump, node_arms, return_if, AreNodes, Dispatched}
 use Rattle.closing.specs.Keeps.{Gains, Kept}
 use Rattle.graph_rules.proofs.walks.Fitting.{tree-more}
 use Rattle.control.proofs.Ranges.{range-tells}
@@ -120,7 +120,7 @@ module _ {Memory Left : Type 0} (acting : Acting Memory) (left : Memory → Left
   with-cell Calls t f = tree-with kinds kinds2 range cell gains g h Calls range t f
 
   -- a loop with a flag
-  pub flag-kept : (label : Label) (out : End) → ((Calls : Range → Type 0) (R W : ℕ → Type 0) → EndFits Calls R W out) → Flagged left_out range label cell out g h → Kept acting left kinds kinds2 g h order
+  pub flag-kept : (label : Label) (out : End) → ((Calls : Range → Type 0) (R W : ℕ → Type 0) → EndFits Calls R W out) → ClosedByFlag left_out range label cell out g h → Kept acting left kinds kinds2 g h order
   flag-kept label out plain is =
       gather-kept acting left kinds kinds2 (FlagAnywhere left_out range label cell out g h is) (FlagOnly left_out range label cell out g h is) range cell (Is cell 1) (flag_body left_out range label cell out g h is) out g h order gains family sound
       (flag-gathers left_out range label cell out g h is)

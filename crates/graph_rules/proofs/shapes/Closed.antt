@@ -8,7 +8,7 @@ use Rattle.graph_rules.specs.Inlines.{PlainEnd, PlainTree, PlainTrees}
 use Rattle.graph_rules.specs.Loops.{Flagged, Endless, loop_of, turned_test}
 use Rattle.graph_rules.specs.Families.{Added, Never, Flag}
 use Rattle.graph_rules.specs.Shapes.{followed, alone, Live, ToLabel, end_at, Targets, NoTarget, Only, Several, same_live, both_targets, leaf_targets, arms_targets, join_by, joined, join_end, joined_arms, inlined, inline_end, inlined_arms, leaves_to, other_targets, end_targets, other_arms_targets, flat}
-use Rattle.graph_rules.specs.Reduced.{Node, Graph, tree_in, count, each_tree, without, with_tree, join_graph, inline_graph, all_leaves_to, inlines, Form, form_of, looped_graph, close_form, close_by, close_graph, lowest, loops, inline_step, loop_step, rule_step, stepped, reduced, size, shaped, has_node, JumpsAmong, IsClosed}
+use Rattle.graph_rules.specs.Reduced.{Node, Graph, tree_in, count, each_tree, without, with_tree, join_graph, inline_graph, all_leaves_to, inlines, Form, form_of, looped_graph, close_form, close_by, close_graph, lowest, loops, inline_step, loop_step, rule_step, stepped, reduced, size, shaped, has_node, JumpsAmong, LeadsToNodes}
 use Rattle.graph_rules.proofs.shapes.Shaping.{no-leaves-plain}
 
 module _ (P Q : Label → Type 0) (f : (l : Label) → P l → Q l) where
@@ -188,34 +188,34 @@ without-has label l other (node ∷ nodes) =
 
 -- Each step.
 
-join-closed : (graph : Graph) → IsClosed graph → IsClosed (join_graph graph)
+join-closed : (graph : Graph) → LeadsToNodes graph → LeadsToNodes (join_graph graph)
 join-closed graph c = (
   each-has joined graph.nodes graph.entry ∙ c.0,
   among-more (λ l. has_node graph.nodes l ≡ true) (λ l. has_node (each_tree joined graph.nodes) l ≡ true) (λ l h. each-has joined graph.nodes l ∙ h) (each_tree joined graph.nodes) (each-joined (λ l. has_node graph.nodes l ≡ true) graph.nodes c.1),
 )
 
-looped-closed : (label : Label) (t : Tree) (cells : List Added) (graph : Graph) → JumpsTree (λ l. has_node graph.nodes l ≡ true) t → IsClosed graph → IsClosed (looped_graph label t cells graph)
+looped-closed : (label : Label) (t : Tree) (cells : List Added) (graph : Graph) → JumpsTree (λ l. has_node graph.nodes l ≡ true) t → LeadsToNodes graph → LeadsToNodes (looped_graph label t cells graph)
 looped-closed label t cells graph j c = (
   with-has label t graph.nodes graph.entry ∙ c.0,
   among-more (λ l. has_node graph.nodes l ≡ true) (λ l. has_node (with_tree label t graph.nodes) l ≡ true) (λ l h. with-has label t graph.nodes l ∙ h) (with_tree label t graph.nodes) (with-jumps (λ l. has_node graph.nodes l ≡ true) label t j graph.nodes c.1),
 )
 
-close-closed : (label : Label) (graph : Graph) → IsClosed graph → IsClosed (close_graph label graph)
+close-closed : (label : Label) (graph : Graph) → LeadsToNodes graph → LeadsToNodes (close_graph label graph)
 close-closed label graph c = by (other_targets label (tree_in graph.nodes label)) (other-in P label (tree_in graph.nodes label) (tree-jumps P graph.nodes label c.1))
   where
     P : Label → Type 0
     P l = has_node graph.nodes l ≡ true
 
-    by-form : (live : Live) → JumpsEnd (λ l. has_node graph.nodes l ≡ true) (end_at live) → (form : Option Form) → IsClosed (close_form label live graph form)
+    by-form : (live : Live) → JumpsEnd (λ l. has_node graph.nodes l ≡ true) (end_at live) → (form : Option Form) → LeadsToNodes (close_form label live graph form)
     by-form live j (Some form) = looped-closed label (tree (alone (Loop (Until form.after (turned_test form.turned form.test)) (Nested form.body))) (end_at live)) [] graph j c
     by-form live j None = looped-closed label (tree (loop_of Flagged (count graph.added) (flat Flagged (count graph.added) label (tree_in graph.nodes label))) (end_at live)) (Flag ∷ []) graph j c
 
-    by : (targets : Targets) → Targets-in (λ l. has_node graph.nodes l ≡ true) targets → IsClosed (close_by label graph targets)
+    by : (targets : Targets) → Targets-in (λ l. has_node graph.nodes l ≡ true) targets → LeadsToNodes (close_by label graph targets)
     by NoTarget j = looped-closed label (tree (loop_of Endless (count graph.added) (flat Endless (count graph.added) label (tree_in graph.nodes label))) Dead) (Never ∷ []) graph tt c
     by (Only live) j = by-form live j (form_of label live (tree_in graph.nodes label))
     by Several j = c
 
-inline-closed : (label : Label) (graph : Graph) → label ≢ graph.entry → leaves_to label (tree_in graph.nodes label) ≡ 0 → IsClosed graph → IsClosed (inline_graph label graph)
+inline-closed : (label : Label) (graph : Graph) → label ≢ graph.entry → leaves_to label (tree_in graph.nodes label) ≡ 0 → LeadsToNodes graph → LeadsToNodes (inline_graph label graph)
 inline-closed label graph inside bare c =
     let node = tree_in graph.nodes label in
     let rest = without label graph.nodes in
@@ -250,17 +250,17 @@ found-applies applies (node ∷ nodes) label e =
     inj : (a : Label) → Some a ≡ Some label → a ≡ label
     inj a e = cc
 
-by-inline : (graph : Graph) → IsClosed graph → (found : Option Label) → lowest (inlines graph) graph.nodes ≡ found → IsClosed (stepped graph (inline_step graph found))
+by-inline : (graph : Graph) → LeadsToNodes graph → (found : Option Label) → lowest (inlines graph) graph.nodes ≡ found → LeadsToNodes (stepped graph (inline_step graph found))
 by-inline graph c None is = c
 by-inline graph c (Some label) is = let f = inline-facts graph label (found-applies (inlines graph) graph.nodes label is) in join-closed (inline_graph label graph) (inline-closed label graph f.0 f.1 c)
 
-by-loop : (graph : Graph) → IsClosed graph → (found : Option Label) → IsClosed (stepped graph (loop_step graph found))
+by-loop : (graph : Graph) → LeadsToNodes graph → (found : Option Label) → LeadsToNodes (stepped graph (loop_step graph found))
 by-loop graph c None = by-inline graph c (lowest (inlines graph) graph.nodes) refl
 by-loop graph c (Some label) = close-closed label graph c
 
-reduced-closed : (most : ℕ) (graph : Graph) → IsClosed graph → IsClosed (reduced most graph)
+reduced-closed : (most : ℕ) (graph : Graph) → LeadsToNodes graph → LeadsToNodes (reduced most graph)
 reduced-closed zero graph c = c
 reduced-closed (suc most) graph c = reduced-closed most (stepped graph (rule_step graph)) (by-loop graph c (lowest (loops graph) graph.nodes))
 
-pub shaped-closed : (graph : Graph) → IsClosed graph → IsClosed (shaped graph)
+pub shaped-closed : (graph : Graph) → LeadsToNodes graph → LeadsToNodes (shaped graph)
 shaped-closed graph c = reduced-closed (3 * size graph.nodes) (join_graph graph) (join-closed graph c)

@@ -3,12 +3,11 @@ use Rattle.std.proofs.Common.{◌≡◌, ℕ, zero, suc, ◌*◌, true, false, i
 use Rattle.std.proofs.lemmas.Bool.Decides.{eqb_tells}
 use Rattle.control.specs.Language.{Until, Loop, Stmts, none, Picker, Nested}
 use Rattle.control.specs.Doing.{is_above}
-use Rattle.control.specs.Graph.{Label, Tree, tree, End, Pick, Jump, Return, Stop, Dead, Trees, no_more, more, end_of}
+use Rattle.control.specs.Graph.{Label, Tree, tree, End, Pick, Jump, Return, Stop, Dead, Trees, no_more, more, end_of, IsLast}
 use Rattle.graph_rules.specs.Joins.{JumpsEnd, JumpsTree, JumpsTrees}
 use Rattle.graph_rules.specs.Loops.{Flagged, Endless, loop_of, turned_test}
 use Rattle.graph_rules.specs.Shapes.{alone, Live, ToLabel, Back, end_at, Targets, NoTarget, Only, Several, both_targets, leaf_targets, arms_targets, join_by, joined, join_end, joined_arms, leaves_to, end_leaves_to, arms_leaves_to, other_targets, end_targets, other_arms_targets, flat}
-use Rattle.graph_rules.specs.Reduced.{Node, Graph, tree_in, count, each_tree, with_tree, join_graph, inline_graph, inlines, Form, form_of, close_form, close_by, close_graph, at_most_one, lowest, loops, inline_step, loop_step, rule_step, stepped, reduced, size, shaped, has_node, JumpsAmong, IsClosed}
-use Rattle.graph_rules.specs.Laws.{IsLast}
+use Rattle.graph_rules.specs.Reduced.{Node, Graph, tree_in, count, each_tree, with_tree, join_graph, inline_graph, inlines, Form, form_of, close_form, close_by, close_graph, at_most_one, lowest, loops, inline_step, loop_step, rule_step, stepped, reduced, size, shaped, has_node, JumpsAmong, LeadsToNodes}
 use Rattle.control.proofs.Ranges.{eq-self}
 use Rattle.graph_rules.proofs.shapes.Shaping.{Within}
 use Rattle.graph_rules.proofs.shapes.Ending.{shaped-ends}
@@ -190,7 +189,7 @@ single-loops graph node is ends =
     let e : lowest (loops graph) (node ∷ []) ≡ None = ap (lowest (loops graph)) (sym is) ∙ step-found graph (lowest (loops graph) graph.nodes) ends in
     elim (loops graph node.label) as (λ t. (if t then Some node.label else None) ≡ None → t ≡ false) [ true ↦ λ e. absurd (cc) | false ↦ λ e. refl ] e
 
-pub single-last : (graph : Graph) (node : Node) → IsClosed graph → (shaped graph).nodes ≡ node ∷ [] → IsLast (end_of node.tree)
+pub single-last : (graph : Graph) (node : Node) → LeadsToNodes graph → (shaped graph).nodes ≡ node ∷ [] → IsLast (end_of node.tree)
 single-last graph node closed is =
     let g = shaped graph in
     let c = shaped-closed graph closed in

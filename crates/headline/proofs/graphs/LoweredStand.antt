@@ -3,7 +3,7 @@ use Rattle.std.proofs.Common.{◌≡◌, ℕ, suc, ◌<◌, Bool, true, false, i
 use Rattle.std.specs.Prelude.{length}
 use Rattle.control.specs.Language.{Act, Own, Set, Take, Lower, Test, Holds, Not, Is, Above, Picker, If, By, ByCell, Control, Times, Until, Varying, Stmt, Choose, Loop, Perform, Go, GoDepending, NextSentence, ExitParagraph, ExitSection, ExitPerform, StopRun, Stmts, none, also, Arms, done, given, missing, Body, Nested, Performed, Program, Range, Main, Part, same_range}
 use Rattle.control.specs.Language as language
-use Rattle.control.specs.Graph.{Label, Tree, tree, End, Pick, Jump, Return, Stop, Dead, Trees, no_more, more, body_of, end_of, Family}
+use Rattle.control.specs.Graph.{Label, Tree, tree, End, Pick, Jump, Return, Stop, Dead, Trees, no_more, more, body_of, end_of, Family, IsLast}
 use Rattle.lowering.specs.Told.{Told, IsSource}
 use Rattle.lowering.specs.WellFormed.{tree_count}
 use Rattle.graph_rules.specs.Fits.{StmtFits, StmtsFit, ArmsFit, BodyFits, TreeFits, EndFits, TreesFit}
@@ -14,7 +14,7 @@ use Rattle.graph_rules.specs.Shapes.{alone}
 use Rattle.closing.specs.Dispatches.{Numbered, labels_of, AreNodes}
 use Rattle.closing.specs.Closes.{IsClosed, closed_graph}
 use Rattle.rendering.specs.Rendering.{Empty, Naming, Procedure, place_of, count_arms, standing}
-use Rattle.rendering.specs.Procedures.{Kinds, PickerFits, StandsLater, IsLast, StmtStands, StmtsStand, ArmsStand, BodyStands}
+use Rattle.rendering.specs.Procedures.{Writable, PickerFits, StandsLater, StmtStands, StmtsStand, ArmsStand, BodyStands}
 use Rattle.headline.specs.Chain.{lowered_graphs, procedures_of, IsPlan, CellsServed, EachCellServed, EachStands, ClosedGraphsStand, PickerServed, StmtServed, StmtsServed, ArmsServed, BodyServed, EndServed, TreesServed, TreeServed, GraphsServed}
 use Rattle.graph_rules.proofs.walks.Orders.{place, Behind, ordered-fits}
 use Rattle.closing.proofs.closing.Closes.{are-nodes}
@@ -40,7 +40,7 @@ module _ (graphs : Graphs) where
       let e = same-place ranges r in let f = same-place ranges to in
       (subst (λ n. n < place_of (procedures_of ranges graphs) to) (sym e) (subst (λ n. place ranges r < n) (sym f) h.1), subst (λ n. n < length (procedures_of ranges graphs)) (sym f) (below ranges to h.0))
 
-module _ {nodes : ℕ} (naming : Naming) (kinds : Kinds) (procedures : List Procedure) (range : Range) (all : CellsServed kinds range nodes) (C : Range → Type 0) (R W : ℕ → Type 0)
+module _ {nodes : ℕ} (naming : Naming) (kinds : Writable) (procedures : List Procedure) (range : Range) (all : CellsServed kinds range nodes) (C : Range → Type 0) (R W : ℕ → Type 0)
     (stands_later : (entry exit : ℕ) → C (Part entry exit) → StandsLater naming kinds procedures range (Part entry exit)) where
   standing-length : (empty : ℕ → Empty) (k : ℕ) (arms : Arms) → length (standing empty k arms) ≡ count_arms arms
   standing-length empty k done = refl
@@ -109,7 +109,7 @@ module _ {nodes : ℕ} (naming : Naming) (kinds : Kinds) (procedures : List Proc
   body-stands (tree body Stop) last h = h
   body-stands (tree body Dead) last h = h
 
-module _ (naming : Naming) (kinds : Kinds) (told : Told) (program : Program) (keep : Range → Label → Bool) (numbers : Range → ℕ → ℕ) (added : Range → List Added) (others : List Range)
+module _ (naming : Naming) (kinds : Writable) (told : Told) (program : Program) (keep : Range → Label → Bool) (numbers : Range → ℕ → ℕ) (added : Range → List Added) (others : List Range)
     (all : EachCellServed kinds (lowered_graphs told program keep numbers added)) (source : IsSource told program) (some : 0 < length program.paragraphs) (plan : IsPlan told program keep numbers added others)
     (served : GraphsServed naming kinds (Main ∷ others) (lowered_graphs told program keep numbers added)) where
   abbrev graphs : Graphs

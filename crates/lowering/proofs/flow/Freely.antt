@@ -2,7 +2,7 @@
 use Rattle.std.proofs.Common.{◌≡◌, ◌≢◌, ℕ, zero, suc, ◌<◌, Bool, true, false, if◌then◌else◌, List, [], ◌∷◌, ◌++◌, refl, ap, sym, ◌∙◌, subst, arith, Option, Some, None}
 use Rattle.std.specs.Prelude.{slice_get, length}
 use Rattle.control.specs.Outcome.{Trace, Tried, Got, Ends}
-use Rattle.control.specs.Language.{Act, Own, Set, Take, Lower, Test, Picker, If, By, ByCell, Control, Times, Until, Varying, Stmt, Choose, Loop, Perform, Go, GoDepending, NextSentence, ExitParagraph, ExitSection, ExitPerform, StopRun, Arms, Body, Range}
+use Rattle.control.specs.Language.{Amount, Act, Own, Set, Take, Lower, Test, Picker, If, By, ByCell, Control, Times, Until, Varying, Stmt, Choose, Loop, Perform, Go, GoDepending, NextSentence, ExitParagraph, ExitSection, ExitPerform, StopRun, Arms, Body, Range}
 use Rattle.control.specs.Language as language
 use Rattle.control.specs.Doing.{Acting, Doing, giving, arm_of, alone, alone_act, alone_test, alone_pick}
 use Rattle.control.specs.Items.{Turning, Counted, Tests, Steps, StepsAfter, Item, Do, SentenceEnd, Turn, before_body, before_arm, past_sentence, from_loop, Way, On, Halts, Into, To, ToEnd, way_after, tried, on, first_turn, loop_begins, turns, tests, steps_on, turn_way, to_one, item_way}
@@ -93,7 +93,7 @@ module _ {Memory : Type 0} (acting : Acting Memory) (told : Told) (is_told : IsT
   test-freely : (test : Test) (m : Memory) (g : Bool → Memory → Way Memory) (h : Bool → List ℕ → Way (List ℕ)) → ((b : Bool) (now : Memory) → NoInto (g b now)) → ((b : Bool) (now : Memory) → Freely (g b now) (h b)) → Freely (tried (alone_test acting test m) g) (λ ways. tried (F.test test ways) h)
   test-freely test m g h plain k = tried-freely (λ v. Unit {0}) (alone_test acting test m) g (F.test test) h number_of (any (alone_test acting test m)) plain (λ v more p. elim v as (λ b. F.test test (number_of b ∷ more) ≡ Got [] b more) [ true ↦ refl | false ↦ refl ]) (λ v now p. k v now)
 
-  count-freely : (amount : ℕ) (m : Memory) (g : ℕ → Memory → Way Memory) (h : ℕ → List ℕ → Way (List ℕ)) → ((n : ℕ) (now : Memory) → NoInto (g n now)) → ((n : ℕ) (now : Memory) → Freely (g n now) (h n)) → Freely (tried (acting.count amount m) g) (λ ways. tried (F.count amount ways) h)
+  count-freely : (amount : Amount) (m : Memory) (g : ℕ → Memory → Way Memory) (h : ℕ → List ℕ → Way (List ℕ)) → ((n : ℕ) (now : Memory) → NoInto (g n now)) → ((n : ℕ) (now : Memory) → Freely (g n now) (h n)) → Freely (tried (acting.count amount m) g) (λ ways. tried (F.count amount ways) h)
   count-freely amount m g h plain k = tried-freely (λ v. Unit {0}) (acting.count amount m) g (F.count amount) h (λ n. n) (any (acting.count amount m)) plain (λ v more p. refl) (λ v now p. k v now)
 
   on-freely : (items : List Item) (m : Memory) → Freely (on S items m) (on F items)

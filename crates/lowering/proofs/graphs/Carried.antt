@@ -2,7 +2,7 @@
 use Rattle.std.proofs.Common.{◌≡◌, ℕ, zero, suc, Bool, true, false, List, [], ◌∷◌, refl, ap, ◌∙◌, Option, Some, None}
 use Rattle.std.specs.Prelude.{slice_get}
 use Rattle.control.specs.Outcome.{Trace, Tried, Got, Ends}
-use Rattle.control.specs.Language.{Act, Test, Picker, If, By, ByCell, Control, Times, Until, Varying, Stmt, Choose, Loop, Perform, Go, GoDepending, NextSentence, ExitParagraph, ExitSection, ExitPerform, StopRun, Stmts, none, also, Arms, done, given, missing, Body, Nested, Performed}
+use Rattle.control.specs.Language.{Amount, Act, Test, Picker, If, By, ByCell, Control, Times, Until, Varying, Stmt, Choose, Loop, Perform, Go, GoDepending, NextSentence, ExitParagraph, ExitSection, ExitPerform, StopRun, Stmts, none, also, Arms, done, given, missing, Body, Nested, Performed}
 use Rattle.control.specs.Language as language
 use Rattle.control.specs.Doing.{Doing, keeping}
 use Rattle.control.specs.Items.{Turning, Counted, Tests, Steps, StepsAfter, Item, Do, SentenceEnd, Turn, before, before_body, before_arm, past_sentence, from_loop, Way, On, Halts, Into, To, ToEnd, way_after, tried, on, first_turn, loop_begins, turns, tests, steps_on, turn_way, to_one, item_way}
@@ -29,7 +29,7 @@ pub record Carries {One Other : Type 0} (first : Doing One) (second : Doing Othe
   pub act : (act : Act) (m : Other) → first.act act (f m) ≡ keeping f (second.act act m)
   pub test : (test : Test) (m : Other) → first.test test (f m) ≡ keeping f (second.test test m)
   pub pick : (picker : Picker) (m : Other) → first.pick picker (f m) ≡ keeping f (second.pick picker m)
-  pub count : (amount : ℕ) (m : Other) → first.count amount (f m) ≡ keeping f (second.count amount m)
+  pub count : (amount : Amount) (m : Other) → first.count amount (f m) ≡ keeping f (second.count amount m)
 
 module _ {One Other : Type 0} (first : Doing One) (second : Doing Other) (f : Other → One) (carries : Carries first second f) where
   after-carried : (t : Trace) (way : Way Other) → way_after t (over_memory f way) ≡ over_memory f (way_after t way)

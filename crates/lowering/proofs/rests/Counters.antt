@@ -283,14 +283,14 @@ module _ (graph : Label → Tree) where
   pub has-behind : (told : Told) (place_of : ℕ → ℕ) (end : Leaving) (c : Rest) → HasRest told place_of graph end c → HasRest told place_of graph end (after_loop c)
   has-behind told place_of end rests.Over h = tt
   has-behind told place_of end (From place stmts others) h = has-behind told place_of end others h.1
-  has-behind told place_of end (Sent holds others) h =   has-behind told place_of end others h
+  has-behind told place_of end (Sent holds others) h = has-behind told place_of end others h
   has-behind told place_of end (Turns place control left reached body others) h = h.1
   has-behind told place_of end (Cut others) h = has-behind told place_of end others h
 
   pub has-turn : (told : Told) (place_of : ℕ → ℕ) (end : Leaving) (c : Rest) → HasRest told place_of graph end c → HasRest told place_of graph end (at_loop c)
   has-turn told place_of end rests.Over h = tt
   has-turn told place_of end (From place stmts others) h = has-turn told place_of end others h.1
-  has-turn told place_of end (Sent holds others) h =   has-turn told place_of end others h
+  has-turn told place_of end (Sent holds others) h = has-turn told place_of end others h
   has-turn told place_of end (Turns place control left reached body others) h = h
   has-turn told place_of end (Cut others) h = has-turn told place_of end others h
 

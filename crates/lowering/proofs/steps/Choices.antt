@@ -2,9 +2,9 @@
 use Rattle.std.proofs.Common.{◌≡◌, ℕ, zero, suc, ◌+◌, ◌<◌, Bool, true, false, List, [], ◌∷◌, ◌++◌, refl, ap, sym, subst, arith, append-nil, Option, Some, None}
 use Rattle.std.specs.Prelude.{slice_get, length}
 use Rattle.control.specs.Outcome.{Trace, Tried, Got}
-use Rattle.control.specs.Language.{Picker, By, Program, Choose, GoDepending, Arms, done, given, missing, Range}
+use Rattle.control.specs.Language.{Chooser, Picker, By, Program, Choose, GoDepending, Arms, done, given, missing, Range}
 use Rattle.control.specs.Doing.{Acting, alone, alone_pick, Celled}
-use Rattle.control.specs.Items.{Item, Do, before_arm, Way, To, ToEnd, tried, on, to_one}
+use Rattle.control.specs.Items.{Item, Do, before_arm, Way, To, tried, on, to_one}
 use Rattle.control.specs.Source.{SourceState}
 use Rattle.control.specs.Graph.{Tree, End, Pick, Jump, Family}
 use Rattle.control.specs.Walk.{Walk, picks, picked, tree_at}
@@ -114,7 +114,7 @@ module _ {Memory Left : Type 0} (acting : Acting Memory) (left : Memory → Left
     depend (t ∷ ts) (suc n) c x rest now tr' end lt below ok same waits leads = depend ts n c x rest now tr' end (omega (arith, lt)) below.1 ok same waits leads
 
     -- GO TO DEPENDING
-    pub depending-move : (to : List ℕ) (chooser : ℕ) (c : Rest) → told.width chooser ≡ suc (length to) → AllBelow (length program.paragraphs) to → Good cells range q c →
+    pub depending-move : (to : List ℕ) (chooser : Chooser) (c : Rest) → told.width chooser ≡ suc (length to) → AllBelow (length program.paragraphs) to → Good cells range q c →
         Wait acting left told program place_of family first first_rest cells range waiting → Come acting left told program place_of family first first_rest range q (Do (GoDepending to chooser) ∷ items_in c) →
         Move acting left told program place_of family first first_rest 2 heavy (step_s acting left told program place_of family first first_rest (at_rest acting left told program place_of family first first_rest range q (Do (GoDepending to chooser) ∷ items_in c) waiting m tr))
         (at_tree acting left told program place_of family first first_rest range (only (Pick (By chooser) (depending told place_of to (leaf_of told place_of (ending range q) c)))) waiting m cells tr)

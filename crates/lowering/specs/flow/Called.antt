@@ -65,7 +65,7 @@ abbrev pub ReachedNodesPerformWhatIsCalled : Type 0
 ReachedNodesPerformWhatIsCalled =
     (told : Told) (program : Program) → IsSource told program →
     ((entry exit : ℕ) → told.returning entry exit ≡ true →
-        FreelyComes told program (Part entry exit) exit []) →
+    FreelyComes told program (Part entry exit) exit []) →
     (range : Range) → IsRangeOf program range → (label : Label) →
-        IsReached (lowered told program) range label →
+    IsReached (lowered told program) range label →
     CallsTree told program range ((lowered told program).node range label)

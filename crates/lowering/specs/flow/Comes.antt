@@ -25,28 +25,28 @@ pub data Comes {Memory : Type 0} (doing : Doing Memory) (program : Program) (fir
   goes_on : (range : Range) (number : ℕ) (item : Item) (rest : List Item) (memory : Memory)
       (trace : Trace) (after : Memory) (items : List Item) →
       Comes doing program first first_rest range number (item ∷ rest) →
-          item_way doing item rest memory ≡ On trace after items →
-          Comes doing program first first_rest range number items
+      item_way doing item rest memory ≡ On trace after items →
+      Comes doing program first first_rest range number items
   goes_to : (range : Range) (number : ℕ) (item : Item) (rest : List Item) (memory : Memory)
       (trace : Trace) (after : Memory) (to : ℕ) →
       Comes doing program first first_rest range number (item ∷ rest) →
-          item_way doing item rest memory ≡ To trace after to →
-          Comes doing program first first_rest range to (rest_of program to)
+      item_way doing item rest memory ≡ To trace after to →
+      Comes doing program first first_rest range to (rest_of program to)
   goes_to_end : (range : Range) (number : ℕ) (item : Item) (rest : List Item) (memory : Memory)
       (trace : Trace) (after : Memory) (to : ℕ) →
       Comes doing program first first_rest range number (item ∷ rest) →
-          item_way doing item rest memory ≡ ToEnd trace after to →
-          Comes doing program first first_rest range to []
+      item_way doing item rest memory ≡ ToEnd trace after to →
+      Comes doing program first first_rest range to []
   over : (range : Range) (number : ℕ) (item : Item) (rest : List Item) (memory : Memory)
       (entry exit : ℕ) (items : List Item) →
       Comes doing program first first_rest range number (item ∷ rest) →
-          item_way doing item rest memory ≡ Into entry exit items →
+      item_way doing item rest memory ≡ Into entry exit items →
       Comes doing program first first_rest (Part entry exit) exit [] →
-          Comes doing program first first_rest range number items
+      Comes doing program first first_rest range number items
   falls : (range : Range) (number : ℕ) (next : Paragraph) →
       slice_get program.paragraphs (suc number) ≡ Some next → IsNoExit range number →
       Comes doing program first first_rest range number [] →
-          Comes doing program first first_rest range (suc number) (rest_of program (suc number))
+      Comes doing program first first_rest range (suc number) (rest_of program (suc number))
 
 -- these are the ranges whose level comes to its end, and maybe more
 abbrev pub AreReturning : {Memory : Type 0} → Doing Memory → Program → ℕ → List Item →
@@ -64,8 +64,8 @@ pub record IsLowered (told : Told) (program : Program) (place_of : ℕ → ℕ) 
   pub entry : (range : Range) → family.entry range ≡ point (place_of (entry_of range))
   pub at : (range : Range) (number : ℕ) → number < length program.paragraphs →
       family.node range (point (place_of number))
-          ≡ tree_of told place_of (leaving_at place_of program range number)
-          (rest_from told (place_of number + 1) (paragraph_at program number))
+      ≡ tree_of told place_of (leaving_at place_of program range number)
+      (rest_from told (place_of number + 1) (paragraph_at program number))
   pub has : (range : Range) (number : ℕ) → number < length program.paragraphs →
       HasRest told place_of (family.node range) (leaving_at place_of program range number)
-          (rest_from told (place_of number + 1) (paragraph_at program number))
+      (rest_from told (place_of number + 1) (paragraph_at program number))

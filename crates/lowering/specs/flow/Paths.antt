@@ -67,8 +67,13 @@ nothing_left ways = tt
 
 abbrev pub flow : ℕ → List Item → List Pending → List ℕ → Flow
 flow number rest pending ways =
-    record { paragraph = number; rest = rest; pending = pending; memory = ways; run =
-    record { trace = []; standing = Going } }
+    record {
+      paragraph = number;
+      rest = rest;
+      pending = pending;
+      memory = ways;
+      run = record { trace = []; standing = Going };
+    }
 
 -- some flow path ends in a fault of flow
 abbrev pub IsFaulty : Told → Program → Type 0
@@ -87,9 +92,7 @@ module _ (told : Told) (program : Program) where
       goes (free told) nothing_left program (Halts trace how ways) state
   free_goes (Into entry exit rest) state =
       goes_to (free told) nothing_left program entry
-          (record state
-          { pending = record { end = exit; paragraph = state.paragraph; rest = rest }
-          ∷ state.pending })
+      (record state { pending = record { end = exit; paragraph = state.paragraph; rest = rest } ∷ state.pending })
   free_goes (To trace ways number) state =
       goes (free told) nothing_left program (To trace ways number) state
   free_goes (ToEnd trace ways number) state =
@@ -103,7 +106,7 @@ module _ (told : Told) (program : Program) where
       if top.end == state.paragraph
       then record state { paragraph = top.paragraph; rest = top.rest; pending = others }
       else falls (free told) nothing_left program
-          (slice_get program.paragraphs (suc state.paragraph)) state
+      (slice_get program.paragraphs (suc state.paragraph)) state
 
   abbrev pub free_rest : List Item → Flow → Flow
   free_rest [] state = free_end state.pending state
