@@ -1,0 +1,21 @@
+//! What structured programs mean.
+
+ghost use Rattle.agreement.specs.Laws.{MoreUnitsShowMore, NestedEndFairly, StructuredAgrees, StructuredBehavesTheSame, StructuredMeetsNoFault, StructuredNeverFallsThrough};
+
+/// With more units nested statements show more; they go on or stop.
+pub fn more_units_show_more<Memory, Left>()
+    ensures steady { MoreUnitsShowMore Memory Left }
+    ensures fair { NestedEndFairly Memory Left }
+{}
+
+/// The source machine on a structured program does what its nested statements do, and never meets a fault of its flow.
+pub fn a_structured_program_agrees<Memory, Left>()
+    ensures tied { StructuredAgrees Memory Left }
+    ensures same { StructuredBehavesTheSame Memory Left }
+    ensures faultless { StructuredMeetsNoFault Memory Left }
+{}
+
+/// In a structured program control never passes from the end of one paragraph to the next.
+pub fn a_structured_program_never_falls_through<Memory, Left>()
+    ensures { StructuredNeverFallsThrough Memory Left }
+{}

@@ -1,0 +1,14 @@
+-- The graphs of a lowered program: their family is the lowered one, and their jumps are to their nodes.
+pub mod LoweredGraphs
+-- The graphs of a lowered program are a family: each range performs later ones alone, and names its own cells.
+pub mod LaterCalls
+-- The graphs of a lowered program can be written, and so can what closing leaves of them.
+pub mod LoweredStand
+-- The cells that lowered nodes name are counters of loops by TIMES.
+pub mod NamedCells
+-- The counter of a small program.
+pub mod NamedCellsExample
+-- How large the numbers are that the rules put into cells: no larger than the number of a range's nodes, and one more.
+pub mod Bounds
+-- The counters of a range's kept loops are numbered apart, and listed.
+pub mod Numbering

@@ -1,0 +1,77 @@
+-- Where a flow path comes to a PERFORM, a reached node performs that range: so an order by paths is
+-- one of the graphs.
+use Rattle.std.specs.Prelude.{ℕ, ◌≡◌, ◌<◌, ◌≤◌, Bool, true, List, [], ◌∷◌, length, Some, slice_get}
+use Rattle.runs.specs.Machine.{meaning}
+use Rattle.control.specs.Language.{Picker, Chooser, Program, Range, Main, Part}
+use Rattle.control.specs.Doing.{Acting, Celled, alone}
+use Rattle.control.specs.Source.{source_machine}
+use Rattle.control.specs.Structural.{structural}
+use Rattle.agreement.specs.Structured.{IsStructured}
+use Rattle.agreement.specs.Same.{SameBehaviour}
+use Rattle.rendering.specs.Rendering.{Empty, Naming, rendered}
+use Rattle.control.specs.Graph.{Label}
+use Rattle.lowering.specs.Told.{Told, MayGive, IsTold, IsSource}
+use Rattle.lowering.specs.Lowered.{lowered}
+use Rattle.lowering.specs.Reached.{IsReached}
+use Rattle.lowering.specs.flow.Paths.{IsFaulty, AreReturningByPath}
+use Rattle.lowering.specs.Laws.{FreelyComes}
+use Rattle.lowering.specs.WellFormed.{IsRangeOf}
+use Rattle.lowering.specs.flow.Called.{IsCalled}
+use Rattle.graph_rules.specs.Families.{Added}
+use Rattle.headline.specs.Chain.{TreeCalls, lowered_graphs, procedures_of, IsPlan, CalledFromEarlier}
+
+-- each chooser may give some arm
+abbrev pub GivesSome : Told → Type 0
+GivesSome told =
+    (chooser : Chooser) → (arm : ℕ) × MayGive (told.width chooser) (told.never_first chooser) arm
+
+-- the table names each range whose level comes to its end by a free flow path
+abbrev pub NamesWhatReturns : Told → Program → Type 0
+NamesWhatReturns told program = (entry exit : ℕ) →
+    FreelyComes told program (Part entry exit) exit [] → told.returning entry exit ≡ true
+
+-- what a free flow path of a range's level performs, a reached node of the range performs
+abbrev pub WhatIsCalledStands : Type 0
+WhatIsCalledStands =
+    (told : Told) (program : Program) → IsSource told program → GivesSome told →
+    AreReturningByPath told program →
+    (range : Range) → IsRangeOf program range → (entry exit : ℕ) →
+    IsCalled told program range entry exit →
+    (label : Label) × IsReached (lowered told program) range label
+    × TreeCalls (Part entry exit) ((lowered told program).node range label)
+
+-- each range of the order but main is performed by a free flow path of an earlier one's level
+abbrev pub CalledByPaths : Told → Program → List Range → Type 0
+CalledByPaths told program order =
+    (number : ℕ) (entry exit : ℕ) → slice_get order number ≡ Some (Part entry exit) → 1 ≤ number →
+    (from : ℕ) × (caller : Range) × (from < number) × (slice_get order from ≡ Some caller)
+    × IsCalled told program caller entry exit
+
+-- so each is performed by a kept node of an earlier one
+abbrev pub OrderByPathsIsOfGraphs : Type 0
+OrderByPathsIsOfGraphs =
+    (told : Told) (program : Program) (keep : Range → Label → Bool) (numbers : Range → ℕ → ℕ)
+    (added : Range → List Added) (others : List Range) →
+    IsSource told program → GivesSome told → 0 < length program.paragraphs →
+    IsPlan told program keep numbers added others →
+    CalledByPaths told program (Main ∷ others) →
+    CalledFromEarlier (Main ∷ others) (lowered_graphs told program keep numbers added)
+
+-- so, by paths alone, for any parts there is a structured result of the same behaviour
+abbrev pub SomeResultByPaths : Type 0 → Type 0 → Type 0 → Type 0
+SomeResultByPaths Memory Left World =
+    (acting : Acting Memory) (left : Memory → Left) (first : World → Memory)
+    (empty : Range → Picker → ℕ → Empty)
+    (told : Told) (program : Program) (keep : Range → Label → Bool) (numbers : Range → ℕ → ℕ)
+    (added : Range → List Added) (others : List Range) →
+    IsTold told acting → IsSource told program → 0 < length program.paragraphs →
+    (IsFaulty told program → ⊥) →
+    IsPlan told program keep numbers added others →
+    let procedures =
+    procedures_of (Main ∷ others) (lowered_graphs told program keep numbers added) in
+    GivesSome told → CalledByPaths told program (Main ∷ others) →
+    (result : Acting (Celled Memory)) × (naming : Naming) × (naming.empty ≡ empty)
+    × IsStructured (rendered naming procedures)
+    × SameBehaviour (λ world. meaning (source_machine (alone acting) left program) (first world))
+    (λ world. structural (alone result) (λ memory. left memory.own) (rendered naming procedures)
+    (record { own = first world; cells = λ range cell. 0 }))

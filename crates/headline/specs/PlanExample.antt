@@ -1,0 +1,64 @@
+-- A program of one paragraph that jumps to itself, and its plan.
+use Rattle.std.specs.Prelude.{ℕ, zero, suc, Bool, true, false, ◌==◌, ◌≡◌, List, [], ◌∷◌}
+use Rattle.runs.specs.Machine.{meaning}
+use Rattle.control.specs.Language.{Picker, Go, none, also, Program, Range, Main, Part}
+use Rattle.control.specs.Doing.{Acting, Celled, alone}
+use Rattle.control.specs.Source.{source_machine}
+use Rattle.control.specs.Graph.{Label}
+use Rattle.control.specs.Structural.{structural}
+use Rattle.agreement.specs.Structured.{IsStructured}
+use Rattle.agreement.specs.Same.{SameBehaviour}
+use Rattle.rendering.specs.Rendering.{Empty, Naming, rendered}
+use Rattle.lowering.specs.Told.{Told, IsTold, IsSource}
+use Rattle.lowering.specs.flow.Paths.{IsFaulty}
+use Rattle.graph_rules.specs.Families.{Added}
+use Rattle.headline.specs.Chain.{IsPlan, lowered_graphs, procedures_of}
+
+-- A. GO TO A.
+abbrev pub again : Program
+again = record { paragraphs = (also (Go 0) none ∷ []) ∷ [] }
+
+-- only a range that begins and ends past the paragraph returns
+abbrev pub returns_past : ℕ → ℕ → Bool
+returns_past zero exit = false
+returns_past (suc entry) exit = exit == suc entry
+
+-- a chooser may give as many arms as its number and one more; none stands in the program
+abbrev pub again_told : Told
+again_told =
+    record {
+      returning = returns_past;
+      skipped = λ simple. false;
+      never_first = λ chooser. false;
+      width = λ chooser. suc chooser;
+    }
+
+-- of main, the paragraph's node
+abbrev pub again_kept : Range → Label → Bool
+again_kept Main label = label == 0
+again_kept (Part entry exit) label = true
+
+abbrev pub same_numbers : Range → ℕ → ℕ
+same_numbers range cell = cell
+
+abbrev pub no_added : Range → List Added
+no_added range = []
+
+-- the plan stands, of a source that isn't faulty
+abbrev pub APlanCanBeMade : Type 0
+APlanCanBeMade = IsSource again_told again × (IsFaulty again_told again → ⊥)
+    × IsPlan again_told again again_kept same_numbers no_added []
+
+-- so for any parts that do what is told, there is a structured result that behaves alike
+abbrev pub ThePlanIsFollowed : Type 0 → Type 0 → Type 0 → Type 0
+ThePlanIsFollowed Memory Left World =
+    (acting : Acting Memory) (left : Memory → Left) (first : World → Memory)
+    (empty : Range → Picker → ℕ → Empty) → IsTold again_told acting →
+    let procedures =
+    procedures_of (Main ∷ []) (lowered_graphs again_told again again_kept same_numbers no_added)
+    in
+    (result : Acting (Celled Memory)) × (naming : Naming) × (naming.empty ≡ empty)
+    × IsStructured (rendered naming procedures)
+    × SameBehaviour (λ world. meaning (source_machine (alone acting) left again) (first world))
+    (λ world. structural (alone result) (λ memory. left memory.own) (rendered naming procedures)
+    (record { own = first world; cells = λ range cell. 0 }))

@@ -1,0 +1,7 @@
+-- Flow paths: the source machine itself, in which a list of ways stands in place of the memory.
+pub mod Paths
+-- The rests that a level of a range can come to, and the family that is lowered.
+pub mod Comes
+-- What a range's level performs: each PERFORM in a node that is reached is come to by a free flow
+-- path of that level.
+pub mod Called
