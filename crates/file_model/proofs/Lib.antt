@@ -1,0 +1,2 @@
+-- the first file of a name is found and changed
+pub mod Firsts

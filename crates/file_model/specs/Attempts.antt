@@ -58,13 +58,15 @@ with_state world file state = record world { files = slice_set world.files file 
 -- an operation that gave no record
 abbrev pub noted : World → ℕ → World
 noted world file =
-    with_state world file (record (state_of world file) { row = other_row
-      (state_of world file).row })
+    with_state world file (record (state_of world file) {
+      row = other_row
+          (state_of world file).row;
+    })
 
 abbrev pub bytes_at : World → Address → List ℕ
 bytes_at world address =
     bytes_of_file (file_found address.name
-      (files_of_shelf (shelf_found address.device world.shelves)))
+    (files_of_shelf (shelf_found address.device world.shelves)))
 
 abbrev pub with_bytes : World → Address → List ℕ → World
 with_bytes world address bytes =
@@ -101,12 +103,16 @@ is_output _ = false
 
 abbrev pub opened_with : World → ℕ → How → List ℕ → Attempt
 opened_with world file mode bytes =
-    record { world = with_state world file
-      (record {
-        row = opened_row mode;
-        at = start_at mode bytes;
-        start = 0 }); bytes = []; status = 0;
-      }
+    record {
+      world = with_state world file
+          (record {
+            row = opened_row mode;
+            at = start_at mode bytes;
+            start = 0;
+          });
+      bytes = [];
+      status = 0;
+    }
 
 -- OUTPUT makes or empties the file; 35 where it is missing
 abbrev pub opened_from : World → ℕ → Address → How → Option File → Attempt
@@ -135,7 +141,7 @@ opened_at world addresses file address mode =
 abbrev pub closed_at : World → ℕ → Attempt
 closed_at world file =
     permitted world file (may_close (state_of world file).row)
-      (record { world = with_state world file closed; bytes = []; status = 0 })
+    (record { world = with_state world file closed; bytes = []; status = 0 })
 
 -- ---- READ
 
@@ -152,8 +158,12 @@ read_of world file state size [] =
       status = 10;
     }
 read_of world file state size (byte ∷ bytes) = record {
-  world = with_state world file (record { row = read_row false state.row; at = state.at + length
-      (byte ∷ bytes); start = state.at });
+  world = with_state world file (record {
+    row = read_row false state.row;
+    at = state.at + length
+        (byte ∷ bytes);
+    start = state.at;
+  });
   bytes = padded_to size (byte ∷ bytes);
   status = 0;
 }
@@ -162,7 +172,7 @@ abbrev pub read_at : World → ℕ → Address → ℕ → Attempt
 read_at world file address size =
     permitted world file (may_read (state_of world file).row)
     (read_of world file (state_of world file) size
-      (take size (drop (state_of world file).at (bytes_at world address))))
+    (take size (drop (state_of world file).at (bytes_at world address))))
 
 -- ---- WRITE and REWRITE
 
@@ -181,7 +191,7 @@ abbrev pub rewritten_of : World → ℕ → FileState → Address → List ℕ �
 rewritten_of world file state address bytes = record {
   world = with_state (with_bytes world address
       (over (bytes_at world address) state.start bytes)) file
-        (record { row = other_row state.row; at = state.start + length bytes; start = state.start });
+      (record { row = other_row state.row; at = state.start + length bytes; start = state.start });
   bytes = bytes;
   status = 0;
 }
@@ -189,4 +199,4 @@ rewritten_of world file state address bytes = record {
 abbrev pub rewritten_at : World → ℕ → Address → List ℕ → Attempt
 rewritten_at world file address bytes =
     permitted world file (may_rewrite (state_of world file).row) (rewritten_of world file
-      (state_of world file) address bytes)
+    (state_of world file) address bytes)

@@ -6,3 +6,5 @@ pub mod World
 pub mod Attempts
 -- what a call of a device makes of the files that it tells
 pub mod Told
+-- the first file of a name, as the code finds it
+pub mod First

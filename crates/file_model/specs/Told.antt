@@ -107,7 +107,7 @@ abbrev pub Gives : List ℕ → MemFile → List MemFile → Got → (old new : 
     Option (List MemFile) → Type 0
 Gives name file files (got.Bytes n) old new now =
     (n ≡ length (next_of (length old) file)) × (new ≡ next_of (length old) file ++ drop n old) ×
-      (now ≡ Some (changed name (read_on n) files))
+    (now ≡ Some (changed name (read_on n) files))
 Gives name file files got.End old new now = (drop file.at file.bytes ≡ []) × (now ≡ Some files)
 Gives name file files got.Failed old new now = now ≡ Some files
 

@@ -8,6 +8,7 @@
 
 mod bench;
 mod device;
+mod mem_device;
 mod mem_file;
 mod null_device;
 mod table;
@@ -15,6 +16,7 @@ mod table;
 pub use bench::Bench;
 pub use cob_tree::How;
 pub use device::{Device, Got, Opened, Put};
+pub use mem_device::MemDevice;
 pub use mem_file::MemFile;
 pub use null_device::NullDevice;
 pub use table::{FileRow, FileTable};
