@@ -1,7 +1,7 @@
 -- What a call of a device makes of the files that it tells.
 use Rattle.std.specs.Prelude.{ℕ, ◌≡◌, ◌+◌, ◌≤◌, Bool, true, false, if◌then◌else◌, List, [], ◌∷◌, ◌++◌, length, take, drop, Option, Some, None, IsSome}
 use Rattle.std.specs.Str.{bytes_eq}
-use Rattle.cob_base.specs.Outside.{Rose}
+use Rattle.cob_base.specs.Faults.{Rose}
 use Rattle.cob_tree.specs.declared.file.How.{How}
 use Rattle.cob_tree.specs.declared.file.How.TheVariants as how
 use Rattle.file_model.specs.declared.device.Opened.{Opened}

@@ -3,7 +3,7 @@
 ghost use Rattle.std.specs.Prelude.{◌≡◌, ◌≢◌, ◌↔◌, ◌+◌, ◌-◌, ◌^◌, ◌++◌, ◌∷◌, [], min, length, Some, Contains, IsTrue, MatchOption, OnErr, OnOk};
 ghost use Rattle.std.specs.Str.{bytes_eq};
 ghost use Rattle.cob_base.specs.Answers.{Makes};
-ghost use Rattle.cob_base.specs.Outside.{counted_on};
+ghost use Rattle.cob_base.specs.Faults.{counted_on};
 ghost use Rattle.file_model.specs.First.{GivesNext, HasNone, IsFirst};
 ghost use Rattle.file_model.specs.Told.{Changes, Counts, GivesAtMost, Opens, Reads, appended, changed, made, open_fails, opened_as, put_fails, read_fails, replaced, replaced_from, shut};
 
