@@ -3,12 +3,12 @@ use Rattle.std.proofs.Common.{◌≡◌, ◌+◌, ◌*◌, List, ap, ◌∙◌, 
 use Rattle.runs.specs.Run.{Over, IsOver, Covers}
 use Rattle.runs.specs.Tied.{Tied}
 use Rattle.cob_tree.specs.declared.program.Program as tree
-use Rattle.meanings.specs.World.{File, How, Stopped, Run}
+use Rattle.meanings.specs.World.{File, Stopping, Stopped, Run}
 use Rattle.meanings.specs.Source.{source_run}
 use Rattle.meanings.specs.Structural.{structural_run}
 use Rattle.meanings.specs.Same.{IsMatchedBy, SameBehaviour}
 
-stopped-over : (run : Run) (how : How) (files : List File) → run.standing ≡ Over (Stopped how files) → IsOver run
+stopped-over : (run : Run) (how : Stopping) (files : List File) → run.standing ≡ Over (Stopped how files) → IsOver run
 stopped-over run how files is going = cc
 
 -- a run that covers another matches it

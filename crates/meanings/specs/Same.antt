@@ -2,14 +2,14 @@
 use Rattle.std.specs.Prelude.{ℕ, ◌≡◌, ◌+◌, ◌*◌, List}
 use Rattle.runs.specs.Run.{Over, Begins}
 use Rattle.cob_tree.specs.declared.program.Program as tree
-use Rattle.meanings.specs.World.{World, File, How, Stopped, Run}
+use Rattle.meanings.specs.World.{World, File, Stopping, Stopped, Run}
 use Rattle.meanings.specs.Source.{source_run}
 use Rattle.meanings.specs.Structural.{structural_run}
 
 -- the second run has shown all that the first has, and has stopped where the first has, in the same way, with the same events and files
 pub record IsMatchedBy (first second : Run) : Type 0 where
   pub shown : Begins first.trace second.trace
-  pub stopped : (how : How) (files : List File) → first.standing ≡ Over (Stopped how files) → (second.standing ≡ Over (Stopped how files)) × (second.trace ≡ first.trace)
+  pub stopped : (how : Stopping) (files : List File) → first.standing ≡ Over (Stopped how files) → (second.standing ≡ Over (Stopped how files)) × (second.trace ≡ first.trace)
 
 -- each run of one is matched by a run of the other, which takes so many times as long at most; the two numbers are chosen before the world and the lengths
 pub record SameBehaviour (program structured : tree.Program) : Type 0 where

@@ -4,7 +4,7 @@ use Rattle.runs.specs.Run.{Going, Over}
 use Rattle.runs.specs.Machine.{Machine, meaning}
 use Rattle.cob_tree.specs.declared.program.Program as tree
 use Rattle.meanings.specs.Language.{Stmt, Display, Go, StopRun, Other, Paragraph, Program, Item, Do, SentenceEnd, items_of, paragraph_at, seen}
-use Rattle.meanings.specs.World.{World, Event, How, Normally, FlowFault, Overlap, Ending, Stopped, Faulted, Run, Standing, displayed}
+use Rattle.meanings.specs.World.{World, Event, Stopping, Normally, FlowFault, Overlap, Ending, Stopped, Faulted, Run, Standing, displayed}
 use Rattle.meanings.specs.World as outside
 
 -- a return that is pending: the paragraph at whose end it is made, with the paragraph and the rest to go on with
@@ -35,7 +35,7 @@ shows bytes state = record state { run = record { trace = state.run.trace ++ out
 abbrev pub comes_to : Ending → SourceState → SourceState
 comes_to ending state = record state { run = record { trace = state.run.trace; standing = Over ending } }
 
-abbrev pub stops : How → SourceState → SourceState
+abbrev pub stops : Stopping → SourceState → SourceState
 stops how state = comes_to (Stopped how state.world.files) state
 
 abbrev pub goes_to : Program → ℕ → SourceState → SourceState

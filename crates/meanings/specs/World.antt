@@ -19,8 +19,8 @@ pub data Event : Type 0 where
   Display : (bytes : List ℕ) → Event
 
 -- how a run stops
-pub data How : Type 0 where
-  Normally : How
+pub data Stopping : Type 0 where
+  Normally : Stopping
 
 -- a return that can't be made: a pending range ends at the end of this paragraph, and the innermost one doesn't
 pub data FlowFault : Type 0 where
@@ -28,7 +28,7 @@ pub data FlowFault : Type 0 where
 
 -- what a run comes to: it stops, and leaves these files, or it met a fault
 pub data Ending : Type 0 where
-  Stopped : (how : How) → (files : List File) → Ending
+  Stopped : (how : Stopping) → (files : List File) → Ending
   Faulted : (fault : FlowFault) → Ending
 
 -- what a run has shown so far, and how it stands
