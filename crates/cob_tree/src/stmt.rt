@@ -1,63 +1,257 @@
 //! Statements.
+//!
+//! A statement may hold statements, so its copies are functions of one cycle.
 
-ghost use Rattle.std.specs.Prelude.{◌≡◌, IfOk};
+ghost use Rattle.cob_base.specs.Answers.{Makes};
 
-use cob_base::{Copied, Items, NoMemory, Text};
+use crate::calc::{Calc, Target};
+use crate::choice::{Subject, Test};
+use crate::cond::Cond;
+use crate::control::Control;
+use crate::file::Opening;
+use crate::place::{Operand, Place};
+use cob_base::{Copied, Items, NoMemory};
+use std::alloc::Global;
 
-/// What a statement works on.
-#[derive(Debug, Drop, PartialEq, Eq)]
-pub enum Operand {
-    /// The bytes of a literal in quotation marks.
-    Text(Text),
+/// The arms of READ, AT END and NOT AT END, and of arithmetic, ON SIZE ERROR and NOT ON SIZE ERROR.
+#[cycle(stmt)]
+#[derive(Debug, Drop)]
+pub struct Arms {
+    pub first: Option<Items<Stmt>>,
+    pub second: Option<Items<Stmt>>,
 }
 
-impl Operand {
-    pub fn copy(&self) -> Result<Operand, NoMemory>
-        ensures { IfOk result (λ c. c ≡ self.now) }
-    {
-        match self {
-            Operand::Text(text) => Ok(Operand::Text(text.copy()?)),
-        }
-    }
+/// Phrases WHEN of EVALUATE that share their statements; one test that holds is enough.
+#[cycle(stmt)]
+#[derive(Debug, Drop)]
+pub struct When {
+    pub tests: Items<Test>,
+    pub stmts: Items<Stmt>,
 }
 
-impl Copied for Operand {
-    fn copy(&self) -> Result<Operand, NoMemory> {
-        Operand::copy(self)
-    }
-}
-
-/// A statement.
-#[derive(Debug, Drop, PartialEq, Eq)]
+/// A statement. A required list of it is never empty.
+#[cycle(stmt)]
+#[derive(Debug, Drop)]
 pub enum Stmt {
-    /// DISPLAY; `advance` is false with NO ADVANCING.
+    /// `advance` is false with NO ADVANCING.
     Display {
         items: Items<Operand>,
         advance: bool,
     },
-    /// GO TO a paragraph, by its place among the paragraphs, from 0.
+    Move {
+        from: Operand,
+        to: Items<Place>,
+    },
+    /// ADD, SUBTRACT, MULTIPLY, DIVIDE or COMPUTE.
+    Arith {
+        calc: Calc,
+        into: Items<Target>,
+        arms: Arms,
+    },
+    /// SET a condition name TO TRUE.
+    SetTrue(Place),
+    Opens(Items<Opening>),
+    /// CLOSE files, by their places among the files.
+    Closes(Items<u32>),
+    Read {
+        file: u32,
+        into: Option<Place>,
+        arms: Arms,
+    },
+    /// WRITE a record, by its place among the entries.
+    Write {
+        entry: u32,
+        from: Option<Operand>,
+    },
+    Rewrite {
+        entry: u32,
+        from: Option<Operand>,
+    },
+    /// Without ELSE `no` is empty.
+    If {
+        cond: Cond,
+        yes: Items<Stmt>,
+        no: Items<Stmt>,
+    },
+    Evaluate {
+        subject: Subject,
+        whens: Items<When>,
+        other: Option<Items<Stmt>>,
+    },
+    /// PERFORM .. END-PERFORM; its control is never `Once`.
+    Loop {
+        control: Control,
+        body: Items<Stmt>,
+    },
+    /// PERFORM of paragraphs, from the entry to the exit, by their places among the paragraphs.
+    Perform {
+        entry: u32,
+        exit: u32,
+        control: Control,
+    },
+    /// GO TO a paragraph, by its place among the paragraphs.
     Go(u32),
-    /// STOP RUN.
+    GoDepending {
+        to: Items<u32>,
+        on: Place,
+    },
+    NextSentence,
     StopRun,
+    /// EXIT without a further word.
+    Exit,
+    ExitParagraph,
+    ExitSection,
+    /// EXIT PERFORM, or EXIT PERFORM CYCLE.
+    ExitPerform {
+        cycle: bool,
+    },
+    Continue,
 }
 
-impl Stmt {
-    pub fn copy(&self) -> Result<Stmt, NoMemory>
-        ensures { IfOk result (λ c. c ≡ self.now) }
-    {
-        match self {
-            Stmt::Display { items, advance } => Ok(Stmt::Display {
-                items: Copied::copy(items)?,
-                advance: *advance,
-            }),
-            Stmt::Go(to) => Ok(Stmt::Go(*to)),
-            Stmt::StopRun => Ok(Stmt::StopRun),
+#[cycle(copy_stmt)]
+fn copy_stmt(alloc: Global, stmt: &Stmt) -> Result<Stmt, NoMemory>
+    ensures { Makes stmt.now result }
+{
+    match stmt {
+        Stmt::Display { items, advance } => Ok(Stmt::Display {
+            items: items.copy(alloc)?,
+            advance: *advance,
+        }),
+        Stmt::Move { from, to } => Ok(Stmt::Move {
+            from: from.copy(alloc)?,
+            to: to.copy(alloc)?,
+        }),
+        Stmt::Arith { calc, into, arms } => Ok(Stmt::Arith {
+            calc: calc.copy(alloc)?,
+            into: into.copy(alloc)?,
+            arms: copy_arms(alloc, arms)?,
+        }),
+        Stmt::SetTrue(place) => Ok(Stmt::SetTrue(place.copy(alloc)?)),
+        Stmt::Opens(openings) => Ok(Stmt::Opens(openings.copy(alloc)?)),
+        Stmt::Closes(files) => Ok(Stmt::Closes(files.copy(alloc)?)),
+        Stmt::Read { file, into, arms } => Ok(Stmt::Read {
+            file: *file,
+            into: into.copy(alloc)?,
+            arms: copy_arms(alloc, arms)?,
+        }),
+        Stmt::Write { entry, from } => Ok(Stmt::Write {
+            entry: *entry,
+            from: from.copy(alloc)?,
+        }),
+        Stmt::Rewrite { entry, from } => Ok(Stmt::Rewrite {
+            entry: *entry,
+            from: from.copy(alloc)?,
+        }),
+        Stmt::If { cond, yes, no } => Ok(Stmt::If {
+            cond: cond.copy(alloc)?,
+            yes: copy_stmts(alloc, yes)?,
+            no: copy_stmts(alloc, no)?,
+        }),
+        Stmt::Evaluate {
+            subject,
+            whens,
+            other,
+        } => {
+            let subject = subject.copy(alloc)?;
+            let whens = copy_whens(alloc, whens)?;
+            let other = match other {
+                None => None,
+                Some(stmts) => Some(copy_stmts(alloc, stmts)?),
+            };
+            Ok(Stmt::Evaluate {
+                subject,
+                whens,
+                other,
+            })
         }
+        Stmt::Loop { control, body } => Ok(Stmt::Loop {
+            control: control.copy(alloc)?,
+            body: copy_stmts(alloc, body)?,
+        }),
+        Stmt::Perform {
+            entry,
+            exit,
+            control,
+        } => Ok(Stmt::Perform {
+            entry: *entry,
+            exit: *exit,
+            control: control.copy(alloc)?,
+        }),
+        Stmt::Go(to) => Ok(Stmt::Go(*to)),
+        Stmt::GoDepending { to, on } => Ok(Stmt::GoDepending {
+            to: to.copy(alloc)?,
+            on: on.copy(alloc)?,
+        }),
+        Stmt::NextSentence => Ok(Stmt::NextSentence),
+        Stmt::StopRun => Ok(Stmt::StopRun),
+        Stmt::Exit => Ok(Stmt::Exit),
+        Stmt::ExitParagraph => Ok(Stmt::ExitParagraph),
+        Stmt::ExitSection => Ok(Stmt::ExitSection),
+        Stmt::ExitPerform { cycle } => Ok(Stmt::ExitPerform { cycle: *cycle }),
+        Stmt::Continue => Ok(Stmt::Continue),
+    }
+}
+
+#[cycle(copy_stmt)]
+fn copy_arms(alloc: Global, arms: &Arms) -> Result<Arms, NoMemory>
+    ensures { Makes arms.now result }
+{
+    let first = match &arms.first {
+        None => None,
+        Some(stmts) => Some(copy_stmts(alloc, stmts)?),
+    };
+    let second = match &arms.second {
+        None => None,
+        Some(stmts) => Some(copy_stmts(alloc, stmts)?),
+    };
+    Ok(Arms { first, second })
+}
+
+#[cycle(copy_stmt)]
+fn copy_stmts(alloc: Global, stmts: &Items<Stmt>) -> Result<Items<Stmt>, NoMemory>
+    ensures { Makes stmts.now result }
+{
+    let mut copies = Items::new(alloc);
+    for stmt in stmts.as_slice() {
+        copies.push(copy_stmt(alloc, stmt)?)?;
+    }
+    Ok(copies)
+}
+
+#[cycle(copy_stmt)]
+fn copy_whens(alloc: Global, whens: &Items<When>) -> Result<Items<When>, NoMemory>
+    ensures { Makes whens.now result }
+{
+    let mut copies = Items::new(alloc);
+    for when in whens.as_slice() {
+        copies.push(copy_when(alloc, when)?)?;
+    }
+    Ok(copies)
+}
+
+#[cycle(copy_stmt)]
+fn copy_when(alloc: Global, when: &When) -> Result<When, NoMemory>
+    ensures { Makes when.now result }
+{
+    let tests = when.tests.copy(alloc)?;
+    let stmts = copy_stmts(alloc, &when.stmts)?;
+    Ok(When { tests, stmts })
+}
+
+impl Copied for Arms {
+    fn copy(&self, alloc: Global) -> Result<Arms, NoMemory> {
+        copy_arms(alloc, self)
+    }
+}
+
+impl Copied for When {
+    fn copy(&self, alloc: Global) -> Result<When, NoMemory> {
+        copy_when(alloc, self)
     }
 }
 
 impl Copied for Stmt {
-    fn copy(&self) -> Result<Stmt, NoMemory> {
-        Stmt::copy(self)
+    fn copy(&self, alloc: Global) -> Result<Stmt, NoMemory> {
+        copy_stmt(alloc, self)
     }
 }

@@ -1,7 +1,7 @@
 //! Texts and their tokens, by the rules of the tokens.
 
 use super::*;
-use cob_base::Text;
+use cob_base::{Copied, Text};
 use ref_format::Placed;
 use std::alloc::Global;
 use std::process::Abort;
@@ -178,7 +178,7 @@ fn measures_literals(rt: HostRuntime) -> Result<(), Fail> {
     let most = vec![in alloc; b'x'; 160]?;
     let mut text = Text::new(alloc);
     show(&mut text, b"'", &most)?;
-    let mut longer = text.copy()?;
+    let mut longer = text.copy(alloc)?;
     text.add(b"'")?;
     let mut wanted = Text::new(alloc);
     show(&mut wanted, b"|1 \"", &most)?;

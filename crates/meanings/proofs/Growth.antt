@@ -5,7 +5,7 @@ use Rattle.runs.specs.Tied.{Steady}
 use Rattle.runs.specs.Machine.{meaning, Grows}
 use Rattle.runs.proofs.Ties.{covers-refl}
 use Rattle.runs.proofs.Machines.{machine-steady}
-use Rattle.meanings.specs.Language.{Stmt, Display, Go, StopRun, Paragraph, Program, Item, Do, SentenceEnd}
+use Rattle.meanings.specs.Language.{Stmt, Display, Go, StopRun, Other, Paragraph, Program, Item, Do, SentenceEnd}
 use Rattle.meanings.specs.World.{Event, Trace, Overlap, Faulted, Standing, displayed}
 use Rattle.meanings.specs.World as outside
 use Rattle.meanings.specs.Source.{Pending, SourceState, ends_at, comes_to, stmt_step, falls, end_step, rest_step, step_by, source_machine}
@@ -22,6 +22,7 @@ module _ (p : Program) (state : SourceState) where
   stmt-shows rest (Display items advance) = (outside.Display (displayed items advance) ∷ [], refl)
   stmt-shows rest (Go to) = begins-itself state.run.trace
   stmt-shows rest StopRun = begins-itself state.run.trace
+  stmt-shows rest Other = begins-itself state.run.trace
 
   falls-shows : (next : Option Paragraph) → ShowsMore (falls p state next)
   falls-shows None = begins-itself state.run.trace

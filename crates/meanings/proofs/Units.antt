@@ -3,7 +3,7 @@ use Rattle.std.proofs.Common.{◌≡◌, ℕ, zero, suc, ◌+◌, ◌-◌, ◌�
 use Rattle.runs.specs.Run.{Going, Over, Begins, Covers}
 use Rattle.runs.specs.Tied.{Meaning, Steady}
 use Rattle.runs.proofs.Ties.{covers-refl, covers-trans, covers-is}
-use Rattle.meanings.specs.Language.{Stmt, Display, Go, StopRun, Sentence, Paragraph, Program, paragraph_at}
+use Rattle.meanings.specs.Language.{Stmt, Display, Go, StopRun, Other, Sentence, Paragraph, Program, paragraph_at}
 use Rattle.meanings.specs.World.{World, Normally, Stopped, Trace, displayed}
 use Rattle.meanings.specs.World as outside
 use Rattle.meanings.specs.Structural.{Outcome, Went, Stands, Does, nothing, behind, then_do, unit_of, stmt_does, sentence_does, paragraph_does, run_of, structural}
@@ -91,6 +91,7 @@ stmt-grows (Display items advance) =
 stmt-grows (Go to) = record { bound = λ world n. tt; more = λ world n. ([], refl) }
 stmt-grows StopRun =
     unit_of-grows (λ world units. Stands [] (Over (Stopped Normally world.files))) (record { bound = λ world n. tt; more = λ world n. refl })
+stmt-grows Other = unit_of-grows nothing nothing-grows
 
 pub sentence-grows : (stmts : Sentence) → GrowsInUnits (sentence_does stmts)
 sentence-grows [] = nothing-grows

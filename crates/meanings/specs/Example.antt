@@ -2,7 +2,7 @@
 use Rattle.std.specs.Prelude.{ℕ, ◌≡◌, refl, List, [], ◌∷◌, true}
 use Rattle.runs.specs.Run.{Going, Over}
 use Rattle.runs.specs.Machine.{meaning}
-use Rattle.cob_tree.specs.declared.stmt.Operand.TheVariants.{Text}
+use Rattle.cob_tree.specs.declared.place.Operand.TheVariants.{Text}
 use Rattle.meanings.specs.Language.{Stmt, Display, Go, StopRun, Program}
 use Rattle.meanings.specs.World.{World, Event, Normally, Stopped, Run}
 use Rattle.meanings.specs.World as outside

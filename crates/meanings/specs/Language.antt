@@ -1,16 +1,18 @@
 -- The language as its meanings see it: paragraphs of sentences of statements.
 use Rattle.std.specs.Prelude.{ℕ, Bool, List, [], ◌∷◌, map, Option, Some, None, slice_get}
-use Rattle.cob_tree.specs.declared.stmt.Operand.{Operand}
+use Rattle.cob_tree.specs.declared.place.Operand.{Operand}
 use Rattle.cob_tree.specs.declared.stmt.Stmt as tree_stmt
 use Rattle.cob_tree.specs.declared.stmt.Stmt.TheVariants as tree_stmts
 use Rattle.cob_tree.specs.declared.program.Sentence as tree_sentence
 use Rattle.cob_tree.specs.declared.program.Paragraph as tree_paragraph
 use Rattle.cob_tree.specs.declared.program.Program as tree_program
 
+-- a statement of the plain form, or another one
 pub data Stmt : Type 0 where
   Display : (items : List Operand) → (advance : Bool) → Stmt
   Go : (to : ℕ) → Stmt
   StopRun : Stmt
+  Other : Stmt
 
 abbrev pub Sentence : Type 0
 Sentence = List Stmt
@@ -50,6 +52,7 @@ abbrev pub seen_stmt : tree_stmt.Stmt → Stmt
 seen_stmt (tree_stmts.Display items advance) = Display items advance
 seen_stmt (tree_stmts.Go to) = Go to
 seen_stmt tree_stmts.StopRun = StopRun
+seen_stmt _ = Other
 
 abbrev pub seen_sentence : tree_sentence.Sentence → Sentence
 seen_sentence sentence = map seen_stmt sentence.stmts

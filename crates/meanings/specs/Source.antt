@@ -3,7 +3,7 @@ use Rattle.std.specs.Prelude.{ℕ, suc, Bool, true, false, if◌then◌else◌, 
 use Rattle.runs.specs.Run.{Going, Over}
 use Rattle.runs.specs.Machine.{Machine, meaning}
 use Rattle.cob_tree.specs.declared.program.Program as tree
-use Rattle.meanings.specs.Language.{Stmt, Display, Go, StopRun, Paragraph, Program, Item, Do, SentenceEnd, items_of, paragraph_at, seen}
+use Rattle.meanings.specs.Language.{Stmt, Display, Go, StopRun, Other, Paragraph, Program, Item, Do, SentenceEnd, items_of, paragraph_at, seen}
 use Rattle.meanings.specs.World.{World, Event, How, Normally, FlowFault, Overlap, Ending, Stopped, Faulted, Run, Standing, displayed}
 use Rattle.meanings.specs.World as outside
 
@@ -41,11 +41,12 @@ stops how state = comes_to (Stopped how state.world.files) state
 abbrev pub goes_to : Program → ℕ → SourceState → SourceState
 goes_to program number state = record state { paragraph = number; rest = rest_of program number }
 
--- a statement at the head of the rest
+-- a statement at the head of the rest; one that isn't of the plain form has no meaning yet, and is dropped
 abbrev pub stmt_step : Program → SourceState → List Item → Stmt → SourceState
 stmt_step program state rest (Display items advance) = shows (displayed items advance) (record state { rest = rest })
 stmt_step program state rest (Go to) = goes_to program to state
 stmt_step program state rest StopRun = stops Normally state
+stmt_step program state rest Other = record state { rest = rest }
 
 -- on to the next paragraph; past the last one the run stops
 abbrev pub falls : Program → SourceState → Option Paragraph → SourceState

@@ -2,7 +2,7 @@
 use Rattle.std.specs.Prelude.{ℕ, zero, suc, List, [], ◌∷◌, ◌++◌, map}
 use Rattle.runs.specs.Run.{Going, Over}
 use Rattle.cob_tree.specs.declared.program.Program as tree
-use Rattle.meanings.specs.Language.{Stmt, Display, Go, StopRun, Sentence, Paragraph, Program, paragraph_at, seen}
+use Rattle.meanings.specs.Language.{Stmt, Display, Go, StopRun, Other, Sentence, Paragraph, Program, paragraph_at, seen}
 use Rattle.meanings.specs.World.{World, Event, Normally, Stopped, Run, Standing, Trace, displayed}
 use Rattle.meanings.specs.World as outside
 
@@ -37,11 +37,12 @@ abbrev pub unit_of : Does → Does
 unit_of does world zero = Stands [] Going
 unit_of does world (suc units) = does world units
 
--- each statement that is begun takes one unit; a jump has no meaning here, and structured programs have none
+-- each statement that is begun takes one unit; a jump has no meaning here, and structured programs have none; one that isn't of the plain form does nothing yet
 abbrev pub stmt_does : Stmt → Does
 stmt_does (Display items advance) = unit_of (λ world units. Went (outside.Display (displayed items advance) ∷ []) world units)
 stmt_does (Go to) = λ world units. Stands [] Going
 stmt_does StopRun = unit_of (λ world units. Stands [] (Over (Stopped Normally world.files)))
+stmt_does Other = unit_of nothing
 
 abbrev pub sentence_does : Sentence → Does
 sentence_does sentence = all (map stmt_does sentence)

@@ -1,8 +1,8 @@
 -- What is outside of a run, and what a run does to it.
 use Rattle.std.specs.Prelude.{ℕ, Bool, if◌then◌else◌, List, [], ◌∷◌, ◌++◌}
 use Rattle.std.specs.List.{flat_map}
-use Rattle.cob_tree.specs.declared.stmt.Operand.{Operand}
-use Rattle.cob_tree.specs.declared.stmt.Operand.TheVariants.{Text}
+use Rattle.cob_tree.specs.declared.place.Operand.{Operand}
+use Rattle.cob_tree.specs.declared.place.Operand.TheVariants.{Text}
 use Rattle.runs.specs.Run as runs
 
 -- a file, by its name and its bytes
@@ -41,9 +41,10 @@ Standing = runs.Standing Ending
 abbrev pub Trace : Type 0
 Trace = List Event
 
--- the bytes of an operand
+-- the bytes of an operand; the plain form has literals alone
 abbrev pub operand_bytes : Operand → List ℕ
 operand_bytes (Text bytes) = bytes
+operand_bytes _ = []
 
 -- DISPLAY shows its operands one behind the other, and a line feed unless NO ADVANCING
 abbrev pub displayed : List Operand → Bool → List ℕ

@@ -27,6 +27,7 @@ events-append [] others = refl
 events-append (Display items advance ∷ stmts) others = ap (λ t. outside.Display (displayed items advance) ∷ t) (events-append stmts others)
 events-append (Go to ∷ stmts) others = events-append stmts others
 events-append (StopRun ∷ stmts) others = events-append stmts others
+events-append (other ∷ stmts) others = events-append stmts others
 
 module _ (program : tree.Program) where
   -- from the paragraph where control comes to, the source comes to this run; it stopped where there is none

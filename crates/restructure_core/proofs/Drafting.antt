@@ -1,13 +1,13 @@
 -- A plain program is spelled as its draft is, and is its draft's only program.
-use Rattle.std.proofs.Common.{◌≡◌, ◌≢◌, ℕ, ◌<◌, Bool, true, false, List, [], ◌∷◌, ◌++◌, length, map, Option, Some, None, refl, ap, sym, ◌∙◌, subst, arith, append-nil}
+use Rattle.std.proofs.Common.{◌≡◌, ◌≢◌, ℕ, ◌<◌, Bool, true, List, [], ◌∷◌, ◌++◌, length, map, Option, Some, None, refl, ap, sym, ◌∙◌, subst, arith, append-nil}
 use Rattle.std.specs.Prelude.{All, AllPairs, codes, unwrap_or}
 use Rattle.std.specs.List.{flat_map}
 use Rattle.std.proofs.Common.{get_or, inl, inr}
 use Rattle.std.proofs.lemmas.List.{length-map}
 use Rattle.std.proofs.lemmas.Option.{unwrap_or-slice_get}
 use Rattle.std.proofs.lemmas.List.Elements.{All-head, All-tail, All-map, All-weaker}
-use Rattle.cob_tree.specs.declared.stmt.Operand.{Operand}
-use Rattle.cob_tree.specs.declared.stmt.Operand.TheVariants.{Text}
+use Rattle.cob_tree.specs.declared.place.Operand.{Operand}
+use Rattle.cob_tree.specs.declared.place.Operand.TheVariants.{Text}
 use Rattle.cob_tree.specs.declared.stmt.Stmt.{Stmt}
 use Rattle.cob_tree.specs.declared.stmt.Stmt.TheVariants as tree
 use Rattle.cob_tree.specs.declared.program.Sentence.{Sentence}
@@ -26,13 +26,11 @@ use Rattle.restructure_core.proofs.Paragraphs.{draft-same}
 -- what is plain of one statement is so spelled
 
 stmt-drafted : (names : List (List ℕ)) (count : ℕ) (stmt : Stmt) → IsPlainStmt count stmt → draft_stmt_text (draft_stmt names stmt) ≡ stmt_text names stmt
-stmt-drafted names count (tree.Display [] advance) h = absurd h
 stmt-drafted names count (tree.Display (Text bytes ∷ []) true) h =
     ap (λ t. codes "DISPLAY \"" ++ t) (sym (append-nil (bytes ++ 34 ∷ [])) ∙ sym (append-nil ((bytes ++ 34 ∷ []) ++ [])))
-stmt-drafted names count (tree.Display (Text bytes ∷ []) false) h = absurd h
-stmt-drafted names count (tree.Display (first ∷ second ∷ others) advance) h = absurd h
 stmt-drafted names count (tree.Go to) h = refl
 stmt-drafted names count tree.StopRun h = refl
+stmt-drafted names count other h = absurd h
 
 sentence-drafted : (names : List (List ℕ)) (count : ℕ) (sentence : Sentence) → IsPlainSentence count sentence → draft_stmt_printed (draft_sentence names sentence.stmts) ≡ sentence_printed names sentence
 sentence-drafted names count sentence h =
@@ -59,12 +57,10 @@ draft-printed program h = ap (λ t. headers program.name ++ t) (paragraphs-draft
 -- the draft of a plain program is spelled as the plain form is
 
 stmt-plain : (names : List (List ℕ)) (stmt : Stmt) → All IsCapitalWord names → IsPlainStmt (length names) stmt → IsDraftStmt (draft_stmt names stmt)
-stmt-plain names (tree.Display [] advance) words h = absurd h
 stmt-plain names (tree.Display (Text bytes ∷ []) true) words h = h
-stmt-plain names (tree.Display (Text bytes ∷ []) false) words h = absurd h
-stmt-plain names (tree.Display (first ∷ second ∷ others) advance) words h = absurd h
 stmt-plain names (tree.Go to) words h = subst IsCapitalWord (sym (unwrap_or-slice_get names to [])) (words to [] h)
 stmt-plain names tree.StopRun words h = tt
+stmt-plain names other words h = absurd h
 
 sentence-plain : (names : List (List ℕ)) (sentence : Sentence) → All IsCapitalWord names → IsPlainSentence (length names) sentence → IsDraftStmt (draft_sentence names sentence.stmts)
 sentence-plain names sentence words h = subst (λ ss. IsDraftStmt (draft_sentence names ss)) (sym h.1) (stmt-plain names h.0 words h.2)
@@ -108,10 +104,8 @@ name-one names i j apart li lj e =
 
 -- what a plain DISPLAY shows
 display-is : (count : ℕ) (items : List Operand) (advance : Bool) → IsPlainStmt count (tree.Display items advance) → (bytes : List ℕ) × (items ≡ Text bytes ∷ []) × (advance ≡ true)
-display-is count [] advance h = absurd h
 display-is count (Text bytes ∷ []) true h = (bytes, refl, refl)
-display-is count (Text bytes ∷ []) false h = absurd h
-display-is count (first ∷ second ∷ others) advance h = absurd h
+display-is count others advance h = absurd h
 
 display-drafted : (names : List (List ℕ)) (count : ℕ) (items : List Operand) (advance : Bool) (h : IsPlainStmt count (tree.Display items advance)) → draft_stmt names (tree.Display items advance) ≡ Display (display-is count items advance h).0
 display-drafted names count items advance h = ap (λ is. draft_stmt names (tree.Display is advance)) (display-is count items advance h).1
@@ -129,12 +123,16 @@ stmt-one names (tree.Display is x) (tree.Display js y) apart h g e =
     display-whole (length names) is x h ∙ ap (λ t. tree.Display (Text t ∷ []) true) same ∙ sym (display-whole (length names) js y g)
 stmt-one names (tree.Display is x) (tree.Go to) apart h g e = let no_jump : Display (display-is (length names) is x h).0 ≡ Go (name_at names to) = sym (display-drafted names (length names) is x h) ∙ e in absurd cc
 stmt-one names (tree.Display is x) tree.StopRun apart h g e = let no_stop : Display (display-is (length names) is x h).0 ≡ StopRun = sym (display-drafted names (length names) is x h) ∙ e in absurd cc
+stmt-one names (tree.Display is x) other apart h g e = absurd g
 stmt-one names (tree.Go to) (tree.Display js y) apart h g e = let no_jump : Go (name_at names to) ≡ Display (display-is (length names) js y g).0 = e ∙ display-drafted names (length names) js y g in absurd cc
 stmt-one names (tree.Go i) (tree.Go j) apart h g e = let same : name_at names i ≡ name_at names j = cc in ap tree.Go (name-one names i j apart h g same)
 stmt-one names (tree.Go to) tree.StopRun apart h g e = absurd cc
+stmt-one names (tree.Go to) other apart h g e = absurd g
 stmt-one names tree.StopRun (tree.Display js y) apart h g e = let no_stop : StopRun ≡ Display (display-is (length names) js y g).0 = e ∙ display-drafted names (length names) js y g in absurd cc
 stmt-one names tree.StopRun (tree.Go to) apart h g e = absurd cc
 stmt-one names tree.StopRun tree.StopRun apart h g e = refl
+stmt-one names tree.StopRun other apart h g e = absurd g
+stmt-one names other another apart h g e = absurd h
 
 sentence-one : (names : List (List ℕ)) (a b : Sentence) → AllPairs (λ x y. x ≢ y) names → IsPlainSentence (length names) a → IsPlainSentence (length names) b → draft_sentence names a.stmts ≡ draft_sentence names b.stmts → a ≡ b
 sentence-one names a b apart h g e =
@@ -181,6 +179,15 @@ drafted-names : (names : List (List ℕ)) (paragraphs : List Paragraph) → map 
 drafted-names names [] = refl
 drafted-names names (p ∷ ps) = ap (λ ns. name_of p ∷ ns) (drafted-names names ps)
 
+-- a program without files and data
+abbrev bare : List ℕ → List Paragraph → Program
+bare name paragraphs = record { name = name; files = []; entries = []; paragraphs = paragraphs }
+
+dataless : (p : Program) → IsPlain p → p ≡ bare p.name p.paragraphs
+dataless p h =
+    ap (λ files. record { name = p.name; files = files; entries = p.entries; paragraphs = p.paragraphs }) h.fileless
+    ∙ ap (λ entries. record { name = p.name; files = []; entries = entries; paragraphs = p.paragraphs }) h.dataless
+
 pub draft-one : (p q : Program) → IsPlain p → IsPlain q → draft_of p ≡ draft_of q → p ≡ q
 draft-one p q h g e =
     let names : paragraph_names p ≡ paragraph_names q =
@@ -189,10 +196,10 @@ draft-one p q h g e =
     let count' : length q.paragraphs ≡ length (paragraph_names p) = sym (names-count q) ∙ ap length (sym names) in
     let drafts : map (draft_paragraph (paragraph_names p)) p.paragraphs ≡ map (draft_paragraph (paragraph_names p)) q.paragraphs =
     ap (λ (d : Draft). d.paragraphs) e ∙ ap (λ ns. map (draft_paragraph ns) q.paragraphs) (sym names) in
-    let made : List ℕ → List Paragraph → Program = λ name ps. record { name = name; paragraphs = ps } in
-    ap (λ n. made n p.paragraphs) (ap (λ (d : Draft). d.name) e)
-    ∙ ap (made q.name) (paragraphs-one (paragraph_names p) p.paragraphs q.paragraphs h.distinct
+    dataless p h ∙ ap (λ n. bare n p.paragraphs) (ap (λ (d : Draft). d.name) e)
+    ∙ ap (bare q.name) (paragraphs-one (paragraph_names p) p.paragraphs q.paragraphs h.distinct
     (subst (λ n. All (IsPlainParagraph n) p.paragraphs) count h.plain) (subst (λ n. All (IsPlainParagraph n) q.paragraphs) count' g.plain) drafts)
+    ∙ sym (dataless q g)
 
 pub reads-one : (bytes : List ℕ) (p q : Program) → Reads bytes p → Reads bytes q → p ≡ q
 reads-one bytes p q h g =

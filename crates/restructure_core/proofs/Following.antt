@@ -23,6 +23,7 @@ jumps_inside : (count : ℕ) (stmt : Stmt) (others : List Stmt) (to : ℕ) → I
 jumps_inside count (Display items advance) others to p h e = h e
 jumps_inside count (Go t) others to p h e = let same : t ≡ to = cc in omega (arith, same, p)
 jumps_inside count StopRun others to p h e = absurd (cc)
+jumps_inside count other others to p h e = h e
 
 sentences_inside : (count : ℕ) (sentences : List Sentence) (to : ℕ) → All (IsPlainSentence count) sentences → leaving (stmts_in sentences) ≡ Jumps to → to < count
 sentences_inside count [] to p e = absurd (cc)

@@ -2,7 +2,7 @@
 use Rattle.std.proofs.Common.{◌≡◌, suc, List, [], ◌∷◌, ◌++◌, length, map, Some, refl, ap}
 use Rattle.runs.specs.Run.{Over}
 use Rattle.cob_tree.specs.declared.stmt.Stmt.{Stmt}
-use Rattle.cob_tree.specs.declared.stmt.Stmt.TheVariants.{Display, Go, StopRun}
+use Rattle.cob_tree.specs.declared.stmt.Stmt.TheVariants.{Display, StopRun}
 use Rattle.cob_tree.specs.declared.program.Program.{Program}
 use Rattle.meanings.specs.Language.{seen_stmt}
 use Rattle.meanings.specs.World.{World, Normally, Stopped, displayed}
@@ -17,8 +17,7 @@ use Rattle.restructure_core.proofs.Walked.{events}
 does-displays : (stmts : List Stmt) (world : World) → AreDisplays stmts → sentence_does (map seen_stmt (stmts ++ StopRun ∷ [])) world (suc (length stmts)) ≡ Stands (events stmts) (Over (Stopped Normally world.files))
 does-displays [] world h = refl
 does-displays (Display items advance ∷ stmts) world h = ap (behind (outside.Display (displayed items advance) ∷ [])) (does-displays stmts world h)
-does-displays (Go to ∷ stmts) world h = absurd h
-does-displays (StopRun ∷ stmts) world h = absurd h
+does-displays (other ∷ stmts) world h = absurd h
 
 -- the displays on the way of control
 abbrev pub shown : Program → List Stmt

@@ -25,6 +25,7 @@ stmt-below : (count : ℕ) (stmt : Stmt) (stmts : List Stmt) → IsPlainStmt cou
 stmt-below count (Display items advance) stmts plain h = h
 stmt-below count (Go to) stmts plain h = plain
 stmt-below count StopRun stmts plain h = tt
+stmt-below count other stmts plain h = h
 
 sentences-below : (count : ℕ) (sentences : List Sentence) → All (IsPlainSentence count) sentences → JumpsBelow count (leaving (flat_map (λ sentence. sentence.stmts) sentences))
 sentences-below count [] plain = tt

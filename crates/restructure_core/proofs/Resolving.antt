@@ -6,7 +6,9 @@ use Rattle.std.proofs.lemmas.List.{take_more, get_or-map, map_push, length-map}
 use Rattle.std.proofs.lemmas.List.Elements.{All-push}
 use Rattle.std.proofs.lemmas.Option.{unwrap_or-slice_get}
 use Rattle.cob_base.specs.Spelling.{IsCapitalWord}
-use Rattle.cob_tree.specs.declared.stmt.Operand.TheVariants.{Text}
+use Rattle.cob_tree.specs.declared.place.Operand.TheVariants.{Text}
+use Rattle.cob_tree.specs.declared.entry.Entry.{Entry}
+use Rattle.cob_tree.specs.declared.file.FileEntry.{FileEntry}
 use Rattle.cob_tree.specs.declared.stmt.Stmt.{Stmt}
 use Rattle.cob_tree.specs.declared.stmt.Stmt.TheVariants as tree
 use Rattle.cob_tree.specs.declared.program.Sentence.{Sentence}
@@ -23,12 +25,12 @@ use Rattle.restructure_core.proofs.Naming.{missing, names_in}
 
 -- no plain statement goes to a name that was looked up in vain
 pub unknown : (names : List (List ℕ)) (name : List ℕ) (stmt : Stmt) → position (bytes_eq name) names ≡ None → IsPlainStmt (length names) stmt → draft_stmt names stmt ≡ Go name → ⊥
-unknown names name (tree.Display [] advance) e p d = p
-unknown names name (tree.Display (Text bytes ∷ others) advance) e p d = cc
+unknown names name (tree.Display (Text bytes ∷ []) true) e p d = cc
 unknown names name (tree.Go to) e p d =
     let same : name_at names to ≡ name = cc in
     missing names name to [] e p (sym (unwrap_or-slice_get names to []) ∙ same)
 unknown names name tree.StopRun e p d = cc
+unknown names name other e p d = p
 
 abbrev sentence_drafts : List (List ℕ) → List Sentence → List DraftStmt
 sentence_drafts names sentences = map (λ sentence. draft_sentence names sentence.stmts) sentences
@@ -132,8 +134,8 @@ paragraph_more names drafts paragraphs more i draft paragraph l s d e h =
           subst P (sym e) (All-push (IsPlainParagraph (length names)) paragraphs paragraph h.plain d.1);
     }
 
-pub program_made : (draft : Draft) (drafts : List DraftParagraph) (names : List (List ℕ)) (paragraphs : List Paragraph) → drafts ≡ draft.paragraphs → names ≡ names_in drafts → AreResolved names drafts paragraphs → IsCapitalWord draft.name → Any IsLetter draft.name → 0 < length drafts → AllPairs (λ a b. a ≢ b) (names_in drafts) → (draft_of (record { name = draft.name; paragraphs = paragraphs }) ≡ draft) × IsPlain (record { name = draft.name; paragraphs = paragraphs })
-program_made draft drafts names paragraphs read n h named lettered some apart =
+pub program_made : (draft : Draft) (drafts : List DraftParagraph) (names : List (List ℕ)) (files : List FileEntry) (entries : List Entry) (paragraphs : List Paragraph) → files ≡ [] → entries ≡ [] → drafts ≡ draft.paragraphs → names ≡ names_in drafts → AreResolved names drafts paragraphs → IsCapitalWord draft.name → Any IsLetter draft.name → 0 < length drafts → AllPairs (λ a b. a ≢ b) (names_in drafts) → (draft_of (record { name = draft.name; files = files; entries = entries; paragraphs = paragraphs }) ≡ draft) × IsPlain (record { name = draft.name; files = files; entries = entries; paragraphs = paragraphs })
+program_made draft drafts names files entries paragraphs no_file no_entry read n h named lettered some apart =
     let same : map name_of paragraphs ≡ names = sym (names_drafted names paragraphs) ∙ ap names_in h.drafted ∙ sym n in
     let count : length names ≡ length paragraphs = sym (ap length same) ∙ length-map paragraphs name_of in
     let whole : List DraftParagraph → Draft = λ ps. record { name = draft.name; paragraphs = ps } in
@@ -143,6 +145,8 @@ program_made draft drafts names paragraphs read n h named lettered some apart =
       record {
         named = named;
         lettered = lettered;
+        fileless = no_file;
+        dataless = no_entry;
         some = omega (arith, some, ap length h.drafted, length-map paragraphs (draft_paragraph names));
         plain = subst Q count h.plain;
         distinct = subst R (sym (same ∙ n)) apart;

@@ -15,8 +15,7 @@ use Rattle.restructure_core.specs.Rendered.{displays, displays_from, first_name,
 abbrev pub AreDisplays : List Stmt → Type 0
 AreDisplays [] = Unit {0}
 AreDisplays (Display items advance ∷ stmts) = AreDisplays stmts
-AreDisplays (Go to ∷ stmts) = ⊥
-AreDisplays (StopRun ∷ stmts) = ⊥
+AreDisplays (other ∷ stmts) = ⊥
 
 -- the displays before control leaves, and others
 displays-are : (stmts others : List Stmt) → AreDisplays others → AreDisplays (displays stmts ++ others)
@@ -24,6 +23,7 @@ displays-are [] others h = h
 displays-are (Display items advance ∷ stmts) others h = displays-are stmts others h
 displays-are (Go to ∷ stmts) others h = h
 displays-are (StopRun ∷ stmts) others h = h
+displays-are (other ∷ stmts) others h = displays-are stmts others h
 
 pub displays_from-are : (program : Program) (n : ℕ) (at : Option ℕ) → AreDisplays (displays_from program n at)
 displays_from-are program zero at = tt
@@ -35,13 +35,10 @@ displays_from-are program (suc n) (Some number) =
 jumpless : (stmts : List Stmt) → AreDisplays stmts → All IsNoJump (stmts ++ StopRun ∷ [])
 jumpless [] h = All-cons IsNoJump StopRun [] tt (All-nil IsNoJump)
 jumpless (Display items advance ∷ stmts) h = All-cons IsNoJump (Display items advance) (stmts ++ StopRun ∷ []) tt (jumpless stmts h)
-jumpless (Go to ∷ stmts) h = absurd h
-jumpless (StopRun ∷ stmts) h = absurd h
+jumpless (other ∷ stmts) h = absurd h
 
 performs-nothing : (to : ℕ) (stmt : Stmt) → Performs to stmt → ⊥
-performs-nothing to (Display items advance) h = h
-performs-nothing to (Go target) h = h
-performs-nothing to StopRun h = h
+performs-nothing to stmt h = h
 
 name-some : (name : Option (List ℕ)) → IsPlainName name → IsSome name
 name-some None h = absurd h

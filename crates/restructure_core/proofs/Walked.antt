@@ -4,7 +4,7 @@ use Rattle.std.specs.List.{flat_map}
 use Rattle.cob_tree.specs.declared.stmt.Stmt.{Stmt}
 use Rattle.cob_tree.specs.declared.stmt.Stmt.TheVariants.{Display, Go, StopRun}
 use Rattle.cob_tree.specs.declared.program.Sentence.{Sentence}
-use Rattle.meanings.specs.Language.{Program, Item, Do, SentenceEnd, before, items_of, seen_stmt, seen_sentence}
+use Rattle.meanings.specs.Language.{Program, Other, Item, Do, SentenceEnd, before, items_of, seen_stmt, seen_sentence}
 use Rattle.meanings.specs.Laws.{RunsTo}
 use Rattle.meanings.specs.World.{World, Event, Trace, Run, displayed}
 use Rattle.meanings.specs.World as outside
@@ -19,6 +19,7 @@ events [] = []
 events (Display items advance ∷ stmts) = outside.Display (displayed items advance) ∷ events stmts
 events (Go to ∷ stmts) = events stmts
 events (StopRun ∷ stmts) = events stmts
+events (other ∷ stmts) = events stmts
 
 module _ (p : Program) (here : ℕ) where
   -- from where control comes to, the source comes to this run
@@ -74,6 +75,13 @@ module _ (p : Program) (here : ℕ) where
         let start = going_at here (Do (seen_stmt StopRun) ∷ items) world trace in
         runs-more p 1 (1 + most) start run (omega arith)
         (runs-step p 0 start run (runs-itself p _ run (sym (h ∙ ap (stopped world) (append-nil trace)))));
+  }
+  walks-stmt other items stmts behind = record {
+    steps = suc behind.steps;
+    walked = λ most world trace run h.
+        let start = going_at here (Do Other ∷ items) world trace in
+        runs-more p (suc (behind.steps + most)) (suc behind.steps + most) start run (omega arith)
+        (runs-step p (behind.steps + most) start run (behind.walked most world trace run h));
   }
 
   walks-stmts : (stmts : List Stmt) (items : List Item) (others : List Stmt) → Walks items others → Walks (before (map seen_stmt stmts) items) (stmts ++ others)

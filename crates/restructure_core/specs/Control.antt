@@ -17,6 +17,7 @@ leaving [] = Falls
 leaving (Display items advance ∷ stmts) = leaving stmts
 leaving (Go to ∷ stmts) = Jumps to
 leaving (StopRun ∷ stmts) = Stops
+leaving (other ∷ stmts) = leaving stmts
 
 abbrev pub stmts_unless_absent : Option Paragraph → List Stmt
 stmts_unless_absent None = []

@@ -2,7 +2,7 @@
 use Rattle.std.specs.Prelude.{ℕ, ◌<◌, List, [], ◌∷◌, ◌++◌, length, map, All, codes}
 use Rattle.std.specs.List.{flat_map}
 use Rattle.cob_base.specs.Spelling.{IsCapitalWord}
-use Rattle.cob_tree.specs.declared.stmt.Operand.TheVariants.{Text}
+use Rattle.cob_tree.specs.declared.place.Operand.TheVariants.{Text}
 use Rattle.cob_tree.specs.declared.stmt.Stmt.{Stmt}
 use Rattle.cob_tree.specs.declared.stmt.Stmt.TheVariants as tree
 use Rattle.cob_tree.specs.declared.program.Paragraph.{Paragraph}
@@ -44,13 +44,12 @@ pub record IsDraft (draft : Draft) : Type 0 where
   pub named : IsCapitalWord draft.name
   pub plain : All IsDraftParagraph draft.paragraphs
 
--- The draft of a plain program.
+-- The draft of a plain program; what isn't of the plain form has no draft, and STOP RUN stands for it.
 
 abbrev pub draft_stmt : List (List ℕ) → Stmt → DraftStmt
-draft_stmt names (tree.Display [] advance) = StopRun
 draft_stmt names (tree.Display (Text bytes ∷ others) advance) = Display bytes
 draft_stmt names (tree.Go to) = Go (name_at names to)
-draft_stmt names tree.StopRun = StopRun
+draft_stmt names _ = StopRun
 
 -- a sentence of the plain form has one statement
 abbrev pub draft_sentence : List (List ℕ) → List Stmt → DraftStmt

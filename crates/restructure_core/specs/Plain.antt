@@ -1,7 +1,7 @@
 -- The plain form: what is read so far.
-use Rattle.std.specs.Prelude.{ℕ, ◌≡◌, ◌≢◌, ◌<◌, ◌≤◌, true, false, Any, List, [], ◌∷◌, length, All, AllPairs, Option, Some, None}
+use Rattle.std.specs.Prelude.{ℕ, ◌≡◌, ◌≢◌, ◌<◌, ◌≤◌, true, Any, List, [], ◌∷◌, length, All, AllPairs, Option, Some, None}
 use Rattle.cob_base.specs.Spelling.{IsCapitalWord}
-use Rattle.cob_tree.specs.declared.stmt.Operand.TheVariants.{Text}
+use Rattle.cob_tree.specs.declared.place.Operand.TheVariants.{Text}
 use Rattle.cob_tree.specs.declared.stmt.Stmt.{Stmt}
 use Rattle.cob_tree.specs.declared.stmt.Stmt.TheVariants.{Display, Go, StopRun}
 use Rattle.cob_tree.specs.declared.program.Sentence.{Sentence}
@@ -23,12 +23,10 @@ pub record IsPlainText (bytes : List ℕ) : Type 0 where
 
 -- DISPLAY of one literal, GO TO one of the paragraphs, of which there are this many, or STOP RUN
 abbrev pub IsPlainStmt : ℕ → Stmt → Type 0
-IsPlainStmt count (Display [] advance) = ⊥
 IsPlainStmt count (Display (Text bytes ∷ []) true) = IsPlainText bytes
-IsPlainStmt count (Display (Text bytes ∷ []) false) = ⊥
-IsPlainStmt count (Display (first ∷ second ∷ others) advance) = ⊥
 IsPlainStmt count (Go to) = to < count
 IsPlainStmt count StopRun = Unit {0}
+IsPlainStmt count _ = ⊥
 
 -- of one statement
 abbrev pub IsPlainSentence : ℕ → Sentence → Type 0
@@ -49,10 +47,12 @@ pub record IsPlainParagraph (count : ℕ) (paragraph : Paragraph) : Type 0 where
 abbrev pub IsLetter : ℕ → Type 0
 IsLetter byte = (65 ≤ byte) × (byte ≤ 90)
 
--- a name with a letter, and one or more paragraphs, none of which has another's name
+-- a name with a letter, no files and no data, and one or more paragraphs, none of which has another's name
 pub record IsPlain (program : Program) : Type 0 where
   pub named : IsCapitalWord program.name
   pub lettered : Any IsLetter program.name
+  pub fileless : program.files ≡ []
+  pub dataless : program.entries ≡ []
   pub some : 0 < length program.paragraphs
   pub plain : All (IsPlainParagraph (length program.paragraphs)) program.paragraphs
   pub distinct : AllPairs (λ a b. a ≢ b) (paragraph_names program)

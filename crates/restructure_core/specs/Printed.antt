@@ -1,8 +1,8 @@
 -- How a program is printed: lines of seven spaces, a text and a line feed.
 use Rattle.std.specs.Prelude.{ℕ, if◌then◌else◌, List, [], ◌∷◌, ◌++◌, map, codes, replicate, slice_get, unwrap_or}
 use Rattle.std.specs.List.{flat_map}
-use Rattle.cob_tree.specs.declared.stmt.Operand.{Operand}
-use Rattle.cob_tree.specs.declared.stmt.Operand.TheVariants.{Text}
+use Rattle.cob_tree.specs.declared.place.Operand.{Operand}
+use Rattle.cob_tree.specs.declared.place.Operand.TheVariants.{Text}
 use Rattle.cob_tree.specs.declared.stmt.Stmt.{Stmt}
 use Rattle.cob_tree.specs.declared.stmt.Stmt.TheVariants.{Display, Go, StopRun}
 use Rattle.cob_tree.specs.declared.program.Sentence.{Sentence}
@@ -26,15 +26,17 @@ paragraph_names program = map name_of program.paragraphs
 abbrev pub name_at : List (List ℕ) → ℕ → List ℕ
 name_at names number = unwrap_or (slice_get names number) []
 
--- a literal in quotation marks
+-- a literal in quotation marks; the plain form has no other operands
 abbrev pub operand_text : Operand → List ℕ
 operand_text (Text bytes) = 34 ∷ bytes ++ 34 ∷ []
+operand_text _ = []
 
 abbrev pub stmt_text : List (List ℕ) → Stmt → List ℕ
 stmt_text names (Display items advance) =
     codes "DISPLAY" ++ flat_map (λ item. 32 ∷ operand_text item) items ++ (if advance then [] else codes " WITH NO ADVANCING")
 stmt_text names (Go to) = codes "GO TO " ++ name_at names to
 stmt_text names StopRun = codes "STOP RUN"
+stmt_text names _ = []
 
 -- each statement on a line, four columns in, and a period behind the last
 abbrev pub stmts_printed : List (List ℕ) → List Stmt → List ℕ

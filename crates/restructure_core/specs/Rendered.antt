@@ -12,6 +12,7 @@ displays [] = []
 displays (Display items advance ∷ stmts) = Display items advance ∷ displays stmts
 displays (Go to ∷ stmts) = []
 displays (StopRun ∷ stmts) = []
+displays (other ∷ stmts) = displays stmts
 
 -- the displays of so many paragraphs on the way of control, from this one on
 abbrev pub displays_from : Program → ℕ → Option ℕ → List Stmt
@@ -27,6 +28,8 @@ first_name (Some paragraph) = paragraph.name
 abbrev pub one_paragraph : Program → List Stmt → Program
 one_paragraph program stmts = record {
   name = program.name;
+  files = [];
+  entries = [];
   paragraphs = record {
     name = first_name (slice_get program.paragraphs 0);
     section = None;

@@ -6,7 +6,7 @@ ghost use Rattle.restructure_core.specs.Plain.{IsPlain};
 ghost use Rattle.restructure_core.specs.Rendered.{displays, displays_from};
 
 use crate::fault::FollowFault;
-use cob_base::{Items, NoMemory};
+use cob_base::{Copied, Items, NoMemory};
 use cob_tree::{Program, Stmt};
 use std::alloc::Global;
 
@@ -26,7 +26,7 @@ pub fn follow(alloc: Global, program: &Program) -> Result<Items<Stmt>, FollowFau
             return Err(FollowFault::ComesBack);
         }
         seen[number] = true;
-        at = add_displays(&mut shown, program, number)?;
+        at = add_displays(alloc, &mut shown, program, number)?;
     }
     Ok(shown)
 }
@@ -40,6 +40,7 @@ fn unmarked(alloc: Global, count: usize) -> Result<Vec<bool>, NoMemory>
 
 /// Adds the displays before control leaves the paragraph with this number, and says to which one it goes.
 fn add_displays(
+    alloc: Global,
     shown: &mut Items<Stmt>,
     program: &Program,
     number: usize,
@@ -53,9 +54,10 @@ fn add_displays(
     for sentence in paragraph.sentences.as_slice() {
         for stmt in sentence.stmts.as_slice() {
             match stmt {
-                Stmt::Display { .. } => shown.push(stmt.copy()?)?,
+                Stmt::Display { .. } => shown.push(stmt.copy(alloc)?)?,
                 Stmt::Go(to) => return Ok(Some(*to as usize)),
                 Stmt::StopRun => return Ok(None),
+                _ => {}
             }
         }
     }

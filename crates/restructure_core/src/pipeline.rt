@@ -88,6 +88,8 @@ fn render(alloc: Global, program: &Program, stmts: Items<Stmt>) -> Result<Progra
     })?;
     Ok(Program {
         name: program.name,
+        files: Items::new(alloc),
+        entries: Items::new(alloc),
         paragraphs,
     })
 }

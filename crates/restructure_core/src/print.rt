@@ -68,6 +68,7 @@ fn add_stmt(text: &mut Text, program: &Program, stmt: &Stmt) -> Result<(), NoMem
             add_name_at(text, program, *to)
         }
         Stmt::StopRun => text.add(b"STOP RUN"),
+        _ => Ok(()),
     }
 }
 
@@ -94,6 +95,7 @@ fn add_operand(text: &mut Text, operand: &Operand) -> Result<(), NoMemory>
             text.add(bytes.as_slice())?;
             text.add(b"\"")
         }
+        _ => Ok(()),
     }
 }
 

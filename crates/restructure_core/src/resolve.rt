@@ -9,7 +9,7 @@ ghost use Rattle.cob_tree.specs.declared.stmt.Stmt as tree_stmt;
 
 use crate::draft::{Draft, DraftParagraph, DraftStmt};
 use crate::fault::PlainFault;
-use cob_base::{Items, Word};
+use cob_base::{Copied, Items, Word};
 use cob_tree::{Operand, Paragraph, Program, Sentence, Stmt};
 use cob_words::WordTable;
 use std::alloc::Global;
@@ -32,6 +32,8 @@ pub fn resolve(alloc: Global, draft: &Draft) -> Result<Program, PlainFault>
     }
     Ok(Program {
         name: draft.name,
+        files: Items::new(alloc),
+        entries: Items::new(alloc),
         paragraphs,
     })
 }
@@ -95,7 +97,7 @@ fn resolve_stmt(alloc: Global, names: &WordTable, draft: &DraftStmt) -> Result<S
     match draft {
         DraftStmt::Display(bytes) => {
             let mut items = Items::new(alloc);
-            items.push(Operand::Text(bytes.copy()?))?;
+            items.push(Operand::Text(bytes.copy(alloc)?))?;
             Ok(Stmt::Display {
                 items,
                 advance: true,

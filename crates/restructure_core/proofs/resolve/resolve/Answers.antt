@@ -48,6 +48,6 @@ returns-clause-found c =
     let drafts = c.as_slice-drafts.result.now in
     let past : length drafts ≤ c.loop-paragraph.paragraph-index = omega arith in
     let P : List DraftParagraph → Type 0 = λ ds. AreResolved c.in_ok-names.names ds c.loop-paragraph.paragraphs in
-    program_made c.args.draft.now drafts c.in_ok-names.names c.loop-paragraph.paragraphs c.as_slice-drafts.ensures c.in_ok-names.ensures.names
+    program_made c.args.draft.now drafts c.in_ok-names.names c.new.result c.new-2.result c.loop-paragraph.paragraphs c.new.ensures c.new-2.ensures c.as_slice-drafts.ensures c.in_ok-names.ensures.names
     (subst P (take_all c.loop-paragraph.paragraph-index drafts past) c.loop-paragraph.invariant)
     c.requires.draft.named (c.has_letter.ensures.0 c.if-not-has_letter.false) (omega (arith, eqb-false (length drafts) 0 (sym c.is_empty.ensures ∙ c.if-is_empty.false))) c.in_ok-names.ensures.apart

@@ -1,0 +1,52 @@
+//! How often a PERFORM does what it holds or names.
+
+use crate::cond::Cond;
+use crate::place::{Operand, Place};
+use cob_base::{Copied, NoMemory};
+use std::alloc::Global;
+
+/// The control of a PERFORM.
+#[derive(Debug, Drop)]
+pub enum Control {
+    /// Without TIMES, UNTIL or VARYING; an inline loop never has it.
+    Once,
+    Times(Operand),
+    /// `after` says that the test comes after each turn.
+    Until {
+        after: bool,
+        cond: Cond,
+    },
+    Varying {
+        after: bool,
+        item: Place,
+        from: Operand,
+        by: Operand,
+        cond: Cond,
+    },
+}
+
+impl Copied for Control {
+    fn copy(&self, alloc: Global) -> Result<Control, NoMemory> {
+        match self {
+            Control::Once => Ok(Control::Once),
+            Control::Times(count) => Ok(Control::Times(count.copy(alloc)?)),
+            Control::Until { after, cond } => Ok(Control::Until {
+                after: *after,
+                cond: cond.copy(alloc)?,
+            }),
+            Control::Varying {
+                after,
+                item,
+                from,
+                by,
+                cond,
+            } => Ok(Control::Varying {
+                after: *after,
+                item: item.copy(alloc)?,
+                from: from.copy(alloc)?,
+                by: by.copy(alloc)?,
+                cond: cond.copy(alloc)?,
+            }),
+        }
+    }
+}

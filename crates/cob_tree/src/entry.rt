@@ -1,0 +1,56 @@
+//! Entries of the data division.
+
+use crate::picture::{Picture, Sign};
+use crate::place::Operand;
+use cob_base::{Copied, Items, NoMemory, Word};
+use std::alloc::Global;
+
+/// A data description entry.
+#[derive(Debug, Drop)]
+pub struct Entry {
+    pub level: u8,
+    /// None for FILLER.
+    pub name: Option<Word>,
+    /// The file in whose FD it stands, by its place among the files.
+    pub file: Option<u32>,
+    /// The entry whose bytes it names again.
+    pub redefines: Option<u32>,
+    pub picture: Option<Picture>,
+    pub sign: Sign,
+    pub occurs: Option<u32>,
+    pub value: Option<Operand>,
+    /// The values of a condition name, an entry of level 88.
+    pub ranges: Items<Span>,
+}
+
+/// A value of a condition name, or all from one to another.
+#[derive(Debug, Drop)]
+pub struct Span {
+    pub from: Operand,
+    pub to: Option<Operand>,
+}
+
+impl Copied for Entry {
+    fn copy(&self, alloc: Global) -> Result<Entry, NoMemory> {
+        Ok(Entry {
+            level: self.level,
+            name: self.name,
+            file: self.file,
+            redefines: self.redefines,
+            picture: self.picture,
+            sign: self.sign,
+            occurs: self.occurs,
+            value: self.value.copy(alloc)?,
+            ranges: self.ranges.copy(alloc)?,
+        })
+    }
+}
+
+impl Copied for Span {
+    fn copy(&self, alloc: Global) -> Result<Span, NoMemory> {
+        Ok(Span {
+            from: self.from.copy(alloc)?,
+            to: self.to.copy(alloc)?,
+        })
+    }
+}

@@ -1,0 +1,83 @@
+//! What is wrong with a source, found by a part.
+
+use cob_base::{Limit, NoMemory};
+use thiserror::Error;
+
+/// A name or a clause of a data entry that is used wrongly, with its line.
+#[derive(Clone, Copy, Debug, PartialEq, Eq, Error)]
+pub enum NameFault {
+    #[error("line {0}: a name stands twice")]
+    Duplicate(u32),
+    #[error("line {0}: a name that nothing has")]
+    Unknown(u32),
+    #[error("line {0}: a name that several have")]
+    Ambiguous(u32),
+    #[error("line {0}: a level number")]
+    Level(u32),
+    #[error("line {0}: a picture")]
+    Picture(u32),
+    #[error("line {0}: REDEFINES")]
+    Redefines(u32),
+    #[error("line {0}: a value")]
+    Value(u32),
+    #[error("line {0}: a use that the item doesn't serve")]
+    Usage(u32),
+    #[error("out of memory")]
+    NoMemory,
+}
+
+/// Why no part of a program was parsed.
+#[derive(Clone, Copy, Debug, PartialEq, Eq, Error)]
+pub enum ParseFault {
+    /// The line of the first token up to which the tokens begin no program.
+    #[error("line {0}: syntax")]
+    Syntax(u32),
+    #[error("{0}")]
+    Name(NameFault),
+    #[error("past a limit: {0:?}")]
+    Limit(Limit),
+    #[error("out of memory")]
+    NoMemory,
+}
+
+/// Why a program wasn't split into its procedures.
+#[derive(Clone, Copy, Debug, PartialEq, Eq, Error)]
+pub enum SplitFault {
+    #[error("past a limit: {0:?}")]
+    Limit(Limit),
+    #[error("out of memory")]
+    NoMemory,
+}
+
+impl From<NoMemory> for NameFault {
+    ghost use Rattle.std.specs.Prelude.{◌≡◌};
+    ghost use Rattle.cob_tree.specs.declared.fault.NameFault.TheVariants.{NoMemory as Memory};
+
+    ghost from_gives = { λ _ e. e ≡ Memory };
+
+    fn from(_: NoMemory) -> NameFault {
+        NameFault::NoMemory
+    }
+}
+
+impl From<NoMemory> for ParseFault {
+    ghost use Rattle.std.specs.Prelude.{◌≡◌};
+    ghost use Rattle.cob_tree.specs.declared.fault.ParseFault.TheVariants.{NoMemory as Memory};
+
+    ghost from_gives = { λ _ e. e ≡ Memory };
+
+    fn from(_: NoMemory) -> ParseFault {
+        ParseFault::NoMemory
+    }
+}
+
+impl From<NoMemory> for SplitFault {
+    ghost use Rattle.std.specs.Prelude.{◌≡◌};
+    ghost use Rattle.cob_tree.specs.declared.fault.SplitFault.TheVariants.{NoMemory as Memory};
+
+    ghost from_gives = { λ _ e. e ≡ Memory };
+
+    fn from(_: NoMemory) -> SplitFault {
+        SplitFault::NoMemory
+    }
+}

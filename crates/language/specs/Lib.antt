@@ -1,0 +1,10 @@
+-- programs as far as control goes
+pub mod Language
+-- what is still to do at a place, and the returns that are pending
+pub mod Items
+-- a program as its control
+pub mod Control
+-- no word on an added item
+pub mod Own
+-- what control keeps of a program
+pub mod Laws
