@@ -4,6 +4,8 @@ pub mod Language
 pub mod Items
 -- a program as its control
 pub mod Control
+-- no jump, and each paragraph but the first performed from an earlier one
+pub mod Structured
 -- no word on an added item
 pub mod Own
 -- what control keeps of a program
