@@ -1,12 +1,12 @@
 -- A program of one paragraph that jumps to itself, and its plan.
 use Rattle.std.specs.Prelude.{ℕ, zero, suc, Bool, true, false, ◌==◌, ◌≡◌, List, [], ◌∷◌}
 use Rattle.runs.specs.Machine.{meaning}
-use Rattle.control.specs.Language.{Picker, Go, none, also, Program, Range, Main, Part}
+use Rattle.language.specs.Language.{Picker, Go, none, also, Program, Range, Main, Part}
 use Rattle.control.specs.Doing.{Acting, Celled, alone}
 use Rattle.control.specs.Source.{source_machine}
 use Rattle.control.specs.Graph.{Label}
 use Rattle.control.specs.Structural.{structural}
-use Rattle.agreement.specs.Structured.{IsStructured}
+use Rattle.language.specs.Structured.{IsStructured}
 use Rattle.agreement.specs.Same.{SameBehaviour}
 use Rattle.rendering.specs.Rendering.{Empty, Naming, rendered}
 use Rattle.lowering.specs.Told.{Told, IsTold, IsSource}

@@ -1,7 +1,7 @@
 -- Any parts, with the words on cells, can be had as the parts of a program: the premises on a written program can be met.
 use Rattle.std.proofs.Common.{◌≡◌, ℕ, zero, suc, ◌+◌, ◌-◌, Bool, ◌==◌, [], length, refl, ap, sym, ◌∙◌, subst, arith, inl}
 use Rattle.control.specs.Outcome.{Tried, Got, Ends}
-use Rattle.control.specs.Language.{Picker, Range, Main, Part}
+use Rattle.language.specs.Language.{Picker, Range, Main, Part}
 use Rattle.control.specs.Doing.{Acting, Celled, own_is, put, keeping, taken, is_above}
 use Rattle.rendering.specs.Rendering.{Empty, Naming}
 use Rattle.rendering.specs.Procedures.{Writable}

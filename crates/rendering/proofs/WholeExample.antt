@@ -6,7 +6,7 @@ use Rattle.runs.specs.Machine.{meaning}
 use Rattle.runs.proofs.Ties.{ended-tied, over-covers, tied-refl}
 use Rattle.runs.proofs.Machines.{machine-steady}
 use Rattle.control.specs.Outcome.{Stopped, Faulted, Normally, Run}
-use Rattle.control.specs.Language.{Picker, Range}
+use Rattle.language.specs.Language.{Picker, Range}
 use Rattle.control.specs.Doing.{alone}
 use Rattle.control.specs.Source.{source_machine}
 use Rattle.control.specs.Walk.{main_machine}

@@ -1,8 +1,8 @@
 -- A small family, and the program that is written of it.
 use Rattle.std.specs.Prelude.{ℕ, ◌≡◌, Bool, true, false, if◌then◌else◌, ◌==◌, List, [], ◌∷◌}
-use Rattle.control.specs.Language.{Own, Set, Take, Lower, Holds, Is, Above, Picker, If, By, ByCell, Times, Until, Do, Choose, Loop, Perform, StopRun, Stmts, none, also, done, given, missing, Nested, Performed, Program, Range, Main, Part}
+use Rattle.language.specs.Language.{Own, Set, Take, Lower, Holds, Is, Above, Picker, If, By, ByCell, Times, Until, Do, Choose, Loop, Perform, StopRun, Stmts, none, also, done, given, missing, Nested, Performed, Program, Range, Main, Part}
 use Rattle.control.specs.Graph.{Tree, tree, Return, Stop, Family}
-use Rattle.agreement.specs.Structured.{IsStructured}
+use Rattle.language.specs.Structured.{IsStructured}
 use Rattle.rendering.specs.Rendering.{Empty, Continues, Goes, Naming, Procedure, rendered}
 use Rattle.rendering.specs.Procedures.{Writable, AreProcedures}
 

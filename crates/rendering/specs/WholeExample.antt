@@ -1,12 +1,12 @@
 -- The chain from end to end, for one small program.
 use Rattle.std.specs.Prelude.{ℕ, true, false, [], ◌∷◌}
 use Rattle.runs.specs.Machine.{meaning}
-use Rattle.control.specs.Language.{Program, Main, also}
+use Rattle.language.specs.Language.{Program, Main, also}
 use Rattle.control.specs.Doing.{Acting, Celled, alone}
 use Rattle.control.specs.Source.{source_machine}
 use Rattle.control.specs.Graph.{tree, Stop, Family}
 use Rattle.control.specs.Structural.{structural}
-use Rattle.agreement.specs.Structured.{IsStructured}
+use Rattle.language.specs.Structured.{IsStructured}
 use Rattle.agreement.specs.Same.{SameBehaviour}
 use Rattle.rendering.specs.Rendering.{Naming, Procedure, rendered}
 use Rattle.rendering.specs.Procedures.{Writable}
