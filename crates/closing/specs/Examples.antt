@@ -1,6 +1,6 @@
 -- Two worked programs: a loop with two exits, and two labels that jump into each other from two
 -- entries.
-use Rattle.std.specs.Prelude.{ℕ, zero, suc, ◌≡◌, Bool, true, false, ◌==◌, List, [], ◌∷◌}
+use Rattle.std.specs.Prelude.{ℕ, zero, suc, ◌≡◌, Bool, true, false, List, [], ◌∷◌}
 use Rattle.runs.specs.Run.{Over}
 use Rattle.runs.specs.Machine.{meaning}
 use Rattle.control.specs.Parts.{says, is, small}

@@ -69,15 +69,17 @@ changed calc n = n - 1
 
 abbrev pub small_act : Simple → ℕ → Tried ℕ (Unit {0})
 small_act simple n = elim (out-Stmt simple) [
-    Stmt-F.Display items advance ↦ Got (bytes_of items n ∷ []) tt n
-    | Stmt-F.Arith calc into arms ↦ Got [] tt (changed calc n)
-    | _ ↦ Got [] tt n ]
+  | Stmt-F.Display items advance ↦ Got (bytes_of items n ∷ []) tt n
+  | Stmt-F.Arith calc into arms ↦ Got [] tt (changed calc n)
+  | _ ↦ Got [] tt n
+]
 
 -- whether N is the number
 abbrev pub small_test : Cond → ℕ → Tried ℕ Bool
 small_test cond n = elim (out-Cond cond) [
-    Cond-F.Named place ↦ Got [] (n == (out-Place place).item) n
-    | _ ↦ Got [] false n ]
+  | Cond-F.Named place ↦ Got [] (n == (out-Place place).item) n
+  | _ ↦ Got [] false n
+]
 
 -- DEPENDING ON N: no name is the hundredth
 abbrev pub small_choose : Chooser → ℕ → Tried ℕ ℕ

@@ -23,14 +23,14 @@ abbrev pub returns_past : ℕ → ℕ → Bool
 returns_past zero exit = false
 returns_past (suc entry) exit = exit == suc entry
 
--- a chooser may give as many arms as its number and one more; none stands in the program
+-- a chooser gives one arm; none stands in the program
 abbrev pub again_told : Told
 again_told =
     record {
       returning = returns_past;
       skipped = λ simple. false;
       never_first = λ chooser. false;
-      width = λ chooser. suc chooser;
+      width = λ chooser. 1;
     }
 
 -- of main, the paragraph's node

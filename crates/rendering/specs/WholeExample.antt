@@ -10,14 +10,15 @@ use Rattle.language.specs.Structured.{IsStructured}
 use Rattle.agreement.specs.Same.{SameBehaviour}
 use Rattle.rendering.specs.Rendering.{Naming, Procedure, rendered}
 use Rattle.rendering.specs.Procedures.{Writable}
-use Rattle.control.specs.Examples.{small, act, one, jumping}
+use Rattle.control.specs.Examples.{say, one, jumping}
+use Rattle.control.specs.Parts.{small}
 
 abbrev pub jumping_program : Program
 jumping_program = record { paragraphs = jumping }
 
 -- the first paragraph and the third, one behind the other
 abbrev pub jumping_procedure : Procedure
-jumping_procedure = record { range = Main; body = also (act 11) (one (act 13)); end = Stop }
+jumping_procedure = record { range = Main; body = also (say 11) (one (say 13)); end = Stop }
 
 abbrev pub jumping_family : Family
 jumping_family =
