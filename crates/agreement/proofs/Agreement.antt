@@ -8,13 +8,15 @@ use Rattle.runs.specs.Machine.{iterate, meaning}
 use Rattle.runs.proofs.Ties.{covers-is, tied-sym, le_or}
 use Rattle.runs.proofs.Machines.{iterate-add, machine-steady}
 use Rattle.control.specs.Outcome.{Trace, Normally, Abend, Overlap, Reentry, Ending, Stopped, Faulted, Run, Standing, Tried, Got, Ends}
-use Rattle.control.specs.Language.{Act, Test, Control, Times, Until, Varying, Stmt, Choose, Loop, Perform, Go, GoDepending, NextSentence, ExitParagraph, ExitSection, ExitPerform, StopRun, Stmts, none, also, Arms, done, given, missing, Body, Nested, Performed, Paragraph, Program, unless_absent, paragraph_at}
-use Rattle.control.specs.Language as language
+use Rattle.language.specs.Language.{Act, Test, Control, Times, Until, Varying, Stmt, Choose, Loop, Perform, Go, GoDepending, NextSentence, ExitParagraph, ExitSection, ExitPerform, StopRun, Stmts, none, also, Arms, done, given, missing, Body, Nested, Performed, Paragraph, Program, unless_absent, paragraph_at}
+use Rattle.language.specs.Language as language
 use Rattle.control.specs.Doing.{Doing}
-use Rattle.control.specs.Items.{Turning, Counted, Tests, Steps, StepsAfter, Item, Do, SentenceEnd, Turn, before, before_body, before_arm, items_of, Way, On, Halts, Into, To, ToEnd, way_after, tried, on, turns as loop_turns, first_turn as loop_first, varying as loop_varying, loop_begins, tests, steps_on}
-use Rattle.control.specs.Source.{Pending, SourceState, ends_at, rest_of, comes_to, goes, falls, source_step, source_machine, source_begun}
+use Rattle.language.specs.Items.{Turning, Counted, Tests, Steps, StepsAfter, Item, Do, SentenceEnd, Turn, before, before_body, before_arm, items_of}
+use Rattle.control.specs.Items.{Way, On, Halts, Into, To, ToEnd, way_after, tried, on, turns as loop_turns, first_turn as loop_first, varying as loop_varying, loop_begins, tests, steps_on}
+use Rattle.language.specs.Items.{Pending, ends_at}
+use Rattle.control.specs.Source.{SourceState, rest_of, comes_to, goes, falls, source_step, source_machine, source_begun}
 use Rattle.control.specs.Structural.{Outcome, Went, Stands, nothing, behind, then_do, one_then, unit_of, stops, gets, acts, goes_round, turns, all_turns, first_turn, varying, loop_does, Performing, stmt_does, stmts_do, arm_does, body_does, paragraph_does, performing, program_does, run_of, structural}
-use Rattle.agreement.specs.Structured.{StmtNests, StmtsNest, ArmsNest, BodyNests, NamesLater, ParagraphNests, ParagraphsNest, EndsInStop, FirstStops, IsStructured}
+use Rattle.language.specs.Structured.{StmtNests, StmtsNest, ArmsNest, BodyNests, NamesLater, ParagraphNests, ParagraphsNest, EndsInStop, FirstStops, IsStructured}
 use Rattle.control.proofs.Growth.{source-grows}
 use Rattle.agreement.proofs.Pacing.{Enclosed, enclosed-tied}
 

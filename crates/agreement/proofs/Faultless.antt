@@ -4,12 +4,12 @@ use Rattle.runs.specs.Run.{Going, Over}
 use Rattle.runs.specs.Machine.{meaning}
 use Rattle.runs.proofs.Ties.{tied-comes}
 use Rattle.control.specs.Outcome.{Trace, Normally, FlowFault, Faulted, Standing, Tried, Got, Ends}
-use Rattle.control.specs.Language.{Control, Times, Until, Varying, Stmt, Do, Choose, Loop, Perform, Go, GoDepending, NextSentence, ExitParagraph, ExitSection, ExitPerform, StopRun, Stmts, none, also, Arms, done, given, missing, Body, Nested, Performed, Paragraph, Program}
+use Rattle.language.specs.Language.{Control, Times, Until, Varying, Stmt, Do, Choose, Loop, Perform, Go, GoDepending, NextSentence, ExitParagraph, ExitSection, ExitPerform, StopRun, Stmts, none, also, Arms, done, given, missing, Body, Nested, Performed, Paragraph, Program}
 use Rattle.control.specs.Doing.{Doing}
-use Rattle.control.specs.Items.{Turning, Counted, Tests, Steps, StepsAfter}
+use Rattle.language.specs.Items.{Turning, Counted, Tests, Steps, StepsAfter}
 use Rattle.control.specs.Source.{source_machine}
 use Rattle.control.specs.Structural.{Outcome, Went, Stands, nothing, behind, then_do, one_then, unit_of, stops, gets, acts, goes_round, turns, all_turns, first_turn, varying, loop_does, Performing, stmt_does, stmts_do, arm_does, body_does, paragraph_does, performing, program_does, run_of, structural}
-use Rattle.agreement.specs.Structured.{IsStructured}
+use Rattle.language.specs.Structured.{IsStructured}
 use Rattle.agreement.specs.Same.{EndsFairly}
 use Rattle.agreement.proofs.Agreement.{structured-tied}
 

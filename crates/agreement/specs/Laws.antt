@@ -4,11 +4,12 @@ use Rattle.runs.specs.Run.{Going, Over}
 use Rattle.runs.specs.Tied.{Steady, Tied}
 use Rattle.runs.specs.Machine.{iterate, meaning}
 use Rattle.control.specs.Outcome.{FlowFault, Faulted}
-use Rattle.control.specs.Language.{Program}
+use Rattle.language.specs.Language.{Program}
 use Rattle.control.specs.Doing.{Acting, Doing, alone}
-use Rattle.control.specs.Source.{Pending, SourceState, source_step, source_begun, source_machine}
+use Rattle.language.specs.Items.{Pending}
+use Rattle.control.specs.Source.{SourceState, source_step, source_begun, source_machine}
 use Rattle.control.specs.Structural.{structural}
-use Rattle.agreement.specs.Structured.{IsStructured}
+use Rattle.language.specs.Structured.{IsStructured}
 use Rattle.agreement.specs.Same.{EndsFairly, SameBehaviour}
 
 -- with more units nested statements show more, and what is over stays

@@ -1,6 +1,6 @@
 -- What Exits and the dispatch make of a graph, and the order of all rules.
 use Rattle.std.specs.Prelude.{ℕ, zero, suc, ◌*◌, ◌-◌, Bool, true, false, if◌then◌else◌, List, [], ◌∷◌, ◌++◌, Option, Some, None}
-use Rattle.control.specs.Language.{Picker, Range}
+use Rattle.language.specs.Language.{Picker, Range}
 use Rattle.control.specs.Doing.{is_above}
 use Rattle.control.specs.Graph.{Label}
 use Rattle.graph_rules.specs.Families.{State, Exit}

@@ -1,8 +1,8 @@
 -- The rules that close nodes by a number in a cell: a loop with a flag, a loop with several exits,
 -- and the dispatch over all nodes that are left.
 use Rattle.std.specs.Prelude.{ℕ, zero, suc, ◌≡◌, ◌≢◌, ◌<◌, Bool, true, false, if◌then◌else◌, ◌==◌, List, [], ◌∷◌, ◌⊎◌}
-use Rattle.control.specs.Language.{Set, Test, Is, Above, Picker, ByCell, Stmt, Choose, StopRun, Stmts, none, also, Arms, done, given, missing, Range}
-use Rattle.control.specs.Language as language
+use Rattle.language.specs.Language.{Set, Test, Is, Above, Picker, ByCell, Stmt, Choose, StopRun, Stmts, none, also, Arms, done, given, missing, Range}
+use Rattle.language.specs.Language as language
 use Rattle.control.specs.Graph.{Label, Tree, tree, End, Pick, Jump, Return, Stop, Dead, Trees, no_more, more, Family}
 use Rattle.graph_rules.specs.Shapes.{followed}
 use Rattle.graph_rules.specs.Reduced.{Node}

@@ -1,13 +1,13 @@
 -- Two worked programs: a loop with two exits, and two labels that jump into each other from two
 -- entries.
-use Rattle.std.specs.Prelude.{ℕ, zero, suc, ◌≡◌, Bool, true, false, ◌==◌, List, [], ◌∷◌}
+use Rattle.std.specs.Prelude.{ℕ, zero, suc, ◌≡◌, Bool, true, false, List, [], ◌∷◌}
 use Rattle.runs.specs.Run.{Over}
 use Rattle.runs.specs.Machine.{meaning}
-use Rattle.control.specs.Outcome.{Run, Normally, Stopped, Tried, Got}
-use Rattle.control.specs.Language.{Own, Set, Holds, Is, Above, Picker, If, By, ByCell, Until, Stmt, Choose, Loop, StopRun, Stmts, none, also, done, given, missing, Nested, Main}
-use Rattle.control.specs.Language as language
+use Rattle.control.specs.Parts.{says, is, small}
+use Rattle.control.specs.Outcome.{Run, Normally, Stopped}
+use Rattle.language.specs.Language.{Own, Set, Holds, Is, Above, Picker, If, By, ByCell, Until, Stmt, Choose, Loop, StopRun, Stmts, none, also, done, given, missing, Nested, Main}
+use Rattle.language.specs.Language as language
 use Rattle.control.specs.Graph.{Tree, tree, Pick, Jump, Dead, Trees, no_more, more}
-use Rattle.control.specs.Doing.{Acting}
 use Rattle.control.specs.Walk.{main_machine}
 use Rattle.graph_rules.specs.Families.{IsFamily}
 use Rattle.graph_rules.specs.Walked.{walked}
@@ -35,13 +35,13 @@ go label = tree none (Jump label)
 -- L (at 0) adds, goes to X (at 30) or Y (at 60), displays, goes to X or Y, and goes on
 abbrev pub exit_node : Tree
 exit_node =
-    tree (one (language.Do (Own 1))) (Pick (If (Holds 3)) (two (go 30)
-    (tree none (Pick (If (Holds 5)) (two (go 60)
-    (tree (one (language.Do (Own 2))) (Pick (If (Holds 7)) (two (go 30)
-    (tree none (Pick (If (Holds 8)) (two (go 60) (go 0))))))))))))
+    tree (one (language.Do (Own (says 1)))) (Pick (If (Holds (is 3))) (two (go 30)
+    (tree none (Pick (If (Holds (is 5))) (two (go 60)
+    (tree (one (language.Do (Own (says 2)))) (Pick (If (Holds (is 7))) (two (go 30)
+    (tree none (Pick (If (Holds (is 8))) (two (go 60) (go 0))))))))))))
 
 abbrev pub if_else : ℕ → Stmts → Stmts → Stmt
-if_else cond a b = Choose (If (Holds cond)) (given a (given b done))
+if_else cond a b = Choose (If (Holds (is cond))) (given a (given b done))
 
 abbrev pub put : ℕ → Stmts
 put n = one (language.Do (Set 9 n))
@@ -52,26 +52,26 @@ ALoopWithTwoExits =
     tree
     (also (language.Do (Set 9 0))
     (one (Loop (Until false (Above 9)) (Nested
-    (also (language.Do (Own 1))
+    (also (language.Do (Own (says 1)))
     (one (if_else 3 (put 1)
     (one (if_else 5 (put 2)
-    (also (language.Do (Own 2))
+    (also (language.Do (Own (says 2)))
     (one (if_else 7 (put 1)
-    (one (Choose (If (Holds 8)) (given (put 2) (missing done)))))))))))))))
+    (one (Choose (If (Holds (is 8))) (given (put 2) (missing done)))))))))))))))
     )
     (Pick (ByCell 9) (two (go 30) (go 60)))
 
 -- A (at 0) goes to C (at 6) or B (at 3), B goes to C, and C stops or goes to B
 abbrev pub last_nodes : List Node
 last_nodes =
-    record { label = 6; tree = tree (also (language.Do (Own 2)) (one (Choose (If (Holds 2)) (given (one StopRun) (missing done))))) (Jump 3) } ∷ []
+    record { label = 6; tree = tree (also (language.Do (Own (says 2))) (one (Choose (If (Holds (is 2))) (given (one StopRun) (missing done))))) (Jump 3) } ∷ []
 
 abbrev pub tail_nodes : List Node
-tail_nodes = record { label = 3; tree = tree (one (language.Do (Own 1))) (Jump 6) } ∷ last_nodes
+tail_nodes = record { label = 3; tree = tree (one (language.Do (Own (says 1)))) (Jump 6) } ∷ last_nodes
 
 abbrev pub state_nodes : List Node
 state_nodes =
-    record { label = 0; tree = tree none (Pick (If (Holds 1)) (two (go 6) (go 3))) } ∷ tail_nodes
+    record { label = 0; tree = tree none (Pick (If (Holds (is 1))) (two (go 6) (go 3))) } ∷ tail_nodes
 
 abbrev pub TwoLabelsFromTwoEntries : Type 0
 TwoLabelsFromTwoEntries =
@@ -80,24 +80,13 @@ TwoLabelsFromTwoEntries =
     (also (language.Do (Set 9 1))
     (one (Loop (Until false (Is 9 0)) (Nested (one (Choose (ByCell 9)
     (given (one (if_else 1 (put 3) (put 2)))
-    (given (also (language.Do (Own 1)) (put 3))
-    (given (also (language.Do (Own 2))
-    (also (Choose (If (Holds 2)) (given (one StopRun) (missing done))) (put 2))) done))))))))
+    (given (also (language.Do (Own (says 1))) (put 3))
+    (given (also (language.Do (Own (says 2)))
+    (also (Choose (If (Holds (is 2))) (given (one StopRun) (missing done))) (put 2))) done))))))))
     )
     Dead
 
 -- The second program and its dispatch, walked from N = 2: both show B and C, and stop.
-
-abbrev pub does : ℕ → ℕ → Tried ℕ (Unit {0})
-does simple n = Got ((simple ∷ []) ∷ []) tt n
-
-abbrev pub acting : Acting ℕ
-acting = record {
-  act = does;
-  test = λ cond n. Got [] (n == cond) n;
-  choose = λ chooser n. Got [] 0 n;
-  count = λ amount n. Got [] amount n;
-}
 
 abbrev pub graphs : Graphs
 graphs range = record { entry = 0; nodes = state_nodes; added = [] }
@@ -107,8 +96,8 @@ shown = record { trace = (1 ∷ []) ∷ (2 ∷ []) ∷ []; standing = Over (Stop
 
 abbrev pub TheDispatchWalksAlike : Type 0
 TheDispatchWalksAlike =
-    (meaning (main_machine acting (λ n. n) (family_of graphs)) 2 20 ≡ shown)
-    × (meaning (main_machine acting (λ n. n)
+    (meaning (main_machine small (λ n. n) (family_of graphs)) 2 20 ≡ shown)
+    × (meaning (main_machine small (λ n. n)
     (family_of (with_graph graphs Main (dispatch_graph (graphs Main))))) 2 40 ≡ shown)
 
 -- the premises of the rules' laws hold of the second
@@ -119,5 +108,5 @@ ItMeetsThePremises =
 -- seven units by recursion are enough
 abbrev pub ItTakesSevenUnits : Type 0
 ItTakesSevenUnits =
-    walked acting (λ n. n) (family_of graphs) (Main ∷ []) Main
+    walked small (λ n. n) (family_of graphs) (Main ∷ []) Main
     (record { own = 2; cells = λ range cell. 0 }) 7 ≡ shown

@@ -1,10 +1,10 @@
 -- A set of nodes that has become one loop, whose turns walk their trees and leave a number in a
 -- cell: the number of the node to go on with, or one that ends the loop.
 use Rattle.std.specs.Prelude.{ℕ, ◌≡◌, ◌-◌, Bool, true, false, not, ◌==◌, List, [], ◌∷◌, ◌⊎◌, Some}
-use Rattle.control.specs.Language.{Act, Set, Test, Holds, Not, Is, Above, Picker, ByCell, Until, Stmt, Choose, Loop, StopRun, Stmts, none, also, Arms, done, given, missing, Nested, Range}
-use Rattle.control.specs.Language as language
+use Rattle.language.specs.Language.{Act, Set, Test, Holds, Not, Is, Above, Picker, ByCell, Until, Stmt, Choose, Loop, StopRun, Stmts, none, also, Arms, done, given, missing, Nested, Range}
+use Rattle.language.specs.Language as language
 use Rattle.control.specs.Doing.{is_above}
-use Rattle.control.specs.Items.{Item, Do, before, before_arm}
+use Rattle.language.specs.Items.{Item, Do, before, before_arm}
 use Rattle.control.specs.Graph.{Label, Tree, tree, End, Pick, Jump, Return, Stop, Dead, Trees, no_more, more, Family}
 use Rattle.control.specs.Walk.{tree_at}
 use Rattle.graph_rules.specs.Joins.{JumpsTree}

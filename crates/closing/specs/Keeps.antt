@@ -4,7 +4,7 @@ use Rattle.std.specs.Prelude.{ℕ, ◌≡◌, ◌≢◌, Some, None, List}
 use Rattle.runs.specs.Tied.{Meaning, Tied}
 use Rattle.runs.specs.Machine.{meaning}
 use Rattle.control.specs.Outcome.{Event, Ending}
-use Rattle.control.specs.Language.{Range}
+use Rattle.language.specs.Language.{Range}
 use Rattle.control.specs.Doing.{Acting, Celled}
 use Rattle.control.specs.Graph.{Family}
 use Rattle.control.specs.Walk.{walk_machine}

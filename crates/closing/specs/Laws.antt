@@ -1,6 +1,6 @@
 -- What is said of the rules that bring a number in a cell, and of all rules in their order.
 use Rattle.std.specs.Prelude.{ℕ, ◌≡◌, Bool, true, List, ◌*◌, [], ◌∷◌, None}
-use Rattle.control.specs.Language.{Test, Picker, Stmts, Range, Main}
+use Rattle.language.specs.Language.{Test, Picker, Stmts, Range, Main}
 use Rattle.control.specs.Doing.{Acting}
 use Rattle.control.specs.Graph.{Label, Tree, End, Jump, Return, Family, Pick, Stop, Dead, end_of}
 use Rattle.graph_rules.specs.Families.{Kinds, IsFamily, IsSound}

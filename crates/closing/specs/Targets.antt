@@ -1,6 +1,6 @@
 -- The targets of a node's live leaves, and the exits rule as a function of the node.
 use Rattle.std.specs.Prelude.{ℕ, ◌≡◌, ◌-◌, ◌<◌, Bool, if◌then◌else◌, ◌==◌, List, [], ◌∷◌}
-use Rattle.control.specs.Language.{Picker, Range}
+use Rattle.language.specs.Language.{Picker, Range}
 use Rattle.control.specs.Doing.{is_above}
 use Rattle.control.specs.Graph.{Label, Tree, tree, End, Pick, Jump, Return, Stop, Dead, Trees, no_more, more, Family}
 use Rattle.closing.specs.Dispatches.{tree_returns, exited}

@@ -1,6 +1,6 @@
 -- Laws of machines: a step shows more, and a state that is over stays.
 use Rattle.runs.specs.Machine.{Grows}
-use Rattle.control.specs.Language.{Program, Range}
+use Rattle.language.specs.Language.{Program, Range}
 use Rattle.control.specs.Doing.{Acting, Doing}
 use Rattle.control.specs.Source.{source_machine}
 use Rattle.control.specs.Graph.{Family}

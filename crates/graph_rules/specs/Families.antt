@@ -2,7 +2,7 @@
 use Rattle.std.specs.Prelude.{ℕ, ◌≡◌, ◌≢◌, Option, Some, List}
 use Rattle.runs.specs.Run.{Over}
 use Rattle.control.specs.Outcome.{Lost}
-use Rattle.control.specs.Language.{Range}
+use Rattle.language.specs.Language.{Range}
 use Rattle.control.specs.Doing.{Acting, Celled}
 use Rattle.control.specs.Graph.{Family}
 use Rattle.graph_rules.specs.Walked.{walked, In, Ordered}

@@ -5,7 +5,7 @@ use Rattle.runs.specs.Run.{Over, Covers}
 use Rattle.control.specs.Outcome.{Lost}
 use Rattle.runs.specs.Tied.{Tied}
 use Rattle.runs.specs.Machine.{meaning}
-use Rattle.control.specs.Language.{Range, Stmts, Test, Main}
+use Rattle.language.specs.Language.{Range, Stmts, Test, Main}
 use Rattle.control.specs.Doing.{Acting, Celled}
 use Rattle.control.specs.Graph.{Label, End, Family, Tree, body_of, end_of, IsLast}
 use Rattle.control.specs.Walk.{walk_machine, main_machine}
@@ -16,7 +16,7 @@ use Rattle.graph_rules.specs.Joins.{Joined, Pruned, JoinsTree}
 use Rattle.graph_rules.specs.Inlines.{Inlined, InlinesTree}
 use Rattle.graph_rules.specs.Loops.{Keeper, Endless, Looped, Tested, Flagged, LoopsTree, tested_node}
 use Rattle.graph_rules.specs.Families.{Kinds, Has, IsFamily, Ready, Extends, IsSound, Never}
-use Rattle.control.specs.Items.{before}
+use Rattle.language.specs.Items.{before}
 use Rattle.graph_rules.specs.Shapes.{Live, end_at, NoTarget, Only, joined, joined_once, inlined, other_targets, flat}
 use Rattle.graph_rules.specs.Reduced.{Node, Graph, Graphs, LeadsToNodes, rule_step, shaped, family_of, kinds_of, Form, form_of, all_shaped}
 

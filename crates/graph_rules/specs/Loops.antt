@@ -1,8 +1,8 @@
 -- A node that has become a loop.
 use Rattle.std.specs.Prelude.{ℕ, ◌≡◌, ◌≢◌, Bool, true, false, List, [], ◌∷◌, ◌⊎◌}
-use Rattle.control.specs.Language.{Set, Test, Is, Not, Until, Choose, Loop, If, StopRun, Stmts, none, also, Arms, done, given, missing, Nested, Range}
-use Rattle.control.specs.Language as language
-use Rattle.control.specs.Items.{Item, Do, before}
+use Rattle.language.specs.Language.{Set, Test, Is, Not, Until, Choose, Loop, If, StopRun, Stmts, none, also, Arms, done, given, missing, Nested, Range}
+use Rattle.language.specs.Language as language
+use Rattle.language.specs.Items.{Item, Do, before}
 use Rattle.control.specs.Graph.{Label, Tree, tree, End, Pick, Jump, Return, Stop, Dead, Trees, no_more, more, Family}
 use Rattle.graph_rules.specs.Walked.{Ordered}
 

@@ -1,6 +1,6 @@
 -- Graphs of ranges as lists of nodes, and how Join, Loop and Inline reduce them.
 use Rattle.std.specs.Prelude.{ℕ, zero, suc, ◌+◌, ◌*◌, Bool, true, false, if◌then◌else◌, ◌==◌, List, [], ◌∷◌, ◌++◌, Option, Some, None, ◌≡◌}
-use Rattle.control.specs.Language.{Test, If, By, ByCell, Picker, Until, Loop, Stmts, none, also, Nested, Range, same_range}
+use Rattle.language.specs.Language.{Test, If, By, ByCell, Picker, Until, Loop, Stmts, none, also, Nested, Range, same_range}
 use Rattle.control.specs.Doing.{is_above}
 use Rattle.control.specs.Graph.{Label, Tree, tree, End, Pick, Jump, Return, Stop, Dead, Trees, no_more, more, Family}
 use Rattle.graph_rules.specs.Loops.{Flagged, Endless, loop_of, turned_test}

@@ -1,9 +1,9 @@
 -- What Join, Inline and Loop give.
 use Rattle.std.specs.Prelude.{ℕ, ◌+◌, Bool, true, false, if◌then◌else◌, ◌==◌, Option, Some, None}
-use Rattle.control.specs.Language.{Set, Test, If, Picker, By, ByCell, Do, Choose, StopRun, Stmts, none, also, Arms, done, given, Range}
+use Rattle.language.specs.Language.{Set, Test, If, Picker, By, ByCell, Do, Choose, StopRun, Stmts, none, also, Arms, done, given, Range}
 use Rattle.control.specs.Graph.{Label, Tree, tree, End, Pick, Jump, Return, Stop, Dead, Trees, no_more, more, body_of, end_of}
 use Rattle.graph_rules.specs.Loops.{Keeper, Flagged, Endless}
-use Rattle.control.specs.Language as language
+use Rattle.language.specs.Language as language
 
 -- one list of statements after the other
 abbrev pub followed : Stmts → Stmts → Stmts

@@ -4,7 +4,7 @@ use Rattle.runs.specs.Run.{Going, Over}
 use Rattle.runs.specs.Tied.{Meaning}
 use Rattle.runs.specs.Machine.{Machine}
 use Rattle.control.specs.Outcome.{Event, Ending, Normally, Returned, Lost, Run}
-use Rattle.control.specs.Language.{Stmt, Do, Choose, Loop, Perform, Go, GoDepending, NextSentence, ExitParagraph, ExitSection, ExitPerform, StopRun, Stmts, none, also, Arms, done, given, missing, Body, Nested, Performed, Range, Part, same_range}
+use Rattle.language.specs.Language.{Stmt, Do, Choose, Loop, Perform, Go, GoDepending, NextSentence, ExitParagraph, ExitSection, ExitPerform, StopRun, Stmts, none, also, Arms, done, given, missing, Body, Nested, Performed, Range, Part, same_range}
 use Rattle.control.specs.Doing.{Acting, Doing, Celled, celled}
 use Rattle.control.specs.Structural.{Outcome, Went, Stands}
 use Rattle.control.specs.Structural as structural

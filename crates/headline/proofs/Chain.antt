@@ -4,13 +4,13 @@ use Rattle.std.specs.Prelude.{length}
 use Rattle.runs.specs.Tied.{Tied}
 use Rattle.runs.specs.Machine.{meaning}
 use Rattle.runs.proofs.Ties.{tied-sym, tied-trans, tied-at}
-use Rattle.control.specs.Language.{none, Program, Range, Main, Part, same_range}
+use Rattle.language.specs.Language.{none, Program, Range, Main, Part, same_range}
 use Rattle.control.specs.Doing.{Acting, Celled, alone}
 use Rattle.control.specs.Source.{source_machine}
 use Rattle.control.specs.Graph.{Label, Tree, tree, End, Pick, Jump, Return, Stop, Dead, body_of, end_of, Family, IsLast}
 use Rattle.control.specs.Walk.{walk_machine, main_machine}
 use Rattle.control.specs.Structural.{structural}
-use Rattle.agreement.specs.Structured.{IsStructured}
+use Rattle.language.specs.Structured.{IsStructured}
 use Rattle.agreement.specs.Same.{SameBehaviour}
 use Rattle.lowering.specs.Told.{Told, IsTold, IsSource}
 use Rattle.lowering.specs.Lowered.{lowered}

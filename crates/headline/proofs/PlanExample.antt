@@ -4,8 +4,9 @@ use Rattle.std.proofs.lemmas.Bool.Decides.{eqb_tells}
 use Rattle.runs.specs.Run.{Over}
 use Rattle.runs.specs.Machine.{iterate}
 use Rattle.control.specs.Outcome.{Normally, Stopped}
-use Rattle.control.specs.Language.{Go, Perform, Range, Main, Part}
-use Rattle.control.specs.Items.{Item, Do, SentenceEnd, Way, On, Into, To, ToEnd, item_way}
+use Rattle.language.specs.Language.{Go, Perform, Range, Main, Part}
+use Rattle.language.specs.Items.{Item, Do, SentenceEnd}
+use Rattle.control.specs.Items.{Way, On, Into, To, ToEnd, item_way}
 use Rattle.control.specs.Source.{rest_of, source_step}
 use Rattle.control.specs.Graph.{Label, end_of}
 use Rattle.lowering.specs.Told.{IsSource}

@@ -1,7 +1,7 @@
 -- For any parts there is a structured result of the same behaviour.
 use Rattle.std.proofs.Common.{◌≡◌, ℕ, refl, true, List, ◌∷◌}
-use Rattle.control.specs.Language.{Act, Own, Set, Take, Lower, Test, Holds, Not, Is, Above, Picker, If, By, ByCell, Control, Times, Until, Varying, Stmt, Choose, Loop, Perform, Go, GoDepending, NextSentence, ExitParagraph, ExitSection, ExitPerform, StopRun, Stmts, none, also, Arms, done, given, missing, Body, Nested, Performed, Range, Main}
-use Rattle.control.specs.Language as language
+use Rattle.language.specs.Language.{Act, Own, Set, Take, Lower, Test, Holds, Not, Is, Above, Picker, If, By, ByCell, Control, Times, Until, Varying, Stmt, Choose, Loop, Perform, Go, GoDepending, NextSentence, ExitParagraph, ExitSection, ExitPerform, StopRun, Stmts, none, also, Arms, done, given, missing, Body, Nested, Performed, Range, Main}
+use Rattle.language.specs.Language as language
 use Rattle.control.specs.Graph.{Tree, tree, End, Pick, Jump, Return, Stop, Dead, Trees, no_more, more}
 use Rattle.lowering.specs.WellFormed.{tree_count}
 use Rattle.graph_rules.specs.Families.{Has, MaySet}

@@ -1,6 +1,6 @@
 -- What the rules make of statements that can be written can be written: each choice by a cell stands where the cell isn't zero.
 use Rattle.std.proofs.Common.{◌≡◌, ℕ, zero, suc, ◌-◌, ◌*◌, ◌≤◌, arith, Bool, true, false, if◌then◌else◌, ◌==◌, List, [], ◌∷◌, Option, Some, None, refl, ap, sym, ◌∙◌, subst, inl, inr}
-use Rattle.control.specs.Language.{Set, Test, Is, Picker, If, ByCell, Until, Do, Choose, Loop, StopRun, Stmts, none, also, Arms, done, given, Nested, Range}
+use Rattle.language.specs.Language.{Set, Test, Is, Picker, If, ByCell, Until, Do, Choose, Loop, StopRun, Stmts, none, also, Arms, done, given, Nested, Range}
 use Rattle.control.specs.Doing.{is_above}
 use Rattle.control.specs.Graph.{Label, Tree, tree, End, Pick, Jump, Return, Stop, Dead, Trees, no_more, more, body_of, end_of}
 use Rattle.lowering.specs.WellFormed.{tree_count}

@@ -1,6 +1,6 @@
 -- The premises in records, and that they can be met.
 use Rattle.std.proofs.Common.{◌∷◌, refl}
-use Rattle.control.specs.Language.{Main}
+use Rattle.language.specs.Language.{Main}
 use Rattle.control.specs.Doing.{Celled}
 use Rattle.graph_rules.specs.Families.{Has, MaySet}
 use Rattle.graph_rules.specs.Reduced.{family_of, kinds_of, size}

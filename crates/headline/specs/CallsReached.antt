@@ -2,11 +2,11 @@
 -- one of the graphs.
 use Rattle.std.specs.Prelude.{ℕ, ◌≡◌, ◌<◌, ◌≤◌, Bool, true, List, [], ◌∷◌, length, Some, slice_get}
 use Rattle.runs.specs.Machine.{meaning}
-use Rattle.control.specs.Language.{Picker, Chooser, Program, Range, Main, Part}
+use Rattle.language.specs.Language.{Picker, Chooser, Program, Range, Main, Part}
 use Rattle.control.specs.Doing.{Acting, Celled, alone}
 use Rattle.control.specs.Source.{source_machine}
 use Rattle.control.specs.Structural.{structural}
-use Rattle.agreement.specs.Structured.{IsStructured}
+use Rattle.language.specs.Structured.{IsStructured}
 use Rattle.agreement.specs.Same.{SameBehaviour}
 use Rattle.rendering.specs.Rendering.{Empty, Naming, rendered}
 use Rattle.control.specs.Graph.{Label}

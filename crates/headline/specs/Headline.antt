@@ -4,12 +4,12 @@ use Rattle.std.specs.Prelude.{ℕ, ◌≡◌, ◌<◌, Bool, List, ◌∷◌, le
 use Rattle.runs.specs.Tied.{Meaning}
 use Rattle.runs.specs.Machine.{meaning}
 use Rattle.control.specs.Outcome.{Event, Ending}
-use Rattle.control.specs.Language.{Picker, Program, Range, Main}
+use Rattle.language.specs.Language.{Picker, Program, Range, Main}
 use Rattle.control.specs.Doing.{Acting, Celled, alone}
 use Rattle.control.specs.Source.{source_machine}
 use Rattle.control.specs.Graph.{Label}
 use Rattle.control.specs.Structural.{structural}
-use Rattle.agreement.specs.Structured.{IsStructured}
+use Rattle.language.specs.Structured.{IsStructured}
 use Rattle.agreement.specs.Same.{SameBehaviour}
 use Rattle.lowering.specs.Told.{Told, IsTold, IsSource}
 use Rattle.lowering.specs.flow.Paths.{IsFaulty}

@@ -1,7 +1,7 @@
 -- Which cells a lowered program names: the counters of its loops by TIMES, each by the number of
 -- its place, and no other.
 use Rattle.std.specs.Prelude.{ℕ, ◌+◌, ◌≡◌, Bool, true, List, [], ◌∷◌, Some}
-use Rattle.control.specs.Language.{Control, Times, Until, Varying, Stmt, Do, Choose, Loop, Perform, Go, GoDepending, NextSentence, ExitParagraph, ExitSection, ExitPerform, StopRun, Stmts, none, also, Arms, done, given, missing, Body, Nested, Performed, Paragraph, Program, Range}
+use Rattle.language.specs.Language.{Control, Times, Until, Varying, Stmt, Do, Choose, Loop, Perform, Go, GoDepending, NextSentence, ExitParagraph, ExitSection, ExitPerform, StopRun, Stmts, none, also, Arms, done, given, missing, Body, Nested, Performed, Paragraph, Program, Range}
 use Rattle.control.specs.Graph.{Label}
 use Rattle.lowering.specs.Told.{Told, IsSource}
 use Rattle.lowering.specs.Completes.{size, sizes}

@@ -1,7 +1,7 @@
 -- The counter of a small program: of its two loops by TIMES one is counted, and its counter is
 -- numbered 0.
 use Rattle.std.specs.Prelude.{ℕ, Bool, true, if◌then◌else◌, ◌==◌, List, [], ◌∷◌}
-use Rattle.control.specs.Language.{Range, Main}
+use Rattle.language.specs.Language.{Range, Main}
 use Rattle.control.specs.Graph.{Label}
 use Rattle.lowering.specs.WellFormed.{AreJustReached}
 use Rattle.graph_rules.specs.Families.{Added, Count}

@@ -1,12 +1,12 @@
 -- A program of one paragraph that jumps to itself, and its plan.
 use Rattle.std.specs.Prelude.{ℕ, zero, suc, Bool, true, false, ◌==◌, ◌≡◌, List, [], ◌∷◌}
 use Rattle.runs.specs.Machine.{meaning}
-use Rattle.control.specs.Language.{Picker, Go, none, also, Program, Range, Main, Part}
+use Rattle.language.specs.Language.{Picker, Go, none, also, Program, Range, Main, Part}
 use Rattle.control.specs.Doing.{Acting, Celled, alone}
 use Rattle.control.specs.Source.{source_machine}
 use Rattle.control.specs.Graph.{Label}
 use Rattle.control.specs.Structural.{structural}
-use Rattle.agreement.specs.Structured.{IsStructured}
+use Rattle.language.specs.Structured.{IsStructured}
 use Rattle.agreement.specs.Same.{SameBehaviour}
 use Rattle.rendering.specs.Rendering.{Empty, Naming, rendered}
 use Rattle.lowering.specs.Told.{Told, IsTold, IsSource}
@@ -23,14 +23,14 @@ abbrev pub returns_past : ℕ → ℕ → Bool
 returns_past zero exit = false
 returns_past (suc entry) exit = exit == suc entry
 
--- a chooser may give as many arms as its number and one more; none stands in the program
+-- a chooser gives one arm; none stands in the program
 abbrev pub again_told : Told
 again_told =
     record {
       returning = returns_past;
       skipped = λ simple. false;
       never_first = λ chooser. false;
-      width = λ chooser. suc chooser;
+      width = λ chooser. 1;
     }
 
 -- of main, the paragraph's node

@@ -1,6 +1,6 @@
 -- What a statement holds, whether it can complete, and what stands behind one that can't.
 use Rattle.std.specs.Prelude.{ℕ, Bool, true, false, if◌then◌else◌, ◌+◌}
-use Rattle.control.specs.Language.{Act, Own, Set, Take, Lower, Picker, If, By, ByCell, Control, Times, Until, Varying, Stmt, Do, Choose, Loop, Perform, Go, GoDepending, NextSentence, ExitParagraph, ExitSection, ExitPerform, StopRun, Stmts, none, also, Arms, done, given, missing, Body, Nested, Performed}
+use Rattle.language.specs.Language.{Act, Own, Set, Take, Lower, Picker, If, By, ByCell, Control, Times, Until, Varying, Stmt, Do, Choose, Loop, Perform, Go, GoDepending, NextSentence, ExitParagraph, ExitSection, ExitPerform, StopRun, Stmts, none, also, Arms, done, given, missing, Body, Nested, Performed}
 use Rattle.lowering.specs.Told.{Told}
 
 -- the loop is tested after its body

@@ -1,6 +1,7 @@
 -- Small programs and their nodes.
 use Rattle.std.specs.Prelude.{ℕ, ◌≡◌, Bool, true, false, [], ◌∷◌}
-use Rattle.control.specs.Language.{Own, Take, Lower, Holds, Above, If, Times, Until, Stmt, Stmts, Do, Choose, Loop, Go, ExitParagraph, ExitSection, ExitPerform, StopRun, none, also, done, given, missing, Nested, Program, Main, Part}
+use Rattle.language.specs.Language.{Own, Take, Lower, Holds, Above, If, Times, Until, Stmt, Stmts, Do, Choose, Loop, Go, ExitParagraph, ExitSection, ExitPerform, StopRun, none, also, done, given, missing, Nested, Program, Main, Part}
+use Rattle.control.specs.Parts.{says, is, amount}
 use Rattle.control.specs.Graph.{tree, Pick, Jump, Return, Stop, no_more, more}
 use Rattle.lowering.specs.Told.{Told}
 use Rattle.lowering.specs.Completes.{completes}
@@ -17,14 +18,14 @@ plainly = record {
 }
 
 abbrev pub shows : ℕ → Stmt
-shows number = Do (Own number)
+shows byte = Do (Own (says byte))
 
 -- A. IF 0 IF 3 GO TO X END-IF DISPLAY 1 END-IF DISPLAY 2. X. DISPLAY 3.
 abbrev pub inside_an_arm : Program
 inside_an_arm = record {
   paragraphs =
-      (also (Choose (If (Holds 0))
-      (given (also (Choose (If (Holds 3)) (given (also (Go 1) none) (missing done)))
+      (also (Choose (If (Holds (is 0)))
+      (given (also (Choose (If (Holds (is 3))) (given (also (Go 1) none) (missing done)))
       (also (shows 1) none)) (missing done))) (also (shows 2) none) ∷ [])
       ∷ (also (shows 3) none ∷ [])
       ∷ [];
@@ -36,8 +37,8 @@ inside_an_arm = record {
 abbrev pub LabelInsideAnArmRunsOn : Type 0
 LabelInsideAnArmRunsOn =
     ((lowered plainly inside_an_arm).node Main 0 ≡
-    only (Pick (If (Holds 0))
-    (more (only (Pick (If (Holds 3)) (more (only (Jump 18)) (more (only (Jump 12)) no_more))))
+    only (Pick (If (Holds (is 0)))
+    (more (only (Pick (If (Holds (is 3))) (more (only (Jump 18)) (more (only (Jump 12)) no_more))))
     (more (only (Jump 15)) no_more))))
     × ((lowered plainly inside_an_arm).node Main 12
     ≡ tree (also (shows 1) (also (shows 2) none)) (Jump 18))
@@ -49,9 +50,9 @@ LabelInsideAnArmRunsOn =
 abbrev pub counted : Program
 counted = record {
   paragraphs =
-      (also (Loop (Times 5) (Nested (also StopRun (also (Go 0) none)))) none
-      ∷ also (Loop (Times 6)
-      (Nested (also (Choose (If (Holds 0)) (given (also (Go 0) none) (missing done)))
+      (also (Loop (Times (amount 5)) (Nested (also StopRun (also (Go 0) none)))) none
+      ∷ also (Loop (Times (amount 6))
+      (Nested (also (Choose (If (Holds (is 0))) (given (also (Go 0) none) (missing done)))
       (also (shows 1) none)))) none
       ∷ [])
       ∷ [];
@@ -61,24 +62,24 @@ counted = record {
 abbrev pub CuttingComesFirst : Type 0
 CuttingComesFirst =
     ((lowered plainly counted).node Main 0
-    ≡ tree (also (Loop (Times 5) (Nested (also StopRun none))) (also (Do (Take 4 6)) none))
+    ≡ tree (also (Loop (Times (amount 5)) (Nested (also StopRun none))) (also (Do (Take 4 (amount 6))) none))
     (Jump 13))
     × ((lowered plainly counted).node Main 13 ≡
     only (Pick (If (Above 4))
     (more (tree (also (Do (Lower 4)) none)
-    (Pick (If (Holds 0)) (more (only (Jump 0)) (more (only (Jump 21)) no_more))))
+    (Pick (If (Holds (is 0))) (more (only (Jump 0)) (more (only (Jump 21)) no_more))))
     (more (only Stop) no_more))))
     × ((lowered plainly counted).node Main 21 ≡ tree (also (shows 1) none) (Jump 13))
 
 abbrev pub when : ℕ → Stmt → Stmt
-when cond stmt = Choose (If (Holds cond)) (given (also stmt none) (missing done))
+when cond stmt = Choose (If (Holds (is cond))) (given (also stmt none) (missing done))
 
 -- A. PERFORM UNTIL 5 DISPLAY 1 IF 3 EXIT PERFORM (or with CYCLE) END-IF DISPLAY 2 END-PERFORM.
 -- DISPLAY 4.
 abbrev pub left_within : Bool → Program
 left_within cycle = record {
   paragraphs =
-      (also (Loop (Until false (Holds 5)) (Nested
+      (also (Loop (Until false (Holds (is 5))) (Nested
       (also (shows 1) (also (when 3 (ExitPerform cycle)) (also (shows 2) none))))) none
       ∷ also (shows 4) none ∷ [])
       ∷ [];
@@ -90,14 +91,14 @@ abbrev pub LoopsAreLeft : Type 0
 LoopsAreLeft =
     ((lowered plainly (left_within false)).node Main 0 ≡ only (Jump 4))
     × ((lowered plainly (left_within false)).node Main 4 ≡
-    only (Pick (If (Holds 5)) (more (only (Jump 18)) (more (tree (also (shows 1) none)
-    (Pick (If (Holds 3)) (more (only (Jump 18)) (more (only (Jump 15)) no_more)))) no_more))))
+    only (Pick (If (Holds (is 5))) (more (only (Jump 18)) (more (tree (also (shows 1) none)
+    (Pick (If (Holds (is 3))) (more (only (Jump 18)) (more (only (Jump 15)) no_more)))) no_more))))
     × ((lowered plainly (left_within false)).node Main 12 ≡ only (Jump 18))
     × ((lowered plainly (left_within false)).node Main 15 ≡ tree (also (shows 2) none) (Jump 4))
     × ((lowered plainly (left_within false)).node Main 18 ≡ tree (also (shows 4) none) Stop)
     × ((lowered plainly (left_within true)).node Main 4 ≡
-    only (Pick (If (Holds 5)) (more (only (Jump 18)) (more (tree (also (shows 1) none)
-    (Pick (If (Holds 3)) (more (only (Jump 4)) (more (only (Jump 15)) no_more)))) no_more))))
+    only (Pick (If (Holds (is 5))) (more (only (Jump 18)) (more (tree (also (shows 1) none)
+    (Pick (If (Holds (is 3))) (more (only (Jump 4)) (more (only (Jump 15)) no_more)))) no_more))))
     × ((lowered plainly (left_within true)).node Main 12 ≡ only (Jump 4))
 
 -- S1 SECTION. A. DISPLAY 1. EXIT SECTION. B. DISPLAY 2. S2 SECTION. C. DISPLAY 3. EXIT PARAGRAPH.
@@ -120,7 +121,7 @@ SectionsAreLeft =
     × ((lowered plainly sections).node Main 15 ≡ tree (also (shows 3) none) Stop)
 
 abbrev pub after_body : Stmts → Stmt
-after_body stmts = Loop (Until true (Holds 5)) (Nested stmts)
+after_body stmts = Loop (Until true (Holds (is 5))) (Nested stmts)
 
 -- a loop tested after completes where an EXIT PERFORM of its own leaves it; one behind a jump, or
 -- of a loop within, doesn't

@@ -5,14 +5,15 @@ use Rattle.runs.specs.Run.{Over, Going}
 use Rattle.runs.specs.Tied.{Tied}
 use Rattle.runs.specs.Machine.{meaning, iterate}
 use Rattle.control.specs.Outcome.{Faulted, FlowFault, Lost}
-use Rattle.control.specs.Language.{Program, Perform, Range, Main, Part, Stmt}
+use Rattle.language.specs.Language.{Program, Perform, Range, Main, Part, Stmt}
 use Rattle.control.specs.Doing.{Acting, alone, Celled}
-use Rattle.control.specs.Source.{rest_of, source_machine, SourceState, source_step, Pending}
+use Rattle.language.specs.Items.{Pending}
+use Rattle.control.specs.Source.{rest_of, source_machine, SourceState, source_step}
 use Rattle.control.specs.Graph.{Family, Label}
 use Rattle.control.specs.Walk.{main_machine, walk_machine}
 use Rattle.lowering.specs.Told.{Told, IsTold, IsSource, OwnStmt}
 use Rattle.lowering.specs.flow.Comes.{AreReturning, IsLowered, Comes}
-use Rattle.control.specs.Items.{Do, Item}
+use Rattle.language.specs.Items.{Do, Item}
 use Rattle.lowering.specs.Completes.{completes}
 use Rattle.lowering.specs.Lowered.{lowered}
 use Rattle.lowering.specs.Reached.{kept, AreReached}

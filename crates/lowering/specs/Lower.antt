@@ -2,7 +2,7 @@
 -- A counter cell has the number of the place of its loop. Rendering numbers cells anew, in the
 -- order of their first mention.
 use Rattle.std.specs.Prelude.{ℕ, suc, ◌+◌, ◌*◌, Bool, true, false, if◌then◌else◌, ◌==◌, List, [], ◌∷◌, ◌++◌, Option, Some, None, slice_get}
-use Rattle.control.specs.Language.{Take, Lower, Test, Above, If, By, Control, Times, Until, Varying, Stmt, Do, Choose, Loop, Perform, Go, GoDepending, NextSentence, ExitParagraph, ExitSection, ExitPerform, StopRun, Stmts, none, also, Arms, done, given, missing, Body, Nested, Performed, Paragraph, Program, Range, Main, Part}
+use Rattle.language.specs.Language.{Take, Lower, Test, Above, If, By, Control, Times, Until, Varying, Stmt, Do, Choose, Loop, Perform, Go, GoDepending, NextSentence, ExitParagraph, ExitSection, ExitPerform, StopRun, Stmts, none, also, Arms, done, given, missing, Body, Nested, Performed, Paragraph, Program, Range, Main, Part}
 use Rattle.control.specs.Graph.{Label, Tree, tree, End, Pick, Jump, Return, Stop, Dead, Trees, no_more, more, body_of, end_of}
 use Rattle.lowering.specs.Told.{Told}
 use Rattle.lowering.specs.Completes.{first_is_dead, completes, cut, cut_body, whole, whole_body, size, sizes, skips}

@@ -1,6 +1,6 @@
 -- The nodes of a range in the order of their labels, and the family that looks them up.
 use Rattle.std.specs.Prelude.{ℕ, zero, suc, ◌+◌, ◌≤◌, if◌then◌else◌, ◌==◌, List, [], ◌∷◌, ◌++◌}
-use Rattle.control.specs.Language.{Paragraph, Program, Range}
+use Rattle.language.specs.Language.{Paragraph, Program, Range}
 use Rattle.control.specs.Graph.{Label, Tree, Dead, Family}
 use Rattle.lowering.specs.Told.{Told}
 use Rattle.lowering.specs.Completes.{sizes}

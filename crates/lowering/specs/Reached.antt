@@ -1,7 +1,7 @@
 -- Only the nodes that are reached from the entry.
 use Rattle.std.specs.Prelude.{ℕ, ◌≡◌, ◌⊎◌, Bool, true, if◌then◌else◌, List, [], ◌∷◌}
 use Rattle.runs.specs.Machine.{meaning}
-use Rattle.control.specs.Language.{Program, Range}
+use Rattle.language.specs.Language.{Program, Range}
 use Rattle.control.specs.Doing.{Acting, Celled}
 use Rattle.control.specs.Graph.{Label, tree, End, Pick, Jump, Return, Stop, Dead, Trees, no_more, more, end_of, Family}
 use Rattle.control.specs.Walk.{walk_machine}

@@ -1,7 +1,7 @@
 -- A rest with its places, its continuation, and the tree that is built from it.
 use Rattle.std.specs.Prelude.{ℕ, ◌+◌, ◌≡◌, Bool, true, false, List, [], ◌∷◌}
-use Rattle.control.specs.Language.{Control, Times, Until, Varying, Loop, Stmts, Nested, Paragraph}
-use Rattle.control.specs.Items.{Turning, Counted, Tests, Steps, StepsAfter, Item, SentenceEnd, Turn, before}
+use Rattle.language.specs.Language.{Control, Times, Until, Varying, Loop, Stmts, Nested, Paragraph}
+use Rattle.language.specs.Items.{Turning, Counted, Tests, Steps, StepsAfter, Item, SentenceEnd, Turn, before}
 use Rattle.control.specs.Graph.{Label, Tree, End, Jump}
 use Rattle.lowering.specs.Told.{Told}
 use Rattle.lowering.specs.Completes.{cuts, leave_sentence, sizes}

@@ -2,7 +2,7 @@
 -- each jump leads to a node,
 -- and the labels rise.
 use Rattle.std.specs.Prelude.{ℕ, suc, ◌≡◌, ◌<◌, ◌⊎◌, Bool, true, List, [], ◌∷◌, length}
-use Rattle.control.specs.Language.{Picker, If, By, ByCell, Program, Range}
+use Rattle.language.specs.Language.{Picker, If, By, ByCell, Program, Range}
 use Rattle.control.specs.Graph.{Label, Tree, tree, End, Pick, Jump, Return, Stop, Dead, Trees, no_more, more}
 use Rattle.lowering.specs.Told.{Told, IsSource}
 use Rattle.lowering.specs.Completes.{wholes}

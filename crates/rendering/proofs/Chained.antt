@@ -5,14 +5,16 @@ use Rattle.runs.specs.Tied.{Meaning, Tied}
 use Rattle.runs.specs.Machine.{iterate, meaning}
 use Rattle.runs.proofs.Ties.{tied-sym, tied-trans, tied-at, tied-comes, going_or_not}
 use Rattle.control.specs.Outcome.{Event, FlowFault, Overlap, Reentry, Ending, Stopped, Faulted, Returned, Lost, Standing}
-use Rattle.control.specs.Language.{Main, Paragraph, Program}
+use Rattle.language.specs.Language.{Main, Paragraph, Program}
 use Rattle.control.specs.Doing.{Acting, Doing, Celled, alone}
-use Rattle.control.specs.Items.{Item, Way, On, Halts, Into, To, ToEnd, item_way}
-use Rattle.control.specs.Source.{Pending, SourceState, ends_at, comes_to, goes, goes_to, falls, end_step, rest_step, step_by, source_step, source_begun, source_machine}
+use Rattle.language.specs.Items.{Item}
+use Rattle.control.specs.Items.{Way, On, Halts, Into, To, ToEnd, item_way}
+use Rattle.language.specs.Items.{Pending, ends_at}
+use Rattle.control.specs.Source.{SourceState, comes_to, goes, goes_to, falls, end_step, rest_step, step_by, source_step, source_begun, source_machine}
 use Rattle.control.specs.Graph.{Family}
 use Rattle.control.specs.Walk.{walk_machine, main_machine}
 use Rattle.control.specs.Structural.{structural}
-use Rattle.agreement.specs.Structured.{IsStructured}
+use Rattle.language.specs.Structured.{IsStructured}
 use Rattle.agreement.specs.Same.{EndsFairly, SameBehaviour}
 use Rattle.rendering.specs.Rendering.{Naming, Procedure, rendered}
 use Rattle.rendering.specs.Procedures.{Writable, AreProcedures}

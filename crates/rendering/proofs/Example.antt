@@ -1,6 +1,6 @@
 -- The small family meets the premises, and is written as said.
 use Rattle.std.proofs.Common.{◌≡◌, ℕ, zero, suc, ◌+◌, ◌<◌, ◌≤◌, true, List, [], ◌∷◌, Some, slice_get, refl, ap, sym, subst, arith, inl, inr}
-use Rattle.control.specs.Language.{Main}
+use Rattle.language.specs.Language.{Main}
 use Rattle.control.specs.Graph.{tree, Stop, IsLast}
 use Rattle.rendering.specs.Rendering.{Naming, Procedure, place_of}
 use Rattle.rendering.specs.Procedures.{StmtsStand, stmts_call}

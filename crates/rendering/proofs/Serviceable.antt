@@ -1,81 +1,70 @@
--- Any parts, with the words on cells, can be had as the parts of a program: the premises on a written program can be met.
-use Rattle.std.proofs.Common.{◌≡◌, ℕ, zero, suc, ◌+◌, ◌-◌, Bool, ◌==◌, [], length, refl, ap, sym, ◌∙◌, subst, arith, inl}
+-- Any parts, with the words on cells, can be had as the parts of a program: the premises on a
+-- written program can be met.
+use Rattle.std.proofs.Common.{◌≡◌, ℕ, zero, suc, ◌-◌, Bool, true, false, ◌==◌, List, [], ◌∷◌, length, Option, Some, refl, ap, sym, ◌∙◌, subst, arith, inl}
+use Rattle.cob_tree.specs.declared.place.Operand.{Operand, out-Operand, out-roll-Operand}
+use Rattle.cob_tree.specs.declared.place.Operand.TheVariants as operand
+use Rattle.cob_tree.specs.declared.place.Operand.TheVariants.{rolls-Text}
+use Rattle.cob_tree.specs.declared.place.Expr.{Expr, out-Expr, out-roll-Expr}
+use Rattle.cob_tree.specs.declared.place.Expr.TheOpen.{Expr-F, Operand-F}
+use Rattle.cob_tree.specs.declared.place.Expr.TheVariants as expr
+use Rattle.cob_tree.specs.declared.place.Expr.TheVariants.{rolls-Leaf}
+use Rattle.cob_tree.specs.declared.cond.Rel.{Rel}
+use Rattle.cob_tree.specs.declared.cond.Rel.TheVariants.{Equal, Greater}
+use Rattle.cob_tree.specs.declared.cond.Cond.{out-Cond, out-roll-Cond}
+use Rattle.cob_tree.specs.declared.cond.Cond.TheOpen.{Cond-F}
+use Rattle.cob_tree.specs.declared.cond.Cond.TheVariants as cond
+use Rattle.cob_tree.specs.declared.cond.Cond.TheVariants.{rolls-Relation, rolls-Not}
+use Rattle.cob_tree.specs.declared.choice.Subject.TheVariants as subject
+use Rattle.cob_tree.specs.declared.stmt.Arms.{Arms}
+use Rattle.cob_tree.specs.declared.stmt.When.{When}
+use Rattle.cob_tree.specs.declared.stmt.Stmt.{out-Stmt, out-roll-Stmt}
+use Rattle.cob_tree.specs.declared.stmt.Stmt.TheOpen.{Stmt-F}
+use Rattle.cob_tree.specs.declared.stmt.Stmt.TheVariants as stmt
+use Rattle.cob_tree.specs.declared.stmt.Stmt.TheVariants.{rolls-Display, rolls-Closes, rolls-Evaluate, rolls-Continue}
+use Rattle.language.specs.Language.{Simple, Cond, Chooser, Amount, Evaluate, Read, Arith, Depending, Picker, Range, Main, Part}
 use Rattle.control.specs.Outcome.{Tried, Got, Ends}
-use Rattle.control.specs.Language.{Picker, Range, Main, Part}
 use Rattle.control.specs.Doing.{Acting, Celled, own_is, put, keeping, taken, is_above}
 use Rattle.rendering.specs.Rendering.{Empty, Naming}
 use Rattle.rendering.specs.Procedures.{Writable}
 use Rattle.rendering.specs.Serving.{SameArm, Alike, Serves}
 
--- Two numbers in one: (0, 0), (1, 0), (0, 1), (2, 0), (1, 1), (0, 2) and so on.
+-- A word on a cell: its range, the cell, and a number more.
 
-abbrev next : ℕ × ℕ → ℕ × ℕ
-next (zero, b) = (suc b, 0)
-next (suc a, b) = (a, suc b)
+abbrev word : Range → ℕ → ℕ → List ℕ
+word Main cell value = 0 ∷ cell ∷ value ∷ []
+word (Part entry exit) cell value = 1 ∷ entry ∷ exit ∷ cell ∷ value ∷ []
 
-abbrev two_of : ℕ → ℕ × ℕ
-two_of zero = (0, 0)
-two_of (suc n) = next (two_of n)
+-- what is done by a word
+abbrev by_word : {A : Type 0} → (Range → ℕ → ℕ → A) → List ℕ → A
+by_word does (zero ∷ cell ∷ value ∷ []) = does Main cell value
+by_word does (suc n ∷ entry ∷ exit ∷ cell ∷ value ∷ []) = does (Part entry exit) cell value
+by_word does other = does Main 0 0
 
-abbrev row : ℕ → ℕ
-row zero = 0
-row (suc s) = suc (row s + s)
+word-is : {A : Type 0} (does : Range → ℕ → ℕ → A) (range : Range) (cell value : ℕ) →
+    by_word does (word range cell value) ≡ does range cell value
+word-is does Main cell value = refl
+word-is does (Part entry exit) cell value = refl
 
-abbrev one_of : ℕ → ℕ → ℕ
-one_of a b = row (a + b) + b
+-- A text as an operand and as an expression.
 
--- along a row, from its beginning
-along : (s : ℕ) → two_of (row s) ≡ (s, 0) → (b a : ℕ) → a + b ≡ s → two_of (row s + b) ≡ (a, b)
-along s begins zero a e =
-    let same : row s + 0 ≡ row s = omega arith in
-    let is : s ≡ a = omega (arith, e) in
-    ap two_of same ∙ begins ∙ ap (λ n. (let p : ℕ × ℕ = (n, 0) in p)) is
-along s begins (suc b) a e =
-    let more : row s + suc b ≡ suc (row s + b) = omega arith in
-    ap two_of more ∙ ap next (along s begins b (suc a) (omega (arith, e)))
+abbrev text_of : Operand → List ℕ
+text_of operand = elim (out-Operand operand) [ Operand-F.Text text ↦ text | _ ↦ [] ]
 
-row-begins : (s : ℕ) → two_of (row s) ≡ (s, 0)
-row-begins zero = refl
-row-begins (suc s) = ap next (along s (row-begins s) s 0 (omega arith))
+text-of : (text : List ℕ) → text_of (operand.Text text) ≡ text
+text-of text = ap (λ o. elim o [ Operand-F.Text t ↦ t | _ ↦ [] ])
+    (ap out-Operand (sym (rolls-Text text)) ∙ out-roll-Operand (Operand-F.Text text))
 
-two-one : (a b : ℕ) → two_of (one_of a b) ≡ (a, b)
-two-one a b = along (a + b) (row-begins (a + b)) b a refl
+abbrev text_in : Expr → List ℕ
+text_in expr = elim (out-Expr expr) [ Expr-F.Leaf operand ↦ text_of operand | _ ↦ [] ]
 
-first_two : (a b : ℕ) → (two_of (one_of a b)).0 ≡ a
-first_two a b = ap (λ (p : ℕ × ℕ). p.0) (two-one a b)
+abbrev leaf : List ℕ → Expr
+leaf text = expr.Leaf (operand.Text text)
 
-second_two : (a b : ℕ) → (two_of (one_of a b)).1 ≡ b
-second_two a b = ap (λ (p : ℕ × ℕ). p.1) (two-one a b)
-
-abbrev of_range : Range → ℕ
-of_range Main = 0
-of_range (Part entry exit) = suc (one_of entry exit)
-
-abbrev range_of : ℕ → Range
-range_of zero = Main
-range_of (suc n) = Part (two_of n).0 (two_of n).1
-
-range-of : (range : Range) → range_of (of_range range) ≡ range
-range-of Main = refl
-range-of (Part entry exit) = ap (λ n. Part n (two_of (one_of entry exit)).1) (first_two entry exit) ∙ ap (Part entry) (second_two entry exit)
-
--- A word: its kind, its range, its cell, and one number more.
-
-abbrev word : ℕ → Range → ℕ → ℕ → ℕ
-word kind range cell value = one_of kind (one_of (of_range range) (one_of cell value))
-
--- what is done by a word, by its parts
-module _ {A : Type 0} (on_word : Range → ℕ → ℕ → A) where
-  abbrev by_parts : ℕ → A
-  by_parts payload = on_word (range_of (two_of payload).0) (two_of (two_of payload).1).0 (two_of (two_of payload).1).1
-
-  parts-are : (range : Range) (cell value : ℕ) → by_parts (one_of (of_range range) (one_of cell value)) ≡ on_word range cell value
-  parts-are range cell value =
-      let payload = one_of (of_range range) (one_of cell value) in
-      ap (λ r. on_word r (two_of (two_of payload).1).0 (two_of (two_of payload).1).1) (ap range_of (first_two (of_range range) (one_of cell value)) ∙ range-of range)
-      ∙ ap (λ n. on_word range (two_of n).0 (two_of n).1) (second_two (of_range range) (one_of cell value))
-      ∙ ap (λ n. on_word range n (two_of (one_of cell value)).1) (first_two cell value)
-      ∙ ap (on_word range cell) (second_two cell value)
+text-in : (text : List ℕ) → text_in (leaf text) ≡ text
+text-in text = ap (λ e. elim e [ Expr-F.Leaf operand ↦ text_of operand | _ ↦ [] ])
+    (ap out-Expr (sym (rolls-Leaf (operand.Text text)))
+    ∙ out-roll-Expr (Expr-F.Leaf (operand.Text text)))
+    ∙ text-of text
 
 module _ {Memory Left World : Type 0} (acting : Acting Memory) (left : Memory → Left) (first : World → Memory) (kinds : Writable) (empty : Range → Picker → ℕ → Empty) where
   abbrev Cells : Type 0
@@ -84,24 +73,49 @@ module _ {Memory Left World : Type 0} (acting : Acting Memory) (left : Memory �
   abbrev Acts : Type 0
   Acts = Cells → Tried Cells (Unit {0})
 
+  abbrev own_does : Simple → Acts
+  own_does simple memory = keeping (own_is memory) (acting.act simple memory.own)
+
   abbrev set_does : Range → ℕ → ℕ → Acts
   set_does range cell value memory = Got [] tt (put range cell value memory)
 
-  abbrev take_does : Range → ℕ → ℕ → Acts
-  take_does range cell amount memory = taken range cell memory (acting.count amount memory.own)
+  abbrev take_does : Amount → Range → ℕ → ℕ → Acts
+  take_does amount range cell value memory =
+      taken range cell memory (acting.count amount memory.own)
 
   abbrev lower_does : Range → ℕ → ℕ → Acts
   lower_does range cell value memory = Got [] tt (put range cell (memory.cells range cell - 1) memory)
 
-  abbrev act_by : ℕ → ℕ → Acts
-  act_by zero payload memory = Got [] tt memory
-  act_by (suc zero) payload memory = keeping (own_is memory) (acting.act payload memory.own)
-  act_by (suc (suc zero)) payload memory = by_parts set_does payload memory
-  act_by (suc (suc (suc zero))) payload memory = by_parts take_does payload memory
-  act_by (suc (suc (suc (suc n)))) payload memory = by_parts lower_does payload memory
+  abbrev nothing_does : Acts
+  nothing_does memory = Got [] tt memory
+
+  -- an own statement stands as the one arm of an EVALUATE
+  abbrev own_by : Option (List Simple) → Acts
+  own_by (Some (simple ∷ [])) = own_does simple
+  own_by other = nothing_does
+
+  -- CLOSE of numbers sets or lowers a cell
+  abbrev cell_by : List ℕ → Acts
+  cell_by [] = nothing_does
+  cell_by (zero ∷ text) = by_word set_does text
+  cell_by (suc n ∷ text) = by_word lower_does text
+
+  -- DISPLAY of a text and an operand takes the operand
+  abbrev take_by : List Operand → Acts
+  take_by (text ∷ amount ∷ []) = by_word (take_does amount) (text_of text)
+  take_by other = nothing_does
+
+  abbrev act_by : Stmt-F Simple Arms When → Acts
+  act_by (Stmt-F.Evaluate subject whens other) = own_by other
+  act_by (Stmt-F.Closes numbers) = cell_by numbers
+  act_by (Stmt-F.Display items advance) = take_by items
+  act_by _ = nothing_does
 
   abbrev Tests : Type 0
   Tests = Cells → Tried Cells Bool
+
+  abbrev own_tests : Cond → Tests
+  own_tests cond memory = keeping (own_is memory) (acting.test cond memory.own)
 
   abbrev is_does : Range → ℕ → ℕ → Tests
   is_does range cell value memory = Got [] (memory.cells range cell == value) memory
@@ -109,53 +123,98 @@ module _ {Memory Left World : Type 0} (acting : Acting Memory) (left : Memory �
   abbrev above_does : Range → ℕ → ℕ → Tests
   above_does range cell value memory = Got [] (is_above (memory.cells range cell)) memory
 
-  abbrev test_by : ℕ → ℕ → Tests
-  test_by zero payload memory = keeping (own_is memory) (acting.test payload memory.own)
-  test_by (suc zero) payload memory = by_parts is_does payload memory
-  test_by (suc (suc n)) payload memory = by_parts above_does payload memory
+  abbrev relation_by : Rel → List ℕ → Tests
+  relation_by Equal text = by_word is_does text
+  relation_by _ text = by_word above_does text
+
+  -- an own condition stands behind NOT
+  abbrev test_by : Cond-F Cond → Tests
+  test_by (Cond-F.Not cond) = own_tests cond
+  test_by (Cond-F.Relation from rel to) = relation_by rel (text_in from)
+  test_by _ = λ memory. Got [] true memory
 
   abbrev Chooses : Type 0
   Chooses = Cells → Tried Cells ℕ
 
+  abbrev own_chooses : Chooser → Chooses
+  own_chooses chooser memory = keeping (own_is memory) (acting.choose chooser memory.own)
+
   abbrev cell_does : Range → ℕ → ℕ → Chooses
   cell_does range cell value memory = Got [] (memory.cells range cell - 1) memory
 
-  abbrev choose_by : ℕ → ℕ → Chooses
-  choose_by zero payload memory = keeping (own_is memory) (acting.choose payload memory.own)
-  choose_by (suc n) payload memory = by_parts cell_does payload memory
+  -- an own EVALUATE has one WHEN more, that tests nothing
+  abbrev choose_by : Chooser → Chooses
+  choose_by (Evaluate (subject.Value from) [] has_other) = by_word cell_does (text_in from)
+  choose_by (Evaluate subject [] has_other) = λ memory. Got [] 0 memory
+  choose_by (Evaluate subject (tests ∷ others) has_other) = own_chooses (Evaluate subject others has_other)
+  choose_by (Read file into has_end) = own_chooses (Read file into has_end)
+  choose_by (Arith calc into) = own_chooses (Arith calc into)
+  choose_by (Depending on) = own_chooses (Depending on)
 
-  -- the parts, each by its kind
+  -- the parts
   abbrev pub whole : Acting Cells
   whole = record {
-    act = λ n. act_by (two_of n).0 (two_of n).1;
-    test = λ n. test_by (two_of n).0 (two_of n).1;
-    choose = λ n. choose_by (two_of n).0 (two_of n).1;
+    act = λ simple. act_by (out-Stmt simple);
+    test = λ cond. test_by (out-Cond cond);
+    choose = choose_by;
     count = λ amount memory. keeping (own_is memory) (acting.count amount memory.own);
   }
 
+  abbrev own_name : Chooser → Chooser
+  own_name (Evaluate subject tests has_other) = Evaluate subject ([] ∷ tests) has_other
+  own_name (Read file into has_end) = Read file into has_end
+  own_name (Arith calc into) = Arith calc into
+  own_name (Depending on) = Depending on
+
+  own-named : (chooser : Chooser) → choose_by (own_name chooser) ≡ own_chooses chooser
+  own-named (Evaluate subject tests has_other) = refl
+  own-named (Read file into has_end) = refl
+  own-named (Arith calc into) = refl
+  own-named (Depending on) = refl
+
   abbrev pub names : Naming
   names = record {
-    nothing = one_of 0 0;
-    simple = one_of 1;
-    cond = one_of 0;
-    chooser = λ chooser arms. one_of 0 chooser;
+    nothing = stmt.Continue;
+    simple = λ simple. stmt.Evaluate subject.True [] (Some (simple ∷ []));
+    cond = cond.Not;
+    chooser = λ chooser arms. own_name chooser;
     amount = λ amount. amount;
-    set = λ range cell value. word 2 range cell value;
-    take = λ range cell amount. word 3 range cell amount;
-    lower = λ range cell. word 4 range cell 0;
-    is = λ range cell value. word 1 range cell value;
-    above = λ range cell. word 2 range cell 0;
-    by_cell = λ range cell arms. word 1 range cell 0;
+    set = λ range cell value. stmt.Closes (0 ∷ word range cell value);
+    take = λ range cell amount. stmt.Display (operand.Text (word range cell 0) ∷ amount ∷ []) true;
+    lower = λ range cell. stmt.Closes (1 ∷ word range cell 0);
+    is = λ range cell value. cond.Relation (leaf (word range cell value)) Equal (leaf []);
+    above = λ range cell. cond.Relation (leaf (word range cell 0)) Greater (leaf []);
+    by_cell = λ range cell arms. Evaluate (subject.Value (leaf (word range cell 0))) [] false;
     empty = empty;
   }
 
-  both-are : {A : Type 0} (does : ℕ → ℕ → A) (a b : ℕ) → does (two_of (one_of a b)).0 (two_of (one_of a b)).1 ≡ does a b
-  both-are does a b = ap (λ n. does n (two_of (one_of a b)).1) (first_two a b) ∙ ap (does a) (second_two a b)
+  nothing-is : whole.act names.nothing ≡ nothing_does
+  nothing-is = ap act_by (ap out-Stmt (sym rolls-Continue) ∙ out-roll-Stmt Stmt-F.Continue)
 
-  word-is : {A : Type 0} (does : ℕ → ℕ → A) (on_word : Range → ℕ → ℕ → A) (kind : ℕ) (range : Range) (cell value : ℕ) → ((payload : ℕ) → does kind payload ≡ by_parts on_word payload) →
-      does (two_of (word kind range cell value)).0 (two_of (word kind range cell value)).1 ≡ on_word range cell value
-  word-is does on_word kind range cell value e =
-      both-are does kind (one_of (of_range range) (one_of cell value)) ∙ e (one_of (of_range range) (one_of cell value)) ∙ parts-are on_word range cell value
+  simple-is : (simple : Simple) → whole.act (names.simple simple) ≡ own_does simple
+  simple-is simple = ap act_by (ap out-Stmt (sym (rolls-Evaluate subject.True [] (Some (simple ∷ []))))
+      ∙ out-roll-Stmt (Stmt-F.Evaluate subject.True [] (Some (simple ∷ []))))
+
+  closes-is : (numbers : List ℕ) → whole.act (stmt.Closes numbers) ≡ cell_by numbers
+  closes-is numbers = ap act_by (ap out-Stmt (sym (rolls-Closes numbers)) ∙ out-roll-Stmt (Stmt-F.Closes numbers))
+
+  take-is : (range : Range) (cell : ℕ) (amount : Amount) → whole.act (names.take range cell amount) ≡ take_does amount range cell 0
+  take-is range cell amount =
+      let items = operand.Text (word range cell 0) ∷ amount ∷ [] in
+      ap act_by (ap out-Stmt (sym (rolls-Display items true)) ∙ out-roll-Stmt (Stmt-F.Display items true))
+      ∙ ap (by_word (take_does amount)) (text-of (word range cell 0))
+      ∙ word-is (take_does amount) range cell 0
+
+  cond-is : (cond : Cond) → whole.test (names.cond cond) ≡ own_tests cond
+  cond-is cond = ap test_by (ap out-Cond (sym (rolls-Not cond)) ∙ out-roll-Cond (Cond-F.Not cond))
+
+  relation-is : (rel : Rel) (text : List ℕ) → whole.test (cond.Relation (leaf text) rel (leaf [])) ≡ relation_by rel text
+  relation-is rel text =
+      ap test_by (ap out-Cond (sym (rolls-Relation (leaf text) rel (leaf []))) ∙ out-roll-Cond (Cond-F.Relation (leaf text) rel (leaf [])))
+      ∙ ap (relation_by rel) (text-in text)
+
+  by-cell-is : (range : Range) (cell : ℕ) (arms : List Bool) → whole.choose (names.by_cell range cell arms) ≡ cell_does range cell 0
+  by-cell-is range cell arms = ap (by_word cell_does) (text-in (word range cell 0)) ∙ word-is cell_does range cell 0
 
   abbrev Goes : {A : Type 0} → (A → A → Type 0) → Tried Cells A → Tried Cells A → Type 0
   Goes {A} = Alike {Value = A} left (λ memory. left memory.own) (λ a b. a ≡ b)
@@ -171,25 +230,25 @@ module _ {Memory Left World : Type 0} (acting : Acting Memory) (left : Memory �
   abbrev Any : Unit {0} → Unit {0} → Type 0
   Any a b = Unit {0}
 
-  act-goes : (f : Acts) (code : ℕ) → whole.act code ≡ f → (memory other : Cells) → memory ≡ other → Goes Any (f memory) (whole.act code other)
+  act-goes : (f : Acts) (code : Simple) → whole.act code ≡ f → (memory other : Cells) → memory ≡ other → Goes Any (f memory) (whole.act code other)
   act-goes f code e memory other is = goes-as Any (λ a. tt) f (whole.act code) e memory other is
 
   pub whole-serves : Serves acting left first whole (λ memory. left memory.own) (λ world. record { own = first world; cells = λ range cell. 0 }) (λ a b. a ≡ b) names kinds
   whole-serves = record {
     starts = λ world. refl;
     leaves = λ memory other is. ap (λ (m : Cells). left m.own) is;
-    nothing = λ memory other is. act-goes (λ m. Got [] tt m) (one_of 0 0) (both-are act_by 0 0) memory other is;
-    simple = λ simple memory other fits is. act-goes (λ m. keeping (own_is m) (acting.act simple m.own)) (one_of 1 simple) (both-are act_by 1 simple) memory other is;
-    cond = λ cond memory other fits is. goes-as (◌≡◌ {A = Bool}) (λ a. refl) (λ m. keeping (own_is m) (acting.test cond m.own)) (whole.test (one_of 0 cond)) (both-are test_by 0 cond) memory other is;
-    chooser = λ chooser arms memory other fits is. goes-as (SameArm (length arms)) (λ a. inl refl) (λ m. keeping (own_is m) (acting.choose chooser m.own)) (whole.choose (one_of 0 chooser)) (both-are choose_by 0 chooser) memory other is;
+    nothing = λ memory other is. act-goes nothing_does names.nothing nothing-is memory other is;
+    simple = λ simple memory other fits is. act-goes (own_does simple) (names.simple simple) (simple-is simple) memory other is;
+    cond = λ cond memory other fits is. goes-as (◌≡◌ {A = Bool}) (λ a. refl) (own_tests cond) (whole.test (names.cond cond)) (cond-is cond) memory other is;
+    chooser = λ chooser arms memory other fits is. goes-as (SameArm (length arms)) (λ a. inl refl) (own_chooses chooser) (choose_by (own_name chooser)) (own-named chooser) memory other is;
     amount = λ amount memory other fits is. goes-as (◌≡◌ {A = ℕ}) (λ a. refl) (λ m. keeping (own_is m) (acting.count amount m.own)) (whole.count amount) refl memory other is;
-    set = λ range cell value memory other fits is. act-goes (set_does range cell value) (word 2 range cell value) (word-is act_by set_does 2 range cell value (λ payload. refl)) memory other is;
-    take = λ range cell amount memory other fits has is. act-goes (take_does range cell amount) (word 3 range cell amount) (word-is act_by take_does 3 range cell amount (λ payload. refl)) memory other is;
-    lower = λ range cell memory other fits is. act-goes (lower_does range cell 0) (word 4 range cell 0) (word-is act_by lower_does 4 range cell 0 (λ payload. refl)) memory other is;
-    is = λ range cell value memory other fits is. goes-as (◌≡◌ {A = Bool}) (λ a. refl) (is_does range cell value) (whole.test (word 1 range cell value)) (word-is test_by is_does 1 range cell value (λ payload. refl)) memory other is;
-    above = λ range cell memory other fits is. goes-as (◌≡◌ {A = Bool}) (λ a. refl) (above_does range cell 0) (whole.test (word 2 range cell 0)) (word-is test_by above_does 2 range cell 0 (λ payload. refl)) memory other is;
+    set = λ range cell value memory other fits is. act-goes (set_does range cell value) (names.set range cell value) (closes-is (0 ∷ word range cell value) ∙ word-is set_does range cell value) memory other is;
+    take = λ range cell amount memory other fits has is. act-goes (take_does amount range cell 0) (names.take range cell amount) (take-is range cell amount) memory other is;
+    lower = λ range cell memory other fits is. act-goes (lower_does range cell 0) (names.lower range cell) (closes-is (1 ∷ word range cell 0) ∙ word-is lower_does range cell 0) memory other is;
+    is = λ range cell value memory other fits is. goes-as (◌≡◌ {A = Bool}) (λ a. refl) (is_does range cell value) (whole.test (names.is range cell value)) (relation-is Equal (word range cell value) ∙ word-is is_does range cell value) memory other is;
+    above = λ range cell memory other fits is. goes-as (◌≡◌ {A = Bool}) (λ a. refl) (above_does range cell 0) (whole.test (names.above range cell)) (relation-is Greater (word range cell 0) ∙ word-is above_does range cell 0) memory other is;
     by_cell = λ range cell arms arm memory other fits above is.
         let less : memory.cells range cell - 1 ≡ arm = omega (arith, above) in
-        subst (λ n. Goes (SameArm (length arms)) (Got [] n memory) (whole.choose (word 1 range cell 0) other)) less
-        (goes-as (SameArm (length arms)) (λ a. inl refl) (cell_does range cell 0) (whole.choose (word 1 range cell 0)) (word-is choose_by cell_does 1 range cell 0 (λ payload. refl)) memory other is);
+        subst (λ n. Goes (SameArm (length arms)) (Got [] n memory) (whole.choose (names.by_cell range cell arms) other)) less
+        (goes-as (SameArm (length arms)) (λ a. inl refl) (cell_does range cell 0) (whole.choose (names.by_cell range cell arms)) (by-cell-is range cell arms) memory other is);
   }

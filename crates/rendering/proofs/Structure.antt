@@ -1,9 +1,9 @@
 -- The program that is written of procedures is structured.
 use Rattle.std.proofs.Common.{◌≡◌, ℕ, zero, suc, ◌+◌, ◌<◌, ◌≤◌, Bool, true, false, if◌then◌else◌, ◌==◌, List, [], ◌∷◌, length, Some, slice_get, map, refl, ap, sym, ◌∙◌, subst, arith, ◌⊎◌, inl, inr}
-use Rattle.control.specs.Language.{Simple, If, By, ByCell, Stmt, Do, Choose, Loop, Perform, Go, GoDepending, NextSentence, ExitParagraph, ExitSection, ExitPerform, StopRun, Stmts, none, also, Arms, done, given, missing, Body, Nested, Performed, Paragraph, unless_absent, paragraph_at, Range, Main, Part, same_range}
+use Rattle.language.specs.Language.{Simple, If, By, ByCell, Stmt, Do, Choose, Loop, Perform, Go, GoDepending, NextSentence, ExitParagraph, ExitSection, ExitPerform, StopRun, Stmts, none, also, Arms, done, given, missing, Body, Nested, Performed, Paragraph, unless_absent, paragraph_at, Range, Main, Part, same_range}
 use Rattle.control.specs.Graph.{Family}
 use Rattle.control.specs.Graph as graph
-use Rattle.agreement.specs.Structured.{StmtNests, StmtsNest, ArmsNest, BodyNests, NamesLater, ParagraphsNest, EndsInStop, FirstStops, stmt_performs, stmts_perform, arms_perform, body_performs, paragraph_performs, IsStructured}
+use Rattle.language.specs.Structured.{StmtNests, StmtsNest, ArmsNest, BodyNests, NamesLater, ParagraphsNest, EndsInStop, FirstStops, stmt_performs, stmts_perform, arms_perform, body_performs, paragraph_performs, IsStructured}
 use Rattle.rendering.specs.Rendering.{Empty, Continues, Stays, Goes, Naming, Procedure, place_of, required, written_arm, then_stmts, closing, written_stmt, written_stmts, written_arms, written_body, written_paragraph, rendered}
 use Rattle.rendering.specs.Procedures.{Writable, StmtStands, StmtsStand, StmtsLeft, ArmsStand, BodyStands, StmtChooses, BodyChooses, stmt_calls, stmts_call, arms_call, body_calls, FirstIsMain, AreProcedures}
 use Rattle.agreement.proofs.Agreement.{same_number}

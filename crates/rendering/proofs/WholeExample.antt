@@ -1,12 +1,16 @@
 -- The premises of the headline hold of one small program.
 use Rattle.std.proofs.Common.{◌≡◌, ℕ, ◌<◌, ◌≤◌, Some, slice_get, true, [], ◌∷◌, refl, ap, sym, ◌∙◌, arith, inl}
+use Rattle.cob_tree.specs.declared.place.Place.{out-Place, roll-Place}
+use Rattle.cob_tree.specs.declared.place.Operand.{out-Operand}
+use Rattle.cob_tree.specs.declared.cond.Cond.{out-Cond}
+use Rattle.cob_tree.specs.declared.stmt.Stmt.{out-Stmt}
 use Rattle.runs.specs.Run.{Going, Over, IsOver}
 use Rattle.runs.specs.Tied.{Tied}
 use Rattle.runs.specs.Machine.{meaning}
 use Rattle.runs.proofs.Ties.{ended-tied, over-covers, tied-refl}
 use Rattle.runs.proofs.Machines.{machine-steady}
 use Rattle.control.specs.Outcome.{Stopped, Faulted, Normally, Run}
-use Rattle.control.specs.Language.{Picker, Range}
+use Rattle.language.specs.Language.{Picker, Range}
 use Rattle.control.specs.Doing.{alone}
 use Rattle.control.specs.Source.{source_machine}
 use Rattle.control.specs.Walk.{main_machine}
@@ -14,7 +18,8 @@ use Rattle.control.specs.Graph.{tree, IsLast}
 use Rattle.rendering.specs.Rendering.{Empty, Stays, Naming, Procedure, place_of}
 use Rattle.rendering.specs.Procedures.{StmtsStand, stmts_call, AreProcedures}
 use Rattle.rendering.specs.Laws.{NeverFaults}
-use Rattle.control.specs.Examples.{small, stopped}
+use Rattle.control.specs.Examples.{stopped}
+use Rattle.control.specs.Parts.{small}
 use Rattle.rendering.specs.WholeExample.{jumping_program, jumping_procedure, jumping_family, no_cells, TheJumpIsRestructured}
 use Rattle.control.proofs.Growth.{source-grows, main-grows}
 use Rattle.rendering.proofs.Example.{each-from}
@@ -34,6 +39,7 @@ came-over : (n : ℕ) → IsOver (came n)
 came-over n going = cc
 
 jump-lowers : Tied (meaning (source_machine (alone small) kept jumping_program)) (meaning (main_machine small kept jumping_family))
+unfolding out-Stmt out-Cond out-Place roll-Place out-Operand denote.Hole.Carrier.out denote.Hole.Carrier.roll
 jump-lowers =
     let source = meaning (source_machine (alone small) kept jumping_program) in
     let walk = meaning (main_machine small kept jumping_family) in
@@ -41,6 +47,7 @@ jump-lowers =
     (record { most = 6; whole = came; over = came-over; first = λ n. (6, omega arith, refl); second = λ n. (3, omega arith, refl) })
 
 jump-never-faults : NeverFaults small kept jumping_program
+unfolding out-Stmt out-Cond out-Place roll-Place out-Operand denote.Hole.Carrier.out denote.Hole.Carrier.roll
 jump-never-faults n steps fault is =
     let source = meaning (source_machine (alone small) kept jumping_program) in
     let covers = over-covers source (machine-steady (source_machine (alone small) kept jumping_program) (source-grows (alone small) kept jumping_program)) n (came n) 6 steps (came-over n) refl in

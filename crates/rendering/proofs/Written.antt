@@ -6,11 +6,13 @@ use Rattle.runs.specs.Tied.{Tied}
 use Rattle.runs.specs.Machine.{Machine, iterate, Reaches, meaning, Grows, Simulates}
 use Rattle.runs.proofs.Machines.{reaches-refl, reaches-stepped, stepped-simulates, simulated-tied}
 use Rattle.control.specs.Outcome.{Event, Trace, How, Normally, Overlap, Reentry, Ending, Stopped, Faulted, Run, Standing, Tried, Got, Ends}
-use Rattle.control.specs.Language.{Simple, Act, Own, Stmt, StopRun, Stmts, none, also, Paragraph, Program, unless_absent, Range, Main, Part, same_range}
-use Rattle.control.specs.Language as language
+use Rattle.language.specs.Language.{Simple, Act, Own, Stmt, StopRun, Stmts, none, also, Paragraph, Program, unless_absent, Range, Main, Part, same_range}
+use Rattle.language.specs.Language as language
 use Rattle.control.specs.Doing.{Acting, Celled, celled, alone}
-use Rattle.control.specs.Items.{Item, Do, SentenceEnd, Turn, before, items_of, Way, On, Halts, Into, To, ToEnd, tried, on, item_way}
-use Rattle.control.specs.Source.{Pending, SourceState, ends_at, rest_of, comes_to, goes, falls, source_step, source_begun}
+use Rattle.language.specs.Items.{Item, Do, SentenceEnd, Turn, before, items_of}
+use Rattle.control.specs.Items.{Way, On, Halts, Into, To, ToEnd, tried, on, item_way}
+use Rattle.language.specs.Items.{Pending, ends_at}
+use Rattle.control.specs.Source.{SourceState, rest_of, comes_to, goes, falls, source_step, source_begun}
 use Rattle.control.specs.Graph.{Tree, tree, End, Pick, Jump, Return, Stop, Dead, body_of, end_of, Family, IsLast}
 use Rattle.control.specs.Walk.{Level, Walk, walk_goes, walk_end, walk_step, walk_begun}
 use Rattle.agreement.specs.Same.{EndsFairly}

@@ -1,8 +1,10 @@
 -- A small family, and the program that is written of it.
-use Rattle.std.specs.Prelude.{ℕ, ◌≡◌, Bool, true, false, if◌then◌else◌, ◌==◌, List, [], ◌∷◌}
-use Rattle.control.specs.Language.{Own, Set, Take, Lower, Holds, Is, Above, Picker, If, By, ByCell, Times, Until, Do, Choose, Loop, Perform, StopRun, Stmts, none, also, done, given, missing, Nested, Performed, Program, Range, Main, Part}
+use Rattle.std.specs.Prelude.{ℕ, ◌≡◌, Bool, true, false, if◌then◌else◌, ◌==◌, List, [], ◌∷◌, None}
+use Rattle.cob_tree.specs.declared.calc.Calc.TheVariants as calc
+use Rattle.language.specs.Language.{Chooser, Read, Arith, Own, Set, Take, Lower, Holds, Is, Above, Picker, If, By, ByCell, Times, Until, Do, Choose, Loop, Perform, StopRun, Stmts, none, also, done, given, missing, Nested, Performed, Program, Range, Main, Part}
+use Rattle.control.specs.Parts.{says, is, amount}
 use Rattle.control.specs.Graph.{Tree, tree, Return, Stop, Family}
-use Rattle.agreement.specs.Structured.{IsStructured}
+use Rattle.language.specs.Structured.{IsStructured}
 use Rattle.rendering.specs.Rendering.{Empty, Continues, Goes, Naming, Procedure, rendered}
 use Rattle.rendering.specs.Procedures.{Writable, AreProcedures}
 
@@ -19,25 +21,31 @@ count = 2
 abbrev pub exit_number : ℕ
 exit_number = 3
 
+abbrev pub reading : Chooser
+reading = Read 7 None true
+
+abbrev pub adding : Chooser
+adding = Arith (calc.Add []) []
+
 -- a READ until its end, an IF that has nothing to do where it holds, arithmetic that does nothing
 -- behind it, two nodes that go to each other, a TIMES that is left early, a loop with two exits,
 -- and a loop over a procedure
 abbrev pub main_body : Stmts
 main_body =
-    also (Do (Own 1))
+    also (Do (Own (says 1)))
     (also (Do (Set flag 0))
     (also (Loop (Until false (Is flag 1))
     (Nested (also
-    (Choose (By 7) (given (also (Do (Set flag 1)) none) (given (also (Perform 4 6) none) done)))
+    (Choose (By reading) (given (also (Do (Set flag 1)) none) (given (also (Perform 4 6) none) done)))
     none)))
-    (also (Choose (If (Holds 2)) (given none (given (also (Do (Own 3)) none) done)))
-    (also (Choose (By 8) (given none (given none done)))
+    (also (Choose (If (Holds (is 2))) (given none (given (also (Do (Own (says 3))) none) done)))
+    (also (Choose (By adding) (given none (given none done)))
     (also (Do (Set state 1))
     (also (Loop (Until false (Is state 0))
     (Nested (also
     (Choose (ByCell state)
     (given (also (Do (Set state 2)) none) (given (also (Do (Set state 0)) none) done))) none)))
-    (also (Do (Take count 5))
+    (also (Do (Take count (amount 5)))
     (also (Loop (Until false (Is flag 1))
     (Nested (also
     (Choose (If (Above count))
@@ -45,11 +53,11 @@ main_body =
     (also (Do (Set exit_number 0))
     (also (Loop (Until false (Above exit_number))
     (Nested (also
-    (Choose (If (Holds 2))
+    (Choose (If (Holds (is 2)))
     (given (also (Do (Set exit_number 1)) none)
     (given (also (Do (Set exit_number 2)) none) done))) none)))
-    (also (Choose (ByCell exit_number) (given (also (Do (Own 3)) none) (given none done)))
-    (also (Loop (Times 5) (Performed 9 9)) none))))))))))))
+    (also (Choose (ByCell exit_number) (given (also (Do (Own (says 3))) none) (given none done)))
+    (also (Loop (Times (amount 5)) (Performed 9 9)) none))))))))))))
 
 abbrev pub family_procedures : List Procedure
 family_procedures =
@@ -77,7 +85,7 @@ small_kinds = record {
   simples = λ simple. true;
   conds = λ cond. true;
   choosers = λ chooser arms. true;
-  amounts = λ amount. amount == 5;
+  amounts = λ amount. true;
   sets = λ range cell value. is_main range;
   compares = λ range cell value. is_main range;
   counts = λ range cell. cell == count;
@@ -93,7 +101,8 @@ must false = Goes
 -- but the last by an exit number
 abbrev pub always : Range → Picker → ℕ → Empty
 always range (If test) arm = must (arm == 0)
-always range (By chooser) arm = must (if chooser == 8 then arm == 0 else false)
+always range (By (Arith calc into)) arm = must (arm == 0)
+always range (By chooser) arm = Goes
 always range (ByCell cell) arm = must (if cell == state then true else arm == 0)
 
 abbrev pub named : Naming → Naming
@@ -103,16 +112,16 @@ named naming = record naming { empty = always }
 abbrev pub written_program : Naming → Program
 written_program n = record {
   paragraphs =
-      (also (Do (Own (n.simple 1)))
+      (also (Do (Own (n.simple (says 1))))
       (also (Do (Own (n.set Main flag 0)))
       (also (Loop (Until false (Holds (n.is Main flag 1)))
       (Nested (also
-      (Choose (By (n.chooser 7 (true ∷ true ∷ [])))
+      (Choose (By (n.chooser reading (true ∷ true ∷ [])))
       (given (also (Do (Own (n.set Main flag 1))) none) (given (also (Perform 1 1) none) done)))
       none)))
-      (also (Choose (If (Holds (n.cond 2)))
-      (given (also (Do (Own n.nothing)) none) (given (also (Do (Own (n.simple 3))) none) done)))
-      (also (Choose (By (n.chooser 8 (true ∷ false ∷ [])))
+      (also (Choose (If (Holds (n.cond (is 2))))
+      (given (also (Do (Own n.nothing)) none) (given (also (Do (Own (n.simple (says 3)))) none) done)))
+      (also (Choose (By (n.chooser adding (true ∷ false ∷ [])))
       (given (also (Do (Own n.nothing)) none) (missing done)))
       (also (Do (Own (n.set Main state 1)))
       (also (Loop (Until false (Holds (n.is Main state 0)))
@@ -120,7 +129,7 @@ written_program n = record {
       (Choose (By (n.by_cell Main state (true ∷ true ∷ [])))
       (given (also (Do (Own (n.set Main state 2))) none)
       (given (also (Do (Own (n.set Main state 0))) none) done))) none)))
-      (also (Do (Own (n.take Main count 5)))
+      (also (Do (Own (n.take Main count (amount 5))))
       (also (Loop (Until false (Holds (n.is Main flag 1)))
       (Nested (also
       (Choose (If (Holds (n.above Main count)))
@@ -129,12 +138,12 @@ written_program n = record {
       (also (Do (Own (n.set Main exit_number 0)))
       (also (Loop (Until false (Holds (n.above Main exit_number)))
       (Nested (also
-      (Choose (If (Holds (n.cond 2)))
+      (Choose (If (Holds (n.cond (is 2))))
       (given (also (Do (Own (n.set Main exit_number 1))) none)
       (given (also (Do (Own (n.set Main exit_number 2))) none) done))) none)))
       (also (Choose (By (n.by_cell Main exit_number (true ∷ false ∷ [])))
-      (given (also (Do (Own (n.simple 3))) none) (missing done)))
-      (also (Loop (Times (n.amount 5)) (Performed 2 2)) (also StopRun none))))))))))))) ∷ [])
+      (given (also (Do (Own (n.simple (says 3)))) none) (missing done)))
+      (also (Loop (Times (n.amount (amount 5))) (Performed 2 2)) (also StopRun none))))))))))))) ∷ [])
       ∷ (also (Perform 2 2) none ∷ [])
       ∷ (also (Do (Own n.nothing)) none ∷ [])
       ∷ [];

@@ -4,13 +4,13 @@ use Rattle.runs.specs.Run.{Over}
 use Rattle.runs.specs.Tied.{Tied}
 use Rattle.runs.specs.Machine.{meaning}
 use Rattle.control.specs.Outcome.{FlowFault, Faulted}
-use Rattle.control.specs.Language.{Picker, Range, Main, Program}
+use Rattle.language.specs.Language.{Picker, Range, Main, Program}
 use Rattle.control.specs.Doing.{Acting, Celled, alone}
 use Rattle.control.specs.Source.{source_machine}
 use Rattle.control.specs.Graph.{Family}
 use Rattle.control.specs.Walk.{walk_machine, main_machine}
 use Rattle.control.specs.Structural.{structural}
-use Rattle.agreement.specs.Structured.{IsStructured}
+use Rattle.language.specs.Structured.{IsStructured}
 use Rattle.agreement.specs.Same.{EndsFairly, SameBehaviour}
 use Rattle.rendering.specs.Rendering.{Empty, Naming, Procedure, rendered}
 use Rattle.rendering.specs.Procedures.{Writable, AreProcedures}

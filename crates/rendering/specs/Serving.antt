@@ -1,7 +1,7 @@
 -- When the written parts do what the parts and the words on cells do.
 use Rattle.std.specs.Prelude.{ℕ, suc, ◌≡◌, ◌≤◌, ◌-◌, Bool, true, ◌==◌, [], ◌⊎◌, List, length}
 use Rattle.control.specs.Outcome.{Tried, Got, Ends}
-use Rattle.control.specs.Language.{Simple, Cond, Chooser, Amount, Range}
+use Rattle.language.specs.Language.{Simple, Cond, Chooser, Amount, Range}
 use Rattle.control.specs.Doing.{Acting, Celled, own_is, put, keeping, taken, is_above}
 use Rattle.rendering.specs.Rendering.{Naming}
 use Rattle.rendering.specs.Procedures.{Writable}

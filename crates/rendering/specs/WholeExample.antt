@@ -1,23 +1,24 @@
 -- The chain from end to end, for one small program.
 use Rattle.std.specs.Prelude.{ℕ, true, false, [], ◌∷◌}
 use Rattle.runs.specs.Machine.{meaning}
-use Rattle.control.specs.Language.{Program, Main, also}
+use Rattle.language.specs.Language.{Program, Main, also}
 use Rattle.control.specs.Doing.{Acting, Celled, alone}
 use Rattle.control.specs.Source.{source_machine}
 use Rattle.control.specs.Graph.{tree, Stop, Family}
 use Rattle.control.specs.Structural.{structural}
-use Rattle.agreement.specs.Structured.{IsStructured}
+use Rattle.language.specs.Structured.{IsStructured}
 use Rattle.agreement.specs.Same.{SameBehaviour}
 use Rattle.rendering.specs.Rendering.{Naming, Procedure, rendered}
 use Rattle.rendering.specs.Procedures.{Writable}
-use Rattle.control.specs.Examples.{small, act, one, jumping}
+use Rattle.control.specs.Examples.{say, one, jumping}
+use Rattle.control.specs.Parts.{small}
 
 abbrev pub jumping_program : Program
 jumping_program = record { paragraphs = jumping }
 
 -- the first paragraph and the third, one behind the other
 abbrev pub jumping_procedure : Procedure
-jumping_procedure = record { range = Main; body = also (act 11) (one (act 13)); end = Stop }
+jumping_procedure = record { range = Main; body = also (say 11) (one (say 13)); end = Stop }
 
 abbrev pub jumping_family : Family
 jumping_family =

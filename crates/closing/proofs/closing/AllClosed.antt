@@ -1,7 +1,7 @@
 -- A family whose graphs are closed by all rules in their order does what it did.
 use Rattle.std.proofs.Common.{◌≡◌, ℕ, zero, suc, ◌-◌, ◌*◌, true, false, if◌then◌else◌, List, [], ◌∷◌, Option, Some, None, refl, ap, sym, ◌∙◌, subst}
 use Rattle.runs.proofs.Ties.{tied-trans, tied-at}
-use Rattle.control.specs.Language.{Range, Main, same_range}
+use Rattle.language.specs.Language.{Range, Main, same_range}
 use Rattle.control.specs.Doing.{Acting, is_above}
 use Rattle.control.specs.Graph.{Label}
 use Rattle.graph_rules.specs.Walked.{is_in, In, walked_from}

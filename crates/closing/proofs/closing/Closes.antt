@@ -1,7 +1,7 @@
 -- Exits and the dispatch, as functions of a graph, are in their relations.
 use Rattle.std.proofs.Common.{◌≡◌, ◌≢◌, ℕ, zero, suc, ◌<◌, if◌then◌else◌, List, [], ◌∷◌, ◌++◌, Some, None, refl, ap, sym, ◌∙◌, subst, arith, inl, inr}
 use Rattle.std.proofs.lemmas.Bool.Decides.{eqb_tells}
-use Rattle.control.specs.Language.{none, Range}
+use Rattle.language.specs.Language.{none, Range}
 use Rattle.control.specs.Graph.{Label, Tree, tree, Dead, Family}
 use Rattle.graph_rules.specs.Families.{Added, Never, State, Exit}
 use Rattle.graph_rules.specs.Reduced.{Node, Graph, tree_in, kind_at, count, Graphs, family_of, kinds_of, with_tree}

@@ -1,7 +1,8 @@
 -- The premises of the rules' laws hold of a worked program.
 use Rattle.std.proofs.Common.{ℕ, true, false, if◌then◌else◌, ◌==◌, [], ◌∷◌, refl, arith}
-use Rattle.control.specs.Language.{Own, Holds, If, Stmt, Choose, StopRun, Stmts, none, also, given, missing, done, Main}
-use Rattle.control.specs.Language as language
+use Rattle.language.specs.Language.{Own, Holds, If, Stmt, Choose, StopRun, Stmts, none, also, given, missing, done, Main}
+use Rattle.language.specs.Language as language
+use Rattle.control.specs.Parts.{says, is}
 use Rattle.control.specs.Graph.{tree, Pick, Jump, Dead}
 use Rattle.graph_rules.specs.Walked.{In}
 use Rattle.graph_rules.specs.Fits.{TreeFits}
@@ -18,11 +19,11 @@ family-before = (refl, fits, tt)
   where
     fits : (label : ℕ) → TreeFits (λ to. In to []) (Has (kinds_of graphs) Main) (MaySet (kinds_of graphs) Main) (tree_in state_nodes label)
     fits label =
-        elim (0 == label) as (λ b. TreeFits (λ to. In to []) (Has (kinds_of graphs) Main) (MaySet (kinds_of graphs) Main) (if b then tree none (Pick (If (Holds 1)) (two (go 6) (go 3))) else tree_in (tail_nodes) label)) [
+        elim (0 == label) as (λ b. TreeFits (λ to. In to []) (Has (kinds_of graphs) Main) (MaySet (kinds_of graphs) Main) (if b then tree none (Pick (If (Holds (is 1))) (two (go 6) (go 3))) else tree_in (tail_nodes) label)) [
           | true ↦ (tt, (tt, ((tt, tt), ((tt, tt), tt))))
-          | false ↦ elim (3 == label) as (λ b. TreeFits (λ to. In to []) (Has (kinds_of graphs) Main) (MaySet (kinds_of graphs) Main) (if b then tree (one (language.Do (Own 1))) (Jump 6) else tree_in last_nodes label)) [
+          | false ↦ elim (3 == label) as (λ b. TreeFits (λ to. In to []) (Has (kinds_of graphs) Main) (MaySet (kinds_of graphs) Main) (if b then tree (one (language.Do (Own (says 1)))) (Jump 6) else tree_in last_nodes label)) [
             | true ↦ ((tt, tt), tt)
-            | false ↦ elim (6 == label) as (λ b. TreeFits (λ to. In to []) (Has (kinds_of graphs) Main) (MaySet (kinds_of graphs) Main) (if b then tree (also (language.Do (Own 2)) (one (Choose (If (Holds 2)) (given (one StopRun) (missing done))))) (Jump 3) else tree none Dead)) [
+            | false ↦ elim (6 == label) as (λ b. TreeFits (λ to. In to []) (Has (kinds_of graphs) Main) (MaySet (kinds_of graphs) Main) (if b then tree (also (language.Do (Own (says 2))) (one (Choose (If (Holds (is 2))) (given (one StopRun) (missing done))))) (Jump 3) else tree none Dead)) [
               | true ↦ ((tt, ((tt, ((tt, tt), tt)), tt)), tt)
               | false ↦ (tt, tt)
             ]

@@ -4,7 +4,7 @@ use Rattle.runs.specs.Tied.{Meaning, Tied}
 use Rattle.runs.specs.Machine.{meaning}
 use Rattle.runs.proofs.Ties.{tied-sym, tied-trans, tied-at}
 use Rattle.control.specs.Outcome.{Event, Ending}
-use Rattle.control.specs.Language.{Main}
+use Rattle.language.specs.Language.{Main}
 use Rattle.control.specs.Doing.{Celled}
 use Rattle.control.specs.Walk.{walk_machine, main_machine}
 use Rattle.graph_rules.specs.Walked.{walked}

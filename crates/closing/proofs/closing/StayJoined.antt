@@ -1,6 +1,6 @@
 -- Join is done always: each tree of a graph that the rules reduce is as Join leaves it.
 use Rattle.std.proofs.Common.{◌≡◌, ℕ, zero, suc, ◌-◌, ◌*◌, Bool, true, false, if◌then◌else◌, ◌==◌, List, [], ◌∷◌, Option, Some, None, refl, ap, ◌∙◌, subst}
-use Rattle.control.specs.Language.{Picker, Stmts}
+use Rattle.language.specs.Language.{Picker, Stmts}
 use Rattle.control.specs.Doing.{is_above}
 use Rattle.control.specs.Graph.{Label, Tree, tree, End, Pick, Jump, Return, Stop, Dead, Trees, no_more, more, end_of}
 use Rattle.graph_rules.specs.Shapes.{Live, ToLabel, Back, end_at, Targets, NoTarget, Only, Several, both_targets, leaf_targets, arms_targets, join_by, joined, join_end, joined_arms, other_targets}

@@ -2,10 +2,11 @@
 use Rattle.std.proofs.Common.{◌≡◌, ℕ, zero, suc, ◌+◌, ◌-◌, Bool, true, false, not, if◌then◌else◌, ◌==◌, List, [], ◌∷◌, refl, ap, sym, ◌∙◌, subst, inl, inr}
 use Rattle.std.proofs.lemmas.Bool.Decides.{eqb_tells}
 use Rattle.control.specs.Outcome.{Trace, Tried, Got, Ends}
-use Rattle.control.specs.Language.{Amount, Act, Own, Set, Take, Lower, Test, Holds, Not, Is, Above, Picker, If, By, ByCell, Control, Times, Until, Varying, Stmt, Choose, Loop, Perform, Go, GoDepending, NextSentence, ExitParagraph, ExitSection, ExitPerform, StopRun, Body, Range, same_range}
-use Rattle.control.specs.Language as language
+use Rattle.language.specs.Language.{Amount, Act, Own, Set, Take, Lower, Test, Holds, Not, Is, Above, Picker, If, By, ByCell, Control, Times, Until, Varying, Stmt, Choose, Loop, Perform, Go, GoDepending, NextSentence, ExitParagraph, ExitSection, ExitPerform, StopRun, Body, Range, same_range}
+use Rattle.language.specs.Language as language
 use Rattle.control.specs.Doing.{Acting, Doing, Celled, celled, celled_act, celled_test, celled_pick, own_is, put, taken, giving, keeping, arm_of, is_above}
-use Rattle.control.specs.Items.{Turning, Counted, Tests, Steps, StepsAfter, Item, Do, SentenceEnd, Turn, before_body, before_arm, Way, On, Halts, Into, To, ToEnd, way_after, tried, on, first_turn, varying, loop_begins, turns, tests, steps_on, turn_way, stmt_way, item_way}
+use Rattle.language.specs.Items.{Turning, Counted, Tests, Steps, StepsAfter, Item, Do, SentenceEnd, Turn, before_body, before_arm}
+use Rattle.control.specs.Items.{Way, On, Halts, Into, To, ToEnd, way_after, tried, on, first_turn, varying, loop_begins, turns, tests, steps_on, turn_way, stmt_way, item_way}
 use Rattle.graph_rules.specs.Fits.{ActFits, TestFits, PickerFits, ControlFits, StmtFits, TurningFits, ItemFits}
 use Rattle.graph_rules.specs.Costs.{tried_cost, round_cost, first_cost, turn_cost, loop_cost, stmt_cost, item_cost}
 use Rattle.closing.specs.Gathers.{OnCell, says}

@@ -1,8 +1,8 @@
 -- The flag, the exits and the dispatch each gather nodes into one loop.
 use Rattle.std.proofs.Common.{◌≡◌, ℕ, zero, suc, ◌-◌, Bool, true, false, if◌then◌else◌, List, [], ◌∷◌, Some, refl, ap, sym, ◌∙◌, subst, arith, ◌⊎◌, inl, inr}
 use Rattle.std.proofs.lemmas.Bool.Decides.{eqb_tells}
-use Rattle.control.specs.Language.{Test, Is, Above, Picker, ByCell, Choose, Stmts, none, also, Arms, given, missing, Range}
-use Rattle.control.specs.Items.{Item, Do, before, before_arm}
+use Rattle.language.specs.Language.{Test, Is, Above, Picker, ByCell, Choose, Stmts, none, also, Arms, given, missing, Range}
+use Rattle.language.specs.Items.{Item, Do, before, before_arm}
 use Rattle.control.specs.Graph.{Label, Tree, tree, End, Pick, Jump, Return, Stop, Dead, Trees, no_more, more, Family}
 use Rattle.control.specs.Walk.{tree_at}
 use Rattle.graph_rules.specs.Joins.{JumpsEnd, JumpsTree, JumpsTrees}

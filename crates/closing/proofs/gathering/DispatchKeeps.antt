@@ -1,7 +1,7 @@
 -- The flag, the exits and the dispatch give families, which keep what a walk does.
 use Rattle.std.proofs.Common.{◌≡◌, ℕ, suc, Bool, true, false, if◌then◌else◌, ◌==◌, List, [], ◌∷◌, ap, sym, ◌∙◌, subst, inl, inr}
 use Rattle.std.proofs.lemmas.Bool.Decides.{eqb_tells}
-use Rattle.control.specs.Language.{Test, Is, Above, Picker, Stmts, none, also, Arms, Range}
+use Rattle.language.specs.Language.{Test, Is, Above, Picker, Stmts, none, also, Arms, Range}
 use Rattle.control.specs.Doing.{Acting}
 use Rattle.control.specs.Graph.{Label, Tree, tree, End, Pick, Jump, Return, Stop, Dead, Trees, no_more, more, Family}
 use Rattle.graph_rules.specs.Fits.{TestFits, StmtsFit, ArmsFit, TreeFits, EndFits, TreesFit}

@@ -1,7 +1,7 @@
 -- A node that has become a loop with a flag, as the rules on loops have it, is one that is gathered: so the law of loops with a flag is a case of the law of gathering.
 use Rattle.std.proofs.Common.{ℕ, List, [], refl, inl, inr}
-use Rattle.control.specs.Language.{Is, Stmts, Arms, Range}
-use Rattle.control.specs.Items.{Item, before}
+use Rattle.language.specs.Language.{Is, Stmts, Arms, Range}
+use Rattle.language.specs.Items.{Item, before}
 use Rattle.control.specs.Graph.{Label, Tree, tree, End, Pick, Jump, Return, Stop, Dead, Trees, no_more, more, Family}
 use Rattle.closing.specs.Gathers.{GathersEnd, GathersTree, GathersArms, Gathered}
 use Rattle.graph_rules.specs.Loops.{Flagged, LoopsEnd, LoopsTree, LoopsArms, Looped}

@@ -4,9 +4,10 @@ use Rattle.runs.specs.Run.{Going, Over}
 use Rattle.runs.specs.Machine.{iterate}
 use Rattle.runs.proofs.Machines.{iterate-add}
 use Rattle.control.specs.Outcome.{Trace, Normally, Abend, Stopped, Returned, Lost, Standing, Tried, Got, Ends}
-use Rattle.control.specs.Language.{Test, Picker, ByCell, Until, Choose, Loop, StopRun, Stmts, none, Arms, Nested, Range, Part, same_range}
+use Rattle.language.specs.Language.{Test, Picker, ByCell, Until, Choose, Loop, StopRun, Stmts, none, Arms, Nested, Range, Part, same_range}
 use Rattle.control.specs.Doing.{Acting, Celled, celled, celled_test, put}
-use Rattle.control.specs.Items.{Tests, Item, Do, Turn, before, before_arm, Way, On, Halts, Into, To, ToEnd, tried, on, turns, item_way}
+use Rattle.language.specs.Items.{Tests, Item, Do, Turn, before, before_arm}
+use Rattle.control.specs.Items.{Way, On, Halts, Into, To, ToEnd, tried, on, turns, item_way}
 use Rattle.control.specs.Graph.{Label, Tree, tree, End, Pick, Jump, Return, Stop, Dead, Trees, no_more, more, body_of, end_of, Family}
 use Rattle.control.specs.Walk.{Level, Walk, tree_at, level_at, walk_goes, picked, picks, walk_step}
 use Rattle.graph_rules.specs.Fits.{TreeFits, EndFits, TreesFit, ItemsFit, WayFits}

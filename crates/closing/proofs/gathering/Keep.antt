@@ -4,7 +4,7 @@ use Rattle.runs.specs.Run.{Going, Over}
 use Rattle.runs.specs.Tied.{Tied}
 use Rattle.runs.specs.Machine.{iterate, Machine, meaning}
 use Rattle.control.specs.Outcome.{Event, Ending, Lost}
-use Rattle.control.specs.Language.{Test, Stmts, Range}
+use Rattle.language.specs.Language.{Test, Stmts, Range}
 use Rattle.control.specs.Doing.{Acting}
 use Rattle.control.specs.Graph.{Label, End, Family}
 use Rattle.control.specs.Walk.{Walk, walk_begun, walk_step}

@@ -1,7 +1,7 @@
 -- The laws of the rules that close nodes by a number in a cell.
 use Rattle.std.proofs.Common.{◌≡◌, ℕ, true}
 use Rattle.graph_rules.specs.Fits.{EndFits}
-use Rattle.control.specs.Language.{Range}
+use Rattle.language.specs.Language.{Range}
 use Rattle.closing.specs.Laws.{Behind, Goes, Returns, end_behind, GatheringKeeps, FlagKeeps, ExitsKeep, NodeExitsKeep, DispatchKeeps, ExitsGraphKeeps, DispatchGraphKeeps, TargetsRise}
 use Rattle.closing.specs.Dispatches.{tree_returns}
 use Rattle.closing.specs.Targets.{targets_of}

@@ -2,7 +2,7 @@
 use Rattle.std.proofs.Common.{◌≡◌, ◌≢◌, ℕ, zero, suc, ◌-◌, ◌<◌, Bool, true, false, if◌then◌else◌, ◌==◌, List, [], ◌∷◌, refl, ap, sym, ◌∙◌, subst, arith, ◌⊎◌, inl, inr}
 use Rattle.std.proofs.lemmas.Bool.Decides.{eqb_tells}
 use Rattle.runs.proofs.Ties.{le_or}
-use Rattle.control.specs.Language.{Picker, Range}
+use Rattle.language.specs.Language.{Picker, Range}
 use Rattle.control.specs.Doing.{is_above}
 use Rattle.control.specs.Graph.{Label, Tree, tree, End, Pick, Jump, Return, Stop, Dead, Trees, no_more, more, Family}
 use Rattle.closing.specs.Dispatches.{LeavesEnd, LeavesTree, LeavesTrees, tree_returns, one_further, number_in, Numbered, Exited}

@@ -1,7 +1,7 @@
 -- Memories that agree but for a loop's flag.
 use Rattle.std.proofs.Common.{◌≡◌, ◌≢◌, ◌≤◌, arith, ℕ, true, false, if◌then◌else◌, ◌==◌, refl, ap, sym, ◌∙◌, inl, inr}
 use Rattle.std.proofs.lemmas.Bool.Decides.{eqb_tells}
-use Rattle.control.specs.Language.{Range, same_range}
+use Rattle.language.specs.Language.{Range, same_range}
 use Rattle.control.specs.Doing.{Celled, own_is, put}
 use Rattle.graph_rules.specs.Loops.{Keeper, Flagged, Endless, Seen}
 use Rattle.control.proofs.Ranges.{range-tells, same-self, eq-self}

@@ -3,9 +3,10 @@ use Rattle.std.proofs.Common.{◌≡◌, ◌≢◌, ℕ, zero, suc, ◌+◌, ◌
 use Rattle.runs.specs.Run.{Going, Over}
 use Rattle.runs.specs.Machine.{iterate}
 use Rattle.control.specs.Outcome.{Trace, Normally, Stopped, Lost, Standing, Tried, Got, Ends}
-use Rattle.control.specs.Language.{Choose, StopRun, none, Arms, given, missing, Range, Part}
+use Rattle.language.specs.Language.{Choose, StopRun, none, Arms, given, missing, Range, Part}
 use Rattle.control.specs.Doing.{Acting, Celled, celled}
-use Rattle.control.specs.Items.{Item, Do, before, before_arm, Way, On, Halts, Into, To, ToEnd, tried, on, item_way}
+use Rattle.language.specs.Items.{Item, Do, before, before_arm}
+use Rattle.control.specs.Items.{Way, On, Halts, Into, To, ToEnd, tried, on, item_way}
 use Rattle.control.specs.Graph.{Label, Tree, tree, End, Pick, Jump, Return, Stop, Dead, Trees, no_more, more, body_of, end_of, Family}
 use Rattle.control.specs.Walk.{Level, Walk, tree_at, level_at, level_of, walk_goes, picked, picks, walk_end, walk_step, walk_begun}
 use Rattle.graph_rules.specs.Fits.{TreeFits, EndFits, TreesFit, ItemsFit, WayFits}

@@ -5,10 +5,11 @@ use Rattle.runs.specs.Run.{Going, Over}
 use Rattle.runs.specs.Machine.{iterate}
 use Rattle.control.specs.Outcome.{Trace, How, Normally, Abend, Ending, Stopped, Returned, Lost, Standing, Tried, Got}
 use Rattle.control.specs.Outcome as outcome
-use Rattle.control.specs.Language.{Set, Test, Is, Until, Loop, Choose, StopRun, Stmts, none, also, Arms, done, given, missing, Nested, Range, Main, Part, same_range}
-use Rattle.control.specs.Language as language
+use Rattle.language.specs.Language.{Set, Test, Is, Until, Loop, Choose, StopRun, Stmts, none, also, Arms, done, given, missing, Nested, Range, Main, Part, same_range}
+use Rattle.language.specs.Language as language
 use Rattle.control.specs.Doing.{Acting, Celled, put, celled}
-use Rattle.control.specs.Items.{Tests, Item, Do, Turn, before, before_arm, Way, On, Halts, Into, To, ToEnd, tried, on, turns, item_way}
+use Rattle.language.specs.Items.{Tests, Item, Do, Turn, before, before_arm}
+use Rattle.control.specs.Items.{Way, On, Halts, Into, To, ToEnd, tried, on, turns, item_way}
 use Rattle.control.specs.Graph.{Label, Tree, tree, End, Pick, Jump, Return, Stop, Dead, Trees, no_more, more, body_of, end_of, Family}
 use Rattle.control.specs.Walk.{Level, Walk, tree_at, level_at, level_of, walk_goes, picked, picks, returns, walk_step, walk_begun}
 use Rattle.graph_rules.specs.Fits.{PickerFits, TreeFits, EndFits, TreesFit, ItemsFit, WayFits}

@@ -3,9 +3,9 @@ use Rattle.std.proofs.Common.{◌≡◌, ◌≢◌, ℕ, ◌+◌, ◌*◌, Bool,
 use Rattle.runs.specs.Run.{Going, Over}
 use Rattle.runs.specs.Machine.{iterate, meaning}
 use Rattle.control.specs.Outcome.{Lost}
-use Rattle.control.specs.Language.{Range, Stmts, Test}
+use Rattle.language.specs.Language.{Range, Stmts, Test}
 use Rattle.control.specs.Doing.{Acting}
-use Rattle.control.specs.Items.{before}
+use Rattle.language.specs.Items.{before}
 use Rattle.control.specs.Graph.{Label, Tree, tree, End, Pick, Jump, Return, Stop, Dead, Trees, no_more, more, body_of, end_of, Family}
 use Rattle.control.specs.Walk.{walk_step, walk_begun, walk_machine}
 use Rattle.graph_rules.specs.Charged.{Matched}

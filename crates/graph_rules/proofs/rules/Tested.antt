@@ -5,9 +5,10 @@ use Rattle.runs.specs.Run.{Going}
 use Rattle.runs.specs.Machine.{iterate}
 use Rattle.control.specs.Outcome.{Trace, How, Normally, Abend, Ending, Stopped, Returned, Lost, Standing, Tried, Got}
 use Rattle.control.specs.Outcome as outcome
-use Rattle.control.specs.Language.{Test, If, Until, Loop, Stmts, none, Nested, Range, Part}
+use Rattle.language.specs.Language.{Test, If, Until, Loop, Stmts, none, Nested, Range, Part}
 use Rattle.control.specs.Doing.{Acting, Doing, giving, arm_of, Celled, celled}
-use Rattle.control.specs.Items.{Tests, Item, Do, Turn, before, Way, On, Halts, Into, To, ToEnd, tried, on, first_turn, turns, item_way}
+use Rattle.language.specs.Items.{Tests, Item, Do, Turn, before}
+use Rattle.control.specs.Items.{Way, On, Halts, Into, To, ToEnd, tried, on, first_turn, turns, item_way}
 use Rattle.control.specs.Graph.{Label, Tree, tree, End, Pick, Jump, Return, Stop, Dead, Trees, no_more, more, body_of, end_of, Family}
 use Rattle.control.specs.Walk.{Level, Walk, tree_at, level_at, level_of, walk_goes, picked, picks, walk_step, walk_machine}
 use Rattle.graph_rules.specs.Fits.{TreeFits, EndFits, TreesFit, ItemsFit, WayFits}

@@ -1,7 +1,7 @@
 -- A closed graph stays closed.
 use Rattle.std.proofs.Common.{◌≡◌, ◌≢◌, ℕ, zero, suc, ◌*◌, Bool, true, false, if◌then◌else◌, ◌==◌, List, [], ◌∷◌, Option, Some, None, refl, ap, sym, ◌∙◌, subst, inl, inr}
 use Rattle.std.proofs.lemmas.Bool.Decides.{eqb_tells}
-use Rattle.control.specs.Language.{Until, Loop, Stmts, Picker, Nested}
+use Rattle.language.specs.Language.{Until, Loop, Stmts, Picker, Nested}
 use Rattle.control.specs.Graph.{Label, Tree, tree, End, Pick, Jump, Return, Stop, Dead, Trees, no_more, more, body_of, end_of}
 use Rattle.graph_rules.specs.Joins.{JumpsEnd, JumpsTree, JumpsTrees}
 use Rattle.graph_rules.specs.Inlines.{PlainEnd, PlainTree, PlainTrees}

@@ -1,7 +1,7 @@
 -- Joins one by one.
 use Rattle.std.proofs.Common.{◌≡◌, [], ◌∷◌, Option, Some, None, refl, ap, sym, ◌∙◌, subst, inl, inr}
-use Rattle.control.specs.Language.{Picker, StopRun, Stmts}
-use Rattle.control.specs.Items.{Do, before}
+use Rattle.language.specs.Language.{Picker, StopRun, Stmts}
+use Rattle.language.specs.Items.{Do, before}
 use Rattle.control.specs.Graph.{Tree, tree, End, Pick, Jump, Return, Stop, Dead, Trees, no_more, more, body_of, end_of}
 use Rattle.graph_rules.specs.Joins.{JoinsTree, JoinsTrees}
 use Rattle.graph_rules.specs.Shapes.{alone, Live, ToLabel, Back, Targets, NoTarget, Only, Several, leaf_targets, arms_targets, arms_stmts, arm_stmts, both_targets, join_by, joined, joined_arms, later_arm, first_arm, once_by, joined_once, once_end, once_arms}

@@ -1,7 +1,7 @@
 -- Each step of shaping keeps what the walks of a family do.
 use Rattle.std.proofs.Common.{◌≡◌, ◌≢◌, ℕ, zero, suc, Bool, true, false, if◌then◌else◌, ◌==◌, List, [], ◌∷◌, ◌++◌, Option, Some, None, refl, ap, sym, ◌∙◌, subst, eqb-true, inl, inr}
 use Rattle.std.proofs.lemmas.Bool.Decides.{eqb_tells}
-use Rattle.control.specs.Language.{Test, If, By, ByCell, Picker, Stmts, none, also}
+use Rattle.language.specs.Language.{Test, If, By, ByCell, Picker, Stmts, none, also}
 use Rattle.control.specs.Graph.{Label, Tree, tree, End, Pick, Jump, Return, Stop, Dead, Trees, no_more, more}
 use Rattle.graph_rules.specs.Loops.{tested_node}
 use Rattle.graph_rules.specs.Families.{Added}

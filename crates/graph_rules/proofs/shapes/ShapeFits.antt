@@ -1,6 +1,6 @@
 -- What fits before a rule fits after it.
 use Rattle.std.proofs.Common.{◌≡◌, ℕ, true, false, if◌then◌else◌, ◌==◌, refl}
-use Rattle.control.specs.Language.{Picker, Choose, Stmts, none, also, Range}
+use Rattle.language.specs.Language.{Picker, Choose, Stmts, none, also, Range}
 use Rattle.control.specs.Graph.{Label, Tree, tree, End, Pick, Jump, Return, Stop, Dead, Trees, no_more, more, body_of, end_of}
 use Rattle.graph_rules.specs.Fits.{PickerFits, StmtsFit, ArmsFit, TreeFits, EndFits, TreesFit}
 use Rattle.graph_rules.specs.Loops.{Keeper, Flagged, Endless}

@@ -5,9 +5,9 @@ use Rattle.runs.specs.Tied.{Tied}
 use Rattle.runs.specs.Machine.{meaning}
 use Rattle.runs.proofs.Ties.{tied-sym, tied-trans, tied-at}
 use Rattle.control.specs.Walk.{walk_machine, main_machine}
-use Rattle.control.specs.Language.{Test, Until, Loop, Stmts, none, Nested, Range, Main}
+use Rattle.language.specs.Language.{Test, Until, Loop, Stmts, none, Nested, Range, Main}
 use Rattle.control.specs.Doing.{Acting, Celled, is_above}
-use Rattle.control.specs.Items.{before}
+use Rattle.language.specs.Items.{before}
 use Rattle.control.specs.Graph.{Label, Tree, tree, End, Pick, Jump, Return, Stop, Dead, Trees, no_more, more, body_of, end_of}
 use Rattle.graph_rules.specs.Fits.{TestFits, StmtsFit, TreeFits, EndFits}
 use Rattle.graph_rules.specs.Walked.{In, walked, walked_from}

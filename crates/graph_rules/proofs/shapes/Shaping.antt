@@ -1,9 +1,9 @@
 -- What the functions of the rules give is in their relations.
 use Rattle.std.proofs.Common.{◌≡◌, ℕ, true, false, if◌then◌else◌, ◌==◌, List, [], ◌∷◌, refl, ap, sym, ◌∙◌, subst, arith, eqb-true, inl, inr}
 use Rattle.std.proofs.lemmas.Bool.Decides.{eqb_tells}
-use Rattle.control.specs.Language.{Set, Test, If, Picker, Choose, StopRun, Stmts, none, also, Arms, done, given, missing, Range}
-use Rattle.control.specs.Language as language
-use Rattle.control.specs.Items.{Item, Do, before}
+use Rattle.language.specs.Language.{Set, Test, If, Picker, Choose, StopRun, Stmts, none, also, Arms, done, given, missing, Range}
+use Rattle.language.specs.Language as language
+use Rattle.language.specs.Items.{Item, Do, before}
 use Rattle.control.specs.Graph.{Label, Tree, tree, End, Pick, Jump, Return, Stop, Dead, Trees, no_more, more, body_of, end_of}
 use Rattle.graph_rules.specs.Joins.{JoinsTree, JoinsTrees, JoinsArms}
 use Rattle.graph_rules.specs.Inlines.{InlinesTree, InlinesTrees, PlainEnd, PlainTree, PlainTrees}

@@ -1,7 +1,7 @@
 -- What is left of a shaped graph with one node: a body, and an end that is no jump and no choice.
 use Rattle.std.proofs.Common.{◌≡◌, ℕ, zero, suc, ◌*◌, true, false, if◌then◌else◌, ◌==◌, List, [], ◌∷◌, Option, Some, None, refl, ap, sym, ◌∙◌, subst, inl, inr, arith}
 use Rattle.std.proofs.lemmas.Bool.Decides.{eqb_tells}
-use Rattle.control.specs.Language.{Until, Loop, Stmts, none, Picker, Nested}
+use Rattle.language.specs.Language.{Until, Loop, Stmts, none, Picker, Nested}
 use Rattle.control.specs.Doing.{is_above}
 use Rattle.control.specs.Graph.{Label, Tree, tree, End, Pick, Jump, Return, Stop, Dead, Trees, no_more, more, end_of, IsLast}
 use Rattle.graph_rules.specs.Joins.{JumpsEnd, JumpsTree, JumpsTrees}

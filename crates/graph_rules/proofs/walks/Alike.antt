@@ -1,10 +1,11 @@
 -- What an item does to two memories that are alike.
 use Rattle.std.proofs.Common.{◌≡◌, ℕ, zero, suc, ◌+◌, ◌-◌, Bool, true, false, not, ◌==◌, List, ◌∷◌, ◌++◌, refl, ap, ◌∙◌, subst}
 use Rattle.control.specs.Outcome.{Trace, Abend, Tried, Got, Ends}
-use Rattle.control.specs.Language.{Simple, Cond, Chooser, Amount, Act, Own, Set, Take, Lower, Test, Holds, Not, Is, Above, Picker, If, By, ByCell, Control, Times, Until, Varying, Stmt, Choose, Loop, Perform, Go, GoDepending, NextSentence, ExitParagraph, ExitSection, ExitPerform, StopRun, Stmts, Body, Range, Part}
-use Rattle.control.specs.Language as language
+use Rattle.language.specs.Language.{Simple, Cond, Chooser, Amount, Act, Own, Set, Take, Lower, Test, Holds, Not, Is, Above, Picker, If, By, ByCell, Control, Times, Until, Varying, Stmt, Choose, Loop, Perform, Go, GoDepending, NextSentence, ExitParagraph, ExitSection, ExitPerform, StopRun, Stmts, Body, Range, Part}
+use Rattle.language.specs.Language as language
 use Rattle.control.specs.Doing.{Acting, Doing, giving, keeping, arm_of, Celled, own_is, put, taken, is_above, celled_test, celled}
-use Rattle.control.specs.Items.{Turning, Counted, Tests, Steps, StepsAfter, Item, Do, SentenceEnd, Turn, before_body, before_arm, Way, On, Halts, Into, To, ToEnd, way_after, tried, on, first_turn, varying, loop_begins, turns, tests, steps_on, turn_way, stmt_way, item_way}
+use Rattle.language.specs.Items.{Turning, Counted, Tests, Steps, StepsAfter, Item, Do, SentenceEnd, Turn, before_body, before_arm}
+use Rattle.control.specs.Items.{Way, On, Halts, Into, To, ToEnd, way_after, tried, on, first_turn, varying, loop_begins, turns, tests, steps_on, turn_way, stmt_way, item_way}
 use Rattle.graph_rules.specs.Costs.{tried_cost, round_cost, first_cost, turn_cost, loop_cost, item_cost}
 use Rattle.graph_rules.specs.Fits.{ActFits, TestFits, PickerFits, ControlFits, TurningFits, StmtFits, ItemFits}
 

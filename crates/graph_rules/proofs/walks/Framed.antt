@@ -2,10 +2,10 @@
 use Rattle.std.proofs.Common.{◌≡◌, ℕ, zero, suc, ◌+◌, ◌*◌, Bool, true, false, if◌then◌else◌, ◌==◌, List, [], ◌∷◌, ◌++◌, refl, ap, sym, ◌∙◌, subst}
 use Rattle.runs.specs.Run.{Over, Covers}
 use Rattle.control.specs.Outcome.{Trace, How, Normally, Abend, Stopped, Returned, Tried, Got, Ends}
-use Rattle.control.specs.Language.{Act, Test, Control, Times, Until, Varying, Stmt, Choose, Loop, Perform, Go, GoDepending, NextSentence, ExitParagraph, ExitSection, ExitPerform, StopRun, Stmts, none, also, Arms, done, given, missing, Body, Nested, Performed, Range, Part, same_range}
-use Rattle.control.specs.Language as language
+use Rattle.language.specs.Language.{Act, Test, Control, Times, Until, Varying, Stmt, Choose, Loop, Perform, Go, GoDepending, NextSentence, ExitParagraph, ExitSection, ExitPerform, StopRun, Stmts, none, also, Arms, done, given, missing, Body, Nested, Performed, Range, Part, same_range}
+use Rattle.language.specs.Language as language
 use Rattle.control.specs.Doing.{Acting, Doing, Celled, own_is, put, celled}
-use Rattle.control.specs.Items.{Turning, Counted, Tests, Steps, StepsAfter}
+use Rattle.language.specs.Items.{Turning, Counted, Tests, Steps, StepsAfter}
 use Rattle.control.specs.Structural.{Outcome, Went, Stands}
 use Rattle.control.specs.Structural as structural
 use Rattle.control.specs.Graph.{Label, Tree, tree, End, Pick, Jump, Return, Stop, Dead, Trees, no_more, more, Family}

@@ -5,9 +5,10 @@ use Rattle.runs.specs.Machine.{iterate}
 use Rattle.runs.proofs.Ties.{le_or}
 use Rattle.runs.proofs.Machines.{iterate-add}
 use Rattle.control.specs.Outcome.{Event, Trace, Abend, Ending, Stopped, Standing, Tried, Got, Ends}
-use Rattle.control.specs.Language.{Range}
+use Rattle.language.specs.Language.{Range}
 use Rattle.control.specs.Doing.{Acting, Doing, Celled}
-use Rattle.control.specs.Items.{Item, Way, On, Halts, Into, To, ToEnd, way_after, tried}
+use Rattle.language.specs.Items.{Item}
+use Rattle.control.specs.Items.{Way, On, Halts, Into, To, ToEnd, way_after, tried}
 use Rattle.control.specs.Structural.{Outcome, Went, Stands}
 use Rattle.control.specs.Structural as structural
 use Rattle.control.specs.Graph.{End, Family}

@@ -1,9 +1,9 @@
 -- What an order of ranges gives to every walk of a family.
 use Rattle.std.proofs.Common.{◌≡◌, ℕ, suc, ◌<◌, true, false, if◌then◌else◌, List, [], ◌∷◌, ◌++◌, refl, ap, sym, ◌∙◌, subst, arith}
-use Rattle.control.specs.Language.{Range, Main, Part, same_range, Stmts, none, also, Body, Nested, Performed, Act, Picker, Control, Stmt, Choose, Loop, Perform, Go, GoDepending, NextSentence, ExitParagraph, ExitSection, ExitPerform, StopRun}
+use Rattle.language.specs.Language.{Range, Main, Part, same_range, Stmts, none, also, Body, Nested, Performed, Act, Picker, Control, Stmt, Choose, Loop, Perform, Go, GoDepending, NextSentence, ExitParagraph, ExitSection, ExitPerform, StopRun}
 use Rattle.control.specs.Doing.{Doing}
-use Rattle.control.specs.Items.{Item, Do, SentenceEnd, Turn, before}
-use Rattle.control.specs.Language as language
+use Rattle.language.specs.Items.{Item, Do, SentenceEnd, Turn, before}
+use Rattle.language.specs.Language as language
 use Rattle.control.specs.Graph.{Label, Tree, tree, Family, body_of, end_of}
 use Rattle.graph_rules.specs.Fits.{TreeFits, EndFits, ItemsFit}
 use Rattle.graph_rules.specs.Costs.{perform_cost, item_cost}

@@ -6,10 +6,11 @@ use Rattle.runs.specs.Machine.{meaning, Grows}
 use Rattle.runs.proofs.Machines.{iterate-add}
 use Rattle.control.specs.Outcome.{Event, Trace, How, Normally, Abend, Ending, Stopped, Returned, Lost, Tried, Got, Ends}
 use Rattle.control.specs.Outcome as outcome
-use Rattle.control.specs.Language.{Act, Test, Picker, Control, Times, Until, Varying, Stmt, Choose, Loop, Perform, Go, GoDepending, NextSentence, ExitParagraph, ExitSection, ExitPerform, StopRun, Stmts, none, also, Arms, done, given, missing, Body, Nested, Performed, Range, Main, Part, same_range}
-use Rattle.control.specs.Language as language
+use Rattle.language.specs.Language.{Act, Test, Picker, Control, Times, Until, Varying, Stmt, Choose, Loop, Perform, Go, GoDepending, NextSentence, ExitParagraph, ExitSection, ExitPerform, StopRun, Stmts, none, also, Arms, done, given, missing, Body, Nested, Performed, Range, Main, Part, same_range}
+use Rattle.language.specs.Language as language
 use Rattle.control.specs.Doing.{Acting, Doing, Celled, celled}
-use Rattle.control.specs.Items.{Turning, Counted, Tests, Steps, StepsAfter, Item, Do, SentenceEnd, Turn, before, before_body, before_arm, Way, On, Halts, tried, on, first_turn, loop_begins, turns, tests, steps_on, turn_way}
+use Rattle.language.specs.Items.{Turning, Counted, Tests, Steps, StepsAfter, Item, Do, SentenceEnd, Turn, before, before_body, before_arm}
+use Rattle.control.specs.Items.{Way, On, Halts, tried, on, first_turn, loop_begins, turns, tests, steps_on, turn_way}
 use Rattle.control.specs.Structural.{Outcome, Went, Stands}
 use Rattle.control.specs.Structural as structural
 use Rattle.control.specs.Graph.{Label, Tree, tree, End, Pick, Jump, Return, Stop, Dead, Trees, no_more, more, body_of, end_of, Family}

@@ -1,7 +1,7 @@
 -- The rules lose no PERFORM.
 use Rattle.std.proofs.Common.{◌≡◌, ℕ, zero, suc, ◌+◌, ◌-◌, ◌*◌, Bool, true, false, if◌then◌else◌, ◌==◌, List, [], ◌∷◌, Option, Some, None, refl, ap, sym, ◌∙◌, subst, arith, ◌⊎◌, inl, inr}
 use Rattle.std.proofs.lemmas.Bool.Decides.{eqb_tells}
-use Rattle.control.specs.Language.{Set, Test, Picker, Is, ByCell, Until, Do, Choose, Loop, StopRun, Stmts, none, also, Arms, given, Nested, Range, Main}
+use Rattle.language.specs.Language.{Set, Test, Picker, Is, ByCell, Until, Do, Choose, Loop, StopRun, Stmts, none, also, Arms, given, Nested, Range, Main}
 use Rattle.control.specs.Doing.{is_above}
 use Rattle.control.specs.Graph.{Label, Tree, tree, End, Pick, Jump, Return, Stop, Dead, Trees, no_more, more, body_of, end_of, Family}
 use Rattle.rendering.specs.Procedures.{stmt_calls, stmts_call, arms_call}

@@ -3,10 +3,12 @@ use Rattle.std.proofs.Common.{◌≡◌, ℕ, zero, suc, true, false, Option, No
 use Rattle.std.specs.Prelude.{slice_get}
 use Rattle.runs.specs.Machine.{iterate}
 use Rattle.runs.proofs.Machines.{iterate-add}
-use Rattle.control.specs.Language as language
-use Rattle.control.specs.Language.{Act, Test, If, By, ByCell, Times, Until, Varying, Choose, Loop, Perform, Go, GoDepending, NextSentence, ExitParagraph, ExitSection, ExitPerform, StopRun, Body, Paragraph, Program, Range, Main, Part}
-use Rattle.control.specs.Items.{Counted, Tests, Steps, StepsAfter, Item, Do, SentenceEnd, Turn, Way, way_after, steps_on, to_one, item_way}
-use Rattle.control.specs.Source.{Pending, rest_of, falls}
+use Rattle.language.specs.Language as language
+use Rattle.language.specs.Language.{Act, Test, If, By, ByCell, Times, Until, Varying, Choose, Loop, Perform, Go, GoDepending, NextSentence, ExitParagraph, ExitSection, ExitPerform, StopRun, Body, Paragraph, Program, Range, Main, Part}
+use Rattle.language.specs.Items.{Counted, Tests, Steps, StepsAfter, Item, Do, SentenceEnd, Turn}
+use Rattle.control.specs.Items.{Way, way_after, steps_on, to_one, item_way}
+use Rattle.language.specs.Items.{Pending}
+use Rattle.control.specs.Source.{rest_of, falls}
 use Rattle.lowering.specs.Told.{Told, IsSource}
 use Rattle.lowering.specs.flow.Comes.{Comes, begins, enters, goes_on, goes_to, goes_to_end, over, IsNoExit}
 use Rattle.lowering.specs.flow.Comes as come

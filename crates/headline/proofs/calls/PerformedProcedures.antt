@@ -1,6 +1,6 @@
 -- Each procedure of the closed graphs is performed by an earlier one, as its range was.
 use Rattle.std.proofs.Common.{◌≡◌, ℕ, zero, suc, true, false, if◌then◌else◌, List, [], ◌∷◌, Some, slice_get, refl, ap, subst}
-use Rattle.control.specs.Language.{Range, same_range}
+use Rattle.language.specs.Language.{Range, same_range}
 use Rattle.rendering.specs.Rendering.{Procedure}
 use Rattle.graph_rules.specs.Reduced.{Graphs}
 use Rattle.closing.specs.Closes.{closed_graph}

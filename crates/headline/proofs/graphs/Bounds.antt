@@ -1,7 +1,7 @@
 -- How large the numbers are that the rules put into cells: no larger than the number of a range's nodes, and one more.
 use Rattle.std.proofs.Common.{◌≡◌, ℕ, zero, suc, ◌*◌, ◌<◌, ◌≤◌, Bool, true, false, if◌then◌else◌, ◌==◌, List, [], ◌∷◌, Option, Some, None, ap, sym, subst, arith, inl, inr, refl}
 use Rattle.std.proofs.lemmas.Bool.Decides.{eqb_tells}
-use Rattle.control.specs.Language.{Until, Loop, Nested}
+use Rattle.language.specs.Language.{Until, Loop, Nested}
 use Rattle.control.specs.Graph.{Label, Tree, tree, Dead}
 use Rattle.lowering.specs.WellFormed.{tree_count}
 use Rattle.rendering.specs.Rendering.{count_arms}

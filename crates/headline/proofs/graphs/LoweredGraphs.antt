@@ -1,6 +1,6 @@
 -- The graphs of a lowered program: their family is the lowered one, and their jumps are to their nodes.
 use Rattle.std.proofs.Common.{◌≡◌, ℕ, ◌+◌, Bool, true, false, if◌then◌else◌, ◌==◌, List, [], ◌∷◌, refl, ap, sym, ◌∙◌, arith, inl, inr}
-use Rattle.control.specs.Language.{Program, Range}
+use Rattle.language.specs.Language.{Program, Range}
 use Rattle.control.specs.Graph.{Label, Tree, tree, End, Pick, Jump, Return, Stop, Dead, Trees, no_more, more, Family}
 use Rattle.lowering.specs.Told.{Told, IsSource}
 use Rattle.lowering.specs.Lower as lower

@@ -1,10 +1,11 @@
 -- The cells that lowered nodes name are counters of loops by TIMES.
 use Rattle.std.proofs.Common.{◌≡◌, ℕ, suc, ◌+◌, ◌*◌, Bool, true, false, if◌then◌else◌, ◌==◌, nat_eq, List, [], ◌∷◌, ◌++◌, refl, sym, ◌∙◌, subst, inl, inr, Option, Some, None}
 use Rattle.std.specs.Prelude.{slice_get, length}
-use Rattle.control.specs.Language.{Act, Own, Set, Take, Lower, Test, Holds, Not, Is, Above, Picker, If, By, ByCell, Control, Times, Until, Varying, Stmt, Choose, Loop, Perform, Go, GoDepending, NextSentence, ExitParagraph, ExitSection, ExitPerform, StopRun, Stmts, none, also, Arms, done, given, missing, Body, Nested, Performed, Paragraph, Program, Range, Main, Part}
-use Rattle.control.specs.Language as language
+use Rattle.language.specs.Language.{Act, Own, Set, Take, Lower, Test, Holds, Not, Is, Above, Picker, If, By, ByCell, Control, Times, Until, Varying, Stmt, Choose, Loop, Perform, Go, GoDepending, NextSentence, ExitParagraph, ExitSection, ExitPerform, StopRun, Stmts, none, also, Arms, done, given, missing, Body, Nested, Performed, Paragraph, Program, Range, Main, Part}
+use Rattle.language.specs.Language as language
 use Rattle.control.specs.Graph.{Label, Tree, tree, End, Pick, Jump, Return, Stop, Dead, Trees, no_more, more, end_of}
-use Rattle.lowering.specs.Told.{Told, IsSource, OwnAct, OwnTest, OwnControl, OwnPicker, OwnStmt, OwnStmts, OwnArms, OwnBody, OwnParagraph, OwnParagraphs, arm_count}
+use Rattle.language.specs.Own.{OwnAct, OwnTest, OwnControl}
+use Rattle.lowering.specs.Told.{Told, IsSource, OwnPicker, OwnStmt, OwnStmts, OwnArms, OwnBody, OwnParagraph, OwnParagraphs, arm_count}
 use Rattle.lowering.specs.Completes.{completes, cut, cuts, cut_arms, cut_body, whole, wholes, leave_sentence, size, sizes, skips, first_is_dead}
 use Rattle.lowering.specs.Lower.{point, head, only, with_first, push, back, leaf, build, build_stmt, build_arms, depending, loop_start, Node, loop_nodes, nodes, nodes_in, nodes_of_arms, fall_leaf, end_leaf, Leaving, leaving_at, within_loop}
 use Rattle.lowering.specs.Rests.{Rest, Sent, rest_from, leaf_of, leaving_of, tree_of, after_loop, at_loop}

@@ -1,7 +1,7 @@
 -- The counter of a small program.
 use Rattle.std.proofs.Common.{◌≡◌, ◌⊎◌, ◌<◌, true, false, if◌then◌else◌, ◌==◌, refl, ap, sym, ◌∙◌, subst, arith, inl, inr}
 use Rattle.std.proofs.lemmas.Bool.Decides.{eqb_tells}
-use Rattle.control.specs.Language.{Main}
+use Rattle.language.specs.Language.{Main}
 use Rattle.control.specs.Graph.{Label, end_of}
 use Rattle.lowering.specs.Told.{IsSource}
 use Rattle.lowering.specs.Lowered.{lowered}

@@ -1,8 +1,8 @@
 -- The counters of a range's kept loops are numbered apart, and listed.
 use Rattle.std.proofs.Common.{◌≡◌, ℕ, suc, ◌+◌, Bool, true, false, if◌then◌else◌, ◌==◌, List, [], ◌∷◌, ◌++◌, refl, ap, sym, ◌∙◌, subst, arith, inl, inr, Some}
 use Rattle.std.proofs.lemmas.Bool.Decides.{eqb_tells}
-use Rattle.control.specs.Language.{Control, Times, Until, Varying, Stmt, Choose, Loop, Perform, Go, GoDepending, NextSentence, ExitParagraph, ExitSection, ExitPerform, StopRun, Stmts, none, also, Arms, done, given, missing, Body, Nested, Performed, Paragraph}
-use Rattle.control.specs.Language as language
+use Rattle.language.specs.Language.{Control, Times, Until, Varying, Stmt, Choose, Loop, Perform, Go, GoDepending, NextSentence, ExitParagraph, ExitSection, ExitPerform, StopRun, Stmts, none, also, Arms, done, given, missing, Body, Nested, Performed, Paragraph}
+use Rattle.language.specs.Language as language
 use Rattle.control.specs.Graph.{Label}
 use Rattle.lowering.specs.Completes.{size, sizes}
 use Rattle.lowering.specs.Lower.{head}

@@ -1,9 +1,10 @@
 -- A reached node performs only what its range's level calls.
 use Rattle.std.proofs.Common.{◌≡◌, ℕ, zero, suc, ◌+◌, ◌<◌, Bool, true, false, if◌then◌else◌, nat_eq, List, [], ◌∷◌, refl, ap, sym, ◌∙◌, subst, arith, ◌⊎◌, inl, inr, Option, Some, None}
 use Rattle.std.specs.Prelude.{slice_get, length}
-use Rattle.control.specs.Language.{Act, Take, Lower, Test, Above, If, Control, Times, Until, Varying, Picker, By, Stmt, Choose, Loop, Perform, Go, GoDepending, NextSentence, ExitParagraph, ExitSection, ExitPerform, StopRun, Stmts, none, also, Arms, done, given, missing, Body, Nested, Performed, Paragraph, Program, paragraph_at, Range, Main, Part}
-use Rattle.control.specs.Language as language
-use Rattle.control.specs.Items.{Turning, Counted, Tests, Steps, StepsAfter, Item, Do, SentenceEnd, Turn, before, before_body, before_arm, past_sentence, from_loop, On, way_after, tried, to_one, item_way}
+use Rattle.language.specs.Language.{Act, Take, Lower, Test, Above, If, Control, Times, Until, Varying, Picker, By, Stmt, Choose, Loop, Perform, Go, GoDepending, NextSentence, ExitParagraph, ExitSection, ExitPerform, StopRun, Stmts, none, also, Arms, done, given, missing, Body, Nested, Performed, Paragraph, Program, paragraph_at, Range, Main, Part}
+use Rattle.language.specs.Language as language
+use Rattle.language.specs.Items.{Turning, Counted, Tests, Steps, StepsAfter, Item, Do, SentenceEnd, Turn, before, before_body, before_arm, past_sentence, from_loop}
+use Rattle.control.specs.Items.{On, way_after, tried, to_one, item_way}
 use Rattle.control.specs.Source.{rest_of}
 use Rattle.control.specs.Graph.{Label, Tree, tree, End, Pick, Jump, Return, Stop, Dead, Trees, no_more, more, end_of, Family}
 use Rattle.lowering.specs.Told.{Told, IsSource, IsFirstMissing, MayGive, OwnStmt, OwnStmts, OwnArms, AllBelow, arm_count}

@@ -4,10 +4,12 @@ use Rattle.std.specs.Prelude.{slice_get, length}
 use Rattle.runs.specs.Run.{Going, Over}
 use Rattle.runs.specs.Machine.{iterate}
 use Rattle.control.specs.Outcome.{Trace, How, Normally, Ending, Stopped, Faulted, Reentry, Overlap, FlowFault, Standing}
-use Rattle.control.specs.Language.{Paragraph, Program}
+use Rattle.language.specs.Language.{Paragraph, Program}
 use Rattle.control.specs.Doing.{Doing, Acting, alone}
-use Rattle.control.specs.Items.{Item, Way, On, Halts, Into, To, ToEnd, item_way}
-use Rattle.control.specs.Source.{Pending, SourceState, ends_at, rest_of, comes_to, goes, falls, step_by, source_step}
+use Rattle.language.specs.Items.{Item}
+use Rattle.control.specs.Items.{Way, On, Halts, Into, To, ToEnd, item_way}
+use Rattle.language.specs.Items.{Pending, ends_at}
+use Rattle.control.specs.Source.{SourceState, rest_of, comes_to, goes, falls, step_by, source_step}
 use Rattle.lowering.specs.Told.{Told, IsTold, IsSource}
 use Rattle.lowering.specs.flow.Paths.{Flow, flow, free, nothing_left}
 use Rattle.lowering.proofs.rests.Fits.{item_bulk, program_bulk, weight, FitsIn, Adds, item-adds, rest-fits}

@@ -4,9 +4,11 @@ use Rattle.std.specs.Prelude.{slice_get}
 use Rattle.runs.specs.Run.{Going, Over}
 use Rattle.runs.specs.Machine.{iterate}
 use Rattle.control.specs.Outcome.{Faulted, Reentry, Overlap, Standing}
-use Rattle.control.specs.Language.{Program}
-use Rattle.control.specs.Items.{Item, Way, On, Halts, Into, To, ToEnd, item_way}
-use Rattle.control.specs.Source.{Pending, ends_at, rest_of, comes_to, goes_to, goes, falls, end_step, rest_step, step_by, source_step}
+use Rattle.language.specs.Language.{Program}
+use Rattle.language.specs.Items.{Item}
+use Rattle.control.specs.Items.{Way, On, Halts, Into, To, ToEnd, item_way}
+use Rattle.language.specs.Items.{Pending, ends_at}
+use Rattle.control.specs.Source.{rest_of, comes_to, goes_to, goes, falls, end_step, rest_step, step_by, source_step}
 use Rattle.lowering.specs.Told.{Told}
 use Rattle.lowering.specs.flow.Paths.{Flow, flow, free, nothing_left, IsFaulty, free_goes, free_end, free_rest, free_by, free_step}
 use Rattle.lowering.proofs.rests.Joints.{IsFine}

@@ -2,10 +2,11 @@
 use Rattle.std.proofs.Common.{◌≡◌, ◌≢◌, ℕ, zero, suc, ◌<◌, Bool, true, false, if◌then◌else◌, List, [], ◌∷◌, ◌++◌, refl, ap, sym, ◌∙◌, subst, arith, Option, Some, None}
 use Rattle.std.specs.Prelude.{slice_get, length}
 use Rattle.control.specs.Outcome.{Trace, Tried, Got, Ends}
-use Rattle.control.specs.Language.{Amount, Act, Own, Set, Take, Lower, Test, Picker, If, By, ByCell, Control, Times, Until, Varying, Stmt, Choose, Loop, Perform, Go, GoDepending, NextSentence, ExitParagraph, ExitSection, ExitPerform, StopRun, Arms, Body, Range}
-use Rattle.control.specs.Language as language
+use Rattle.language.specs.Language.{Amount, Act, Own, Set, Take, Lower, Test, Picker, If, By, ByCell, Control, Times, Until, Varying, Stmt, Choose, Loop, Perform, Go, GoDepending, NextSentence, ExitParagraph, ExitSection, ExitPerform, StopRun, Arms, Body, Range}
+use Rattle.language.specs.Language as language
 use Rattle.control.specs.Doing.{Acting, Doing, giving, arm_of, alone, alone_act, alone_test, alone_pick}
-use Rattle.control.specs.Items.{Turning, Counted, Tests, Steps, StepsAfter, Item, Do, SentenceEnd, Turn, before_body, before_arm, past_sentence, from_loop, Way, On, Halts, Into, To, ToEnd, way_after, tried, on, first_turn, loop_begins, turns, tests, steps_on, turn_way, to_one, item_way}
+use Rattle.language.specs.Items.{Turning, Counted, Tests, Steps, StepsAfter, Item, Do, SentenceEnd, Turn, before_body, before_arm, past_sentence, from_loop}
+use Rattle.control.specs.Items.{Way, On, Halts, Into, To, ToEnd, way_after, tried, on, first_turn, loop_begins, turns, tests, steps_on, turn_way, to_one, item_way}
 use Rattle.lowering.specs.Told.{Told, IsTold, MayGive, OwnPicker, arm_count}
 use Rattle.lowering.specs.flow.Paths.{is_first, is_below, first_arm, not_dead, arm_for, free_pick, free}
 use Rattle.lowering.proofs.rests.Wholes.{OwnItem, Gives, pick-gives}

@@ -6,10 +6,12 @@ use Rattle.runs.specs.Tied.{Meaning, Tied}
 use Rattle.runs.specs.Machine.{iterate, meaning}
 use Rattle.runs.proofs.Machines.{iterate-add}
 use Rattle.control.specs.Outcome.{Faulted, Reentry, Overlap, FlowFault, Standing}
-use Rattle.control.specs.Language.{Paragraph, Program, Perform, Range, Main, Part}
+use Rattle.language.specs.Language.{Paragraph, Program, Perform, Range, Main, Part}
 use Rattle.control.specs.Doing.{Acting, alone}
-use Rattle.control.specs.Items.{Item, Do, Way, On, Halts, Into, To, ToEnd, item_way}
-use Rattle.control.specs.Source.{Pending, ends_at, rest_of, comes_to, goes_to, goes, falls, end_step, rest_step, step_by, source_step, source_machine}
+use Rattle.language.specs.Items.{Item, Do}
+use Rattle.control.specs.Items.{Way, On, Halts, Into, To, ToEnd, item_way}
+use Rattle.language.specs.Items.{Pending, ends_at}
+use Rattle.control.specs.Source.{rest_of, comes_to, goes_to, goes, falls, end_step, rest_step, step_by, source_step, source_machine}
 use Rattle.control.specs.Graph.{Label}
 use Rattle.control.specs.Walk.{main_machine}
 use Rattle.lowering.specs.Told.{Told, IsTold, IsSource}

@@ -2,9 +2,10 @@
 use Rattle.std.proofs.Common.{◌≡◌, ℕ, zero, suc, Bool, true, false, if◌then◌else◌, List, [], ◌∷◌, refl, ap, sym, ◌∙◌, subst, arith, None}
 use Rattle.std.specs.Prelude.{slice_get, length}
 use Rattle.control.specs.Outcome.{Got}
-use Rattle.control.specs.Language.{Picker, If, By, ByCell, Control, Times, Until, Varying, Stmt, Choose, Loop, Perform, Go, GoDepending, NextSentence, ExitParagraph, ExitSection, ExitPerform, StopRun, Stmts, none, also, Arms, done, given, missing, Body, Nested, Performed, Program, Range, Part}
-use Rattle.control.specs.Language as language
-use Rattle.control.specs.Items.{Turning, Counted, Tests, Steps, StepsAfter, Item, Do, Turn, before, before_body, before_arm, from_loop, On, way_after, tried, on, to_one, item_way}
+use Rattle.language.specs.Language.{Picker, If, By, ByCell, Control, Times, Until, Varying, Stmt, Choose, Loop, Perform, Go, GoDepending, NextSentence, ExitParagraph, ExitSection, ExitPerform, StopRun, Stmts, none, also, Arms, done, given, missing, Body, Nested, Performed, Program, Range, Part}
+use Rattle.language.specs.Language as language
+use Rattle.language.specs.Items.{Turning, Counted, Tests, Steps, StepsAfter, Item, Do, Turn, before, before_body, before_arm, from_loop}
+use Rattle.control.specs.Items.{On, way_after, tried, on, to_one, item_way}
 use Rattle.lowering.specs.Told.{Told, IsFirstMissing, FirstMayBeMissing, MayGive, OwnPicker, OwnStmt, OwnStmts, OwnArms, OwnBody, arm_count}
 use Rattle.lowering.specs.Completes.{completes, complete, choice_completes, body_completes, leaves_loop, leave_loop, arms_leave_loop, body_leaves_loop, first_is_dead}
 use Rattle.lowering.specs.flow.Comes.{Comes, goes_on, over}

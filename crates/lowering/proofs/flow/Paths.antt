@@ -3,10 +3,12 @@ use Rattle.std.proofs.Common.{◌≡◌, ℕ, suc, ◌+◌, if◌then◌else◌,
 use Rattle.std.specs.Prelude.{slice_get, length}
 use Rattle.runs.specs.Machine.{iterate}
 use Rattle.runs.proofs.Machines.{iterate-add}
-use Rattle.control.specs.Language.{Paragraph, Program, Range, Main, Part}
+use Rattle.language.specs.Language.{Paragraph, Program, Range, Main, Part}
 use Rattle.control.specs.Doing.{Acting, alone}
-use Rattle.control.specs.Items.{Item, item_way}
-use Rattle.control.specs.Source.{Pending, rest_of, falls}
+use Rattle.language.specs.Items.{Item}
+use Rattle.control.specs.Items.{item_way}
+use Rattle.language.specs.Items.{Pending}
+use Rattle.control.specs.Source.{rest_of, falls}
 use Rattle.lowering.specs.Told.{Told, IsTold, IsSource}
 use Rattle.lowering.specs.flow.Comes.{Comes, begins, enters, goes_on, goes_to, goes_to_end, over, IsNoExit, AreReturning}
 use Rattle.lowering.specs.flow.Comes as come

@@ -4,9 +4,11 @@ use Rattle.std.specs.Prelude.{slice_get, length}
 use Rattle.runs.specs.Run.{Going, Over}
 use Rattle.runs.specs.Machine.{iterate}
 use Rattle.control.specs.Outcome.{Trace, How, Normally, Stopped, Faulted, Reentry, Overlap, FlowFault}
-use Rattle.control.specs.Language.{Paragraph, Program}
-use Rattle.control.specs.Items.{Item, Way, On, Halts, Into, To, ToEnd, item_way}
-use Rattle.control.specs.Source.{Pending, ends_at, rest_of, comes_to, goes, falls, source_step}
+use Rattle.language.specs.Language.{Paragraph, Program}
+use Rattle.language.specs.Items.{Item}
+use Rattle.control.specs.Items.{Way, On, Halts, Into, To, ToEnd, item_way}
+use Rattle.language.specs.Items.{Pending, ends_at}
+use Rattle.control.specs.Source.{rest_of, comes_to, goes, falls, source_step}
 use Rattle.lowering.specs.Told.{Told}
 use Rattle.lowering.specs.flow.Paths.{Flow, free, nothing_left}
 use Rattle.lowering.proofs.rests.Joints.{source_at}

@@ -2,10 +2,11 @@
 use Rattle.std.proofs.Common.{◌≡◌, ℕ, zero, suc, Bool, true, false, List, [], ◌∷◌, refl, ap, ◌∙◌, Option, Some, None}
 use Rattle.std.specs.Prelude.{slice_get}
 use Rattle.control.specs.Outcome.{Trace, Tried, Got, Ends}
-use Rattle.control.specs.Language.{Amount, Act, Test, Picker, If, By, ByCell, Control, Times, Until, Varying, Stmt, Choose, Loop, Perform, Go, GoDepending, NextSentence, ExitParagraph, ExitSection, ExitPerform, StopRun, Stmts, none, also, Arms, done, given, missing, Body, Nested, Performed}
-use Rattle.control.specs.Language as language
+use Rattle.language.specs.Language.{Amount, Act, Test, Picker, If, By, ByCell, Control, Times, Until, Varying, Stmt, Choose, Loop, Perform, Go, GoDepending, NextSentence, ExitParagraph, ExitSection, ExitPerform, StopRun, Stmts, none, also, Arms, done, given, missing, Body, Nested, Performed}
+use Rattle.language.specs.Language as language
 use Rattle.control.specs.Doing.{Doing, keeping}
-use Rattle.control.specs.Items.{Turning, Counted, Tests, Steps, StepsAfter, Item, Do, SentenceEnd, Turn, before, before_body, before_arm, past_sentence, from_loop, Way, On, Halts, Into, To, ToEnd, way_after, tried, on, first_turn, loop_begins, turns, tests, steps_on, turn_way, to_one, item_way}
+use Rattle.language.specs.Items.{Turning, Counted, Tests, Steps, StepsAfter, Item, Do, SentenceEnd, Turn, before, before_body, before_arm, past_sentence, from_loop}
+use Rattle.control.specs.Items.{Way, On, Halts, Into, To, ToEnd, way_after, tried, on, first_turn, loop_begins, turns, tests, steps_on, turn_way, to_one, item_way}
 use Rattle.lowering.specs.Renamed.{act_anew, test_anew, picker_anew, control_anew, stmt_anew, stmts_anew, arms_anew, body_anew, turning_anew, item_anew, items_anew}
 
 -- with the memory changed

@@ -1,7 +1,7 @@
 -- The form of the graphs of reached nodes.
 use Rattle.std.proofs.Common.{◌≡◌, ℕ, ◌+◌, ◌*◌, ◌<◌, Bool, true, false, if◌then◌else◌, List, [], ◌∷◌, refl, ap, sym, ◌∙◌, subst, arith, inl, inr}
 use Rattle.std.specs.Prelude.{length}
-use Rattle.control.specs.Language.{Program, Range}
+use Rattle.language.specs.Language.{Program, Range}
 use Rattle.control.specs.Graph.{Label, Tree, tree, End, Pick, Jump, Return, Stop, Dead, Trees, no_more, more, end_of}
 use Rattle.lowering.specs.Told.{Told, IsSource}
 use Rattle.lowering.specs.Lower.{Node}

@@ -4,9 +4,10 @@ use Rattle.std.proofs.lemmas.Bool.Decides.{eqb_tells}
 use Rattle.runs.specs.Run.{Going, Over}
 use Rattle.runs.specs.Machine.{iterate}
 use Rattle.control.specs.Outcome.{Standing, Tried, Got, Ends}
-use Rattle.control.specs.Language.{Program, Range, Part}
+use Rattle.language.specs.Language.{Program, Range, Part}
 use Rattle.control.specs.Doing.{Acting, Celled, celled}
-use Rattle.control.specs.Items.{Item, Way, On, Halts, Into, To, ToEnd, item_way}
+use Rattle.language.specs.Items.{Item}
+use Rattle.control.specs.Items.{Way, On, Halts, Into, To, ToEnd, item_way}
 use Rattle.control.specs.Graph.{Label, Tree, tree, End, Pick, Jump, Return, Stop, Dead, Trees, no_more, more, end_of, Family}
 use Rattle.control.specs.Walk.{Level, Walk, level_at, walk_goes, picked, picks, tree_at, returns, walk_end, walk_items, walk_by, walk_step, walk_begun}
 use Rattle.lowering.specs.Told.{Told}

@@ -4,9 +4,10 @@ use Rattle.std.proofs.lemmas.Bool.Decides.{eqb_tells}
 use Rattle.runs.specs.Run.{Going, Over}
 use Rattle.runs.specs.Machine.{iterate}
 use Rattle.control.specs.Outcome.{Trace, Standing, Tried, Got, Ends}
-use Rattle.control.specs.Language.{Act, Own, Set, Take, Lower, Test, Holds, Not, Is, Above, Picker, If, By, ByCell, Stmts, none, also, Range, Main, Part, same_range}
+use Rattle.language.specs.Language.{Act, Own, Set, Take, Lower, Test, Holds, Not, Is, Above, Picker, If, By, ByCell, Stmts, none, also, Range, Main, Part, same_range}
 use Rattle.control.specs.Doing.{Acting, giving, keeping, arm_of, Celled, own_is, put, taken, celled_act, celled_test, celled_pick, celled}
-use Rattle.control.specs.Items.{Item, Do, before, Way, On, Halts, Into, To, ToEnd, item_way}
+use Rattle.language.specs.Items.{Item, Do, before}
+use Rattle.control.specs.Items.{Way, On, Halts, Into, To, ToEnd, item_way}
 use Rattle.control.specs.Graph.{Tree, tree, End, Pick, Jump, Return, Stop, Dead, Trees, no_more, more, Family}
 use Rattle.control.specs.Walk.{Level, Walk, tree_at, level_at, walk_goes, picked, picks, returns, walk_end, walk_items, walk_by, walk_step, walk_begun}
 use Rattle.lowering.specs.Renamed.{act_anew, test_anew, picker_anew, stmt_anew, stmts_anew, items_anew, end_anew, trees_anew, tree_anew, numbered_anew, as_before}

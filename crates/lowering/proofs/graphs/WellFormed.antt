@@ -1,7 +1,7 @@
 -- The form of lowered graphs.
 use Rattle.std.proofs.Common.{◌≡◌, ℕ, zero, suc, ◌+◌, ◌<◌, Bool, true, false, if◌then◌else◌, nat_eq, List, [], ◌∷◌, ◌++◌, refl, ap, sym, ◌∙◌, subst, arith, inl, inr, Option, Some, None}
 use Rattle.std.specs.Prelude.{slice_get, length}
-use Rattle.control.specs.Language.{Picker, If, By, ByCell, Control, Times, Until, Varying, Stmt, Do, Choose, Loop, Perform, Go, GoDepending, NextSentence, ExitParagraph, ExitSection, ExitPerform, StopRun, Stmts, none, also, Arms, done, given, missing, Nested, Performed, Paragraph, Program, Range, Main, Part}
+use Rattle.language.specs.Language.{Picker, If, By, ByCell, Control, Times, Until, Varying, Stmt, Do, Choose, Loop, Perform, Go, GoDepending, NextSentence, ExitParagraph, ExitSection, ExitPerform, StopRun, Stmts, none, also, Arms, done, given, missing, Nested, Performed, Paragraph, Program, Range, Main, Part}
 use Rattle.control.specs.Graph.{Label, Tree, tree, End, Pick, Jump, Return, Dead, Trees, more}
 use Rattle.lowering.specs.Told.{Told, FirstMayBeMissing, IsSource, OwnPicker, OwnStmt, OwnStmts, OwnArms, OwnParagraph, OwnParagraphs, AllBelow, arm_count}
 use Rattle.lowering.specs.Completes.{completes, cut, cuts, whole, wholes, leave_sentence, size, sizes, skips, first_is_dead}

@@ -1,10 +1,10 @@
 -- Counter cells: each remainder keeps its own, and each range its own.
 use Rattle.std.proofs.Common.{◌≡◌, ℕ, ◌+◌, ◌<◌, ◌≤◌, Bool, true, false, if◌then◌else◌, nat_eq, List, [], ◌∷◌, ◌++◌, refl, ap, sym, ◌∙◌, subst, arith, eq-eqb, inl, inr}
 use Rattle.std.proofs.lemmas.Bool.Decides.{eqb_tells}
-use Rattle.control.specs.Language.{Times, Until, Varying, Program, Paragraph, Range, Main, Part, same_range, Loop, Nested, Stmts, none, also}
+use Rattle.language.specs.Language.{Times, Until, Varying, Program, Paragraph, Range, Main, Part, same_range, Loop, Nested, Stmts, none, also}
 use Rattle.control.specs.Doing.{Acting}
-use Rattle.control.specs.Items.{Item, SentenceEnd, Turn, before, items_of, past_sentence, from_loop}
-use Rattle.control.specs.Source.{ends_at}
+use Rattle.language.specs.Items.{Item, SentenceEnd, Turn, before, items_of, past_sentence, from_loop}
+use Rattle.language.specs.Items.{ends_at}
 use Rattle.control.specs.Graph.{Tree, End, Family, Label}
 use Rattle.lowering.specs.Told.{Told}
 use Rattle.lowering.specs.Completes.{cuts, leave_sentence, sizes}

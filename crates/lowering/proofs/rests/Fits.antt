@@ -2,12 +2,14 @@
 use Rattle.std.proofs.Common.{◌≡◌, ℕ, zero, suc, ◌+◌, ◌<◌, ◌≤◌, Bool, true, false, List, [], ◌∷◌, subst, arith}
 use Rattle.std.specs.Prelude.{slice_get, length}
 use Rattle.control.specs.Outcome.{Trace, Tried, Got, Ends}
-use Rattle.control.specs.Language.{Act, Test, Picker, If, By, ByCell, Control, Times, Until, Varying, Stmt, Choose, Loop, Perform, Go, GoDepending, NextSentence, ExitParagraph, ExitSection, ExitPerform, StopRun, Stmts, none, also, Arms, done, given, missing, Body, Nested, Performed, Range, Main, Part, Paragraph, Program, unless_absent, paragraph_at}
-use Rattle.control.specs.Language as language
+use Rattle.language.specs.Language.{Act, Test, Picker, If, By, ByCell, Control, Times, Until, Varying, Stmt, Choose, Loop, Perform, Go, GoDepending, NextSentence, ExitParagraph, ExitSection, ExitPerform, StopRun, Stmts, none, also, Arms, done, given, missing, Body, Nested, Performed, Range, Main, Part, Paragraph, Program, unless_absent, paragraph_at}
+use Rattle.language.specs.Language as language
 use Rattle.control.specs.Doing.{Doing}
-use Rattle.control.specs.Items.{Turning, Counted, Tests, Steps, StepsAfter, Item, Do, SentenceEnd, Turn, before, before_body, before_arm, items_of, past_sentence, from_loop, Way, On, Halts, Into, To, ToEnd, way_after, tried, on, first_turn, loop_begins, turns, tests, steps_on, turn_way, to_one, item_way}
+use Rattle.language.specs.Items.{Turning, Counted, Tests, Steps, StepsAfter, Item, Do, SentenceEnd, Turn, before, before_body, before_arm, items_of, past_sentence, from_loop}
+use Rattle.control.specs.Items.{Way, On, Halts, Into, To, ToEnd, way_after, tried, on, first_turn, loop_begins, turns, tests, steps_on, turn_way, to_one, item_way}
 use Rattle.control.specs.Source.{rest_of}
-use Rattle.lowering.specs.Told.{Told, OwnAct, OwnTest, OwnControl, OwnStmts, OwnArms, OwnBody, OwnParagraph, OwnParagraphs, IsSource, AllBelow}
+use Rattle.language.specs.Own.{OwnAct, OwnTest, OwnControl}
+use Rattle.lowering.specs.Told.{Told, OwnStmts, OwnArms, OwnBody, OwnParagraph, OwnParagraphs, IsSource, AllBelow}
 use Rattle.lowering.specs.flow.Comes.{Comes, begins, enters, goes_on, goes_to, goes_to_end, over, falls}
 use Rattle.lowering.proofs.rests.Wholes.{OwnTurning, OwnItem}
 

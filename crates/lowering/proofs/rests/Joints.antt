@@ -3,10 +3,11 @@ use Rattle.std.proofs.Common.{◌≡◌, ◌≢◌, ℕ, ◌+◌, ◌<◌, ◌�
 use Rattle.runs.specs.Run.{Going, Over, IsOver}
 use Rattle.runs.specs.Machine.{iterate}
 use Rattle.control.specs.Outcome.{Trace, Faulted, FlowFault}
-use Rattle.control.specs.Language.{Control, Times, Until, Varying, Program, paragraph_at, Range, Main, Part, same_range}
+use Rattle.language.specs.Language.{Control, Times, Until, Varying, Program, paragraph_at, Range, Main, Part, same_range}
 use Rattle.control.specs.Doing.{Acting, alone}
-use Rattle.control.specs.Items.{Item}
-use Rattle.control.specs.Source.{Pending, SourceState}
+use Rattle.language.specs.Items.{Item}
+use Rattle.language.specs.Items.{Pending}
+use Rattle.control.specs.Source.{SourceState}
 use Rattle.control.specs.Graph.{Tree, End, Family}
 use Rattle.control.specs.Walk.{Level, Walk, walk_step}
 use Rattle.lowering.specs.Told.{Told}

@@ -1,9 +1,10 @@
 -- What the parts of a source program do is the same beside cells.
 use Rattle.std.proofs.Common.{◌≡◌, ℕ, not, refl, ap, ◌∙◌}
 use Rattle.control.specs.Outcome.{Tried, Got, Ends}
-use Rattle.control.specs.Language.{Act, Own, Set, Take, Lower, Test, Holds, Not, Is, Above, Picker, If, By, ByCell, Range}
+use Rattle.language.specs.Language.{Act, Own, Set, Take, Lower, Test, Holds, Not, Is, Above, Picker, If, By, ByCell, Range}
 use Rattle.control.specs.Doing.{Acting, giving, keeping, arm_of, alone_act, alone_test, alone_pick, Celled, own_is, celled_act, celled_test, celled_pick}
-use Rattle.lowering.specs.Told.{Told, OwnAct, OwnTest, OwnPicker}
+use Rattle.language.specs.Own.{OwnAct, OwnTest}
+use Rattle.lowering.specs.Told.{Told, OwnPicker}
 
 pub giving-keeping : {Memory Other A B : Type 0} (f : A → B) (h : Memory → Other) (t : Tried Memory A) → giving f (keeping h t) ≡ keeping h (giving f t)
 giving-keeping f h (Got trace value memory) = refl

@@ -1,7 +1,7 @@
 -- Items of the source that came out of statements without an escape, and the items of the walk.
 use Rattle.std.proofs.Common.{◌≡◌, ℕ, zero, suc, Bool, true, false, if◌then◌else◌, List, [], ◌∷◌, ◌++◌, refl, ap, sym, ◌∙◌, subst, arith}
-use Rattle.control.specs.Language.{Stmts, none, also, Arms, done, given, missing, Body, Nested, Performed}
-use Rattle.control.specs.Items.{Item, Do, SentenceEnd, Turn, before, before_body, before_arm}
+use Rattle.language.specs.Language.{Stmts, none, also, Arms, done, given, missing, Body, Nested, Performed}
+use Rattle.language.specs.Items.{Item, Do, SentenceEnd, Turn, before, before_body, before_arm}
 use Rattle.control.specs.Graph.{Tree, End, body_of, end_of}
 use Rattle.lowering.specs.Told.{Told, MayGive, arm_count}
 use Rattle.lowering.specs.Completes.{completes, complete, choice_completes, body_completes, cut, cuts, cut_arms, cut_body, whole, wholes, whole_arms, whole_body}

@@ -1,12 +1,14 @@
 -- What an item does that came out of a statement without an escape is the same in the source and in the walk.
 use Rattle.std.proofs.Common.{◌≡◌, ℕ, zero, suc, Bool, true, false, if◌then◌else◌, List, ◌∷◌, ◌++◌, refl, ap, sym, subst, arith}
 use Rattle.control.specs.Outcome.{Trace, Tried, Got, Ends}
-use Rattle.control.specs.Language.{Act, Test, Picker, If, By, ByCell, Control, Times, Until, Varying, Stmt, Choose, Loop, Perform, Go, GoDepending, NextSentence, ExitParagraph, ExitSection, ExitPerform, StopRun, Stmts, none, also, Arms, Body, Nested, Performed, Range}
-use Rattle.control.specs.Language as language
+use Rattle.language.specs.Language.{Act, Test, Picker, If, By, ByCell, Control, Times, Until, Varying, Stmt, Choose, Loop, Perform, Go, GoDepending, NextSentence, ExitParagraph, ExitSection, ExitPerform, StopRun, Stmts, none, also, Arms, Body, Nested, Performed, Range}
+use Rattle.language.specs.Language as language
 use Rattle.control.specs.Doing.{Acting, Doing, giving, keeping, arm_of, alone, alone_act, alone_test, alone_pick, Celled, own_is, celled, celled_act}
-use Rattle.control.specs.Items.{Turning, Counted, Tests, Steps, StepsAfter, Item, Do, SentenceEnd, Turn, before_body, before_arm, Way, On, Halts, Into, To, ToEnd, way_after, tried, on, first_turn, varying, loop_begins, turns, tests, steps_on, turn_way, stmt_way, item_way}
+use Rattle.language.specs.Items.{Turning, Counted, Tests, Steps, StepsAfter, Item, Do, SentenceEnd, Turn, before_body, before_arm}
+use Rattle.control.specs.Items.{Way, On, Halts, Into, To, ToEnd, way_after, tried, on, first_turn, varying, loop_begins, turns, tests, steps_on, turn_way, stmt_way, item_way}
 use Rattle.control.specs.Graph.{Tree, End}
-use Rattle.lowering.specs.Told.{Told, MayGive, ChoiceIsTold, IsTold, OwnAct, OwnTest, OwnControl, OwnPicker, OwnStmt, OwnBody, arm_count}
+use Rattle.language.specs.Own.{OwnAct, OwnTest, OwnControl}
+use Rattle.lowering.specs.Told.{Told, MayGive, ChoiceIsTold, IsTold, OwnPicker, OwnStmt, OwnBody, arm_count}
 use Rattle.lowering.specs.Completes.{first_is_dead, completes, body_completes, body_leaves_loop, cut_arms, cut_body, whole_body}
 use Rattle.lowering.proofs.rests.Parts.{celled-acts, celled-tests, celled-picks}
 use Rattle.lowering.proofs.rests.Stands.{body-append, arm-append, cut_item, whole_item, item_completes, Stands, stands-body, stands-arm, after-completes}

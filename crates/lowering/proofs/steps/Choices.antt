@@ -2,9 +2,10 @@
 use Rattle.std.proofs.Common.{◌≡◌, ℕ, zero, suc, ◌+◌, ◌<◌, Bool, true, false, List, [], ◌∷◌, ◌++◌, refl, ap, sym, subst, arith, append-nil, Option, Some, None}
 use Rattle.std.specs.Prelude.{slice_get, length}
 use Rattle.control.specs.Outcome.{Trace, Tried, Got}
-use Rattle.control.specs.Language.{Chooser, Picker, By, Program, Choose, GoDepending, Arms, done, given, missing, Range}
+use Rattle.language.specs.Language.{Chooser, Picker, By, Program, Choose, GoDepending, Arms, done, given, missing, Range}
 use Rattle.control.specs.Doing.{Acting, alone, alone_pick, Celled}
-use Rattle.control.specs.Items.{Item, Do, before_arm, Way, To, tried, on, to_one}
+use Rattle.language.specs.Items.{Item, Do, before_arm}
+use Rattle.control.specs.Items.{Way, To, tried, on, to_one}
 use Rattle.control.specs.Source.{SourceState}
 use Rattle.control.specs.Graph.{Tree, End, Pick, Jump, Family}
 use Rattle.control.specs.Walk.{Walk, picks, picked, tree_at}

@@ -2,10 +2,11 @@
 use Rattle.std.proofs.Common.{◌≡◌, ℕ, zero, suc, ◌<◌, true, false, if◌then◌else◌, nat_eq, List, [], ◌∷◌, refl, sym, subst, arith, eqb-true, Option, Some, None}
 use Rattle.std.specs.Prelude.{slice_get, length}
 use Rattle.control.specs.Outcome.{Trace, Faulted, Overlap}
-use Rattle.control.specs.Language.{Paragraph, Program, Range, Main, Part}
+use Rattle.language.specs.Language.{Paragraph, Program, Range, Main, Part}
 use Rattle.control.specs.Doing.{Acting, alone}
-use Rattle.control.specs.Items.{Item}
-use Rattle.control.specs.Source.{SourceState, ends_at, falls, comes_to}
+use Rattle.language.specs.Items.{Item}
+use Rattle.language.specs.Items.{ends_at}
+use Rattle.control.specs.Source.{SourceState, falls, comes_to}
 use Rattle.control.specs.Graph.{Tree, Return, Family}
 use Rattle.control.specs.Walk.{Walk}
 use Rattle.lowering.specs.Told.{Told, IsTold, IsSource}

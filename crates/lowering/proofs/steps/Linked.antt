@@ -6,10 +6,12 @@ use Rattle.runs.specs.Tied.{Tied}
 use Rattle.runs.specs.Machine.{Machine, iterate, meaning, Simulates}
 use Rattle.runs.proofs.Machines.{simulated-tied}
 use Rattle.control.specs.Outcome.{Event, Trace, Ending, Faulted, Reentry, Overlap}
-use Rattle.control.specs.Language.{Paragraph, Program, Range, Main}
+use Rattle.language.specs.Language.{Paragraph, Program, Range, Main}
 use Rattle.control.specs.Doing.{Acting, alone}
-use Rattle.control.specs.Items.{Item, Do, SentenceEnd, Turn, before, Way, On, Halts, Into, To, ToEnd, item_way}
-use Rattle.control.specs.Source.{Pending, SourceState, ends_at, rest_of, comes_to, goes_to, goes, falls, end_step, source_step, source_begun, source_machine}
+use Rattle.language.specs.Items.{Item, Do, SentenceEnd, Turn, before}
+use Rattle.control.specs.Items.{Way, On, Halts, Into, To, ToEnd, item_way}
+use Rattle.language.specs.Items.{Pending, ends_at}
+use Rattle.control.specs.Source.{SourceState, rest_of, comes_to, goes_to, goes, falls, end_step, source_step, source_begun, source_machine}
 use Rattle.control.specs.Graph.{Family, body_of, end_of}
 use Rattle.control.specs.Walk.{Walk, walk_step, walk_begun, main_machine}
 use Rattle.lowering.specs.Told.{Told, IsTold, IsSource}

@@ -1,14 +1,16 @@
 -- A loop that holds an escape: its begin, and its turns.
 use Rattle.std.proofs.Common.{◌≡◌, ℕ, zero, suc, ◌+◌, ◌-◌, Bool, true, false, if◌then◌else◌, List, [], ◌∷◌, ◌++◌, refl, ap, sym, ◌∙◌, arith, append-nil, append_assoc}
 use Rattle.control.specs.Outcome.{Trace, Tried, Got, Ends}
-use Rattle.control.specs.Language.{Act, Take, Lower, Test, Above, If, Control, Times, Until, Varying, Program, Stmt, Loop, Stmts, none, also, Nested, Range}
-use Rattle.control.specs.Language as language
+use Rattle.language.specs.Language.{Act, Take, Lower, Test, Above, If, Control, Times, Until, Varying, Program, Stmt, Loop, Stmts, none, also, Nested, Range}
+use Rattle.language.specs.Language as language
 use Rattle.control.specs.Doing.{Acting, alone, keeping, arm_of, is_above, alone_act, alone_test, Celled, own_is, put, taken, celled}
-use Rattle.control.specs.Items.{Turning, Counted, Tests, Steps, StepsAfter, Item, Do, Turn, before, before_body, Way, tried, on, turns, steps_on}
+use Rattle.language.specs.Items.{Turning, Counted, Tests, Steps, StepsAfter, Item, Do, Turn, before, before_body}
+use Rattle.control.specs.Items.{Way, tried, on, turns, steps_on}
 use Rattle.control.specs.Source.{SourceState}
 use Rattle.control.specs.Graph.{Tree, tree, End, Pick, Jump, no_more, more, Family}
 use Rattle.control.specs.Walk.{Walk, walk_goes, picks}
-use Rattle.lowering.specs.Told.{Told, OwnAct, OwnControl}
+use Rattle.language.specs.Own.{OwnAct, OwnControl}
+use Rattle.lowering.specs.Told.{Told}
 use Rattle.lowering.specs.Lower.{Leaving, within_loop, only, head, third, back, loop_start, by_test, with_first, build, loop_nodes, nodes, nodes_in}
 use Rattle.lowering.specs.Rests.{Rest, From, Turns, Cut, turning_of, items_in, to_turn, leaf_of, leaving_of, tree_of, Has, HasRest}
 use Rattle.lowering.proofs.rests.Joints.{Joint, pending_of, source_at, heft, CellHolds, CellsHold, Outside, Apart}

@@ -2,14 +2,16 @@
 use Rattle.std.proofs.Common.{◌≡◌, ℕ, ◌+◌, ◌≤◌, Bool, true, false, if◌then◌else◌, List, [], ◌∷◌, ◌++◌, refl, ap, sym, ◌∙◌, subst, arith, append-nil}
 use Rattle.runs.specs.Run.{Over}
 use Rattle.control.specs.Outcome.{Trace, Normally, Stopped, Run}
-use Rattle.control.specs.Language.{Act, Own, Set, Take, Lower, Picker, Control, Program, Stmt, Choose, Loop, Perform, Go, GoDepending, NextSentence, ExitParagraph, ExitSection, ExitPerform, StopRun, Stmts, none, also, Arms, Nested, Performed, Range, Main, Part}
-use Rattle.control.specs.Language as language
+use Rattle.language.specs.Language.{Act, Own, Set, Take, Lower, Picker, Control, Program, Stmt, Choose, Loop, Perform, Go, GoDepending, NextSentence, ExitParagraph, ExitSection, ExitPerform, StopRun, Stmts, none, also, Arms, Nested, Performed, Range, Main, Part}
+use Rattle.language.specs.Language as language
 use Rattle.control.specs.Doing.{Acting, alone}
-use Rattle.control.specs.Items.{Item, Do, SentenceEnd, Turn, before, past_sentence, from_loop, On, tried, on, item_way}
+use Rattle.language.specs.Items.{Item, Do, SentenceEnd, Turn, before, past_sentence, from_loop}
+use Rattle.control.specs.Items.{On, tried, on, item_way}
 use Rattle.control.specs.Source.{SourceState, rest_of, goes}
 use Rattle.control.specs.Graph.{Tree, End, Pick, Jump, Stop, body_of, Family}
 use Rattle.control.specs.Walk.{Walk}
-use Rattle.lowering.specs.Told.{Told, IsTold, IsSource, OwnAct}
+use Rattle.language.specs.Own.{OwnAct}
+use Rattle.lowering.specs.Told.{Told, IsTold, IsSource}
 use Rattle.lowering.specs.Completes.{cut, cuts, whole, wholes, size, skips, first_is_dead}
 use Rattle.lowering.specs.Lower.{Leaving, only, point, leaf, build, build_arms, loop_start, push, nodes, nodes_in}
 use Rattle.lowering.specs.Rests.{Rest, From, Sent, Turns, Cut, turning_of, items_in, to_turn, after_sentence, after_loop, at_loop, uncut, leaf_of, leaving_of, tree_of, Has, HasRest}

@@ -3,10 +3,12 @@ use Rattle.std.proofs.Common.{◌≡◌, ℕ, suc, ◌+◌, ◌<◌, ◌≤◌, 
 use Rattle.std.specs.Prelude.{length}
 use Rattle.runs.specs.Machine.{iterate}
 use Rattle.control.specs.Outcome.{Trace, How, Faulted, Reentry}
-use Rattle.control.specs.Language.{Stmt, Stmts, none, also, Program, paragraph_at, Range, Part}
+use Rattle.language.specs.Language.{Stmt, Stmts, none, also, Program, paragraph_at, Range, Part}
 use Rattle.control.specs.Doing.{Acting, alone, Celled, celled}
-use Rattle.control.specs.Items.{Item, Do, before, Way, On, Halts, Into, item_way}
-use Rattle.control.specs.Source.{SourceState, ends_at, rest_of, goes, source_step, comes_to}
+use Rattle.language.specs.Items.{Item, Do, before}
+use Rattle.control.specs.Items.{Way, On, Halts, Into, item_way}
+use Rattle.language.specs.Items.{ends_at}
+use Rattle.control.specs.Source.{SourceState, rest_of, goes, source_step, comes_to}
 use Rattle.control.specs.Graph.{Tree, tree, End, Dead, body_of, end_of, Family}
 use Rattle.control.specs.Walk.{Walk, walk_step, walk_goes}
 use Rattle.lowering.specs.Told.{Told, IsTold, IsSource}

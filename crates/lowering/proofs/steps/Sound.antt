@@ -5,10 +5,12 @@ use Rattle.runs.specs.Run.{Going, Over, IsOver}
 use Rattle.runs.specs.Tied.{Tied}
 use Rattle.runs.specs.Machine.{iterate, meaning}
 use Rattle.control.specs.Outcome.{Event, Ending, Returned, Lost, Faulted, Reentry, Overlap, Run, Standing, Tried, Got, Ends}
-use Rattle.control.specs.Language.{Paragraph, Program, Perform, Range, Main, Part}
+use Rattle.language.specs.Language.{Paragraph, Program, Perform, Range, Main, Part}
 use Rattle.control.specs.Doing.{Doing, Acting, alone, Celled, celled}
-use Rattle.control.specs.Items.{Item, Do, before, Way, On, Halts, Into, To, ToEnd, item_way}
-use Rattle.control.specs.Source.{Pending, SourceState, ends_at, rest_of, comes_to, goes_to, goes, falls, end_step, rest_step, step_by, source_step, source_begun}
+use Rattle.language.specs.Items.{Item, Do, before}
+use Rattle.control.specs.Items.{Way, On, Halts, Into, To, ToEnd, item_way}
+use Rattle.language.specs.Items.{Pending, ends_at}
+use Rattle.control.specs.Source.{SourceState, rest_of, comes_to, goes_to, goes, falls, end_step, rest_step, step_by, source_step, source_begun}
 use Rattle.control.specs.Graph.{Tree, End, Pick, Jump, Return, Stop, Dead, Trees, Family, body_of, end_of}
 use Rattle.control.specs.Walk.{Level, Walk, walk_goes, picked, picks, tree_at, returns, walk_end, walk_items, walk_by, walk_step, walk_begun, walk_machine}
 use Rattle.lowering.specs.Told.{Told, IsTold, IsSource}

@@ -2,14 +2,16 @@
 use Rattle.std.proofs.Common.{◌≡◌, ℕ, suc, Bool, true, false, if◌then◌else◌, List, [], ◌∷◌, ◌++◌, refl, ap, sym, ◌∙◌, subst, arith, append-nil, append_assoc}
 use Rattle.runs.specs.Run.{Over}
 use Rattle.control.specs.Outcome.{Trace, How, Abend, Stopped, Tried, Got, Ends}
-use Rattle.control.specs.Language.{Act, Test, Picker, If, By, Program, Stmt, Range}
-use Rattle.control.specs.Language as language
+use Rattle.language.specs.Language.{Act, Test, Picker, If, By, Program, Stmt, Range}
+use Rattle.language.specs.Language as language
 use Rattle.control.specs.Doing.{Acting, alone, giving, keeping, arm_of, alone_act, alone_test, Celled, own_is, celled}
-use Rattle.control.specs.Items.{Item, Do, Way, On, Halts, Into, To, ToEnd, way_after, tried, on, item_way}
+use Rattle.language.specs.Items.{Item, Do}
+use Rattle.control.specs.Items.{Way, On, Halts, Into, To, ToEnd, way_after, tried, on, item_way}
 use Rattle.control.specs.Source.{SourceState, rest_of, goes}
 use Rattle.control.specs.Graph.{Tree, End, no_more, more, Family}
 use Rattle.control.specs.Walk.{Walk, walk_goes, picks}
-use Rattle.lowering.specs.Told.{Told, OwnAct, OwnTest}
+use Rattle.language.specs.Own.{OwnAct, OwnTest}
+use Rattle.lowering.specs.Told.{Told}
 use Rattle.lowering.specs.Lower.{by_test}
 use Rattle.lowering.specs.flow.Comes.{goes_on, goes_to}
 use Rattle.lowering.proofs.rests.Parts.{celled-acts, celled-tests}

@@ -1,9 +1,9 @@
 -- What a range's level performs: each PERFORM in a node that is reached is come to by a free flow
 -- path of that level.
 use Rattle.std.specs.Prelude.{ℕ, ◌≡◌, true, List, [], ◌∷◌}
-use Rattle.control.specs.Language.{Stmt, Choose, Loop, Perform, Go, GoDepending, NextSentence, ExitParagraph, ExitSection, ExitPerform, StopRun, Stmts, none, also, Arms, done, given, missing, Body, Nested, Performed, Program, Range, Part}
-use Rattle.control.specs.Language as language
-use Rattle.control.specs.Items.{Item, Do}
+use Rattle.language.specs.Language.{Stmt, Choose, Loop, Perform, Go, GoDepending, NextSentence, ExitParagraph, ExitSection, ExitPerform, StopRun, Stmts, none, also, Arms, done, given, missing, Body, Nested, Performed, Program, Range, Part}
+use Rattle.language.specs.Language as language
+use Rattle.language.specs.Items.{Item, Do}
 use Rattle.control.specs.Graph.{Label, Tree, tree, End, Pick, Jump, Return, Stop, Dead, Trees, no_more, more}
 use Rattle.lowering.specs.Told.{Told, IsSource}
 use Rattle.lowering.specs.Lowered.{lowered}

@@ -1,9 +1,10 @@
 -- The rests that a level of a range can come to, and the family that is lowered.
 use Rattle.std.specs.Prelude.{ℕ, suc, ◌≡◌, ◌+◌, ◌<◌, ◌==◌, Bool, true, false, List, [], ◌∷◌, Some, slice_get, length}
 use Rattle.control.specs.Outcome.{Trace}
-use Rattle.control.specs.Language.{Paragraph, Program, paragraph_at, Range, Main, Part}
+use Rattle.language.specs.Language.{Paragraph, Program, paragraph_at, Range, Main, Part}
 use Rattle.control.specs.Doing.{Doing}
-use Rattle.control.specs.Items.{Item, On, To, ToEnd, Into, item_way}
+use Rattle.language.specs.Items.{Item}
+use Rattle.control.specs.Items.{On, To, ToEnd, Into, item_way}
 use Rattle.control.specs.Source.{rest_of}
 use Rattle.control.specs.Graph.{Family}
 use Rattle.lowering.specs.Told.{Told}

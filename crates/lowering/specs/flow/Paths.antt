@@ -3,10 +3,12 @@ use Rattle.std.specs.Prelude.{ℕ, zero, suc, ◌≡◌, Bool, true, false, if�
 use Rattle.runs.specs.Run.{Going, Over}
 use Rattle.runs.specs.Machine.{iterate, meaning}
 use Rattle.control.specs.Outcome.{Tried, Got, Faulted, FlowFault, Standing}
-use Rattle.control.specs.Language.{Picker, If, By, ByCell, Program}
+use Rattle.language.specs.Language.{Picker, If, By, ByCell, Program}
 use Rattle.control.specs.Doing.{Doing, arm_of}
-use Rattle.control.specs.Items.{Item, Way, On, Halts, Into, To, ToEnd, item_way}
-use Rattle.control.specs.Source.{Pending, SourceState, rest_of, goes_to, goes, falls, source_machine}
+use Rattle.language.specs.Items.{Item}
+use Rattle.control.specs.Items.{Way, On, Halts, Into, To, ToEnd, item_way}
+use Rattle.language.specs.Items.{Pending}
+use Rattle.control.specs.Source.{SourceState, rest_of, goes_to, goes, falls, source_machine}
 use Rattle.lowering.specs.Told.{Told}
 
 -- the next way; where none is given, the first

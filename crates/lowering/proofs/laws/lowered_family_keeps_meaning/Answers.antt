@@ -1,4 +1,4 @@
-use Rattle.control.specs.Language.{Main, Part}
+use Rattle.language.specs.Language.{Main, Part}
 use Rattle.lowering.proofs.flow.Linked.{family-keeps, family-main-sound, family-part-sound, numbered-keeps, numbered-sound}
 use Rattle.lowering.proofs.laws.lowered_family_keeps_meaning.Goals as goal
 
