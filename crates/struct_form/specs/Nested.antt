@@ -1,4 +1,5 @@
--- Tests of the tree: no jump stands in it, and each PERFORM of paragraphs names one later paragraph.
+-- Tests of the tree: no jump stands in it, and each PERFORM of paragraphs names one later
+-- paragraph.
 use Rattle.std.specs.Prelude.{ℕ, suc, Bool, true, false, ◌==◌, ◌&&◌, nat_lt, List, [], ◌∷◌, map, is_some, is_none}
 use Rattle.cob_tree.specs.declared.stmt.Stmt.{Stmt, fold-Stmt}
 use Rattle.cob_tree.specs.declared.stmt.Stmt.TheOpen.{Stmt-F, Arms-F, When-F}

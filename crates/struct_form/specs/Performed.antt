@@ -19,7 +19,8 @@ abbrev pub performs_step : ℕ → Stmt-F Bool Bool Bool → Bool
 performs_step number (Stmt-F.Arith calc into arms) = arms
 performs_step number (Stmt-F.Read file into arms) = arms
 performs_step number (Stmt-F.If cond met unmet) = if any met then true else any unmet
-performs_step number (Stmt-F.Evaluate subject whens other) = if any whens then true else any_if other
+performs_step number (Stmt-F.Evaluate subject whens other) =
+    if any whens then true else any_if other
 performs_step number (Stmt-F.Loop control body) = any body
 performs_step number (Stmt-F.Perform entry exit control) = entry == number
 performs_step number _ = false
