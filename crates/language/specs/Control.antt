@@ -1,4 +1,4 @@
--- A program as its control: one fold takes each statement of the tree to a statement of the language.
+-- A program as its control: one fold takes each statement of the tree to one of the language.
 use Rattle.std.specs.Prelude.{ℕ, zero, suc, ◌-◌, ◌^◌, ◌==◌, ◌||◌, nat_le, Bool, true, false, if◌then◌else◌, List, [], ◌∷◌, map, Option, Some, None, is_some}
 use Rattle.std.specs.Str.Parse.{digits_value}
 use Rattle.cob_tree.specs.declared.number.Number.{Number}
@@ -31,10 +31,12 @@ use Rattle.cob_tree.specs.declared.program.Paragraph.{Paragraph}
 use Rattle.cob_tree.specs.declared.program.Program.{Program}
 use Rattle.language.specs.Language as language
 
--- Added items. An item number from 2^31 upward is a cell, and the words on it are those that restructuring writes.
+-- Added items. An item number from 2^31 upward is a cell, and the words on it are those that
+-- restructuring writes.
 
 abbrev pub cell_of : Place → Option ℕ
-cell_of place = if nat_le (2 ^ 31) (out-Place place).item then Some ((out-Place place).item - 2 ^ 31) else None
+cell_of place =
+    if nat_le (2 ^ 31) (out-Place place).item then Some ((out-Place place).item - 2 ^ 31) else None
 
 -- the cell that an operand names
 abbrev pub cell_named : Operand → Option ℕ
@@ -42,7 +44,9 @@ cell_named operand = elim (out-Operand operand) [ Operand-F.Place place ↦ cell
 
 -- a whole number that isn't below zero
 abbrev pub number_of : Number → Option ℕ
-number_of number = if number.negative then None else (if number.scale == 0 then Some (digits_value 10 number.digits) else None)
+number_of number =
+    if number.negative then None
+    else (if number.scale == 0 then Some (digits_value 10 number.digits) else None)
 
 -- it is this number
 abbrev pub is_number : ℕ → Option ℕ → Bool
@@ -51,7 +55,8 @@ is_number number (Some value) = value == number
 
 -- the number that an operand writes
 abbrev pub number_written : Operand → Option ℕ
-number_written operand = elim (out-Operand operand) [ Operand-F.Number number ↦ number_of number | _ ↦ None ]
+number_written operand =
+    elim (out-Operand operand) [ Operand-F.Number number ↦ number_of number | _ ↦ None ]
 
 abbrev pub cell_in : Expr → Option ℕ
 cell_in expr = elim (out-Expr expr) [ Expr-F.Leaf operand ↦ cell_named operand | _ ↦ None ]
@@ -83,7 +88,8 @@ tested_step (Cond-F.Relation left rel right) = record {
 tested_step (Cond-F.Class place kind not) = held (cond.Class place kind not)
 tested_step (Cond-F.SignIs expr kind not) = held (cond.SignIs expr kind not)
 tested_step (Cond-F.Named place) = held (cond.Named place)
-tested_step (Cond-F.Not inner) = record { cond = cond.Not inner.cond; test = language.Not inner.test }
+tested_step (Cond-F.Not inner) =
+    record { cond = cond.Not inner.cond; test = language.Not inner.test }
 tested_step (Cond-F.And left right) = held (cond.And left.cond right.cond)
 tested_step (Cond-F.Or left right) = held (cond.Or left.cond right.cond)
 
@@ -119,7 +125,8 @@ arith_alone calc into = stmt.Arith calc into bare
 -- SUBTRACT 1 FROM a cell lowers it
 abbrev pub lowered_cell : Calc → List Target → Option ℕ
 lowered_cell (calc.Subtract (part ∷ [])) (target ∷ []) =
-    if target.rounded then None else (if is_number 1 (number_written part) then cell_of target.place else None)
+    if target.rounded then None
+    else (if is_number 1 (number_written part) then cell_of target.place else None)
 lowered_cell calc into = None
 
 abbrev pub arith_act : Option ℕ → Calc → List Target → language.Act
@@ -139,7 +146,8 @@ when_number tests = None
 -- the WHENs test this number and those that follow it
 abbrev pub count_from : ℕ → List (List Test) → Bool
 count_from number [] = true
-count_from number (tests ∷ others) = if is_number number (when_number tests) then count_from (suc number) others else false
+count_from number (tests ∷ others) =
+    if is_number number (when_number tests) then count_from (suc number) others else false
 
 abbrev pub cell_chosen : Subject → Option ℕ
 cell_chosen (subject.Value expr) = cell_in expr
@@ -185,7 +193,8 @@ tests_of branches = map (λ branch. branch.tests) branches
 
 abbrev pub branches_before : List Branch → language.Arms → language.Arms
 branches_before [] others = others
-branches_before (branch ∷ branches) others = language.given branch.arm (branches_before branches others)
+branches_before (branch ∷ branches) others =
+    language.given branch.arm (branches_before branches others)
 
 -- the two arms of a READ or of arithmetic
 pub record Both : Type 0 where
@@ -211,9 +220,17 @@ zero_side = roll-Expr (Expr-F.Leaf (roll-Operand (Operand-F.Figure Zero)))
 abbrev pub always : Cond
 always = cond.Relation zero_side Equal zero_side
 
--- VARYING sets its item by a MOVE, and augments it by an ADD
+-- VARYING sets its item by a MOVE
+abbrev pub setting_item : Place → Operand → language.Act
+setting_item item from = language.Own (stmt.Move from (item ∷ []))
+
+-- and augments it by an ADD
 abbrev pub augmenting : Place → Operand → Stmt
-augmenting item by = arith_alone (calc.Add (by ∷ [])) (record { place = item; rounded = false } ∷ [])
+augmenting item by =
+    arith_alone (calc.Add (by ∷ [])) (record { place = item; rounded = false } ∷ [])
+
+abbrev pub augmented : Place → Operand → language.Act
+augmented item by = language.Own (augmenting item by)
 
 -- how a loop turns; none without TIMES, UNTIL and VARYING
 abbrev pub control_in : Control → Option language.Control
@@ -221,11 +238,12 @@ control_in control.Once = None
 control_in (control.Times amount) = Some (language.Times amount)
 control_in (control.Until after until) = Some (language.Until after (test_of until))
 control_in (control.Varying after item from by until) =
-    Some (language.Varying after (language.Own (stmt.Move from (item ∷ []))) (language.Own (augmenting item by)) (test_of until))
+    Some (language.Varying after (setting_item item from) (augmented item by) (test_of until))
 
 -- an inline loop has a control; one without it would be a choice of one arm
 abbrev pub loop_of : Option language.Control → language.Stmts → language.Stmt
-loop_of None body = language.Choose (language.If (language.Holds always)) (language.given body language.done)
+loop_of None body =
+    language.Choose (language.If (language.Holds always)) (language.given body language.done)
 loop_of (Some control) body = language.Loop control (language.Nested body)
 
 abbrev pub perform_of : Option language.Control → ℕ → ℕ → language.Stmt
@@ -240,7 +258,8 @@ seen_step last (Stmt-F.Move from to) = language.Do (move_of from to)
 seen_step last (Stmt-F.Read file into both) =
     language.Choose (language.By (language.Read file into (is_some both.first))) (both_arms both)
 seen_step last (Stmt-F.If cond met unmet) =
-    language.Choose (language.If (test_of cond)) (language.given (stmts_of met) (arm_before (else_of unmet) language.done))
+    language.Choose (language.If (test_of cond))
+    (language.given (stmts_of met) (arm_before (else_of unmet) language.done))
 seen_step last (Stmt-F.Evaluate subject branches other) =
     language.Choose (evaluate_of subject (tests_of branches) (is_some other))
     (branches_before branches (arm_before (stmts_if_any other) language.done))
@@ -253,7 +272,8 @@ seen_step last Stmt-F.StopRun = language.StopRun
 seen_step last Stmt-F.ExitParagraph = language.ExitParagraph
 seen_step last Stmt-F.ExitSection = language.ExitSection last
 seen_step last (Stmt-F.ExitPerform cycle) = language.ExitPerform cycle
-seen_step last (Stmt-F.Display items advance) = language.Do (language.Own (stmt.Display items advance))
+seen_step last (Stmt-F.Display items advance) =
+    language.Do (language.Own (stmt.Display items advance))
 seen_step last (Stmt-F.SetTrue place) = language.Do (language.Own (stmt.SetTrue place))
 seen_step last (Stmt-F.Opens openings) = language.Do (language.Own (stmt.Opens openings))
 seen_step last (Stmt-F.Closes files) = language.Do (language.Own (stmt.Closes files))
@@ -288,10 +308,11 @@ seen_sentence last sentence = seen_stmts last sentence.stmts
 abbrev pub seen_paragraph : ℕ → Paragraph → language.Paragraph
 seen_paragraph last paragraph = map (seen_sentence last) paragraph.sentences
 
--- the last paragraph of the section in which the paragraph with this number stands, by those behind it
+-- the last paragraph of the section of the paragraph with this number, by those behind it
 abbrev pub section_last : ℕ → List Paragraph → ℕ
 section_last number [] = number
-section_last number (next ∷ others) = if is_some next.section then number else section_last (suc number) others
+section_last number (next ∷ others) =
+    if is_some next.section then number else section_last (suc number) others
 
 -- paragraphs, the first of which has this number
 abbrev pub seen_paragraphs : ℕ → List Paragraph → List language.Paragraph

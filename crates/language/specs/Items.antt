@@ -1,8 +1,10 @@
--- What is still to do at a place, the same in a source paragraph and in the body of a tree, and the returns that are pending.
+-- What is still to do at a place, the same in a source paragraph and in the body of a tree, and
+-- the returns that are pending.
 use Rattle.std.specs.Prelude.{ℕ, zero, suc, Bool, true, false, if◌then◌else◌, ◌==◌, List, [], ◌∷◌}
 use Rattle.language.specs.Language.{Act, Test, Stmt, Perform, Stmts, none, also, Arms, done, given, missing, Body, Nested, Performed, Paragraph}
 
--- what is left of a loop: turns that are counted, a test, and of VARYING whether the test was reached before
+-- what is left of a loop: turns that are counted, a test, and of VARYING whether the test was
+-- reached before
 pub data Turning : Type 0 where
   Counted : (turns : ℕ) → Turning
   Tests : (test : Test) → Turning
@@ -15,7 +17,8 @@ pub data Item : Type 0 where
   SentenceEnd : Item
   Turn : Turning → Body → Item
 
--- a return that is pending: the paragraph at whose end it is made, with the paragraph and the rest to go on with
+-- a return that is pending: the paragraph at whose end it is made, with the paragraph and the rest
+-- to go on with
 pub record Pending : Type 0 where
   pub end : ℕ
   pub paragraph : ℕ

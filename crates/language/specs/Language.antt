@@ -1,4 +1,5 @@
--- Programs as far as control goes: what acts, chooses and tests is kept whole, and only the words of control are looked at.
+-- Programs as far as control goes: what acts, chooses and tests is kept whole, and only the words
+-- of control are looked at.
 use Rattle.std.specs.Prelude.{ℕ, Bool, true, false, if◌then◌else◌, ◌==◌, List, [], Option, Some, None, slice_get}
 use Rattle.cob_tree.specs.declared.place.Place as places
 use Rattle.cob_tree.specs.declared.place.Operand as operands
@@ -25,7 +26,8 @@ Amount = operands.Operand
 -- what chooses an arm, but for a condition
 pub data Chooser : Type 0 where
   -- EVALUATE: its subject, the tests of each WHEN, and whether WHEN OTHER stands
-  Evaluate : (subject : subjects.Subject) → (tests : List (List choices.Test)) → (has_other : Bool) → Chooser
+  Evaluate : (subject : subjects.Subject) → (tests : List (List choices.Test)) →
+      (has_other : Bool) → Chooser
   -- READ: its file, the INTO, and whether AT END stands
   Read : (file : ℕ) → (into : Option places.Place) → (has_end : Bool) → Chooser
   -- arithmetic with a phrase on size errors
@@ -33,7 +35,8 @@ pub data Chooser : Type 0 where
   -- the item of GO TO DEPENDING
   Depending : (on : places.Place) → Chooser
 
--- Restructuring adds items: cells, each a number of the range that owns them. No source program has these words.
+-- Restructuring adds items: cells, each a number of the range that owns them. No source program
+-- has these words.
 
 pub data Act : Type 0 where
   Own : (simple : Simple) → Act

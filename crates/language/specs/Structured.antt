@@ -43,7 +43,8 @@ ParagraphNests count here (sentence ∷ next ∷ sentences) = ⊥
 -- the first of these paragraphs has this number
 abbrev pub ParagraphsNest : (count first : ℕ) → List Paragraph → Type 0
 ParagraphsNest count first [] = Unit {0}
-ParagraphsNest count first (paragraph ∷ others) = ParagraphNests count first paragraph × ParagraphsNest count (suc first) others
+ParagraphsNest count first (paragraph ∷ others) =
+    ParagraphNests count first paragraph × ParagraphsNest count (suc first) others
 
 abbrev pub EndsInStop : Stmts → Type 0
 EndsInStop none = ⊥
@@ -72,11 +73,13 @@ abbrev mutual
 
   pub stmts_perform : ℕ → Stmts → Bool
   stmts_perform number none = false
-  stmts_perform number (also stmt stmts) = if stmt_performs number stmt then true else stmts_perform number stmts
+  stmts_perform number (also stmt stmts) =
+      if stmt_performs number stmt then true else stmts_perform number stmts
 
   pub arms_perform : ℕ → Arms → Bool
   arms_perform number done = false
-  arms_perform number (given arm others) = if stmts_perform number arm then true else arms_perform number others
+  arms_perform number (given arm others) =
+      if stmts_perform number arm then true else arms_perform number others
   arms_perform number (missing others) = arms_perform number others
 
   pub body_performs : ℕ → Body → Bool
@@ -85,7 +88,8 @@ abbrev mutual
 
 abbrev pub paragraph_performs : ℕ → Paragraph → Bool
 paragraph_performs number [] = false
-paragraph_performs number (sentence ∷ sentences) = if stmts_perform number sentence then true else paragraph_performs number sentences
+paragraph_performs number (sentence ∷ sentences) =
+    if stmts_perform number sentence then true else paragraph_performs number sentences
 
 pub record IsStructured (program : Program) : Type 0 where
   -- no jump, one sentence a paragraph, and each PERFORM names one later paragraph
