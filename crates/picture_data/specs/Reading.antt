@@ -1,0 +1,104 @@
+-- How a picture is read, byte by byte.
+use Rattle.std.specs.Prelude.{ℕ, zero, suc, ◌+◌, ◌-◌, ◌*◌, Bool, ◌==◌, ◌&&◌, ◌||◌, nat_le, List, [], ◌∷◌, length, Option, Some, None, Result, Ok, Err, if◌then◌else◌}
+use Rattle.std.specs.Char.{to_ascii_uppercase}
+use Rattle.cob_base.specs.Bytes.{digit_0, digit_9, left_parenthesis, right_parenthesis}
+use Rattle.cob_tree.specs.declared.picture.Picture.{Picture}
+use Rattle.picture_data.specs.declared.fault.PictureFault.{PictureFault}
+use Rattle.picture_data.specs.declared.fault.Flaw.{Flaw}
+use Rattle.picture_data.specs.declared.fault.Flaw.TheVariants as flaws
+use Rattle.picture_data.specs.declared.symbols.Shape.{Shape}
+use Rattle.picture_data.specs.declared.symbols.Shape.TheVariants as shapes
+use Rattle.picture_data.specs.declared.symbols.Symbols.{Symbols}
+use Rattle.picture_data.specs.declared.reading.Place.{Place}
+use Rattle.picture_data.specs.declared.reading.Place.TheVariants as places
+use Rattle.picture_data.specs.declared.reading.Reading.{Reading}
+use Rattle.picture_data.specs.Fault.{fault_at}
+use Rattle.picture_data.specs.Symbols.{symbol_s, symbol_v, symbol_9, symbol_a, symbol_x, behind, added, too_many, picture}
+
+abbrev pub start : Reading
+start = record {
+  symbols = record { shape = shapes.Start; whole = 0; part = 0 };
+  place = places.Open;
+}
+
+-- another byte than those of the grammar is no symbol
+abbrev pub flaw_of : ℕ → Flaw
+flaw_of byte =
+    if byte == symbol_s || byte == symbol_v || byte == symbol_9 || byte == symbol_a
+        || byte == symbol_x || byte == left_parenthesis || byte == right_parenthesis
+    then flaws.Order else flaws.Symbol
+
+abbrev pub placed : Place → Result Symbols Flaw → Result Reading Flaw
+placed place (Ok symbols) = Ok (record { symbols = symbols; place = place })
+placed place (Err flaw) = Err flaw
+
+abbrev pub symbol_by : ℕ → Option Shape → Symbols → Result Reading Flaw
+symbol_by byte None symbols = Err (flaw_of byte)
+symbol_by byte (Some shape) symbols =
+    if byte == symbol_s || byte == symbol_v
+    then placed places.Open (added 0 (record symbols { shape = shape }))
+    else placed places.Behind (added 1 (record symbols { shape = shape }))
+
+-- a symbol, which S and V take no count
+abbrev pub symbol : ℕ → Reading → Result Reading Flaw
+symbol byte reading = symbol_by byte (behind byte reading.symbols.shape) reading.symbols
+
+abbrev pub kept : Place → Symbols → Result Symbols Flaw → Result Reading Flaw
+kept place symbols (Ok more) = Ok (record { symbols = symbols; place = place })
+kept place symbols (Err flaw) = Err flaw
+
+-- one digit more of a count that is not too high
+abbrev pub digit : ℕ → ℕ → Reading → Result Reading Flaw
+digit count d reading =
+    if nat_le (count * 10 + d) 65535
+    then kept (places.Count (count * 10 + d)) reading.symbols (added (count * 10 + d - 1) reading.symbols)
+    else Err (too_many reading.symbols.shape)
+
+-- a count is at least 1
+abbrev pub closed : ℕ → Reading → Result Reading Flaw
+closed count reading =
+    if count == 0 then Err flaws.Order else placed places.Open (added (count - 1) reading.symbols)
+
+abbrev pub in_count : ℕ → ℕ → Reading → Result Reading Flaw
+in_count count byte reading =
+    if nat_le digit_0 byte && nat_le byte digit_9 then digit count (byte - digit_0) reading else
+    if byte == right_parenthesis then closed count reading else Err (flaw_of byte)
+
+abbrev pub step_by : Place → ℕ → Reading → Result Reading Flaw
+step_by places.Open byte reading = symbol byte reading
+step_by places.Behind byte reading =
+    if byte == left_parenthesis then Ok (record reading { place = places.Count 0 })
+    else symbol byte reading
+step_by (places.Count count) byte reading = in_count count byte reading
+
+-- behind one byte more, its letter in capitals
+unfoldable pub step : ℕ → Reading → Result Reading Flaw
+step byte reading = step_by reading.place byte reading
+
+abbrev pub finish_by : Place → Symbols → Result Picture Flaw
+finish_by (places.Count count) symbols = Err flaws.Order
+finish_by _ symbols = picture symbols
+
+-- the picture, where no more bytes come
+unfoldable pub finish : Reading → Result Picture Flaw
+finish reading = finish_by reading.place reading.symbols
+
+-- the last byte's position, or 1 where there is none
+abbrev pub last_position : ℕ → ℕ
+last_position zero = 1
+last_position (suc n) = suc n
+
+abbrev pub ended : ℕ → Result Picture Flaw → Result Picture PictureFault
+ended count (Ok picture) = Ok picture
+ended count (Err flaw) = Err (fault_at flaw (last_position count))
+
+-- reads on behind so many bytes
+unfoldable pub read_from : ℕ → Result Reading Flaw → List ℕ → Result Picture PictureFault
+read_from count (Err flaw) rest = Err (fault_at flaw count)
+read_from count (Ok reading) [] = ended count (finish reading)
+read_from count (Ok reading) (byte ∷ rest) =
+    read_from (count + 1) (step (to_ascii_uppercase byte) reading) rest
+
+-- the picture of a text, or the first fault
+abbrev pub picture_of : List ℕ → Result Picture PictureFault
+picture_of text = read_from 0 (Ok start) text

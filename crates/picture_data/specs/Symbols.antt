@@ -1,0 +1,110 @@
+-- What the symbols of a picture say together.
+use Rattle.std.specs.Prelude.{ℕ, zero, suc, ◌+◌, Bool, true, false, ◌==◌, nat_le, Option, Some, None, Result, Ok, Err, if◌then◌else◌}
+use Rattle.cob_tree.specs.declared.picture.Picture.{Picture}
+use Rattle.cob_tree.specs.declared.picture.Picture.TheVariants as pictures
+use Rattle.picture_data.specs.declared.fault.Flaw.{Flaw}
+use Rattle.picture_data.specs.declared.fault.Flaw.TheVariants as flaws
+use Rattle.picture_data.specs.declared.symbols.Shape.{Shape}
+use Rattle.picture_data.specs.declared.symbols.Shape.TheVariants as shapes
+use Rattle.picture_data.specs.declared.symbols.Symbols.{Symbols}
+
+-- ---- the symbols, in capitals
+
+abbrev pub symbol_s : ℕ
+symbol_s = 83
+
+abbrev pub symbol_v : ℕ
+symbol_v = 86
+
+abbrev pub symbol_9 : ℕ
+symbol_9 = 57
+
+abbrev pub symbol_a : ℕ
+symbol_a = 65
+
+abbrev pub symbol_x : ℕ
+symbol_x = 88
+
+-- ---- what a symbol makes of those before it
+
+-- an S is the first
+abbrev pub behind_sign : Shape → Option Shape
+behind_sign shapes.Start = Some shapes.Signed
+behind_sign _ = None
+
+-- one V, in a number
+abbrev pub behind_point : Shape → Option Shape
+behind_point shapes.Start = Some (shapes.Point false)
+behind_point shapes.Nines = Some (shapes.Point false)
+behind_point shapes.Signed = Some (shapes.Point true)
+behind_point _ = None
+
+-- a nine may stand anywhere
+abbrev pub behind_nine : Shape → Shape
+behind_nine shapes.Start = shapes.Nines
+behind_nine shapes.Letters = shapes.Any
+behind_nine shape = shape
+
+-- an A or X may stand in no number
+abbrev pub behind_letter : Shape → Option Shape
+behind_letter shapes.Start = Some shapes.Letters
+behind_letter shapes.Letters = Some shapes.Letters
+behind_letter shapes.Nines = Some shapes.Any
+behind_letter shapes.Any = Some shapes.Any
+behind_letter _ = None
+
+abbrev pub behind_any : Shape → Option Shape
+behind_any shapes.Signed = None
+behind_any (shapes.Point signed) = None
+behind_any _ = Some shapes.Any
+
+abbrev pub behind : ℕ → Shape → Option Shape
+behind symbol shape =
+    if symbol == symbol_s then behind_sign shape else
+    if symbol == symbol_v then behind_point shape else
+    if symbol == symbol_9 then Some (behind_nine shape) else
+    if symbol == symbol_a then behind_letter shape else
+    if symbol == symbol_x then behind_any shape else None
+
+-- ---- how many there are
+
+abbrev pub is_number : Shape → Bool
+is_number shapes.Signed = true
+is_number (shapes.Point signed) = true
+is_number _ = false
+
+-- 18 digits of a number, 65,535 characters
+abbrev pub most : Shape → ℕ
+most shape = if is_number shape then 18 else 65535
+
+abbrev pub too_many : Shape → Flaw
+too_many shape = if is_number shape then flaws.Digits else flaws.Order
+
+abbrev pub counted : ℕ → Symbols → Shape → Symbols
+counted count symbols (shapes.Point signed) = record symbols { part = symbols.part + count }
+counted count symbols _ = record symbols { whole = symbols.whole + count }
+
+-- so many more of the last symbol
+abbrev pub added : ℕ → Symbols → Result Symbols Flaw
+added count symbols =
+    if nat_le (symbols.whole + symbols.part + count) (most symbols.shape)
+    then Ok (counted count symbols symbols.shape)
+    else Err (too_many symbols.shape)
+
+-- ---- what they are together
+
+abbrev pub number : Bool → ℕ → ℕ → Result Picture Flaw
+number signed whole part =
+    if whole + part == 0 then Err flaws.Order else
+    if nat_le (whole + part) 18 then Ok (pictures.Number signed whole part) else Err flaws.Digits
+
+abbrev pub picture_by : Shape → Symbols → Result Picture Flaw
+picture_by shapes.Start symbols = Err flaws.Order
+picture_by shapes.Nines symbols = number false symbols.whole 0
+picture_by shapes.Signed symbols = number true symbols.whole 0
+picture_by (shapes.Point signed) symbols = number signed symbols.whole symbols.part
+picture_by shapes.Letters symbols = Ok (pictures.Letters symbols.whole)
+picture_by shapes.Any symbols = Ok (pictures.Any symbols.whole)
+
+abbrev pub picture : Symbols → Result Picture Flaw
+picture symbols = picture_by symbols.shape symbols

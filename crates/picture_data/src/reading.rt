@@ -1,0 +1,140 @@
+//! A picture's text, read byte by byte.
+
+ghost use Rattle.std.specs.Prelude.{◌≡◌, ◌<◌};
+ghost use Rattle.picture_data.specs.Reading as readings;
+
+use crate::fault::Flaw;
+use crate::symbols::{Shape, Symbols};
+use cob_tree::Picture;
+
+/// Where in a run of a symbol the text stands.
+#[derive(Clone, Copy, Debug, PartialEq, Eq)]
+pub enum Place {
+    /// Where no count may come.
+    Open,
+    /// Behind a symbol that may have a count.
+    Behind,
+    /// In the count, which is this so far.
+    Count(u32),
+}
+
+/// What was read so far of a picture. A symbol whose count is being read counts once.
+#[derive(Clone, Copy, Debug, PartialEq, Eq)]
+pub struct Reading {
+    pub symbols: Symbols,
+    pub place: Place,
+}
+
+impl Reading {
+    /// Before the first byte.
+    pub fn start() -> Reading
+        ensures { result ≡ readings.start }
+    {
+        Reading {
+            symbols: Symbols {
+                shape: Shape::Start,
+                whole: 0,
+                part: 0,
+            },
+            place: Place::Open,
+        }
+    }
+
+    /// Behind one byte more, its letter in capitals.
+    #[tactic(auto, unfolding(crate::specs::Reading::step))]
+    pub fn step(self, byte: u8) -> Result<Reading, Flaw>
+        ensures { result ≡ readings.step byte self }
+    {
+        match self.place {
+            Place::Open => self.symbol(byte),
+            Place::Behind if byte == b'(' => Ok(Reading {
+                symbols: self.symbols,
+                place: Place::Count(0),
+            }),
+            Place::Behind => self.symbol(byte),
+            Place::Count(count) => self.in_count(count, byte),
+        }
+    }
+
+    fn in_count(self, count: u32, byte: u8) -> Result<Reading, Flaw>
+        ensures { result ≡ readings.in_count count byte self }
+    {
+        if byte.is_ascii_digit() {
+            return self.digit(count, byte - 48);
+        }
+        if byte == b')' {
+            return self.closed(count);
+        }
+        Err(flaw_of(byte))
+    }
+
+    fn digit(self, count: u32, digit: u8) -> Result<Reading, Flaw>
+        requires { digit < 10 }
+        ensures { result ≡ readings.digit count digit self }
+    {
+        let value = count as u64 * 10 + digit as u64;
+        if value > 65_535 {
+            return Err(self.symbols.shape.too_many());
+        }
+        self.symbols.added((value as u32).saturating_sub(1))?;
+        Ok(Reading {
+            symbols: self.symbols,
+            place: Place::Count(value as u32),
+        })
+    }
+
+    fn closed(self, count: u32) -> Result<Reading, Flaw>
+        ensures { result ≡ readings.closed count self }
+    {
+        if count == 0 {
+            return Err(Flaw::Order);
+        }
+        Ok(Reading {
+            symbols: self.symbols.added(count - 1)?,
+            place: Place::Open,
+        })
+    }
+
+    fn symbol(self, byte: u8) -> Result<Reading, Flaw>
+        ensures { result ≡ readings.symbol byte self }
+    {
+        let Some(shape) = self.symbols.shape.behind(byte) else {
+            return Err(flaw_of(byte));
+        };
+        let symbols = Symbols {
+            shape,
+            whole: self.symbols.whole,
+            part: self.symbols.part,
+        };
+        if byte == b'S' || byte == b'V' {
+            return Ok(Reading {
+                symbols: symbols.added(0)?,
+                place: Place::Open,
+            });
+        }
+        Ok(Reading {
+            symbols: symbols.added(1)?,
+            place: Place::Behind,
+        })
+    }
+
+    /// The picture, where no more bytes come.
+    #[tactic(auto, unfolding(crate::specs::Reading::finish))]
+    pub fn finish(self) -> Result<Picture, Flaw>
+        ensures { result ≡ readings.finish self }
+    {
+        match self.place {
+            Place::Count(_) => Err(Flaw::Order),
+            _ => self.symbols.picture(),
+        }
+    }
+}
+
+fn flaw_of(byte: u8) -> Flaw
+    ensures { result ≡ readings.flaw_of byte }
+{
+    match byte {
+        b'S' | b'V' | b'9' | b'A' | b'X' | b'(' | b')' => Flaw::Order,
+        _ => Flaw::Symbol,
+    }
+}
