@@ -52,7 +52,11 @@ reduced_by_all (suc most) graph = reduced_by_all most (stepped graph (any_step g
 abbrev pub dispatch_graph : Graph → Graph
 dispatch_graph graph = record {
   entry = graph.entry;
-  nodes = record { label = graph.entry; tree = dispatched none_left_out (count graph.added) graph.entry graph.nodes } ∷ [];
+  nodes =
+      record {
+        label = graph.entry;
+        tree = dispatched none_left_out (count graph.added) graph.entry graph.nodes;
+      } ∷ [];
   added = graph.added ++ State ∷ [];
 }
 

@@ -26,6 +26,9 @@ else_left_out (ByCell cell) k = false
 abbrev pub one : Stmt → Stmts
 one stmt = also stmt none
 
+abbrev pub say : ℕ → Stmt
+say byte = language.Do (Own (says byte))
+
 abbrev pub two : Tree → Tree → Trees
 two a b = more a (more b no_more)
 
@@ -35,9 +38,9 @@ go label = tree none (Jump label)
 -- L (at 0) adds, goes to X (at 30) or Y (at 60), displays, goes to X or Y, and goes on
 abbrev pub exit_node : Tree
 exit_node =
-    tree (one (language.Do (Own (says 1)))) (Pick (If (Holds (is 3))) (two (go 30)
+    tree (one (say 1)) (Pick (If (Holds (is 3))) (two (go 30)
     (tree none (Pick (If (Holds (is 5))) (two (go 60)
-    (tree (one (language.Do (Own (says 2)))) (Pick (If (Holds (is 7))) (two (go 30)
+    (tree (one (say 2)) (Pick (If (Holds (is 7))) (two (go 30)
     (tree none (Pick (If (Holds (is 8))) (two (go 60) (go 0))))))))))))
 
 abbrev pub if_else : ℕ → Stmts → Stmts → Stmt
@@ -52,10 +55,10 @@ ALoopWithTwoExits =
     tree
     (also (language.Do (Set 9 0))
     (one (Loop (Until false (Above 9)) (Nested
-    (also (language.Do (Own (says 1)))
+    (also (say 1)
     (one (if_else 3 (put 1)
     (one (if_else 5 (put 2)
-    (also (language.Do (Own (says 2)))
+    (also (say 2)
     (one (if_else 7 (put 1)
     (one (Choose (If (Holds (is 8))) (given (put 2) (missing done)))))))))))))))
     )
@@ -64,14 +67,20 @@ ALoopWithTwoExits =
 -- A (at 0) goes to C (at 6) or B (at 3), B goes to C, and C stops or goes to B
 abbrev pub last_nodes : List Node
 last_nodes =
-    record { label = 6; tree = tree (also (language.Do (Own (says 2))) (one (Choose (If (Holds (is 2))) (given (one StopRun) (missing done))))) (Jump 3) } ∷ []
+    record {
+      label = 6;
+      tree =
+          tree (also (say 2) (one (Choose (If (Holds (is 2))) (given (one StopRun) (missing done)))))
+          (Jump 3);
+    } ∷ []
 
 abbrev pub tail_nodes : List Node
-tail_nodes = record { label = 3; tree = tree (one (language.Do (Own (says 1)))) (Jump 6) } ∷ last_nodes
+tail_nodes = record { label = 3; tree = tree (one (say 1)) (Jump 6) } ∷ last_nodes
 
 abbrev pub state_nodes : List Node
 state_nodes =
-    record { label = 0; tree = tree none (Pick (If (Holds (is 1))) (two (go 6) (go 3))) } ∷ tail_nodes
+    record { label = 0; tree = tree none (Pick (If (Holds (is 1))) (two (go 6) (go 3))) }
+    ∷ tail_nodes
 
 abbrev pub TwoLabelsFromTwoEntries : Type 0
 TwoLabelsFromTwoEntries =
@@ -80,8 +89,8 @@ TwoLabelsFromTwoEntries =
     (also (language.Do (Set 9 1))
     (one (Loop (Until false (Is 9 0)) (Nested (one (Choose (ByCell 9)
     (given (one (if_else 1 (put 3) (put 2)))
-    (given (also (language.Do (Own (says 1))) (put 3))
-    (given (also (language.Do (Own (says 2)))
+    (given (also (say 1) (put 3))
+    (given (also (say 2)
     (also (Choose (If (Holds (is 2))) (given (one StopRun) (missing done))) (put 2))) done))))))))
     )
     Dead

@@ -1,58 +1,78 @@
 -- Small graphs, and what shaping makes of them.
-use Rattle.std.specs.Prelude.{◌≡◌, true, false, [], ◌∷◌}
-use Rattle.language.specs.Language.{Own, Set, Do, If, By, Holds, Not, Is, Until, Choose, Loop, StopRun, none, also, given, done, Nested}
+use Rattle.std.specs.Prelude.{ℕ, ◌≡◌, true, false, List, [], ◌∷◌}
+use Rattle.language.specs.Language.{Own, Set, Stmt, Do, Picker, If, By, Holds, Not, Is, Until, Choose, Loop, StopRun, Stmts, none, also, given, done, Nested}
 use Rattle.control.specs.Parts.{says, is, on_item}
-use Rattle.control.specs.Graph.{tree, Pick, Jump, Return, Stop, Dead, no_more, more}
-use Rattle.graph_rules.specs.Families.{Never, Flag}
+use Rattle.control.specs.Graph.{Label, Tree, tree, End, Pick, Jump, Return, Stop, Dead, no_more, more}
+use Rattle.graph_rules.specs.Families.{Added, Never, Flag}
 use Rattle.graph_rules.specs.Shapes.{alone}
-use Rattle.graph_rules.specs.Reduced.{shaped}
+use Rattle.graph_rules.specs.Reduced.{Node, Graph, shaped}
+
+abbrev pub say : ℕ → Stmt
+say byte = Do (Own (says byte))
+
+abbrev pub labelled : Label → Tree → Node
+labelled label one = record { label = label; tree = one }
+
+abbrev pub to : Label → Tree
+to label = tree none (Jump label)
+
+-- one statement, and the jump to 0
+abbrev pub again : ℕ → Tree
+again byte = tree (alone (say byte)) (Jump 0)
+
+abbrev pub either : Picker → Tree → Tree → End
+either picker first second = Pick picker (more first (more second no_more))
+
+abbrev pub choice : Picker → Stmts → Stmts → Stmt
+choice picker first second = Choose picker (given first (given second done))
+
+abbrev pub three : Picker
+three = If (Holds (is 3))
+
+abbrev pub graph : Label → List Node → List Added → Graph
+graph entry nodes added = record { entry = entry; nodes = nodes; added = added }
 
 -- a loop that reads, whose first arm leaves
 abbrev pub AFlagLoop : Type 0
 AFlagLoop =
-    shaped (record { entry = 0; nodes = record { label = 0; tree = tree (alone (Do (Own (says 1)))) (Pick (By (on_item 5)) (more (tree none Return) (more (tree (alone (Do (Own (says 2)))) (Jump 0)) no_more))) } ∷ []; added = [] })
-    ≡ record {
-      entry = 0;
-      nodes = record { label = 0; tree = tree (also (Do (Set 0 0)) (also (Loop (Until false (Is 0 1)) (Nested (also (Do (Own (says 1))) (also (Choose (By (on_item 5)) (given (alone (Do (Set 0 1))) (given (alone (Do (Own (says 2)))) done))) none)))) none)) Return } ∷ [];
-      added = Flag ∷ [];
-    }
+    shaped (graph 0 (labelled 0
+    (tree (alone (say 1)) (either (By (on_item 5)) (tree none Return) (again 2))) ∷ []) [])
+    ≡ graph 0 (labelled 0
+    (tree (also (Do (Set 0 0))
+    (also (Loop (Until false (Is 0 1))
+    (Nested (also (say 1)
+    (also (choice (By (on_item 5)) (alone (Do (Set 0 1))) (alone (say 2))) none)))) none))
+    Return) ∷ []) (Flag ∷ [])
 
 -- tested before, leaving by the second arm
 abbrev pub ALoopBefore : Type 0
 ALoopBefore =
-    shaped (record { entry = 0; nodes = record { label = 0; tree = tree none (Pick (If (Holds (is 3))) (more (tree (alone (Do (Own (says 2)))) (Jump 0)) (more (tree none (Jump 6)) no_more))) } ∷ record { label = 6; tree = tree (alone (Do (Own (says 4)))) Stop } ∷ []; added = [] })
-    ≡ record {
-      entry = 0;
-      nodes = record { label = 0; tree = tree (also (Loop (Until false (Not (Holds (is 3)))) (Nested (alone (Do (Own (says 2)))))) (also (Do (Own (says 4))) none)) Stop } ∷ [];
-      added = [];
-    }
+    shaped (graph 0 (labelled 0 (tree none (either three (again 2) (to 6)))
+    ∷ labelled 6 (tree (alone (say 4)) Stop) ∷ []) [])
+    ≡ graph 0 (labelled 0
+    (tree (also (Loop (Until false (Not (Holds (is 3)))) (Nested (alone (say 2))))
+    (also (say 4) none)) Stop) ∷ []) []
 
 -- tested after
 abbrev pub ALoopAfter : Type 0
 ALoopAfter =
-    shaped (record { entry = 0; nodes = record { label = 0; tree = tree (alone (Do (Own (says 2)))) (Pick (If (Holds (is 3))) (more (tree none Return) (more (tree none (Jump 0)) no_more))) } ∷ []; added = [] })
-    ≡ record {
-      entry = 0;
-      nodes = record { label = 0; tree = tree (also (Loop (Until true (Holds (is 3))) (Nested (alone (Do (Own (says 2)))))) none) Return } ∷ [];
-      added = [];
-    }
+    shaped (graph 0 (labelled 0 (tree (alone (say 2)) (either three (tree none Return) (to 0))) ∷ [])
+    [])
+    ≡ graph 0 (labelled 0
+    (tree (also (Loop (Until true (Holds (is 3))) (Nested (alone (say 2)))) none) Return) ∷ []) []
 
 -- no way out but STOP RUN
 abbrev pub AnEndlessLoop : Type 0
 AnEndlessLoop =
-    shaped (record { entry = 0; nodes = record { label = 0; tree = tree none (Pick (If (Holds (is 3))) (more (tree none Stop) (more (tree none (Jump 0)) no_more))) } ∷ []; added = [] })
-    ≡ record {
-      entry = 0;
-      nodes = record { label = 0; tree = tree (also (Loop (Until false (Is 0 1)) (Nested (alone (Choose (If (Holds (is 3))) (given (alone StopRun) (given none done)))))) none) Dead } ∷ [];
-      added = Never ∷ [];
-    }
+    shaped (graph 0 (labelled 0 (tree none (either three (tree none Stop) (to 0))) ∷ []) [])
+    ≡ graph 0 (labelled 0
+    (tree (also (Loop (Until false (Is 0 1)) (Nested (alone (choice three (alone StopRun) none))))
+    none) Dead) ∷ []) (Never ∷ [])
 
 -- a join, and a node in place of the jump to it
 abbrev pub AJoinAndAnInline : Type 0
 AJoinAndAnInline =
-    shaped (record { entry = 3; nodes = record { label = 3; tree = tree none (Pick (If (Holds (is 3))) (more (tree (alone (Do (Own (says 1)))) (Jump 9)) (more (tree none (Jump 9)) no_more))) } ∷ record { label = 9; tree = tree (alone (Do (Own (says 4)))) Return } ∷ []; added = [] })
-    ≡ record {
-      entry = 3;
-      nodes = record { label = 3; tree = tree (also (Choose (If (Holds (is 3))) (given (alone (Do (Own (says 1)))) (given none done))) (also (Do (Own (says 4))) none)) Return } ∷ [];
-      added = [];
-    }
+    shaped (graph 3 (labelled 3 (tree none (either three (tree (alone (say 1)) (Jump 9)) (to 9)))
+    ∷ labelled 9 (tree (alone (say 4)) Return) ∷ []) [])
+    ≡ graph 3 (labelled 3
+    (tree (also (choice three (alone (say 1)) none) (also (say 4) none)) Return) ∷ []) []

@@ -170,7 +170,8 @@ ShapedIsClosed = (graph : Graph) → LeadsToNodes graph → LeadsToNodes (shaped
 
 -- where one node is left, it is a body and a last end
 abbrev pub SingleIsLast : Type 0
-SingleIsLast = (graph : Graph) (node : Node) → LeadsToNodes graph → (shaped graph).nodes ≡ node ∷ [] →
+SingleIsLast = (graph : Graph) (node : Node) →
+    LeadsToNodes graph → (shaped graph).nodes ≡ node ∷ [] →
     IsLast (end_of node.tree)
 
 -- shaping ends where no rule applies

@@ -119,7 +119,8 @@ module _ {Memory Left : Type 0} (acting : Acting Memory) (left : Memory → Left
     walked order range memory units = run_of (performed order range memory units)
 
 -- The same walks, from the memories of some worlds.
-module _ {Memory Left World : Type 0} (acting : Acting Memory) (left : Memory → Left) (memory : World → Celled Memory) where
+module _ {Memory Left World : Type 0} (acting : Acting Memory) (left : Memory → Left)
+    (memory : World → Celled Memory) where
   abbrev pub machine_from : Family → Range → Machine World Event (Ending Left) (Walk Memory Left)
   machine_from family range =
       record {

@@ -27,7 +27,7 @@ use Rattle.closing.specs.Laws.{PlainEnd}
 use Rattle.rendering.specs.Rendering.{Naming, Procedure, place_of, rendered}
 use Rattle.rendering.specs.Procedures.{Writable, AreProcedures}
 use Rattle.rendering.specs.Serving.{Serves}
-use Rattle.headline.specs.Chain.{lowered_graphs, procedure_of, procedures_of, EachIsPerformed, EachStands, IsPlan}
+use Rattle.headline.specs.Chain.{lowered_graphs, procedure_of, procedures_of, EachIsPerformed, EachStands, IsNumberedPlan}
 use Rattle.rendering.proofs.Written.{or_else}
 use Rattle.control.proofs.Ranges.{eq-self, same-self, range-tells}
 use Rattle.graph_rules.proofs.walks.Walks.{walked-tied}
@@ -157,7 +157,7 @@ module _ {Memory Left : Type 0} (acting : Acting Memory) (left : Memory → Left
       (tied-trans (λ memory. walk_g (begins memory)) (λ memory. walk_h (begins memory)) (meaning (main_machine acting left h)) middle (tied-at begins walk_h (meaning (walk_machine acting left h Main)) three))
 
   module _ (told : Told) (program : Program) (keep : Range → Label → Bool) (numbers : Range → ℕ → ℕ) (added : Range → List Added) (others : List Range)
-      (is_told : IsTold told acting) (source : IsSource told program) (some : 0 < length program.paragraphs) (fair : IsFaulty told program → ⊥) (plan : IsPlan told program keep numbers added others) where
+      (is_told : IsTold told acting) (source : IsSource told program) (some : 0 < length program.paragraphs) (fair : IsFaulty told program → ⊥) (plan : IsNumberedPlan told program keep numbers added others) where
     abbrev graphs : Graphs
     graphs = lowered_graphs told program keep numbers added
 
@@ -176,20 +176,20 @@ module _ {Memory Left : Type 0} (acting : Acting Memory) (left : Memory → Left
     lowered-follows : Tied (meaning (source_machine (alone acting) left program)) (meaning (main_machine acting left (family_of graphs)))
     lowered-follows =
         subst (λ family. Tied (meaning (source_machine (alone acting) left program)) (meaning (main_machine acting left family))) same
-        (numbered-keeps acting left told program keep is_told source some plan.returning fair plan.reached numbers plan.apart)
+        (numbered-keeps acting left told program keep is_told source some plan.plan.returning fair plan.plan.reached numbers plan.apart)
 
     range-sound : (range : Range) → In range order → IsSoundAt acting left again range
-    range-sound Main here = numbered-sound acting left told program keep is_told source some plan.returning fair plan.reached numbers plan.apart Main (family-main-sound acting left told program keep is_told source some plan.returning fair plan.reached)
+    range-sound Main here = numbered-sound acting left told program keep is_told source some plan.plan.returning fair plan.plan.reached numbers plan.apart Main (family-main-sound acting left told program keep is_told source some plan.plan.returning fair plan.plan.reached)
     range-sound (Part e x) here =
-        numbered-sound acting left told program keep is_told source some plan.returning fair plan.reached numbers plan.apart (Part e x)
-        (family-part-sound acting left told program keep is_told source some plan.returning fair plan.reached e x (plan.performed e x here).1)
+        numbered-sound acting left told program keep is_told source some plan.plan.returning fair plan.plan.reached numbers plan.apart (Part e x)
+        (family-part-sound acting left told program keep is_told source some plan.plan.returning fair plan.plan.reached e x (plan.plan.performed e x here).1)
 
     graphs-sound : IsSound acting left (kinds_of graphs) (family_of graphs) order
     graphs-sound = (sound-by-steps acting left (kinds_of graphs) (family_of graphs) order graphs-fit).0 (λ range here start n. subst (λ family. IsSoundAt acting left family range) same (range-sound range here) start.memory n)
 
     closed-at : (range : Range) → In range order → IsClosed (graphs range)
-    closed-at Main here = graphs-closed told program keep numbers added source Main some (plan.just Main here)
-    closed-at (Part e x) here = graphs-closed told program keep numbers added source (Part e x) (plan.performed e x here).0 (plan.just (Part e x) here)
+    closed-at Main here = graphs-closed told program keep numbers added source Main some (plan.plan.just Main here)
+    closed-at (Part e x) here = graphs-closed told program keep numbers added source (Part e x) (plan.plan.performed e x here).0 (plan.plan.just (Part e x) here)
 
     closed-before : AsBefore acting left graphs (all_closed order graphs) order
     closed-before = (closed-keeps acting left graphs order graphs-fit graphs-sound closed-at).0
@@ -200,7 +200,7 @@ module _ {Memory Left : Type 0} (acting : Acting Memory) (left : Memory → Left
 pub headline-over-control : {Memory Other Left World : Type 0} (acting : Acting Memory) (left : Memory → Left) (first : World → Memory) (result : Acting Other) (other_left : Other → Left) (other_first : World → Other) (Carries : Celled Memory → Other → Type 0) (naming : Naming) (kinds : Writable)
     (told : Told) (program : Program) (keep : Range → Label → Bool) (numbers : Range → ℕ → ℕ) (added : Range → List Added) (others : List Range) →
     IsTold told acting → IsSource told program → 0 < length program.paragraphs → (IsFaulty told program → ⊥) →
-    IsPlan told program keep numbers added others →
+    IsNumberedPlan told program keep numbers added others →
     EachStands naming kinds (procedures_of (Main ∷ others) (lowered_graphs told program keep numbers added)) → EachIsPerformed (procedures_of (Main ∷ others) (lowered_graphs told program keep numbers added)) → Serves acting left first result other_left other_first Carries naming kinds →
     IsStructured (rendered naming (procedures_of (Main ∷ others) (lowered_graphs told program keep numbers added)))
     × SameBehaviour (λ world. meaning (source_machine (alone acting) left program) (first world)) (λ world. structural (alone result) other_left (rendered naming (procedures_of (Main ∷ others) (lowered_graphs told program keep numbers added))) (other_first world))

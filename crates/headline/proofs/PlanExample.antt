@@ -18,7 +18,7 @@ use Rattle.lowering.specs.Reached.{JumpsTo, IsReached, entered, jumped}
 use Rattle.lowering.specs.flow.Paths.{Flow, flow, free, free_step, alone_pending, nothing_left, IsFaulty, ReturnsByPath}
 use Rattle.lowering.specs.Laws.{FreelyComes}
 use Rattle.lowering.specs.flow.Called.{IsCalled}
-use Rattle.headline.specs.Chain.{IsPlan, lowered_graphs, CalledFromEarlier}
+use Rattle.headline.specs.Chain.{IsNumberedPlan, lowered_graphs, CalledFromEarlier}
 use Rattle.headline.specs.PlanExample.{again, again_told, again_kept, same_numbers, no_added, APlanCanBeMade, ThePlanIsFollowed}
 use Rattle.agreement.proofs.Agreement.{same_number}
 use Rattle.headline.proofs.graphs.NamedCells.{counters-named}
@@ -124,16 +124,18 @@ going (suc n) ways = going n ways
 not-faulty : IsFaulty again_told again → ⊥
 not-faulty f = let k = ap (λ (s : Flow). s.run.standing) (sym (going f.1 f.0)) ∙ f.3 in cc
 
-again-plan : IsPlan again_told again again_kept same_numbers no_added []
+again-plan : IsNumberedPlan again_told again again_kept same_numbers no_added []
 again-plan = record {
-  returning = returning;
-  exact = exact;
-  reached = reached;
-  just = λ range here. just-of range here;
+  plan = record {
+    returning = returning;
+    exact = exact;
+    reached = reached;
+    just = λ range here. just-of range here;
+    performed = λ entry exit here. absurd (let k : false ≡ true = here in cc);
+    order = (refl, (λ entry exit c. absurd (none-called entry exit c)), tt);
+  };
   apart = λ range one other e. e;
   names = λ range here. counters-named again_told again again_kept same_numbers no_added range again-source (just-of range here) (((tt, tt), tt), tt);
-  performed = λ entry exit here. absurd (let k : false ≡ true = here in cc);
-  order = (refl, (λ entry exit c. absurd (none-called entry exit c)), tt);
 }
 
 pub plan-made : APlanCanBeMade

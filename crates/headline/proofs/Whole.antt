@@ -1,10 +1,13 @@
 -- The premises in records, and that they can be met.
 use Rattle.std.proofs.Common.{◌∷◌, refl}
-use Rattle.language.specs.Language.{Main}
+use Rattle.language.specs.Language.{Main, Program}
 use Rattle.control.specs.Doing.{Celled}
 use Rattle.graph_rules.specs.Families.{Has, MaySet}
 use Rattle.graph_rules.specs.Reduced.{family_of, kinds_of, size}
-use Rattle.headline.specs.Headline.{graphs_by, procedures_by, Parts, WhatIsWrittenBehavesAlike, SomePartsAgree}
+use Rattle.headline.specs.Headline.{Plan, CanBeRestructured, graphs_by, procedures_by, Parts, WhatIsWrittenBehavesAlike, SomePartsAgree}
+use Rattle.headline.specs.Chain.{IsNumberedPlan}
+use Rattle.headline.specs.Numbering.{numbers_by, added_by}
+use Rattle.headline.proofs.graphs.Numbering.{counters-numbered}
 use Rattle.rendering.proofs.Serviceable.{whole, names, whole-serves}
 use Rattle.headline.proofs.graphs.LoweredStand.{closed-graphs-stand, closed-at}
 use Rattle.headline.proofs.calls.PerformedProcedures.{closed-performed}
@@ -12,15 +15,21 @@ use Rattle.headline.proofs.calls.CalledEarlier.{order-is-of-graphs}
 use Rattle.headline.proofs.Chain.{headline-over-control}
 use Rattle.headline.proofs.SomeResult.{every-kind, every-cell, tree-served}
 
+numbered : (plan : Plan) (program : Program) → CanBeRestructured plan program →
+    IsNumberedPlan plan.told program plan.keep (numbers_by plan.keep program) (added_by plan.keep program) plan.others
+numbered plan program can =
+    let all = counters-numbered plan.told program plan.keep can.source in
+    record { plan = can.planned; apart = all.0; names = λ range here. all.1 range (can.planned.just range here) }
+
 pub written-behaves : {Memory Other Left World : Type 0} (Carries : Celled Memory → Other → Type 0) → WhatIsWrittenBehavesAlike {Memory = Memory} {Other = Other} Carries Left World
 written-behaves Carries = λ parts plan program can agree.
-    let p = can.planned in
+    let p = numbered plan program can in
     headline-over-control parts.acting parts.left parts.first parts.result parts.other_left parts.other_first Carries parts.naming parts.kinds
-    plan.told program plan.keep plan.numbers plan.added plan.others agree.told can.source can.some can.fair p
-    (closed-graphs-stand parts.naming parts.kinds plan.told program plan.keep plan.numbers plan.added plan.others agree.cells can.source can.some p agree.stand)
+    plan.told program plan.keep (numbers_by plan.keep program) (added_by plan.keep program) plan.others agree.told can.source can.some can.fair p
+    (closed-graphs-stand parts.naming parts.kinds plan.told program plan.keep (numbers_by plan.keep program) (added_by plan.keep program) plan.others agree.cells can.source can.some p agree.stand)
     (closed-performed (Main ∷ plan.others) (graphs_by plan program)
-    (closed-at parts.naming parts.kinds plan.told program plan.keep plan.numbers plan.added plan.others agree.cells can.source can.some p agree.stand)
-    (order-is-of-graphs plan.told program plan.keep plan.numbers plan.added plan.others can.source can.chooses can.some p can.called))
+    (closed-at parts.naming parts.kinds plan.told program plan.keep (numbers_by plan.keep program) (added_by plan.keep program) plan.others agree.cells can.source can.some p agree.stand)
+    (order-is-of-graphs plan.told program plan.keep (numbers_by plan.keep program) (added_by plan.keep program) plan.others can.source can.chooses can.some p can.called))
     agree.serves
 
 pub some-parts : {Memory Left World : Type 0} → SomePartsAgree Memory Left World
@@ -46,6 +55,6 @@ some-parts {Memory} {Left} {World} = λ acting left first empty plan program can
         told = is_told;
         serves = whole-serves acting left first every-kind empty;
         cells = λ range. every-cell range (size (graphs range).nodes);
-        stand = λ range here label. tree-served naming (procedures_by plan program) range (Has (kinds_of graphs) range) (MaySet (kinds_of graphs) range) ((family_of graphs).node range label) (can.planned.names range here label);
+        stand = λ range here label. tree-served naming (procedures_by plan program) range (Has (kinds_of graphs) range) (MaySet (kinds_of graphs) range) ((family_of graphs).node range label) ((numbered plan program can).names range here label);
       },
     )

@@ -18,7 +18,7 @@ use Rattle.lowering.specs.Laws.{FreelyComes}
 use Rattle.lowering.specs.WellFormed.{IsRangeOf}
 use Rattle.lowering.specs.flow.Called.{IsCalled}
 use Rattle.graph_rules.specs.Families.{Added}
-use Rattle.headline.specs.Chain.{TreeCalls, lowered_graphs, procedures_of, IsPlan, CalledFromEarlier}
+use Rattle.headline.specs.Chain.{TreeCalls, lowered_graphs, procedures_of, IsNumberedPlan, CalledFromEarlier}
 
 -- each chooser may give some arm
 abbrev pub GivesSome : Told → Type 0
@@ -53,7 +53,7 @@ OrderByPathsIsOfGraphs =
     (told : Told) (program : Program) (keep : Range → Label → Bool) (numbers : Range → ℕ → ℕ)
     (added : Range → List Added) (others : List Range) →
     IsSource told program → GivesSome told → 0 < length program.paragraphs →
-    IsPlan told program keep numbers added others →
+    IsNumberedPlan told program keep numbers added others →
     CalledByPaths told program (Main ∷ others) →
     CalledFromEarlier (Main ∷ others) (lowered_graphs told program keep numbers added)
 
@@ -66,7 +66,7 @@ SomeResultByPaths Memory Left World =
     (added : Range → List Added) (others : List Range) →
     IsTold told acting → IsSource told program → 0 < length program.paragraphs →
     (IsFaulty told program → ⊥) →
-    IsPlan told program keep numbers added others →
+    IsNumberedPlan told program keep numbers added others →
     let procedures =
     procedures_of (Main ∷ others) (lowered_graphs told program keep numbers added) in
     GivesSome told → CalledByPaths told program (Main ∷ others) →

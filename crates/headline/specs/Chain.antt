@@ -125,10 +125,10 @@ NamesItsCells graphs range = (label : Label) →
     TreeNames (Has (kinds_of graphs) range) (MaySet (kinds_of graphs) range)
     ((family_of graphs).node range label)
 
--- how a program is lowered: which ranges return, which nodes are kept, how counters are numbered,
--- and in which order the ranges stand, main first
+-- how a program is lowered: which ranges return, which nodes are kept, and in which order the ranges
+-- stand, main first
 pub record IsPlan (told : Told) (program : Program) (keep : Range → Label → Bool)
-    (numbers : Range → ℕ → ℕ) (added : Range → List Added) (others : List Range) : Type 0 where
+    (others : List Range) : Type 0 where
   -- the table names the ranges that return, and no other
   pub returning : AreReturningByPath told program
   pub exact : (entry exit : ℕ) → told.returning entry exit ≡ true →
@@ -137,15 +137,20 @@ pub record IsPlan (told : Told) (program : Program) (keep : Range → Label → 
   pub reached : AreReached (lowered told program) keep
   pub just : (range : Range) → In range (Main ∷ others) →
       AreJustReached told program range (keep range)
-  -- no two counters of a range have one number, and each that is named is among its cells
-  pub apart : KeepsApart numbers
-  pub names : (range : Range) → In range (Main ∷ others) →
-      NamesItsCells (lowered_graphs told program keep numbers added) range
   -- each range of the order but main is performed by a free flow path, and performs later ones
   -- alone
   pub performed : (entry exit : ℕ) → In (Part entry exit) (Main ∷ others) →
       (entry < length program.paragraphs) × IsPerformed told program entry exit
   pub order : CallsStandLater told program (Main ∷ others)
+
+-- and its counters are numbered
+pub record IsNumberedPlan (told : Told) (program : Program) (keep : Range → Label → Bool)
+    (numbers : Range → ℕ → ℕ) (added : Range → List Added) (others : List Range) : Type 0 where
+  pub plan : IsPlan told program keep others
+  -- no two counters of a range have one number, and each that is named is among its cells
+  pub apart : KeepsApart numbers
+  pub names : (range : Range) → In range (Main ∷ others) →
+      NamesItsCells (lowered_graphs told program keep numbers added) range
 
 -- The words of the rules on the cells of a range with so many nodes may be written: 0 to one more
 -- than its nodes is moved to a
@@ -281,7 +286,7 @@ ClosedGraphsStand =
     (keep : Range → Label → Bool) (numbers : Range → ℕ → ℕ) (added : Range → List Added)
     (others : List Range) →
     EachCellServed kinds (lowered_graphs told program keep numbers added) → IsSource told program →
-    0 < length program.paragraphs → IsPlan told program keep numbers added others →
+    0 < length program.paragraphs → IsNumberedPlan told program keep numbers added others →
     GraphsServed naming kinds (Main ∷ others) (lowered_graphs told program keep numbers added) →
     EachStands naming kinds
     (procedures_of (Main ∷ others) (lowered_graphs told program keep numbers added))
@@ -297,7 +302,7 @@ TheHeadline {Memory} {Other} Carries Left World =
     (added : Range → List Added) (others : List Range) →
     IsTold told acting → IsSource told program → 0 < length program.paragraphs →
     (IsFaulty told program → ⊥) →
-    IsPlan told program keep numbers added others →
+    IsNumberedPlan told program keep numbers added others →
     let procedures =
     procedures_of (Main ∷ others) (lowered_graphs told program keep numbers added) in
     EachStands naming kinds procedures → EachIsPerformed procedures →
@@ -317,7 +322,7 @@ SomeResultBehaves Memory Left World =
     (added : Range → List Added) (others : List Range) →
     IsTold told acting → IsSource told program → 0 < length program.paragraphs →
     (IsFaulty told program → ⊥) →
-    IsPlan told program keep numbers added others →
+    IsNumberedPlan told program keep numbers added others →
     let procedures =
     procedures_of (Main ∷ others) (lowered_graphs told program keep numbers added) in
     CalledFromEarlier (Main ∷ others) (lowered_graphs told program keep numbers added) →

@@ -13,27 +13,26 @@ use Rattle.language.specs.Structured.{IsStructured}
 use Rattle.agreement.specs.Same.{SameBehaviour}
 use Rattle.lowering.specs.Told.{Told, IsTold, IsSource}
 use Rattle.lowering.specs.flow.Paths.{IsFaulty}
-use Rattle.graph_rules.specs.Families.{Added}
 use Rattle.graph_rules.specs.Reduced.{Graphs}
 use Rattle.rendering.specs.Rendering.{Empty, Naming, Procedure, rendered}
 use Rattle.rendering.specs.Procedures.{Writable}
 use Rattle.rendering.specs.Serving.{Serves}
 use Rattle.headline.specs.Chain.{lowered_graphs, procedures_of, IsPlan, EachCellServed, GraphsServed}
+use Rattle.headline.specs.Numbering.{numbers_by, added_by}
 use Rattle.headline.specs.CallsReached.{GivesSome, CalledByPaths}
 
--- how a program is restructured: what lowering is told, which nodes are kept, how the cells of a
--- range are numbered and what
--- they are for, and in which order the ranges stand behind main
+-- how a program is restructured: what lowering is told, which nodes are kept, and in which order the
+-- ranges stand behind main
 pub record Plan : Type 0 where
   pub told : Told
   pub keep : Range → Label → Bool
-  pub numbers : Range → ℕ → ℕ
-  pub added : Range → List Added
   pub others : List Range
 
--- the graphs that the rules begin with
+-- the graphs that the rules begin with, their counters numbered from 0
 abbrev pub graphs_by : Plan → Program → Graphs
-graphs_by plan program = lowered_graphs plan.told program plan.keep plan.numbers plan.added
+graphs_by plan program =
+    lowered_graphs plan.told program plan.keep (numbers_by plan.keep program)
+    (added_by plan.keep program)
 
 -- and the procedures that they leave
 abbrev pub procedures_by : Plan → Program → List Procedure
@@ -58,7 +57,7 @@ pub record CanBeRestructured (plan : Plan) (program : Program) : Type 0 where
   pub fair : IsFaulty plan.told program → ⊥
   -- each chooser may give some arm
   pub chooses : GivesSome plan.told
-  pub planned : IsPlan plan.told program plan.keep plan.numbers plan.added plan.others
+  pub planned : IsPlan plan.told program plan.keep plan.others
   -- each range of the order but main is performed by a flow path of an earlier one
   pub called : CalledByPaths plan.told program (Main ∷ plan.others)
 

@@ -12,7 +12,7 @@ use Rattle.rendering.specs.Rendering.{Empty, Naming, rendered}
 use Rattle.lowering.specs.Told.{Told, IsTold, IsSource}
 use Rattle.lowering.specs.flow.Paths.{IsFaulty}
 use Rattle.graph_rules.specs.Families.{Added}
-use Rattle.headline.specs.Chain.{IsPlan, lowered_graphs, procedures_of}
+use Rattle.headline.specs.Chain.{IsNumberedPlan, lowered_graphs, procedures_of}
 
 -- A. GO TO A.
 abbrev pub again : Program
@@ -47,7 +47,7 @@ no_added range = []
 -- the plan stands, of a source that isn't faulty
 abbrev pub APlanCanBeMade : Type 0
 APlanCanBeMade = IsSource again_told again × (IsFaulty again_told again → ⊥)
-    × IsPlan again_told again again_kept same_numbers no_added []
+    × IsNumberedPlan again_told again again_kept same_numbers no_added []
 
 -- so for any parts that do what is told, there is a structured result that behaves alike
 abbrev pub ThePlanIsFollowed : Type 0 → Type 0 → Type 0 → Type 0

@@ -62,7 +62,8 @@ counted = record {
 abbrev pub CuttingComesFirst : Type 0
 CuttingComesFirst =
     ((lowered plainly counted).node Main 0
-    ≡ tree (also (Loop (Times (amount 5)) (Nested (also StopRun none))) (also (Do (Take 4 (amount 6))) none))
+    ≡ tree (also (Loop (Times (amount 5)) (Nested (also StopRun none)))
+    (also (Do (Take 4 (amount 6))) none))
     (Jump 13))
     × ((lowered plainly counted).node Main 13 ≡
     only (Pick (If (Above 4))

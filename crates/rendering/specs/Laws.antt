@@ -68,7 +68,8 @@ FollowersAreSound Memory Left =
 abbrev pub SoundnessIsKept : Type 0 → Type 0 → Type 0
 SoundnessIsKept Memory Left =
     (acting : Acting Memory) (left : Memory → Left) (family other : Family) →
-    IsNeverLost acting left family → WalkAlike acting left family other → IsNeverLost acting left other
+    IsNeverLost acting left family → WalkAlike acting left family other →
+    IsNeverLost acting left other
 
 -- the parts of the written program, with a relation of the two memories
 abbrev pub RenderingKeepsMeaning : {Memory Other : Type 0} → (Celled Memory → Other → Type 0) →

@@ -13,7 +13,7 @@ use Rattle.lowering.specs.WellFormed.{IsRangeOf}
 use Rattle.graph_rules.specs.Families.{Added}
 use Rattle.graph_rules.specs.Walked.{is_in, In}
 use Rattle.rendering.specs.Procedures.{stmt_calls, stmts_call, arms_call, body_calls}
-use Rattle.headline.specs.Chain.{graph_nodes, TreeCalls, EndCalls, TreesCall, NodesCall, lowered_graphs, IsPlan}
+use Rattle.headline.specs.Chain.{graph_nodes, TreeCalls, EndCalls, TreesCall, NodesCall, lowered_graphs, IsNumberedPlan}
 use Rattle.headline.specs.CallsReached.{OrderByPathsIsOfGraphs, SomeResultByPaths}
 use Rattle.headline.proofs.SomeResult.{some-result-behaves}
 use Rattle.control.proofs.Ranges.{same-self}
@@ -82,10 +82,10 @@ in-at [] n r is = absurd (cc)
 in-at (x ∷ xs) zero r is = (let e : x ≡ r = ap (or_else x) is in subst (λ y. In y (x ∷ xs)) e (ap (λ b. if b then true else is_in x xs) (same-self x)))
 in-at (x ∷ xs) (suc n) r is = elim (same_range x r) as (λ b. (if b then true else is_in r xs) ≡ true) [ true ↦ refl | false ↦ in-at xs n r is ]
 
-module _ (told : Told) (program : Program) (keep : Range → Label → Bool) (numbers : Range → ℕ → ℕ) (added : Range → List Added) (others : List Range) (first : 0 < length program.paragraphs) (plan : IsPlan told program keep numbers added others) where
+module _ (told : Told) (program : Program) (keep : Range → Label → Bool) (numbers : Range → ℕ → ℕ) (added : Range → List Added) (others : List Range) (first : 0 < length program.paragraphs) (plan : IsNumberedPlan told program keep numbers added others) where
   of-program : (range : Range) → In range (Main ∷ others) → IsRangeOf program range
   of-program Main here = first
-  of-program (Part entry exit) here = (plan.performed entry exit here).0
+  of-program (Part entry exit) here = (plan.plan.performed entry exit here).0
 
   node-calls : (range caller : Range) (label : Label) → keep caller label ≡ true → TreeCalls range ((lowered told program).node caller label) → NodesCall range (graph_nodes (numbers caller) (kept_nodes (keep caller) (nodes_of told program caller)))
   node-calls range caller label k h =
@@ -99,11 +99,11 @@ later-main others (suc n) gone is least = let e : true ≡ false = sym (in-at ot
 pub order-is-of-graphs : OrderByPathsIsOfGraphs
 order-is-of-graphs = λ told program keep numbers added others source some first plan called number range.
     (elim range as (λ r. slice_get (Main ∷ others) number ≡ Some r → 1 ≤ number → (from : ℕ) × (caller : Range) × (from < number) × (slice_get (Main ∷ others) from ≡ Some caller) × NodesCall r (lowered_graphs told program keep numbers added caller).nodes) [
-      | Main ↦ λ is least. absurd (later-main others number plan.order.0 is least)
+      | Main ↦ λ is least. absurd (later-main others number plan.plan.order.0 is least)
       | Part e x ↦ λ is least.
           let c = called number e x is least in
-          let s = called-stands told program source some plan.returning c.1 (of-program told program keep numbers added others first plan c.1 (in-at (Main ∷ others) c.0 c.1 c.3)) e x c.4 in
-          (c.0, c.1, c.2, c.3, node-calls told program keep numbers added others first plan (Part e x) c.1 s.0 (plan.reached c.1 s.0 s.1) s.2)
+          let s = called-stands told program source some plan.plan.returning c.1 (of-program told program keep numbers added others first plan c.1 (in-at (Main ∷ others) c.0 c.1 c.3)) e x c.4 in
+          (c.0, c.1, c.2, c.3, node-calls told program keep numbers added others first plan (Part e x) c.1 s.0 (plan.plan.reached c.1 s.0 s.1) s.2)
     ])
 
 pub some-result-by-paths : {Memory Left World : Type 0} → SomeResultByPaths Memory Left World

@@ -16,7 +16,7 @@ use Rattle.graph_rules.specs.Fits.{ActFits, TestFits, PickerFits, ControlFits, S
 use Rattle.graph_rules.specs.Walked.{is_in, In, Ordered}
 use Rattle.graph_rules.specs.Families.{Added, Has, MaySet, IsFamily}
 use Rattle.graph_rules.specs.Reduced.{Graphs, family_of, kinds_of}
-use Rattle.headline.specs.Chain.{Anywhere, PickerNames, StmtNames, StmtsName, ArmsName, BodyNames, EndNames, TreesName, TreeNames, lowered_graphs, CallsStandLater, IsPlan}
+use Rattle.headline.specs.Chain.{Anywhere, PickerNames, StmtNames, StmtsName, ArmsName, BodyNames, EndNames, TreesName, TreeNames, lowered_graphs, CallsStandLater, IsNumberedPlan}
 use Rattle.control.proofs.Ranges.{same-self}
 use Rattle.lowering.proofs.graphs.WellFormed.{all-well}
 use Rattle.lowering.proofs.flow.Called.{reached-calls}
@@ -99,7 +99,7 @@ found-well told labels label [] w = (refl, tt)
 found-well told labels label (x ∷ xs) w = elim (x.key == label) as (λ b. IsWellTree told labels (if b then x.tree else find label xs)) [ true ↦ w.0 | false ↦ found-well told labels label xs w.1 ]
 
 module _ (told : Told) (program : Program) (keep : Range → Label → Bool) (numbers : Range → ℕ → ℕ) (added : Range → List Added) (others : List Range)
-    (source : IsSource told program) (some : 0 < length program.paragraphs) (plan : IsPlan told program keep numbers added others) where
+    (source : IsSource told program) (some : 0 < length program.paragraphs) (plan : IsNumberedPlan told program keep numbers added others) where
   abbrev graphs : Graphs
   graphs = lowered_graphs told program keep numbers added
 
@@ -111,7 +111,7 @@ module _ (told : Told) (program : Program) (keep : Range → Label → Bool) (nu
 
   of-program : (range : Range) → In range (Main ∷ others) → IsRangeOf program range
   of-program Main here = some
-  of-program (Part entry exit) here = (plan.performed entry exit here).0
+  of-program (Part entry exit) here = (plan.plan.performed entry exit here).0
 
   abbrev Reads : Range → ℕ → Type 0
   Reads = Has (kinds_of graphs)
@@ -127,7 +127,7 @@ module _ (told : Told) (program : Program) (keep : Range → Label → Bool) (nu
         | true ↦ λ is k.
             tree-later told program range (λ to. In to behind) (Reads range) (Writes range) (numbers range) later (nodes_of told program range) t
             (found-well told (nodes_of told program range) label (nodes_of told program range) (all-well told program range source))
-            (reached-calls told program source plan.exact range (of-program range here) label ((plan.just range here).0 label is)) k
+            (reached-calls told program source plan.plan.exact range (of-program range here) label ((plan.plan.just range here).0 label is)) k
         | false ↦ λ is k. (tt, tt)
       ] refl (subst (λ family. TreeNames (Reads range) (Writes range) (family.node range label)) (sym same) (plan.names range here label))
 
@@ -140,4 +140,4 @@ module _ (told : Told) (program : Program) (keep : Range → Label → Bool) (nu
   )
 
   pub plan-fits : IsFamily (kinds_of graphs) (family_of graphs) (Main ∷ others)
-  plan-fits = subst (λ family. IsFamily (kinds_of graphs) family (Main ∷ others)) same (ordered (Main ∷ others) (λ r k. k) plan.order)
+  plan-fits = subst (λ family. IsFamily (kinds_of graphs) family (Main ∷ others)) same (ordered (Main ∷ others) (λ r k. k) plan.plan.order)

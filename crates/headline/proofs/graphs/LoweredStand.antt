@@ -15,7 +15,7 @@ use Rattle.closing.specs.Dispatches.{Numbered, labels_of, AreNodes}
 use Rattle.closing.specs.Closes.{IsClosed, closed_graph}
 use Rattle.rendering.specs.Rendering.{Empty, Naming, Procedure, place_of, count_arms, standing}
 use Rattle.rendering.specs.Procedures.{Writable, PickerFits, StandsLater, StmtStands, StmtsStand, ArmsStand, BodyStands}
-use Rattle.headline.specs.Chain.{lowered_graphs, procedures_of, IsPlan, CellsServed, EachCellServed, EachStands, ClosedGraphsStand, PickerServed, StmtServed, StmtsServed, ArmsServed, BodyServed, EndServed, TreesServed, TreeServed, GraphsServed}
+use Rattle.headline.specs.Chain.{lowered_graphs, procedures_of, IsNumberedPlan, CellsServed, EachCellServed, EachStands, ClosedGraphsStand, PickerServed, StmtServed, StmtsServed, ArmsServed, BodyServed, EndServed, TreesServed, TreeServed, GraphsServed}
 use Rattle.graph_rules.proofs.walks.Orders.{place, Behind, ordered-fits}
 use Rattle.closing.proofs.closing.Closes.{are-nodes}
 use Rattle.headline.proofs.graphs.LoweredGraphs.{graphs-closed}
@@ -110,7 +110,7 @@ module _ {nodes : ℕ} (naming : Naming) (kinds : Writable) (procedures : List P
   body-stands (tree body Dead) last h = h
 
 module _ (naming : Naming) (kinds : Writable) (told : Told) (program : Program) (keep : Range → Label → Bool) (numbers : Range → ℕ → ℕ) (added : Range → List Added) (others : List Range)
-    (all : EachCellServed kinds (lowered_graphs told program keep numbers added)) (source : IsSource told program) (some : 0 < length program.paragraphs) (plan : IsPlan told program keep numbers added others)
+    (all : EachCellServed kinds (lowered_graphs told program keep numbers added)) (source : IsSource told program) (some : 0 < length program.paragraphs) (plan : IsNumberedPlan told program keep numbers added others)
     (served : GraphsServed naming kinds (Main ∷ others) (lowered_graphs told program keep numbers added)) where
   abbrev graphs : Graphs
   graphs = lowered_graphs told program keep numbers added
@@ -122,8 +122,8 @@ module _ (naming : Naming) (kinds : Writable) (told : Told) (program : Program) 
   procedures = procedures_of order graphs
 
   pub closed-at : (r : Range) → In r order → IsClosed (graphs r)
-  closed-at Main here = graphs-closed told program keep numbers added source Main some (plan.just Main here)
-  closed-at (Part e x) here = graphs-closed told program keep numbers added source (Part e x) (plan.performed e x here).0 (plan.just (Part e x) here)
+  closed-at Main here = graphs-closed told program keep numbers added source Main some (plan.plan.just Main here)
+  closed-at (Part e x) here = graphs-closed told program keep numbers added source (Part e x) (plan.plan.performed e x here).0 (plan.plan.just (Part e x) here)
 
   module _ (r : Range) (here : In r order) where
     abbrev R : ℕ → Type 0

@@ -94,7 +94,8 @@ module _ (told : Told) (program : Program) where
       goes (free told) nothing_left program (Halts trace how ways) state
   free_goes (Into entry exit rest) state =
       goes_to (free told) nothing_left program entry
-      (record state { pending = record { end = exit; paragraph = state.paragraph; rest = rest } ∷ state.pending })
+      (record state
+      { pending = record { end = exit; paragraph = state.paragraph; rest = rest } ∷ state.pending })
   free_goes (To trace ways number) state =
       goes (free told) nothing_left program (To trace ways number) state
   free_goes (ToEnd trace ways number) state =

@@ -1,4 +1,4 @@
-use Rattle.control.specs.Examples.{sources_run, nested_run, both_run, families_walk, jumps_run}
+use Rattle.control.proofs.Examples.{sources_run, nested_run, both_run, families_walk, jumps_run}
 use Rattle.control.proofs.laws.small_programs_run_as_said.Goals as goal
 
 pub returns-clause-sources : goal.returns-clause-sources
