@@ -1,3 +1,5 @@
+-- tests, all of which hold
+pub mod All
 -- programs as far as control goes
 pub mod Language
 -- what is still to do at a place, and the returns that are pending
@@ -8,5 +10,7 @@ pub mod Control
 pub mod Structured
 -- no word on an added item
 pub mod Own
+-- each item number below 2^31
+pub mod OwnItems
 -- what control keeps of a program
 pub mod Laws

@@ -6,4 +6,4 @@ mod Nesting
 mod Performing
 mod Stopping
 -- and those say what the definition says
-mod Structured
+pub mod Structured

@@ -1,22 +1,14 @@
 -- What makes a program structured.
-use Rattle.std.specs.Prelude.{◌≡◌, Bool, true, false, ◌&&◌, List, [], ◌∷◌, map, All, IsTrue, IsSome, Option, Some, None}
+use Rattle.std.specs.Prelude.{◌≡◌, Bool, true, false, ◌&&◌, List, map, All, IsTrue, IsSome, None}
 use Rattle.cob_tree.specs.declared.stmt.Stmt.{Stmt, fold-Stmt}
 use Rattle.cob_tree.specs.declared.stmt.Stmt.TheOpen.{Stmt-F, Arms-F, When-F}
 use Rattle.cob_tree.specs.declared.stmt.Arms.{Arms, fold-Arms}
 use Rattle.cob_tree.specs.declared.stmt.When.{When, fold-When}
 use Rattle.cob_tree.specs.declared.program.Paragraph.{Paragraph}
 use Rattle.cob_tree.specs.declared.program.Program.{Program}
+use Rattle.language.specs.All.{all, all_if}
 use Rattle.language.specs.Control.{control_of}
 use Rattle.language.specs.Structured as control
-
-abbrev pub all : List Bool → Bool
-all [] = true
-all (first ∷ others) = first && all others
-
--- those of an arm, which may be absent
-abbrev pub all_if : Option (List Bool) → Bool
-all_if None = true
-all_if (Some tests) = all tests
 
 -- EXIT without a further word acts on nothing, so control doesn't tell it from other statements
 
