@@ -25,7 +25,7 @@ start = record {
 abbrev pub flaw_of : ℕ → Flaw
 flaw_of byte =
     if byte == symbol_s || byte == symbol_v || byte == symbol_9 || byte == symbol_a
-        || byte == symbol_x || byte == left_parenthesis || byte == right_parenthesis
+    || byte == symbol_x || byte == left_parenthesis || byte == right_parenthesis
     then flaws.Order else flaws.Symbol
 
 abbrev pub placed : Place → Result Symbols Flaw → Result Reading Flaw

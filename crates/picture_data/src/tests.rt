@@ -6,7 +6,11 @@ use std::test::Fail;
 
 #[test]
 fn pictures(rt: HostRuntime) -> Result<(), Fail> {
-    let number = |signed: bool, whole: u8, part: u8| Ok(Picture::Number { signed, whole, part });
+    let number = |signed: bool, whole: u8, part: u8| Ok(Picture::Number {
+        signed,
+        whole,
+        part,
+    });
     let rows: [(&[u8], Result<Picture, PictureFault>); 24] = [
         (b"9", number(false, 1, 0)),
         (b"s9(4)v99", number(true, 4, 2)),
