@@ -1,5 +1,5 @@
 -- What was done, as the code answers it.
-use Rattle.std.specs.Prelude.{ℕ, Bool, true, false, ◌<◌, ◌^◌, length, List, [], ◌∷◌}
+use Rattle.std.specs.Prelude.{ℕ, Bool, true, false, List, [], ◌∷◌}
 use Rattle.cob_tree.specs.declared.stmt.Stmt.{Stmt, out-Stmt}
 use Rattle.cob_tree.specs.declared.stmt.Stmt.TheOpen.{Stmt-F}
 use Rattle.cob_store.specs.Store.{Roots}
@@ -25,12 +25,4 @@ is_inner stmt =
       | Stmt-F.Write entry from ↦ false
       | Stmt-F.Rewrite entry from ↦ false
       | _ ↦ true
-    ]
-
--- an EVALUATE has fewer than 2^31 arms
-abbrev pub FewWhens : Stmt → Type 0
-FewWhens stmt =
-    elim (out-Stmt stmt) [
-      | Stmt-F.Evaluate subject whens other ↦ length whens < 2 ^ 31
-      | _ ↦ Unit {0}
     ]

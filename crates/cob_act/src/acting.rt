@@ -3,7 +3,7 @@
 ghost use Rattle.std.specs.Prelude.{◌≡◌, ℕ, List, [], IfOk, IsTrue};
 ghost use Rattle.file_model.specs.World.{World};
 ghost use Rattle.statements.specs.Does.{chooses, declared_with, does, has_arms, of_moves, of_sum, shows};
-ghost use Rattle.cob_act.specs.Acting.{FewWhens, effect_by, is_inner};
+ghost use Rattle.cob_act.specs.Acting.{effect_by, is_inner};
 ghost use Rattle.cob_act.specs.Display.{with_bytes};
 ghost use Rattle.cob_act.specs.Moving.{outcome_of};
 
@@ -21,7 +21,7 @@ pub enum Done {
     Went,
     /// It went on, and showed bytes.
     Shown,
-    Chose(u32),
+    Chose(usize),
     Abended(Abend),
 }
 
@@ -34,7 +34,7 @@ fn of_moves(answer: Result<(), Abend>) -> Done
     }
 }
 
-fn chooses(answer: Result<u32, Abend>) -> Done
+fn chooses(answer: Result<usize, Abend>) -> Done
     ensures { (world : World) → (store : List (List ℕ)) → (shown : List ℕ) → effect_by world store shown result ≡ chooses store answer }
 {
     match answer {
@@ -76,6 +76,20 @@ fn of_sum(guarded: bool, answer: Result<bool, Abend>) -> Done
     }
 }
 
+/// Whether a statement needs no device.
+pub fn is_inner(stmt: &Stmt) -> bool
+    ensures { result ≡ is_inner stmt.now }
+{
+    match stmt {
+        Stmt::Opens(_) => false,
+        Stmt::Closes(_) => false,
+        Stmt::Read { .. } => false,
+        Stmt::Write { .. } => false,
+        Stmt::Rewrite { .. } => false,
+        _ => true,
+    }
+}
+
 /// Does a statement that needs no device. Bytes that are shown are put into `shown`.
 pub fn act(
     program: &Program,
@@ -86,7 +100,6 @@ pub fn act(
     stmt: &Stmt,
 ) -> Result<Done, NoMemory>
     requires inner { IsTrue (is_inner stmt.now) }
-    requires few { FewWhens stmt.now }
     requires empty { shown.old ≡ [] }
     ensures { IfOk result (λ done. (world : World) → effect_by world store.new shown.new done ≡ does (declared_with program.now areas.now) stmt.now store.old world) }
 {

@@ -1,6 +1,7 @@
 //! ADD, SUBTRACT, MULTIPLY, DIVIDE and COMPUTE.
 
-ghost use Rattle.std.specs.Prelude.{◌≡◌, Ok};
+ghost use Rattle.std.specs.Prelude.{◌≡◌, ◌∷◌, [], false, Ok};
+ghost use Rattle.cob_tree.specs.declared.calc.Calc.TheVariants.{Add};
 ghost use Rattle.cob_num.specs.Exact.{difference_of, product_of, sum_of};
 ghost use Rattle.cob_store.specs.Place.{memory_of, number_at};
 ghost use Rattle.statements.specs.Arithmetic.{all_targeted, basis_of, both, calculated, divided, given, part_of, stored_in, sum_on, summed, targeted, value_for};
@@ -9,7 +10,7 @@ ghost use Rattle.cob_act.specs.Moving.{outcome_of};
 
 use cob_num::{Dec, Stored, add, mul, quotient, sub};
 use cob_store::{Area, Form, Spot, Store, expr_value, kept, number_at, operand_value, reached};
-use cob_tree::{Abend, Calc, Operand, Sign, Target};
+use cob_tree::{Abend, Calc, Operand, Place, Sign, Target};
 
 /// What is worked out before the receivers: a value that each is given, or one that each is changed by.
 #[derive(Clone, Copy)]
@@ -208,6 +209,28 @@ fn given(
     }
 }
 
+fn targeted_at(
+    areas: &[Area],
+    store: &mut Store,
+    guarded: bool,
+    basis: Basis,
+    place: &Place,
+    rounded: bool,
+) -> Result<bool, Abend>
+    ensures { outcome_of store.new result ≡ targeted areas.now guarded (seen_basis basis) store.old (record { place = place.now; rounded = rounded }) }
+{
+    let place = reached(areas, store, place)?;
+    let value = value_for(store, place.spot, place.form, basis)?;
+    Ok(given(
+        store,
+        guarded,
+        place.spot,
+        place.form,
+        rounded,
+        value,
+    ))
+}
+
 fn targeted(
     areas: &[Area],
     store: &mut Store,
@@ -217,16 +240,20 @@ fn targeted(
 ) -> Result<bool, Abend>
     ensures { outcome_of store.new result ≡ targeted areas.now guarded (seen_basis basis) store.old target.now }
 {
-    let place = reached(areas, store, &target.place)?;
-    let value = value_for(store, place.spot, place.form, basis)?;
-    Ok(given(
-        store,
-        guarded,
-        place.spot,
-        place.form,
-        target.rounded,
-        value,
-    ))
+    targeted_at(areas, store, guarded, basis, &target.place, target.rounded)
+}
+
+/// ADD of one operand to one item, without a SIZE phrase.
+pub fn added(
+    areas: &[Area],
+    store: &mut Store,
+    operand: &Operand,
+    place: &Place,
+) -> Result<bool, Abend>
+    ensures { outcome_of store.new result ≡ calculated areas.now (Add (operand.now ∷ [])) false (record { place = place.now; rounded = false } ∷ []) store.old }
+{
+    let value = operand_value(areas, store, operand)?;
+    targeted_at(areas, store, false, Basis::Plus(value), place, false)
 }
 
 /// The arithmetic statements: whether a receiver had a size error. `guarded` says that there is a

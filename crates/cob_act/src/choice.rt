@@ -1,6 +1,6 @@
 //! Which arm IF and EVALUATE take.
 
-ghost use Rattle.std.specs.Prelude.{◌≡◌, ◌+◌, ◌<◌, ◌^◌, length, map};
+ghost use Rattle.std.specs.Prelude.{◌≡◌, map};
 ghost use Rattle.cob_tree.specs.declared.stmt.When.{out-When};
 ghost use Rattle.cob_store.specs.Place.{memory_of};
 ghost use Rattle.statements.specs.Choice.{asked, evaluated, if_chosen, in_range, one_holds, same_truth, test_holds, when_chosen};
@@ -18,7 +18,7 @@ pub fn if_chosen(
     areas: &[Area],
     store: &Store,
     cond: &Cond,
-) -> Result<u32, Abend>
+) -> Result<usize, Abend>
     ensures { result ≡ if_chosen entries.now (memory_of areas.now store.now) cond.now }
 {
     let test = holds(entries, areas, store, cond)?;
@@ -137,12 +137,11 @@ pub fn evaluated(
     store: &Store,
     subject: &Subject,
     whens: &[When],
-) -> Result<u32, Abend>
-    requires { length whens.now < 2 ^ 31 }
+) -> Result<usize, Abend>
     ensures { result ≡ evaluated entries.now (memory_of areas.now store.now) subject.now (map (λ when. (out-When when).tests) whens.now) }
 {
     let subject = subject_read(areas, store, subject)?;
-    let mut number = 1u32;
+    let mut number = 1usize;
     for when in whens {
         let here = one_holds(entries, areas, store, subject, when.tests.as_slice())?;
         if here {

@@ -15,6 +15,9 @@ mod moving;
 mod side;
 mod text;
 
-pub use acting::{Done, act};
+pub use acting::{Done, act, is_inner};
+pub use arithmetic::{added, calculated};
 pub use choice::{evaluated, if_chosen};
 pub use condition::holds;
+pub use display::displayed;
+pub use moving::{moved, set};

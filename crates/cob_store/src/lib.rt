@@ -22,5 +22,6 @@ pub use laying::layout;
 pub use number::{digits_value, is_digit, number_in, put_digits};
 pub use place::{expr_value, kept, literal_value, number_at, operand_value, place_value, reached};
 pub use spot::{Reached, Spot};
+pub use stack::Stack;
 pub use starting::figure_byte;
 pub use store::{Store, number_of};

@@ -54,14 +54,14 @@ amount number = operand.Place (item number)
 
 -- DEPENDING ON the item
 abbrev pub on_item : ℕ → Chooser
-on_item number = Depending (item number)
+on_item number = Depending (item number) 2
 
 -- What they do.
 
 -- the text, or else N
-abbrev pub bytes_of : List Operand → ℕ → List ℕ
-bytes_of [] n = []
-bytes_of (first ∷ others) n = elim (out-Operand first) [ Operand-F.Text bytes ↦ bytes | _ ↦ n ∷ [] ]
+abbrev pub shown_items : List Operand → ℕ → List ℕ
+shown_items [] n = []
+shown_items (first ∷ others) n = elim (out-Operand first) [ Operand-F.Text bytes ↦ bytes | _ ↦ n ∷ [] ]
 
 abbrev pub changed : Calc → ℕ → ℕ
 changed (calc.Add parts) n = suc n
@@ -69,7 +69,7 @@ changed calc n = n - 1
 
 abbrev pub small_act : Simple → ℕ → Tried ℕ (Unit {0})
 small_act simple n = elim (out-Stmt simple) [
-  | Stmt-F.Display items advance ↦ Got (bytes_of items n ∷ []) tt n
+  | Stmt-F.Display items advance ↦ Got (shown_items items n ∷ []) tt n
   | Stmt-F.Arith calc into arms ↦ Got [] tt (changed calc n)
   | _ ↦ Got [] tt n
 ]

@@ -33,7 +33,8 @@ address_of assign =
 
 abbrev pub name_byte : ℕ → Bool
 name_byte byte =
-    nat_le 48 byte && nat_le byte 57 || nat_le 65 byte && nat_le byte 90 || nat_le 97 byte && nat_le byte 122 || byte == 46 || byte == 45 || byte == 95
+    nat_le 48 byte && nat_le byte 57 || nat_le 65 byte && nat_le byte 90
+    || nat_le 97 byte && nat_le byte 122 || byte == 46 || byte == 45 || byte == 95
 
 -- 1 to 60 letters, digits, periods, hyphens and underlines, without a period first
 abbrev pub can_be_opened : List ℕ → Bool

@@ -1,5 +1,5 @@
 -- Statements as control sees them, row by row.
-use Rattle.std.proofs.Common.{◌≡◌, ℕ, Bool, true, false, List, map, Option, Some, None, is_some, refl, ap, sym, ◌∙◌}
+use Rattle.std.proofs.Common.{◌≡◌, ℕ, Bool, true, false, List, map, Option, Some, None, is_some, length, refl, ap, sym, ◌∙◌}
 use Rattle.cob_tree.specs.declared.calc.Calc.{Calc}
 use Rattle.cob_tree.specs.declared.calc.Target.{Target}
 use Rattle.cob_tree.specs.declared.choice.Subject.{Subject}
@@ -77,7 +77,7 @@ pub seen_go : (last : ℕ) (to : ℕ) → seen last (Go to) ≡ language.Go to
 seen_go last to =
     ap (seen last) (sym (rolls-Go to)) ∙ fold-roll-Stmt language.Stmt Both Branch (seen_step last) both_step branch_step (Stmt-F.Go to)
 
-pub seen_go_depending : (last : ℕ) (to : List ℕ) (on : Place) → seen last (GoDepending to on) ≡ language.GoDepending to (language.Depending on)
+pub seen_go_depending : (last : ℕ) (to : List ℕ) (on : Place) → seen last (GoDepending to on) ≡ language.GoDepending to (language.Depending on (length to))
 seen_go_depending last to on =
     ap (seen last) (sym (rolls-GoDepending to on)) ∙ fold-roll-Stmt language.Stmt Both Branch (seen_step last) both_step branch_step (Stmt-F.GoDepending to on)
 

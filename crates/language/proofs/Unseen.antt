@@ -70,7 +70,7 @@ chosen_back (language.By (language.Arith calc into)) arms = stmt.Arith calc into
 chosen_back picker arms = stmt.Continue
 
 abbrev pub depending_back : List ℕ → language.Chooser → Stmt
-depending_back to (language.Depending on) = stmt.GoDepending to on
+depending_back to (language.Depending on names) = stmt.GoDepending to on
 depending_back to chooser = stmt.Continue
 
 abbrev mutual

@@ -1,5 +1,5 @@
 -- A program as its control: one fold takes each statement of the tree to one of the language.
-use Rattle.std.specs.Prelude.{ℕ, zero, suc, ◌-◌, ◌^◌, ◌==◌, ◌||◌, nat_le, Bool, true, false, if◌then◌else◌, List, [], ◌∷◌, map, Option, Some, None, is_some}
+use Rattle.std.specs.Prelude.{ℕ, zero, suc, ◌-◌, ◌^◌, ◌==◌, ◌||◌, nat_le, Bool, true, false, if◌then◌else◌, List, [], ◌∷◌, length, map, Option, Some, None, is_some}
 use Rattle.std.specs.Str.Parse.{digits_value}
 use Rattle.cob_tree.specs.declared.number.Number.{Number}
 use Rattle.cob_tree.specs.declared.place.Place.{Place, out-Place}
@@ -266,7 +266,8 @@ seen_step last (Stmt-F.Evaluate subject branches other) =
 seen_step last (Stmt-F.Loop control body) = loop_of (control_in control) (stmts_of body)
 seen_step last (Stmt-F.Perform entry exit control) = perform_of (control_in control) entry exit
 seen_step last (Stmt-F.Go to) = language.Go to
-seen_step last (Stmt-F.GoDepending to on) = language.GoDepending to (language.Depending on)
+seen_step last (Stmt-F.GoDepending to on) =
+    language.GoDepending to (language.Depending on (length to))
 seen_step last Stmt-F.NextSentence = language.NextSentence
 seen_step last Stmt-F.StopRun = language.StopRun
 seen_step last Stmt-F.ExitParagraph = language.ExitParagraph

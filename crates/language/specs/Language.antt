@@ -32,8 +32,8 @@ pub data Chooser : Type 0 where
   Read : (file : ℕ) → (into : Option places.Place) → (has_end : Bool) → Chooser
   -- arithmetic with a phrase on size errors
   Arith : (calc : calcs.Calc) → (into : List targets.Target) → Chooser
-  -- the item of GO TO DEPENDING
-  Depending : (on : places.Place) → Chooser
+  -- the item of GO TO DEPENDING, which has so many names
+  Depending : (on : places.Place) → (names : ℕ) → Chooser
 
 -- Restructuring adds items: cells, each a number of the range that owns them. No source program
 -- has these words.

@@ -149,7 +149,7 @@ module _ {Memory Left World : Type 0} (acting : Acting Memory) (left : Memory �
   choose_by (Evaluate subject (tests ∷ others) has_other) = own_chooses (Evaluate subject others has_other)
   choose_by (Read file into has_end) = own_chooses (Read file into has_end)
   choose_by (Arith calc into) = own_chooses (Arith calc into)
-  choose_by (Depending on) = own_chooses (Depending on)
+  choose_by (Depending on names) = own_chooses (Depending on names)
 
   -- the parts
   abbrev pub whole : Acting Cells
@@ -164,13 +164,13 @@ module _ {Memory Left World : Type 0} (acting : Acting Memory) (left : Memory �
   own_name (Evaluate subject tests has_other) = Evaluate subject ([] ∷ tests) has_other
   own_name (Read file into has_end) = Read file into has_end
   own_name (Arith calc into) = Arith calc into
-  own_name (Depending on) = Depending on
+  own_name (Depending on names) = Depending on names
 
   own-named : (chooser : Chooser) → choose_by (own_name chooser) ≡ own_chooses chooser
   own-named (Evaluate subject tests has_other) = refl
   own-named (Read file into has_end) = refl
   own-named (Arith calc into) = refl
-  own-named (Depending on) = refl
+  own-named (Depending on names) = refl
 
   abbrev pub names : Naming
   names = record {

@@ -1,0 +1,7 @@
+//! A COBOL program, run.
+#![tactic(auto)]
+
+mod data;
+mod frame;
+mod frames;
+mod way;
