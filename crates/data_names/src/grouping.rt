@@ -1,7 +1,7 @@
 //! The groups that an entry stands in.
 
-ghost use Rattle.std.specs.Prelude.{◌≡◌, ◌++◌, IfOk, OnOk, reverse};
-ghost use Rattle.data_names.specs.Grouping.{bound_of, dims_in, group_words, groups_of, has_items, holds, is_numbered, same_file, word_list};
+ghost use Rattle.std.specs.Prelude.{◌≡◌, ◌++◌, ◌≤◌, IfOk, OnOk, length, reverse};
+ghost use Rattle.data_names.specs.Grouping.{bound_of, dims_in, group_words, groups_of, has_items, holds, is_numbered, repeats, same_file, word_list};
 
 use cob_base::{Items, NoMemory, Word};
 use cob_tree::Entry;
@@ -35,6 +35,12 @@ fn same_file(file: Option<u32>, other: Option<u32>) -> bool
     }
 }
 
+pub fn repeats(entry: &Entry) -> bool
+    ensures { result ≡ repeats entry.now }
+{
+    entry.occurs.is_some()
+}
+
 /// What stands above an entry: the names of its groups, the nearest first, and how many of them
 /// repeat.
 #[derive(Debug, Drop)]
@@ -59,7 +65,9 @@ pub fn groups_above(
     level: u8,
     file: Option<u32>,
 ) -> Result<Above, NoMemory>
-    ensures { IfOk result (λ a. let groups = groups_of (bound_of level) file (reverse before.now) in (a.words ≡ group_words groups) × (a.dims ≡ dims_in groups)) }
+    ensures words { IfOk result (λ a. a.words ≡ group_words (groups_of (bound_of level) file (reverse before.now))) }
+    ensures dims { IfOk result (λ a. a.dims ≡ dims_in (groups_of (bound_of level) file (reverse before.now))) }
+    ensures few { IfOk result (λ a. a.dims ≤ length before.now) }
 {
     let mut words = Items::new(alloc);
     let mut dims = 0usize;
@@ -73,9 +81,7 @@ pub fn groups_above(
         }
         if holds(bound, entry) {
             add_word(&mut words, entry.name)?;
-            if entry.occurs.is_some() {
-                dims += 1;
-            }
+            dims += usize::from(repeats(entry));
             bound = bound_of(entry.level);
         }
     }

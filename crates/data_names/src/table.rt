@@ -1,11 +1,14 @@
 //! The table of the names of a program.
 
-ghost use Rattle.std.specs.Prelude.{◌≡◌, ◌++◌, ◌<◌, ◌^◌, length, reverse, OnOk};
+ghost use Rattle.std.specs.Prelude.{◌≡◌, ◌++◌, ◌<◌, ◌^◌, [], length, map, reverse, position, slice_get, OnOk};
+ghost use Rattle.std.specs.List.{list_any};
+ghost use Rattle.std.specs.Option.{option_copied};
+ghost use Rattle.std.specs.Str.{bytes_eq};
 ghost use Rattle.cob_base.specs.Answers.{Makes};
 ghost use Rattle.data_names.specs.Look as look;
 ghost use Rattle.data_names.specs.Names as names;
 
-use crate::grouping::{groups_above, has_items};
+use crate::grouping::{groups_above, has_items, repeats};
 use crate::name::{Found, Kind, Name};
 use cob_base::{Items, NoMemory, Word};
 use cob_tree::{Entry, FileEntry, Picture};
@@ -39,17 +42,9 @@ impl NameTable {
         requires entries { length entries.now < 2 ^ 31 }
         ensures { Makes (names.names_of files.now entries.now) result }
     {
-        let mut items = Items::new(alloc);
-        for (at, entry) in entries.iter().enumerate() {
-            items.push(name_of(alloc, files, &entries[..at], entry, &entries[at + 1..])?)?;
-        }
-        let mut words = Items::new(alloc);
-        for file in files {
-            words.push(file.name)?;
-        }
         Ok(NameTable {
-            items,
-            files: words,
+            items: item_names(alloc, files, entries)?,
+            files: file_names(alloc, files)?,
         })
     }
 
@@ -64,11 +59,33 @@ impl NameTable {
     pub fn look_file(&self, word: &Word) -> Option<u32>
         ensures { result ≡ look.look_file self.now word.now }
     {
-        match self.files.as_slice().iter().position(|name| *name == *word) {
-            None => None,
-            Some(at) => Some(at as u32),
-        }
+        number_of(self.files.as_slice(), word)
     }
+}
+
+fn item_names(
+    alloc: Global,
+    files: &[FileEntry],
+    entries: &[Entry],
+) -> Result<Items<Name>, NoMemory>
+    requires { length entries.now < 2 ^ 31 }
+    ensures { Makes (names.names_from files.now [] entries.now) result }
+{
+    let mut items = Items::new(alloc);
+    for (at, entry) in entries.iter().enumerate() {
+        items.push(name_of(alloc, files, &entries[..at], entry, &entries[at + 1..])?)?;
+    }
+    Ok(items)
+}
+
+fn file_names(alloc: Global, files: &[FileEntry]) -> Result<Items<Word>, NoMemory>
+    ensures { Makes (map (λ file. file.name) files.now) result }
+{
+    let mut words = Items::new(alloc);
+    for file in files {
+        words.push(file.name)?;
+    }
+    Ok(words)
 }
 
 fn picture_kind(picture: Option<Picture>) -> Kind
@@ -92,13 +109,19 @@ fn kind_of(entry: &Entry, behind: &[Entry]) -> Kind
     }
 }
 
+fn file_at(files: &[FileEntry], file: u32) -> Option<&FileEntry>
+    ensures { option_copied result ≡ slice_get files.now file }
+{
+    files.get(file as usize)
+}
+
 fn add_file(words: &mut Items<Word>, files: &[FileEntry], file: Option<u32>) -> Result<(), NoMemory>
     ensures { OnOk result (words.new ≡ words.old ++ names.file_words files.now file) }
 {
     let Some(file) = file else {
         return Ok(());
     };
-    match files.get(file as usize) {
+    match file_at(files, file) {
         None => Ok(()),
         Some(file) => words.push(file.name),
     }
@@ -121,7 +144,7 @@ fn name_of(
         word: entry.name,
         above: words,
         kind: kind_of(entry, behind),
-        dims: above.dims + usize::from(entry.occurs.is_some()),
+        dims: above.dims + usize::from(repeats(entry)),
     })
 }
 
@@ -160,20 +183,58 @@ fn fits(name: &Name, word: &Word, of: &[Word]) -> bool
     is_called(word, name.word) && are_within(of, name.above.as_slice())
 }
 
-fn find(names: &[Name], word: &Word, of: &[Word]) -> Found
-    requires { length names.now < 2 ^ 31 }
-    ensures { result ≡ look.find names.now word.now of.now }
+fn number_of(files: &[Word], word: &Word) -> Option<u32>
+    requires { length files.now < 2 ^ 31 }
+    ensures { result ≡ position (bytes_eq word.now) files.now }
 {
-    let Some(item) = names.iter().position(|name| fits(name, word, of)) else {
-        return Found::Unknown;
-    };
-    if names[item + 1..].iter().any(|name| fits(name, word, of)) {
-        return Found::Ambiguous;
+    match place_of(files, word) {
+        None => None,
+        Some(at) => Some(at as u32),
     }
+}
+
+fn place_of(files: &[Word], word: &Word) -> Option<usize>
+    ensures { result ≡ position (bytes_eq word.now) files.now }
+{
+    files.iter().position(|file| *word == *file)
+}
+
+// The place of the first that fits.
+fn first_fit(names: &[Name], word: &Word, of: &[Word]) -> Option<usize>
+    ensures { result ≡ position (look.fits word.now of.now) names.now }
+{
+    names.iter().position(|name| fits(name, word, of))
+}
+
+fn fits_any(names: &[Name], word: &Word, of: &[Word]) -> bool
+    ensures { result ≡ list_any (look.fits word.now of.now) names.now }
+{
+    names.iter().any(|name| fits(name, word, of))
+}
+
+fn found_at(names: &[Name], item: usize) -> Found
+    requires short { length names.now < 2 ^ 31 }
+    requires within { item < length names.now }
+    ensures { result ≡ look.found_at item (slice_get names.now item) }
+{
     let name = &names[item];
     Found::Item {
         item: item as u32,
         kind: name.kind,
         dims: name.dims,
+    }
+}
+
+fn find(names: &[Name], word: &Word, of: &[Word]) -> Found
+    requires { length names.now < 2 ^ 31 }
+    ensures { result ≡ look.find names.now word.now of.now }
+{
+    let Some(item) = first_fit(names, word, of) else {
+        return Found::Unknown;
+    };
+    if fits_any(&names[item + 1..], word, of) {
+        Found::Ambiguous
+    } else {
+        found_at(names, item)
     }
 }
