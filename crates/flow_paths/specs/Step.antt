@@ -1,11 +1,13 @@
 -- Where control is, and what a step does to it, whatever the data.
 use Rattle.std.specs.Prelude.{ℕ, zero, suc, Bool, true, false, if◌then◌else◌, List, [], ◌∷◌, length, Option, Some, None, slice_get}
-use Rattle.language.specs.Language.{Chooser, By, Choose, GoDepending, Arms, done, given, missing, Paragraph, Program}
+use Rattle.language.specs.Language.{Chooser, By, Choose, GoDepending, Paragraph, Program}
 use Rattle.language.specs.Items.{Turning, Counted, Item, Do, SentenceEnd, Turn}
 use Rattle.control.specs.Outcome.{Got}
 use Rattle.control.specs.Doing.{Doing}
 use Rattle.control.specs.Items.{Way, On, Halts, Into, To, ToEnd, item_way}
 use Rattle.control.specs.Source.{rest_of}
+use Rattle.lowering.specs.Told.{arm_count}
+use Rattle.lowering.specs.flow.Paths.{is_first}
 
 -- where control is: a paragraph, and what is still to do there
 pub record Point : Type 0 where
@@ -36,16 +38,11 @@ pub data Next : Type 0 where
 
 -- Each way of an item is what the item does where its parts give that way.
 
--- a test ends a loop by way 0
-abbrev pub is_zero : ℕ → Bool
-is_zero zero = true
-is_zero (suc n) = false
-
--- what chooses gives the arm with this number
+-- what chooses gives the arm with this number, and a test holds by way 0
 abbrev pub by_way : ℕ → Doing (Unit {0})
 by_way way = record {
   act = λ act nothing. Got [] tt nothing;
-  test = λ test nothing. Got [] (is_zero way) nothing;
+  test = λ test nothing. Got [] (is_first way) nothing;
   pick = λ picker nothing. Got [] way nothing;
   count = λ amount nothing. Got [] 0 nothing;
 }
@@ -70,11 +67,6 @@ led program number (Halts trace how nothing) = None
 led program number (Into entry exit items) = None
 led program number (To trace nothing to) = Some (start program to)
 led program number (ToEnd trace nothing to) = Some (at to [])
-
-abbrev pub arm_count : Arms → ℕ
-arm_count done = 0
-arm_count (given arm others) = suc (arm_count others)
-arm_count (missing others) = suc (arm_count others)
 
 -- how many ways it has: its arms, its names and the way behind it, or one more turn and none
 abbrev pub way_count : Item → ℕ
