@@ -8,3 +8,7 @@ mod Telling
 mod Backing
 -- a level comes to the same points here and there
 mod SameLevels
+-- what is faulty there is faulty here
+mod SameFaults
+-- what is faulty here is faulty there
+mod Lifting

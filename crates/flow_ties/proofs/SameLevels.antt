@@ -48,7 +48,7 @@ module _ (told : Told) (program : Program) (source : IsSource told program) (som
   pub whole-rest : (number : ℕ) → point_at number (rest_of program number) ≡ start program number
   whole-rest number = ap (λ r. at number r) (u-items (paragraph_at program number))
 
-  own-first : (range : Range) (number : ℕ) (x : Item) (xs : List Item) → There range number (x ∷ xs) → OwnItem told count x
+  pub own-first : (range : Range) (number : ℕ) (x : Item) (xs : List Item) → There range number (x ∷ xs) → OwnItem told count x
   own-first range number x xs c = (comes-fits told program source (free told) 0 (rest_of program 0) (rest-fits told program source 0) range number (x ∷ xs) c).0
 
   abbrev Told_ : ℕ → Item → List Item → Way (List ℕ) → Type 0

@@ -4,6 +4,8 @@ use Rattle.language.specs.Language.{Chooser, Program, Range}
 use Rattle.language.specs.Items.{Item}
 use Rattle.lowering.specs.Told.{Told, MayGive, IsSource}
 use Rattle.lowering.specs.Laws.{FreelyComes}
+use Rattle.lowering.specs.flow.Paths as theory
+use Rattle.flow_paths.specs.Flow.{IsFaulty}
 use Rattle.flow_paths.specs.Levels.{Comes}
 use Rattle.flow_ties.specs.Uncounted.{point_at, range_of}
 
@@ -22,3 +24,10 @@ LevelsAreTheTheorys =
     Comes told.never_first program (range_of range) (point_at number rest))
     × (Comes told.never_first program (range_of range) (point_at number rest) →
     FreelyComes told program range number rest)
+
+-- A program is faulty in the theory exactly where it is here.
+abbrev pub FaultyIsTheTheorys : Type 0
+FaultyIsTheTheorys =
+    (told : Told) (program : Program) → IsSource told program → SomeArmIsGiven told →
+    (theory.IsFaulty told program → IsFaulty told.never_first program)
+    × (IsFaulty told.never_first program → theory.IsFaulty told program)
