@@ -1,0 +1,2 @@
+-- arms that are changed one after the other
+pub mod Arms
