@@ -1,7 +1,5 @@
 //! Trees: statements without a jump, and an end.
 
-ghost use Rattle.std.specs.Prelude.{◌≡◌};
-
 use crate::chooser::{Picker, Test};
 use crate::label::Label;
 use cob_base::Items;
@@ -83,14 +81,4 @@ pub enum End {
     Return,
     Stop,
     Dead,
-}
-
-impl Tree {
-    /// Gives the tree another end.
-    pub fn end_by(&mut self, end: End)
-        ensures body { self.new.body ≡ self.old.body }
-        ensures end { self.new.end ≡ end }
-    {
-        self.end = end;
-    }
 }

@@ -41,3 +41,9 @@ joined_each (t ∷ ts) = ap (more (joined t)) (joined_each ts)
 pub seen_at : (arms : List tree.Tree) (at : ℕ) (d : tree.Tree) →
     seen_tree (get_or arms at d) ≡ get_or (map seen_tree arms) at (seen_tree d)
 seen_at arms at d = sym (get_or-map seen_tree arms at d)
+
+-- what is read in place of what isn't there doesn't matter
+pub any_default : {A : Type 0} (xs : List A) (at : ℕ) (d e : A) → at < length xs → get_or xs at d ≡ get_or xs at e
+any_default [] at d e within = let no : ⊥ = omega (arith, within) in absurd no
+any_default (x ∷ xs) zero d e within = refl
+any_default (x ∷ xs) (suc at) d e within = let less : at < length xs = omega (arith, within) in any_default xs at d e less
