@@ -8,10 +8,15 @@ use Rattle.statements.specs.Filing as files
 use Rattle.cob_act.specs.declared.acting.Done.{Done}
 use Rattle.cob_act.specs.declared.acting.Done.TheVariants.{Went, Shown, Chose, Abended}
 
--- the effect of what was done: the world stays, and where bytes were shown that is the one operation
+-- the effect of what was done: the world stays, and where bytes were shown that is the one
+-- operation
 abbrev pub effect_by : World → Roots → List ℕ → Done → files.Effect
 effect_by world store shown Went = files.no_effect store files.Went
-effect_by world store shown Shown = record { operations = record { world = world; event = Display shown } ∷ []; store = store; end = files.Went }
+effect_by world store shown Shown = record {
+  operations = record { world = world; event = Display shown } ∷ [];
+  store = store;
+  end = files.Went;
+}
 effect_by world store shown (Chose arm) = files.no_effect store (files.Chose arm)
 effect_by world store shown (Abended abend) = files.no_effect store (files.Abended abend)
 

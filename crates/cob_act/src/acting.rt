@@ -26,7 +26,8 @@ pub enum Done {
 }
 
 fn of_moves(answer: Result<(), Abend>) -> Done
-    ensures { (world : World) → (store : List (List ℕ)) → (shown : List ℕ) → effect_by world store shown result ≡ of_moves (outcome_of store answer) }
+    ensures { (world : World) → (store : List (List ℕ)) → (shown : List ℕ) →
+        effect_by world store shown result ≡ of_moves (outcome_of store answer) }
 {
     match answer {
         Ok(()) => Done::Went,
@@ -35,7 +36,8 @@ fn of_moves(answer: Result<(), Abend>) -> Done
 }
 
 fn chooses(answer: Result<usize, Abend>) -> Done
-    ensures { (world : World) → (store : List (List ℕ)) → (shown : List ℕ) → effect_by world store shown result ≡ chooses store answer }
+    ensures { (world : World) → (store : List (List ℕ)) → (shown : List ℕ) →
+        effect_by world store shown result ≡ chooses store answer }
 {
     match answer {
         Ok(arm) => Done::Chose(arm),
@@ -44,7 +46,8 @@ fn chooses(answer: Result<usize, Abend>) -> Done
 }
 
 fn shows(answer: Result<(), Abend>) -> Done
-    ensures { (world : World) → (store : List (List ℕ)) → (shown : List ℕ) → effect_by world store shown result ≡ shows store world (with_bytes answer shown) }
+    ensures { (world : World) → (store : List (List ℕ)) → (shown : List ℕ) →
+        effect_by world store shown result ≡ shows store world (with_bytes answer shown) }
 {
     match answer {
         Ok(()) => Done::Shown,
@@ -60,7 +63,8 @@ fn has_arms(arms: &Arms) -> bool
 
 // With a SIZE phrase the first arm is taken where a receiver had a size error, and else the second.
 fn of_sum(guarded: bool, answer: Result<bool, Abend>) -> Done
-    ensures { (world : World) → (store : List (List ℕ)) → (shown : List ℕ) → effect_by world store shown result ≡ of_sum guarded store answer }
+    ensures { (world : World) → (store : List (List ℕ)) → (shown : List ℕ) →
+        effect_by world store shown result ≡ of_sum guarded store answer }
 {
     match answer {
         Err(abend) => Done::Abended(abend),
@@ -101,7 +105,8 @@ pub fn act(
 ) -> Result<Done, NoMemory>
     requires inner { IsTrue (is_inner stmt.now) }
     requires empty { shown.old ≡ [] }
-    ensures { IfOk result (λ done. (world : World) → effect_by world store.new shown.new done ≡ does (declared_with program.now areas.now) stmt.now store.old world) }
+    ensures { IfOk result (λ done. (world : World) → effect_by world store.new shown.new done
+        ≡ does (declared_with program.now areas.now) stmt.now store.old world) }
 {
     let entries = program.entries.as_slice();
     let areas = areas.items.as_slice();

@@ -12,7 +12,8 @@ use cob_num::{Dec, Stored, add, mul, quotient, sub};
 use cob_store::{Area, Form, Spot, Store, expr_value, kept, number_at, operand_value, reached};
 use cob_tree::{Abend, Calc, Operand, Place, Sign, Target};
 
-/// What is worked out before the receivers: a value that each is given, or one that each is changed by.
+/// What is worked out before the receivers: a value that each is given, or one that each is
+/// changed by.
 #[derive(Clone, Copy)]
 pub enum Basis {
     Given(Option<Dec>),
@@ -130,7 +131,8 @@ fn part_of(form: Form) -> u8
 
 // The value for a receiver.
 fn value_for(store: &Store, spot: Spot, form: Form, basis: Basis) -> Result<Option<Dec>, Abend>
-    ensures { result ≡ value_for (part_of form) (number_at store.now spot form) (seen_basis basis) }
+    ensures { result
+        ≡ value_for (part_of form) (number_at store.now spot form) (seen_basis basis) }
 {
     match basis {
         Basis::Given(value) => Ok(value),
@@ -163,7 +165,8 @@ fn stored_in(
     sign: Sign,
     stored: Stored,
 ) -> bool
-    ensures { outcome_of store.new (Ok result) ≡ stored_in guarded store.old spot signed sign stored }
+    ensures { outcome_of store.new (Ok result)
+        ≡ stored_in guarded store.old spot signed sign stored }
 {
     if stored.size_error && guarded {
         return true;
@@ -217,18 +220,13 @@ fn targeted_at(
     place: &Place,
     rounded: bool,
 ) -> Result<bool, Abend>
-    ensures { outcome_of store.new result ≡ targeted areas.now guarded (seen_basis basis) store.old (record { place = place.now; rounded = rounded }) }
+    ensures { outcome_of store.new result
+        ≡ targeted areas.now guarded (seen_basis basis) store.old
+        (record { place = place.now; rounded = rounded }) }
 {
     let place = reached(areas, store, place)?;
     let value = value_for(store, place.spot, place.form, basis)?;
-    Ok(given(
-        store,
-        guarded,
-        place.spot,
-        place.form,
-        rounded,
-        value,
-    ))
+    Ok(given(store, guarded, place.spot, place.form, rounded, value))
 }
 
 fn targeted(
@@ -238,7 +236,8 @@ fn targeted(
     basis: Basis,
     target: &Target,
 ) -> Result<bool, Abend>
-    ensures { outcome_of store.new result ≡ targeted areas.now guarded (seen_basis basis) store.old target.now }
+    ensures { outcome_of store.new result
+        ≡ targeted areas.now guarded (seen_basis basis) store.old target.now }
 {
     targeted_at(areas, store, guarded, basis, &target.place, target.rounded)
 }
@@ -250,7 +249,9 @@ pub fn added(
     operand: &Operand,
     place: &Place,
 ) -> Result<bool, Abend>
-    ensures { outcome_of store.new result ≡ calculated areas.now (Add (operand.now ∷ [])) false (record { place = place.now; rounded = false } ∷ []) store.old }
+    ensures { outcome_of store.new result
+        ≡ calculated areas.now (Add (operand.now ∷ [])) false
+        (record { place = place.now; rounded = false } ∷ []) store.old }
 {
     let value = operand_value(areas, store, operand)?;
     targeted_at(areas, store, false, Basis::Plus(value), place, false)
@@ -265,7 +266,8 @@ pub fn calculated(
     guarded: bool,
     targets: &[Target],
 ) -> Result<bool, Abend>
-    ensures { outcome_of store.new result ≡ calculated areas.now calc.now guarded targets.now store.old }
+    ensures { outcome_of store.new result
+        ≡ calculated areas.now calc.now guarded targets.now store.old }
 {
     let basis = basis_of(areas, store, calc)?;
     let mut failed = false;

@@ -57,7 +57,8 @@ fn in_range(
     from: &Expr,
     to: &Option<Expr>,
 ) -> Result<bool, Abend>
-    ensures { result ≡ in_range (memory_of areas.now store.now) (seen side.entry) from.now to.now }
+    ensures { result
+        ≡ in_range (memory_of areas.now store.now) (seen side.entry) from.now to.now }
 {
     let low = expr_side(areas, store, from)?;
     match to {
@@ -91,7 +92,9 @@ fn test_holds(
     subject: Asked,
     test: &Test,
 ) -> Result<bool, Abend>
-    ensures { result ≡ test_holds entries.now (memory_of areas.now store.now) (seen_asked subject.entry) test.now }
+    ensures { result
+        ≡ test_holds entries.now (memory_of areas.now store.now) (seen_asked subject.entry)
+        test.now }
 {
     match test {
         Test::Any => Ok(true),
@@ -119,7 +122,9 @@ fn one_holds(
     subject: Asked,
     tests: &[Test],
 ) -> Result<bool, Abend>
-    ensures { result ≡ one_holds entries.now (memory_of areas.now store.now) (seen_asked subject.entry) tests.now }
+    ensures { result
+        ≡ one_holds entries.now (memory_of areas.now store.now) (seen_asked subject.entry)
+        tests.now }
 {
     for test in tests {
         let here = test_holds(entries, areas, store, subject, test)?;
@@ -130,7 +135,8 @@ fn one_holds(
     Ok(false)
 }
 
-/// The arm of EVALUATE, from 1: the first WHEN of which a test holds, or the number behind the last.
+/// The arm of EVALUATE, from 1: the first WHEN of which a test holds, or the number behind the
+/// last.
 pub fn evaluated(
     entries: &[Entry],
     areas: &[Area],
@@ -138,7 +144,9 @@ pub fn evaluated(
     subject: &Subject,
     whens: &[When],
 ) -> Result<usize, Abend>
-    ensures { result ≡ evaluated entries.now (memory_of areas.now store.now) subject.now (map (λ when. (out-When when).tests) whens.now) }
+    ensures { result
+        ≡ evaluated entries.now (memory_of areas.now store.now) subject.now
+        (map (λ when. (out-When when).tests) whens.now) }
 {
     let subject = subject_read(areas, store, subject)?;
     let mut number = 1usize;

@@ -39,7 +39,9 @@ fn add_operand(
     into: &mut Text,
     operand: &Operand,
 ) -> Result<Result<(), Abend>, NoMemory>
-    ensures { IfOk result (λ answer. with_bytes answer into.new ≡ and_then (operand_shown (memory_of areas.now store.now) operand.now) (λ more. Ok (into.old ++ more))) }
+    ensures { IfOk result (λ answer. with_bytes answer into.new
+        ≡ and_then (operand_shown (memory_of areas.now store.now) operand.now)
+        (λ more. Ok (into.old ++ more))) }
 {
     match operand {
         Operand::Place(place) => match reached(areas, store, place) {
@@ -73,7 +75,8 @@ pub fn displayed(
     advance: bool,
 ) -> Result<Result<(), Abend>, NoMemory>
     requires { into.old ≡ [] }
-    ensures { IfOk result (λ answer. with_bytes answer into.new ≡ displayed (memory_of areas.now store.now) operands.now advance) }
+    ensures { IfOk result (λ answer. with_bytes answer into.new
+        ≡ displayed (memory_of areas.now store.now) operands.now advance) }
 {
     for operand in operands {
         if let Err(abend) = add_operand(areas, store, into, operand)? {

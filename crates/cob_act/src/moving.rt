@@ -136,7 +136,8 @@ fn put_integer(store: &mut Store, spot: Spot, digits: u16, number: Option<Dec>)
 }
 
 fn put_text(store: &mut Store, spot: Spot, sender: Sender)
-    ensures { store.new ≡ put_at store.old spot (sender_text spot.length (seen_sender sender.entry)) }
+    ensures { store.new
+        ≡ put_at store.old spot (sender_text spot.length (seen_sender sender.entry)) }
 {
     match sender {
         Sender::Figured(figure) => store.put_filler(spot, figure_byte(figure)),
@@ -149,7 +150,8 @@ fn put_text(store: &mut Store, spot: Spot, sender: Sender)
 
 // A group takes the bytes of an item, whatever its form.
 fn put_bytes(store: &mut Store, spot: Spot, sender: Sender)
-    ensures { store.new ≡ put_at store.old spot (sender_bytes spot.length (seen_sender sender.entry)) }
+    ensures { store.new
+        ≡ put_at store.old spot (sender_bytes spot.length (seen_sender sender.entry)) }
 {
     match sender {
         Sender::Figured(figure) => store.put_filler(spot, figure_byte(figure)),
@@ -169,7 +171,9 @@ fn put_received(
     part: u8,
     sign: Sign,
 ) -> Result<(), Abend>
-    ensures { outcome_of store.new result ≡ put_answer store.old spot (number_received signed whole part sign spot.length number) }
+    ensures { outcome_of store.new result
+        ≡ put_answer store.old spot
+        (number_received signed whole part sign spot.length number) }
 {
     match kept(number, whole, part, false) {
         None => Err(Abend::BadDigits),
@@ -188,7 +192,8 @@ fn put_received(
 
 // What a receiver of that form is given.
 fn put_sent(store: &mut Store, spot: Spot, form: Form, sender: Sender) -> Result<(), Abend>
-    ensures { outcome_of store.new result ≡ put_answer store.old spot (received form spot.length (seen_sender sender.entry)) }
+    ensures { outcome_of store.new result
+        ≡ put_answer store.old spot (received form spot.length (seen_sender sender.entry)) }
 {
     match form {
         Form::Group => {
@@ -218,7 +223,8 @@ fn put_sent(store: &mut Store, spot: Spot, form: Form, sender: Sender) -> Result
 }
 
 fn receive(areas: &[Area], store: &mut Store, sender: Sender, place: &Place) -> Result<(), Abend>
-    ensures { outcome_of store.new result ≡ receive areas.now (seen_sender sender.entry) store.old (reached place.now) }
+    ensures { outcome_of store.new result
+        ≡ receive areas.now (seen_sender sender.entry) store.old (reached place.now) }
 {
     let place = reached(areas, store, place)?;
     put_sent(store, place.spot, place.form, sender)
@@ -231,7 +237,9 @@ fn receive_all(
     sender: Sender,
     places: &[Place],
 ) -> Result<(), Abend>
-    ensures { outcome_of store.new result ≡ each (λ now place. receive areas.now (seen_sender sender.entry) now (reached place)) store.old places.now }
+    ensures { outcome_of store.new result
+        ≡ each (λ now place. receive areas.now (seen_sender sender.entry) now (reached place))
+        store.old places.now }
 {
     for place in places {
         receive(areas, store, sender, place)?;
@@ -247,7 +255,8 @@ pub fn moved(
     from: &Operand,
     to: &[Place],
 ) -> Result<Result<(), Abend>, NoMemory>
-    ensures { IfOk result (λ answer. outcome_of store.new answer ≡ moved areas.now from.now to.now store.old) }
+    ensures { IfOk result (λ answer. outcome_of store.new answer
+        ≡ moved areas.now from.now to.now store.old) }
 {
     let asked = !all_groups(areas, to);
     match from {
@@ -276,7 +285,8 @@ pub fn set(
     scratch: &mut Vec<u8>,
     place: &Place,
 ) -> Result<Result<(), Abend>, NoMemory>
-    ensures { IfOk result (λ answer. outcome_of store.new answer ≡ set entries.now areas.now place.now store.old) }
+    ensures { IfOk result (λ answer. outcome_of store.new answer
+        ≡ set entries.now areas.now place.now store.old) }
 {
     match spans_at(entries, place.item).split_first() {
         None => Ok(Ok(())),

@@ -136,7 +136,8 @@ opened_on world file address mode (Some shelf) =
 abbrev pub opened_at : World → List Address → ℕ → Address → How → Attempt
 opened_at world addresses file address mode =
     permitted world file (may_open (state_of world file).row) (
-    if not (can_be_opened address.name) || is_taken address addresses world.files then refused world file 30
+    if not (can_be_opened address.name) || is_taken address addresses world.files
+    then refused world file 30
     else opened_on world file address mode (shelf_found address.device world.shelves))
 
 abbrev pub closed_at : World → ℕ → Attempt
@@ -181,7 +182,11 @@ read_at world file address size =
 abbrev pub written_at : World → ℕ → Address → List ℕ → Attempt
 written_at world file address bytes =
     permitted world file (may_write (state_of world file).row)
-    (record { world = noted (with_bytes world address (bytes_at world address ++ bytes)) file; bytes = bytes; status = 0 })
+    (record {
+      world = noted (with_bytes world address (bytes_at world address ++ bytes)) file;
+      bytes = bytes;
+      status = 0;
+    })
 
 -- bytes over those from a place on; what is short grows
 abbrev pub over : List ℕ → ℕ → List ℕ → List ℕ

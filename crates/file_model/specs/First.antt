@@ -15,7 +15,8 @@ pub record IsFirst (name : List ℕ) (files : List MemFile) (at : ℕ) : Type 0 
   pub within : at < length files
   pub here : found name files ≡ slice_get files at
   pub changes : (change : MemFile → MemFile)
-      (file : MemFile) → slice_get files at ≡ Some file → changed name change files ≡ slice_set files at (change file)
+      (file : MemFile) → slice_get files at ≡ Some file →
+      changed name change files ≡ slice_set files at (change file)
 
 -- what a read makes of the file
 abbrev pub GivesNext : MemFile → Got → (old new : List ℕ) → MemFile → Type 0

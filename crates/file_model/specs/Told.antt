@@ -102,7 +102,8 @@ Opens (Some files) name mode opened.NoMemory now = now ≡ Some files
 abbrev pub next_of : ℕ → MemFile → List ℕ
 next_of size file = take size (drop file.at file.bytes)
 
--- the answer of READ on that file: as many bytes as there are and fit, or the end where none are left
+-- the answer of READ on that file: as many bytes as there are and fit, or the end where none are
+-- left
 abbrev pub Gives : List ℕ → MemFile → List MemFile → Got → (old new : List ℕ) →
     Option (List MemFile) → Type 0
 Gives name file files (got.Bytes n) old new now =

@@ -13,7 +13,8 @@ pub record Shelf : Type 0 where
   pub name : List ℕ
   pub files : List File
 
--- how a file of the program stands, where its next READ begins, and where the record begins that was read last
+-- how a file of the program stands, where its next READ begins, and where the record begins that
+-- was read last
 pub record FileState : Type 0 where
   pub row : FileRow
   pub at : ℕ

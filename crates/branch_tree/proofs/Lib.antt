@@ -1,0 +1,2 @@
+-- trees, seen row by row
+pub mod TreeRows

@@ -1,0 +1,10 @@
+use Rattle.std.proofs.Common.{◌≡◌, drop}
+use Rattle.control.specs.Doing.{is_above}
+use Rattle.graph_rules.specs.Shapes.{arms_leaves_to}
+use Rattle.branch_tree.specs.Trees.{seen_trees}
+use Rattle.branch_tree.proofs.jumps.+jumps.Given as goal
+
+abbrev pub invariant-one_jumps-loop-arm : goal.invariant-one_jumps-loop-arm
+invariant-one_jumps-loop-arm l =
+    is_above (arms_leaves_to l.label (seen_trees (drop l.arm-index l.arms)))
+    ≡ is_above (arms_leaves_to l.label (seen_trees l.arms))

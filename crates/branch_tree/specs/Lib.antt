@@ -1,0 +1,8 @@
+-- labels as numbers
+pub mod Labels
+-- what trees choose and loops test by
+pub mod Choosers
+-- trees, as trees of the theory of control
+pub mod Trees
+-- graphs, as graphs of it
+pub mod Graphs

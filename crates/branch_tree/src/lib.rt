@@ -1,0 +1,17 @@
+//! Graphs of trees, as code: the points of a program, the trees that stand there, and what they
+//! choose by. A body holds statements without a jump; each tree ends in a choice, a jump, a return,
+//! a stop, or dead.
+//!
+//! Contracts see a tree as the tree of the theory of control (`specs/Trees.antt`).
+#![tactic(auto)]
+
+mod chooser;
+mod graph;
+mod jumps;
+mod label;
+mod tree;
+
+pub use chooser::{Chooser, Picker, Test};
+pub use graph::{Added, Graph, Node};
+pub use label::Label;
+pub use tree::{End, Leaves, Piece, Tree};
