@@ -1,5 +1,5 @@
 -- What the parts of a program do to what it stores and to the world.
-use Rattle.std.specs.Prelude.{ℕ, ◌+◌, ◌-◌, ◌^◌, Bool, true, if◌then◌else◌, nat_le, ◌&&◌, unsigned_abs, List, [], ◌∷◌, map, Ok, Err}
+use Rattle.std.specs.Prelude.{ℕ, ◌+◌, ◌-◌, Bool, true, if◌then◌else◌, nat_le, ◌&&◌, unsigned_abs, List, [], ◌∷◌, map, Ok, Err}
 use Rattle.std.specs.Int.{is_positive}
 use Rattle.cob_num.specs.declared.number.Dec.{Dec}
 use Rattle.cob_tree.specs.declared.ending.Abend.{Abend}

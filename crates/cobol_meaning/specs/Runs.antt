@@ -6,11 +6,11 @@ use Rattle.file_model.specs.World.{World, Shelf}
 use Rattle.file_model.specs.Attempts.{closed}
 use Rattle.statements.specs.Filing.{Declared}
 use Rattle.statements.specs.Does.{declared_in}
-use Rattle.runs.specs.Machine.{Machine, iterate, meaning}
+use Rattle.runs.specs.Machine.{iterate}
 use Rattle.language.specs.Control.{control_of}
-use Rattle.control.specs.Outcome.{Event, Ending, Run}
+use Rattle.control.specs.Outcome.{Run}
 use Rattle.control.specs.Doing.{Doing, alone}
-use Rattle.control.specs.Source.{SourceState, source_machine, source_step, source_begun}
+use Rattle.control.specs.Source.{SourceState, source_step, source_begun}
 use Rattle.control.specs.Structural.{structural}
 use Rattle.cobol_meaning.specs.Acting.{Memory, acting}
 

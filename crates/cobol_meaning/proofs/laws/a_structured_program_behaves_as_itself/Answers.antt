@@ -1,17 +1,14 @@
-use Rattle.std.proofs.Common.{ℕ}
 use Rattle.runs.specs.Machine.{meaning}
 use Rattle.cob_tree.specs.declared.program.Program.{Program}
 use Rattle.statements.specs.Does.{declared_in}
 use Rattle.language.specs.Control.{control_of}
-use Rattle.language.specs.Structured.{IsStructured}
 use Rattle.control.specs.Source.{source_machine}
 use Rattle.control.specs.Structural.{structural}
 use Rattle.agreement.specs.Same as meanings
 use Rattle.agreement.proofs.Tying.{tied-same}
 use Rattle.agreement.proofs.Agreement.{structured-tied}
 use Rattle.agreement.proofs.Faultless.{structured-faultless}
-use Rattle.cobol_meaning.specs.Acting.{Memory}
-use Rattle.cobol_meaning.specs.Runs.{Files, files_left, first_memory, doing_in}
+use Rattle.cobol_meaning.specs.Runs.{files_left, first_memory, doing_in}
 use Rattle.cobol_meaning.specs.Same.{SameBehaviour}
 use Rattle.cobol_meaning.proofs.laws.a_structured_program_behaves_as_itself.Goals as goal
 

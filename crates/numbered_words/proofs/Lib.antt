@@ -1,0 +1,2 @@
+-- a stem with a number behind it is a word in capitals
+pub mod NumberedLemmas

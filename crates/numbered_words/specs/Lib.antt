@@ -1,0 +1,2 @@
+-- what stands before a number
+pub mod Stem
