@@ -1,0 +1,16 @@
+//! What a range's level comes to, and which ranges return.
+//!
+//! A level's search is `reached`, held against `ComesIn` of `flow_places`; `settle` finds the ranges
+//! that return, and `calls_of` and `ends_of` tell what a level performs and whose ends it passes.
+//! `laws::table_is_exact` and `facts_are_exact` say that this is what the flow paths of the program
+//! do.
+#![tactic(auto)]
+
+mod facts;
+pub mod laws;
+mod reach;
+mod settling;
+
+pub use facts::{calls_of, ends_of};
+pub use reach::{Reach, ends_at, reached};
+pub use settling::settle;

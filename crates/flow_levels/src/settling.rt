@@ -1,0 +1,80 @@
+//! Which ranges return.
+
+ghost use Rattle.std.specs.Prelude.{Bool, ℕ, ◌≡◌, ◌<◌, ◌≤◌, ◌↔◌, true, false, length, IfOk, IsTrue};
+ghost use Rattle.flow_places.specs.Table.{IsTidy, IsClosed, ReturnsHere};
+ghost use Rattle.flow_levels.specs.Reaching.{HasEnd, AllPlaces, SaysSoundly, StaysSound, trues};
+
+use crate::reach::{ends_at, reached};
+use cob_base::NoMemory;
+use cob_tree::Range;
+use flow_places::{Place, Table};
+use std::alloc::Global;
+
+/// Whether one of the places is the end at which the range returns.
+pub fn has_end(table: &Table, range: Range, places: &[u32]) -> bool
+    requires { AllPlaces (length table.now.places) places.now }
+    ensures { IsTrue result ↔ HasEnd table.now range places.now }
+{
+    for number in places {
+        match &table.places.as_slice()[*number as usize] {
+            Place::Ends(paragraph) => {
+                if ends_at(range.exit, *paragraph) {
+                    return true;
+                }
+            }
+            _ => {}
+        }
+    }
+    false
+}
+
+/// Whether the range's level comes to its return, where these ranges return.
+pub fn comes_back(
+    alloc: Global,
+    table: &Table,
+    returns: &[bool],
+    range: Range,
+) -> Result<bool, NoMemory>
+    requires tidy { IsTidy table.now }
+    requires known { length table.now.ranges ≤ length returns.now }
+    ensures { IfOk result (λ back. IsTrue back ↔ ReturnsHere table.now returns.now range) }
+{
+    let places = reached(alloc, table, returns, range)?;
+    Ok(has_end(table, range, places.as_slice()))
+}
+
+/// Looks at each range that isn't said to return, and says whether one of them does.
+pub fn round(alloc: Global, table: &Table, returns: &mut Vec<bool>) -> Result<bool, NoMemory>
+    requires tidy { IsTidy table.now }
+    requires size { length returns.old.items ≡ length table.now.ranges }
+    ensures size { length returns.new.items ≡ length table.now.ranges }
+    ensures sound { StaysSound table.now returns.old.items returns.new.items }
+    ensures closed { IfOk result (λ more. more ≡ false → IsClosed table.now returns.new.items) }
+    ensures more { IfOk result (λ more. more ≡ true → trues returns.old.items < trues returns.new.items) }
+{
+    let mut more = false;
+    for number in 0..table.ranges.len() {
+        if !returns[number] {
+            let range = table.ranges.as_slice()[number];
+            if comes_back(alloc, table, returns.as_slice(), range)? {
+                returns[number] = true;
+                more = true;
+            }
+        }
+    }
+    Ok(more)
+}
+
+/// Which ranges return.
+pub fn settle(alloc: Global, table: &Table) -> Result<Vec<bool>, NoMemory>
+    requires { IsTidy table.now }
+    ensures sound { IfOk result (λ returns. SaysSoundly table.now returns.items) }
+    ensures closed { IfOk result (λ returns. IsClosed table.now returns.items) }
+{
+    let mut returns = vec![in alloc; false; table.ranges.len()]?;
+    'rounds: loop {
+        if !round(alloc, table, &mut returns)? {
+            return Ok(returns);
+        }
+    }
+}
