@@ -1,0 +1,2 @@
+-- Each form is lawful.
+pub mod WordLaws
