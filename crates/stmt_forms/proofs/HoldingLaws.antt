@@ -104,7 +104,7 @@ module _ {level : Level} (L : LevelIsLawful level) where
   unfolding loops.loop_body
   loop_body scope control = L.stmts (loops.looped scope) >>= (λ held. chosen held.1 refuse (loose (key (codes "END-PERFORM") >> pure)))
 
-module _ {parts : Parts} (P : PartsAreLawful parts) where
+module _ {Side Known : Type 0} {parts : Parts Side Known} (P : PartsAreLawful parts) where
   -- ---- conditions and values
 
   pub test_cond : Law true (choice.test_cond parts)
@@ -117,28 +117,28 @@ module _ {parts : Parts} (P : PartsAreLawful parts) where
       where_next (where_next (key (codes "TRUE") >> pure) (key (codes "FALSE") >> pure))
       (P.expr >>= (λ side. note >> pure))
 
-  pub compared : (known : parts.Known) → Law true (choice.compared parts known)
+  pub compared : (known : Known) → Law true (choice.compared parts known)
   unfolding choice.compared
   compared known = P.expr >>= (λ side. note >> (note >> pure))
 
-  pub last_part : (known : parts.Known) → Law false (choice.last_part parts known)
+  pub last_part : (known : Known) → Law false (choice.last_part parts known)
   unfolding choice.last_part choice.last_value
   last_part known = where_next (loose (thru >> (compared known >>= (λ last. pure)))) pure
 
-  pub value_test : (known : parts.Known) → Law true (choice.value_test parts known)
+  pub value_test : (known : Known) → Law true (choice.value_test parts known)
   unfolding choice.value_test
   value_test known = negation >>= (λ not. compared known >>= (λ from. last_part known >>= (λ to. pure)))
 
-  pub test_by : (known : Option parts.Known) → Law true (choice.test_by parts known)
+  pub test_by : (known : Option Known) → Law true (choice.test_by parts known)
   unfolding choice.test_by choice.cond_test
   test_by None = test_cond >>= (λ cond. pure)
   test_by (Some known) = value_test known
 
-  pub test : (known : Option parts.Known) → Law true (choice.test parts known)
+  pub test : (known : Option Known) → Law true (choice.test parts known)
   unfolding choice.test choice.any_test
   test known = where_next (key (codes "ANY") >> pure) (test_by known)
 
-  pub next_test : (known : Option parts.Known) → Law true (choice.next_test parts known)
+  pub next_test : (known : Option Known) → Law true (choice.next_test parts known)
   unfolding choice.next_test
   next_test known = key (codes "WHEN") >> test known
 
@@ -169,7 +169,7 @@ module _ {parts : Parts} (P : PartsAreLawful parts) where
   unfolding loops.until_control
   until_control = test_part >>= (λ after. where_next (varying_cond after) (until_cond after))
 
-  pub times_behind : (side : parts.Side) → Law true (loops.times_behind parts side)
+  pub times_behind : (side : Side) → Law true (loops.times_behind parts side)
   unfolding loops.times_behind
   times_behind side = note >> (key (codes "TIMES") >> pure)
 
@@ -227,7 +227,7 @@ module _ {parts : Parts} (P : PartsAreLawful parts) where
       first ← L.stmts scope
       if_behind L scope cond first
 
-    pub when_behind : (scope : Scope) (known : Option parts.Known) → Law true (choice.when_behind parts level scope known)
+    pub when_behind : (scope : Scope) (known : Option Known) → Law true (choice.when_behind parts level scope known)
     unfolding choice.when_behind
     when_behind scope known = do
       first ← test known
@@ -235,19 +235,19 @@ module _ {parts : Parts} (P : PartsAreLawful parts) where
       held ← L.stmts scope
       pure
 
-    pub when_more : (scope : Scope) (known : Option parts.Known) (before : List When) → Law true (choice.when_more parts level scope known before)
+    pub when_more : (scope : Scope) (known : Option Known) (before : List When) → Law true (choice.when_more parts level scope known before)
     unfolding choice.when_more
     when_more scope known before = when_behind scope known >>= (λ next. pure)
 
-    pub when_next : (scope : Scope) (known : Option parts.Known) (before : List When) → Law true (choice.when_next parts level scope known before)
+    pub when_next : (scope : Scope) (known : Option Known) (before : List When) → Law true (choice.when_next parts level scope known before)
     unfolding choice.when_next choice.when_other
     when_next scope known before = key (codes "WHEN") >> where_next (key (codes "OTHER") >> pure) (when_more scope known before)
 
-    pub whens_turn : (scope : Scope) (known : Option parts.Known) (state : Whens) → Law true (choice.whens_turn parts level scope known state)
+    pub whens_turn : (scope : Scope) (known : Option Known) (state : Whens) → Law true (choice.whens_turn parts level scope known state)
     unfolding choice.whens_turn
     whens_turn scope known state = chosen (state.other || state.not_read) refuse (when_next scope known state.whens)
 
-    pub whens : (scope : Scope) (known : Option parts.Known) → Law true (choice.whens parts level scope known)
+    pub whens : (scope : Scope) (known : Option Known) → Law true (choice.whens parts level scope known)
     unfolding choice.whens
     whens scope known = do
       key (codes "WHEN")
@@ -273,7 +273,7 @@ module _ {parts : Parts} (P : PartsAreLawful parts) where
     unfolding loops.until_loop
     until_loop scope = L.enter >> (until_control >>= (λ control. chosen control.1 refuse (loose (loop_body L scope control.0))))
 
-    pub times_loop : (scope : Scope) (side : parts.Side) → Law true (loops.times_loop parts level scope side)
+    pub times_loop : (scope : Scope) (side : Side) → Law true (loops.times_loop parts level scope side)
     unfolding loops.times_loop
     times_loop scope side = times_behind side >>= loop_body L scope
 

@@ -18,7 +18,7 @@ pub sentence_end : (found : Found) → Law false (paragraphs.sentence_end found)
 unfolding paragraphs.sentence_end
 sentence_end found = chosen found.1 refuse (loose (period >> pure))
 
-module _ {parts : Parts} (P : PartsAreLawful parts) where
+module _ {Side Known : Type 0} {parts : Parts Side Known} (P : PartsAreLawful parts) where
   pub sentence : (scope : Scope) → Law true (paragraphs.sentence parts scope)
   unfolding paragraphs.sentence
   sentence scope = holding.stmts P max_nesting scope >>= sentence_end

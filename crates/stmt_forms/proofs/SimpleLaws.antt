@@ -57,7 +57,7 @@ still_stmt =
     where_next (key (codes "NEXT") >> key (codes "SENTENCE") >> pure)
     (where_next (key (codes "STOP") >> key (codes "RUN") >> pure) (key (codes "CONTINUE") >> pure))
 
-module _ {parts : Parts} (P : PartsAreLawful parts) where
+module _ {Side Known : Type 0} {parts : Parts Side Known} (P : PartsAreLawful parts) where
   -- ---- moves
 
   pub value : Law true (move.value parts)
@@ -76,7 +76,7 @@ module _ {parts : Parts} (P : PartsAreLawful parts) where
     advance ← advancing
     pure
 
-  pub receiver : (from : parts.Side) → Law true (move.receiver parts from)
+  pub receiver : (from : Side) → Law true (move.receiver parts from)
   unfolding move.receiver
   receiver from = P.reference >>= (λ side. note >> (note >> pure))
 
@@ -129,7 +129,7 @@ module _ {parts : Parts} (P : PartsAreLawful parts) where
   unfolding arithmetic.literal_goal
   literal_goal = number_operand >>= giving_goal
 
-  pub targets_goal : (side : parts.Side) → Law false (arithmetic.targets_goal parts side)
+  pub targets_goal : (side : Side) → Law false (arithmetic.targets_goal parts side)
   unfolding arithmetic.targets_goal
   targets_goal side = do
     round ← rounded
@@ -226,7 +226,7 @@ module _ {parts : Parts} (P : PartsAreLawful parts) where
     files ← some file_name
     pure
 
-  pub from_part : (target : parts.Side) → Law false (file.from_part parts target)
+  pub from_part : (target : Side) → Law false (file.from_part parts target)
   unfolding file.from_part file.from_operand
   from_part record_side = where_next (loose (key (codes "FROM") >> (value >>= (λ side. note >> pure)))) pure
 

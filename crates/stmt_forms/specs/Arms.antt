@@ -120,31 +120,38 @@ worked word level scope work = do
   end_word word found.1
   pure (stmts.Arith work.0 work.1 found.0, found.1)
 
-unfoldable pub add_stmt : Parts → Level → Scope → Form FoundOne
+unfoldable pub add_stmt : {Side Known : Type 0} → Parts Side Known → Level → Scope → Form FoundOne
 add_stmt parts level scope = add parts >>= worked (codes "END-ADD") level scope
 
-unfoldable pub subtract_stmt : Parts → Level → Scope → Form FoundOne
+unfoldable pub subtract_stmt : {Side Known : Type 0} → Parts Side Known →
+    Level → Scope → Form FoundOne
 subtract_stmt parts level scope = subtract parts >>= worked (codes "END-SUBTRACT") level scope
 
-unfoldable pub multiply_stmt : Parts → Level → Scope → Form FoundOne
+unfoldable pub multiply_stmt : {Side Known : Type 0} → Parts Side Known →
+    Level → Scope → Form FoundOne
 multiply_stmt parts level scope = multiply parts >>= worked (codes "END-MULTIPLY") level scope
 
-unfoldable pub divide_stmt : Parts → Level → Scope → Form FoundOne
+unfoldable pub divide_stmt : {Side Known : Type 0} → Parts Side Known →
+    Level → Scope → Form FoundOne
 divide_stmt parts level scope = divide parts >>= worked (codes "END-DIVIDE") level scope
 
-unfoldable pub compute_stmt : Parts → Level → Scope → Form FoundOne
+unfoldable pub compute_stmt : {Side Known : Type 0} → Parts Side Known →
+    Level → Scope → Form FoundOne
 compute_stmt parts level scope = compute parts >>= worked (codes "END-COMPUTE") level scope
 
-unfoldable pub adding_stmt : Parts → Level → Scope → Form FoundOne
+unfoldable pub adding_stmt : {Side Known : Type 0} → Parts Side Known →
+    Level → Scope → Form FoundOne
 adding_stmt parts level scope =
     where_next (is_key (codes "ADD")) (add_stmt parts level scope) (subtract_stmt parts level scope)
 
-unfoldable pub multiplying_stmt : Parts → Level → Scope → Form FoundOne
+unfoldable pub multiplying_stmt : {Side Known : Type 0} → Parts Side Known →
+    Level → Scope → Form FoundOne
 multiplying_stmt parts level scope =
     where_next (is_key (codes "MULTIPLY")) (multiply_stmt parts level scope)
     (divide_stmt parts level scope)
 
-unfoldable pub arithmetic_stmt : Parts → Level → Scope → Form FoundOne
+unfoldable pub arithmetic_stmt : {Side Known : Type 0} → Parts Side Known →
+    Level → Scope → Form FoundOne
 arithmetic_stmt parts level scope =
     where_next begins_adding (adding_stmt parts level scope)
     (where_next begins_multiplying (multiplying_stmt parts level scope)
@@ -162,21 +169,24 @@ read_and_next file before = do
   pure (before ++ stmts.Read file None no_arms ∷ stmts.NextSentence ∷ [], false)
 
 -- [RECORD] [INTO ref] [[AT] END stmt+] [NOT [AT] END stmt+] [END-READ]
-unfoldable pub read_behind : Parts → Level → Scope → Option ℕ → List Stmt → Form Found
+unfoldable pub read_behind : {Side Known : Type 0} → Parts Side Known →
+    Level → Scope → Option ℕ → List Stmt → Form Found
 read_behind parts level scope file before = do
   into ← into_part parts file
   found ← arms phrases.End level scope
   end_word (codes "END-READ") found.1
   pure (before ++ stmts.Read (index_or_0 file) into found.0 ∷ [], found.1)
 
-unfoldable pub read_next : Parts → Level → Scope → Option ℕ → List Stmt → Form Found
+unfoldable pub read_next : {Side Known : Type 0} → Parts Side Known →
+    Level → Scope → Option ℕ → List Stmt → Form Found
 read_next parts level scope file before = do
   key (codes "NEXT")
   where_next (is_key (codes "SENTENCE")) (read_and_next (index_or_0 file) before)
       (read_behind parts level scope file before)
 
 -- READ word [NEXT] [RECORD] [INTO ref] [[AT] END stmt+] [NOT [AT] END stmt+] [END-READ]
-unfoldable pub read_stmt : Parts → Level → Scope → List Stmt → Form Found
+unfoldable pub read_stmt : {Side Known : Type 0} → Parts Side Known →
+    Level → Scope → List Stmt → Form Found
 read_stmt parts level scope before = do
   file ← read_file parts
   where_next (is_key (codes "NEXT")) (read_next parts level scope file before)

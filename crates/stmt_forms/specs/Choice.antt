@@ -24,7 +24,7 @@ use Rattle.stmt_forms.specs.Arms.{Level, Found, FoundOne, Arm, end_word}
 unfoldable pub settled : Cond × Bool → Form Cond
 settled found = chosen found.1 (refuse Syntax) (pure found.0)
 
-unfoldable pub test_cond : Parts → Form Cond
+unfoldable pub test_cond : {Side Known : Type 0} → Parts Side Known → Form Cond
 test_cond parts = parts.cond >>= settled
 
 unfoldable pub else_part : Level → Scope → Form Found
@@ -42,7 +42,7 @@ if_behind level scope cond first =
     chosen first.1 (pure (stmts.If cond first.0 [], true)) (if_ended level scope cond first.0)
 
 -- IF cond [THEN] stmt+ [ELSE stmt+] [END-IF]
-unfoldable pub if_stmt : Parts → Level → Scope → Form FoundOne
+unfoldable pub if_stmt : {Side Known : Type 0} → Parts Side Known → Level → Scope → Form FoundOne
 if_stmt parts level scope = do
   level.enter
   key (codes "IF")
@@ -54,16 +54,18 @@ if_stmt parts level scope = do
 -- ---- TRUE | FALSE | expr
 
 -- a subject, and what is known of it if it is a value
-abbrev pub Subjected : Parts → Type 0
-Subjected parts = Subject × Option parts.Known
+abbrev pub Subjected : Type 0 → Type 0
+Subjected Known = Subject × Option Known
 
-unfoldable pub truth_subject : (parts : Parts) → Form (Subjected parts)
+unfoldable pub truth_subject : {Side Known : Type 0} → (parts : Parts Side Known) →
+    Form (Subjected Known)
 truth_subject parts =
     where_next (is_key (codes "TRUE"))
     (key (codes "TRUE") >> pure (subjects.True, None))
     (key (codes "FALSE") >> pure (subjects.False, None))
 
-unfoldable pub value_subject : (parts : Parts) → Form (Subjected parts)
+unfoldable pub value_subject : {Side Known : Type 0} → (parts : Parts Side Known) →
+    Form (Subjected Known)
 value_subject parts = do
   side ← parts.expr
   note (parts.value_fault side)
@@ -72,7 +74,7 @@ value_subject parts = do
 abbrev pub begins_truth : TokenKind → Bool
 begins_truth kind = is_key (codes "TRUE") kind || is_key (codes "FALSE") kind
 
-unfoldable pub subject : (parts : Parts) → Form (Subjected parts)
+unfoldable pub subject : {Side Known : Type 0} → (parts : Parts Side Known) → Form (Subjected Known)
 subject parts = where_next begins_truth (truth_subject parts) (value_subject parts)
 
 -- ---- WHEN (ANY | cond | [NOT] expr [THRU expr])
@@ -80,10 +82,10 @@ subject parts = where_next begins_truth (truth_subject parts) (value_subject par
 unfoldable pub any_test : Form Test
 any_test = key (codes "ANY") >> pure tests.Any
 
-unfoldable pub cond_test : Parts → Form Test
+unfoldable pub cond_test : {Side Known : Type 0} → Parts Side Known → Form Test
 cond_test parts = test_cond parts >>= (λ cond. pure (tests.Holds cond))
 
-unfoldable pub compared : (parts : Parts) → parts.Known → Form Expr
+unfoldable pub compared : {Side Known : Type 0} → (parts : Parts Side Known) → Known → Form Expr
 compared parts known = do
   side ← parts.expr
   note (parts.value_fault side)
@@ -103,13 +105,15 @@ thru =
     (key (codes "THRU") >> pure tt)
     (key (codes "THROUGH") >> pure tt)
 
-unfoldable pub last_value : (parts : Parts) → parts.Known → Form (Option Expr)
+unfoldable pub last_value : {Side Known : Type 0} → (parts : Parts Side Known) →
+    Known → Form (Option Expr)
 last_value parts known = thru >> (compared parts known >>= (λ last. pure (Some last)))
 
-unfoldable pub last_part : (parts : Parts) → parts.Known → Form (Option Expr)
+unfoldable pub last_part : {Side Known : Type 0} → (parts : Parts Side Known) →
+    Known → Form (Option Expr)
 last_part parts known = where_next begins_thru (last_value parts known) (pure None)
 
-unfoldable pub value_test : (parts : Parts) → parts.Known → Form Test
+unfoldable pub value_test : {Side Known : Type 0} → (parts : Parts Side Known) → Known → Form Test
 value_test parts known = do
   not ← negation
   from ← compared parts known
@@ -117,17 +121,20 @@ value_test parts known = do
   pure (tests.Value not from to)
 
 -- conditions with TRUE or FALSE, else values
-unfoldable pub test_by : (parts : Parts) → Option parts.Known → Form Test
+unfoldable pub test_by : {Side Known : Type 0} → (parts : Parts Side Known) →
+    Option Known → Form Test
 test_by parts None = cond_test parts
 test_by parts (Some known) = value_test parts known
 
-unfoldable pub test : (parts : Parts) → Option parts.Known → Form Test
+unfoldable pub test : {Side Known : Type 0} → (parts : Parts Side Known) → Option Known → Form Test
 test parts known = where_next (is_key (codes "ANY")) any_test (test_by parts known)
 
-unfoldable pub next_test : (parts : Parts) → Option parts.Known → Form Test
+unfoldable pub next_test : {Side Known : Type 0} → (parts : Parts Side Known) →
+    Option Known → Form Test
 next_test parts known = key (codes "WHEN") >> test parts known
 
-abbrev pub more_tests : (parts : Parts) → Option parts.Known → List Test → Form (List Test)
+abbrev pub more_tests : {Side Known : Type 0} → (parts : Parts Side Known) →
+    Option Known → List Test → Form (List Test)
 more_tests parts known before = loop (is_key (codes "WHEN")) (added (next_test parts known)) before
 
 -- ---- EVALUATE
@@ -136,8 +143,8 @@ abbrev pub when_of : List Test → List Stmt → When
 when_of tests held = roll-When (record { tests = tests; stmts = held })
 
 -- tests that share their statements, behind the first WHEN
-unfoldable pub when_behind : (parts : Parts) → Level → Scope → Option parts.Known →
-    Form (When × Bool)
+unfoldable pub when_behind : {Side Known : Type 0} → (parts : Parts Side Known) →
+    Level → Scope → Option Known → Form (When × Bool)
 when_behind parts level scope known = do
   first ← test parts known
   all ← more_tests parts known (first ∷ [])
@@ -147,8 +154,8 @@ when_behind parts level scope known = do
 abbrev pub whens_of : List When → Bool → Bool → Whens
 whens_of whens other not_read = record { whens = whens; other = other; not_read = not_read }
 
-unfoldable pub when_more : (parts : Parts) → Level → Scope → Option parts.Known → List When →
-    Form Whens
+unfoldable pub when_more : {Side Known : Type 0} → (parts : Parts Side Known) →
+    Level → Scope → Option Known → List When → Form Whens
 when_more parts level scope known before = do
   next ← when_behind parts level scope known
   pure (whens_of (before ++ next.0 ∷ []) false next.1)
@@ -156,21 +163,22 @@ when_more parts level scope known before = do
 unfoldable pub when_other : List When → Form Whens
 when_other before = key (codes "OTHER") >> pure (whens_of before true false)
 
-unfoldable pub when_next : (parts : Parts) → Level → Scope → Option parts.Known → List When →
-    Form Whens
+unfoldable pub when_next : {Side Known : Type 0} → (parts : Parts Side Known) →
+    Level → Scope → Option Known → List When → Form Whens
 when_next parts level scope known before =
     key (codes "WHEN")
     >> where_next (is_key (codes "OTHER")) (when_other before)
     (when_more parts level scope known before)
 
 -- no WHEN may stand directly behind WHEN OTHER, or behind a NOT
-unfoldable pub whens_turn : (parts : Parts) → Level → Scope → Option parts.Known → Whens →
-    Form Whens
+unfoldable pub whens_turn : {Side Known : Type 0} → (parts : Parts Side Known) →
+    Level → Scope → Option Known → Whens → Form Whens
 whens_turn parts level scope known state =
     chosen (state.other || state.not_read) (refuse Syntax)
     (when_next parts level scope known state.whens)
 
-abbrev pub whens_from : (parts : Parts) → Level → Scope → Option parts.Known → Whens → Form Whens
+abbrev pub whens_from : {Side Known : Type 0} → (parts : Parts Side Known) →
+    Level → Scope → Option Known → Whens → Form Whens
 whens_from parts level scope known first =
     loop (is_key (codes "WHEN")) (whens_turn parts level scope known) first
 
@@ -187,14 +195,16 @@ evaluated level scope subject state = do
   end_word (codes "END-EVALUATE") other.1
   pure (stmts.Evaluate subject state.whens other.0, other.1)
 
-unfoldable pub whens : (parts : Parts) → Level → Scope → Option parts.Known → Form Whens
+unfoldable pub whens : {Side Known : Type 0} → (parts : Parts Side Known) →
+    Level → Scope → Option Known → Form Whens
 whens parts level scope known = do
   key (codes "WHEN")
   first ← when_more parts level scope known []
   whens_from parts level scope known first
 
 -- EVALUATE (TRUE | FALSE | expr) (when+ stmt+)+ [WHEN OTHER stmt+] [END-EVALUATE]
-unfoldable pub evaluate_stmt : Parts → Level → Scope → Form FoundOne
+unfoldable pub evaluate_stmt : {Side Known : Type 0} → Parts Side Known →
+    Level → Scope → Form FoundOne
 evaluate_stmt parts level scope = do
   level.enter
   key (codes "EVALUATE")
@@ -202,6 +212,7 @@ evaluate_stmt parts level scope = do
   state ← whens parts level scope found.1
   evaluated level scope found.0 state
 
-unfoldable pub choice_stmt : Parts → Level → Scope → Form FoundOne
+unfoldable pub choice_stmt : {Side Known : Type 0} → Parts Side Known →
+    Level → Scope → Form FoundOne
 choice_stmt parts level scope =
     where_next (is_key (codes "IF")) (if_stmt parts level scope) (evaluate_stmt parts level scope)

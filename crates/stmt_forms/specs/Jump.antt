@@ -24,7 +24,7 @@ abbrev pub is_digits : TokenKind → Bool
 is_digits (kinds.Digits found) = true
 is_digits _ = false
 
-unfoldable pub begins_procedure : Parts → TokenKind → Bool
+unfoldable pub begins_procedure : {Side Known : Type 0} → Parts Side Known → TokenKind → Bool
 begins_procedure parts kind = parts.is_procedure_word kind || is_digits kind
 
 abbrev pub unknown_fault : Option (ℕ × ℕ) → Position → Option Note
@@ -36,26 +36,27 @@ span_or_0 None = (0, 0)
 span_or_0 (Some span) = span
 
 -- the entry and exit of what has this name
-unfoldable pub procedure_named : Parts → List ℕ → Position → Form (ℕ × ℕ)
+unfoldable pub procedure_named : {Side Known : Type 0} → Parts Side Known →
+    List ℕ → Position → Form (ℕ × ℕ)
 procedure_named parts name position = do
   note (unknown_fault (parts.procedure_of name) position)
   pure (span_or_0 (parts.procedure_of name))
 
-unfoldable pub word_procedure : Parts → Form (ℕ × ℕ)
+unfoldable pub word_procedure : {Side Known : Type 0} → Parts Side Known → Form (ℕ × ℕ)
 word_procedure parts = word >>= (λ name. procedure_named parts name.0 name.1)
 
-unfoldable pub digits_procedure : Parts → Form (ℕ × ℕ)
+unfoldable pub digits_procedure : {Side Known : Type 0} → Parts Side Known → Form (ℕ × ℕ)
 digits_procedure parts = digits >>= (λ name. procedure_named parts name.0 name.1)
 
-unfoldable pub procedure : Parts → Form (ℕ × ℕ)
+unfoldable pub procedure : {Side Known : Type 0} → Parts Side Known → Form (ℕ × ℕ)
 procedure parts = where_next parts.is_procedure_word (word_procedure parts) (digits_procedure parts)
 
 -- ---- GO
 
-unfoldable pub procedure_entry : Parts → Form ℕ
+unfoldable pub procedure_entry : {Side Known : Type 0} → Parts Side Known → Form ℕ
 procedure_entry parts = procedure parts >>= (λ span. pure span.0)
 
-abbrev pub more_entries : Parts → List ℕ → Form (List ℕ)
+abbrev pub more_entries : {Side Known : Type 0} → Parts Side Known → List ℕ → Form (List ℕ)
 more_entries parts before = loop (begins_procedure parts) (added (procedure_entry parts)) before
 
 -- one name is enough without DEPENDING, and all that may be
@@ -63,7 +64,7 @@ unfoldable pub go_alone : List ℕ → Form Stmt
 go_alone (to ∷ []) = pure (stmts.Go to)
 go_alone _ = refuse Syntax
 
-unfoldable pub go_depending : Parts → List ℕ → Form Stmt
+unfoldable pub go_depending : {Side Known : Type 0} → Parts Side Known → List ℕ → Form Stmt
 go_depending parts to = do
   key (codes "DEPENDING")
   maybe (codes "ON")
@@ -72,7 +73,7 @@ go_depending parts to = do
   pure (stmts.GoDepending to (parts.place_of side))
 
 -- GO [TO] pname | GO [TO] pname+ DEPENDING [ON] ref
-unfoldable pub go_stmt : Parts → Form Stmt
+unfoldable pub go_stmt : {Side Known : Type 0} → Parts Side Known → Form Stmt
 go_stmt parts = do
   key (codes "GO")
   maybe (codes "TO")
@@ -135,7 +136,7 @@ still_stmt =
     where_next (is_key (codes "NEXT")) next_sentence
     (where_next (is_key (codes "STOP")) stop_run continue_stmt)
 
-unfoldable pub jump_stmt : Parts → Scope → Form Stmt
+unfoldable pub jump_stmt : {Side Known : Type 0} → Parts Side Known → Scope → Form Stmt
 jump_stmt parts scope =
     where_next (is_key (codes "GO")) (go_stmt parts)
     (where_next (is_key (codes "EXIT")) (exit_stmt scope) still_stmt)

@@ -5,7 +5,7 @@ use Rattle.grammar_forms.proofs.MakerLaws.{Law}
 use Rattle.stmt_forms.specs.Part.{Parts}
 
 -- each form is lawful; each takes a token, but for what stands behind the first word of a reference
-pub record PartsAreLawful (parts : Parts) : Type 0 where
+pub record PartsAreLawful {Side Known : Type 0} (parts : Parts Side Known) : Type 0 where
   pub operand : Law true parts.operand
   pub reference : Law true parts.reference
   pub reference_behind : (name : List ℕ) (position : Position) →

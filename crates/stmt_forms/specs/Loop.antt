@@ -45,19 +45,19 @@ test_words = do
 unfoldable pub test_part : Form Bool
 test_part = where_next begins_testing test_words (pure false)
 
-unfoldable pub until_cond : Parts → Bool → Form Controlled
+unfoldable pub until_cond : {Side Known : Type 0} → Parts Side Known → Bool → Form Controlled
 until_cond parts after = do
   key (codes "UNTIL")
   cond ← parts.cond
   pure (controls.Until after cond.0, cond.1)
 
-unfoldable pub varied : Parts → Form Place
+unfoldable pub varied : {Side Known : Type 0} → Parts Side Known → Form Place
 varied parts = do
   side ← parts.reference
   note (parts.number_fault side)
   pure (parts.place_of side)
 
-unfoldable pub varying_cond : Parts → Bool → Form Controlled
+unfoldable pub varying_cond : {Side Known : Type 0} → Parts Side Known → Bool → Form Controlled
 varying_cond parts after = do
   key (codes "VARYING")
   item ← varied parts
@@ -69,20 +69,21 @@ varying_cond parts after = do
   cond ← parts.cond
   pure (controls.Varying after item from by cond.0, cond.1)
 
-unfoldable pub until_control : Parts → Form Controlled
+unfoldable pub until_control : {Side Known : Type 0} → Parts Side Known → Form Controlled
 until_control parts = do
   after ← test_part
   where_next (is_key (codes "VARYING")) (varying_cond parts after) (until_cond parts after)
 
 -- ---- operand TIMES
 
-unfoldable pub times_behind : (parts : Parts) → parts.Side → Form Control
+unfoldable pub times_behind : {Side Known : Type 0} → (parts : Parts Side Known) →
+    Side → Form Control
 times_behind parts side = do
   note (parts.whole_fault side)
   key (codes "TIMES")
   pure (controls.Times (parts.operand_of side))
 
-unfoldable pub times_control : Parts → Form Control
+unfoldable pub times_control : {Side Known : Type 0} → Parts Side Known → Form Control
 times_control parts = parts.operand >>= times_behind parts
 
 -- ---- PERFORM ctl stmt+ END-PERFORM
@@ -96,27 +97,31 @@ loop_body level scope control = do
   chosen held.1 (refuse Syntax)
       (key (codes "END-PERFORM") >> pure (stmts.Loop control held.0, false))
 
-unfoldable pub until_loop : Parts → Level → Scope → Form FoundOne
+unfoldable pub until_loop : {Side Known : Type 0} → Parts Side Known → Level → Scope → Form FoundOne
 until_loop parts level scope = do
   level.enter
   control ← until_control parts
   chosen control.1 (refuse Syntax) (loop_body level scope control.0)
 
-unfoldable pub times_loop : (parts : Parts) → Level → Scope → parts.Side → Form FoundOne
+unfoldable pub times_loop : {Side Known : Type 0} → (parts : Parts Side Known) →
+    Level → Scope → Side → Form FoundOne
 times_loop parts level scope side = times_behind parts side >>= loop_body level scope
 
 -- by an item, behind its first word
-unfoldable pub item_loop : Parts → Level → Scope → List ℕ → Position → Form FoundOne
+unfoldable pub item_loop : {Side Known : Type 0} → Parts Side Known →
+    Level → Scope → List ℕ → Position → Form FoundOne
 item_loop parts level scope name position = do
   level.enter
   side ← parts.reference_behind name position
   times_loop parts level scope side
 
-unfoldable pub digits_loop : Parts → Level → Scope → List ℕ → Position → Form FoundOne
+unfoldable pub digits_loop : {Side Known : Type 0} → Parts Side Known →
+    Level → Scope → List ℕ → Position → Form FoundOne
 digits_loop parts level scope digits position =
     level.enter >> times_loop parts level scope (parts.digits_side digits position)
 
-unfoldable pub operand_loop : Parts → Level → Scope → Form FoundOne
+unfoldable pub operand_loop : {Side Known : Type 0} → Parts Side Known →
+    Level → Scope → Form FoundOne
 operand_loop parts level scope = do
   level.enter
   side ← parts.operand
@@ -124,19 +129,20 @@ operand_loop parts level scope = do
 
 -- ---- PERFORM pname [THRU pname] [ctl]
 
-unfoldable pub exit_of : Parts → ℕ → Form ℕ
+unfoldable pub exit_of : {Side Known : Type 0} → Parts Side Known → ℕ → Form ℕ
 exit_of parts exit =
     where_next begins_thru (thru >> (procedure parts >>= (λ last. pure last.1))) (pure exit)
 
-unfoldable pub times_or_once : Parts → Form Controlled
+unfoldable pub times_or_once : {Side Known : Type 0} → Parts Side Known → Form Controlled
 times_or_once parts =
     where_next parts.begins_operand (times_control parts >>= (λ control. pure (control, false)))
     (pure (controls.Once, false))
 
-unfoldable pub control_part : Parts → Form Controlled
+unfoldable pub control_part : {Side Known : Type 0} → Parts Side Known → Form Controlled
 control_part parts = where_next begins_until (until_control parts) (times_or_once parts)
 
-unfoldable pub perform_named : Parts → List ℕ → Position → Form FoundOne
+unfoldable pub perform_named : {Side Known : Type 0} → Parts Side Known →
+    List ℕ → Position → Form FoundOne
 perform_named parts name position = do
   first ← procedure_named parts name position
   exit ← exit_of parts first.1
@@ -151,35 +157,41 @@ continues_item kind =
     is_key (codes "TIMES") kind
     || (is_key (codes "OF") kind || (is_key (codes "IN") kind || is_mark left_parenthesis kind))
 
-unfoldable pub perform_name : Parts → Level → Scope → Form FoundOne
+unfoldable pub perform_name : {Side Known : Type 0} → Parts Side Known →
+    Level → Scope → Form FoundOne
 perform_name parts level scope = do
   name ← word
   where_next continues_item (item_loop parts level scope name.0 name.1)
       (perform_named parts name.0 name.1)
 
-unfoldable pub perform_digits : Parts → Level → Scope → Form FoundOne
+unfoldable pub perform_digits : {Side Known : Type 0} → Parts Side Known →
+    Level → Scope → Form FoundOne
 perform_digits parts level scope = do
   found ← digits
   where_next (is_key (codes "TIMES")) (digits_loop parts level scope found.0 found.1)
       (perform_named parts found.0 found.1)
 
 -- a name without letter is that of a paragraph
-unfoldable pub perform_word : Parts → Form FoundOne
+unfoldable pub perform_word : {Side Known : Type 0} → Parts Side Known → Form FoundOne
 perform_word parts = word >>= (λ name. perform_named parts name.0 name.1)
 
-unfoldable pub perform_operand : Parts → Level → Scope → Form FoundOne
+unfoldable pub perform_operand : {Side Known : Type 0} → Parts Side Known →
+    Level → Scope → Form FoundOne
 perform_operand parts level scope =
     where_next parts.is_procedure_word (perform_word parts)
     (where_next parts.begins_operand (operand_loop parts level scope) (refuse Syntax))
 
-unfoldable pub perform_other : Parts → Level → Scope → Form FoundOne
+unfoldable pub perform_other : {Side Known : Type 0} → Parts Side Known →
+    Level → Scope → Form FoundOne
 perform_other parts level scope =
     where_next is_digits (perform_digits parts level scope) (perform_operand parts level scope)
 
-unfoldable pub perform_behind : Parts → Level → Scope → Form FoundOne
+unfoldable pub perform_behind : {Side Known : Type 0} → Parts Side Known →
+    Level → Scope → Form FoundOne
 perform_behind parts level scope =
     where_next begins_until (until_loop parts level scope)
     (where_next parts.is_name (perform_name parts level scope) (perform_other parts level scope))
 
-unfoldable pub perform_stmt : Parts → Level → Scope → Form FoundOne
+unfoldable pub perform_stmt : {Side Known : Type 0} → Parts Side Known →
+    Level → Scope → Form FoundOne
 perform_stmt parts level scope = key (codes "PERFORM") >> perform_behind parts level scope

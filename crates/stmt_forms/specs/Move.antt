@@ -10,17 +10,17 @@ use Rattle.grammar_forms.specs.Part.{key, maybe, is_key}
 use Rattle.stmt_forms.specs.Part.{Parts}
 
 -- an operand that is a value
-unfoldable pub value : (parts : Parts) → Form parts.Side
+unfoldable pub value : {Side Known : Type 0} → (parts : Parts Side Known) → Form Side
 value parts = do
   side ← parts.operand
   note (parts.value_fault side)
   pure side
 
-unfoldable pub value_operand : Parts → Form Operand
+unfoldable pub value_operand : {Side Known : Type 0} → Parts Side Known → Form Operand
 value_operand parts = value parts >>= (λ side. pure (parts.operand_of side))
 
 -- operand+
-abbrev pub value_operands : Parts → Form (List Operand)
+abbrev pub value_operands : {Side Known : Type 0} → Parts Side Known → Form (List Operand)
 value_operands parts = some parts.begins_operand (value_operand parts)
 
 abbrev pub begins_advancing : TokenKind → Bool
@@ -38,7 +38,7 @@ unfoldable pub advancing : Form Bool
 advancing = where_next begins_advancing no_advancing (pure true)
 
 -- DISPLAY operand+ [[WITH] NO ADVANCING]
-unfoldable pub display_stmt : Parts → Form Stmt
+unfoldable pub display_stmt : {Side Known : Type 0} → Parts Side Known → Form Stmt
 display_stmt parts = do
   key (codes "DISPLAY")
   items ← value_operands parts
@@ -46,7 +46,8 @@ display_stmt parts = do
   pure (stmts.Display items advance)
 
 -- an item that takes what is moved to it
-unfoldable pub receiver : (parts : Parts) → (from : parts.Side) → Form Place
+unfoldable pub receiver : {Side Known : Type 0} → (parts : Parts Side Known) →
+    (from : Side) → Form Place
 receiver parts from = do
   side ← parts.reference
   note (parts.value_fault side)
@@ -54,11 +55,12 @@ receiver parts from = do
   pure (parts.place_of side)
 
 -- ref+
-abbrev pub receivers : (parts : Parts) → (from : parts.Side) → Form (List Place)
+abbrev pub receivers : {Side Known : Type 0} → (parts : Parts Side Known) →
+    (from : Side) → Form (List Place)
 receivers parts from = some parts.is_name (receiver parts from)
 
 -- MOVE operand TO ref+
-unfoldable pub move_stmt : Parts → Form Stmt
+unfoldable pub move_stmt : {Side Known : Type 0} → Parts Side Known → Form Stmt
 move_stmt parts = do
   key (codes "MOVE")
   from ← value parts
@@ -67,17 +69,17 @@ move_stmt parts = do
   pure (stmts.Move (parts.operand_of from) to)
 
 -- the name of a level 88, as a statement of its own
-unfoldable pub set_one : Parts → Form Stmt
+unfoldable pub set_one : {Side Known : Type 0} → Parts Side Known → Form Stmt
 set_one parts = do
   side ← parts.reference
   note (parts.condition_fault side)
   pure (stmts.SetTrue (parts.place_of side))
 
-abbrev pub set_more : Parts → List Stmt → Form (List Stmt)
+abbrev pub set_more : {Side Known : Type 0} → Parts Side Known → List Stmt → Form (List Stmt)
 set_more parts before = loop parts.is_name (added (set_one parts)) before
 
 -- SET ref+ TO TRUE
-unfoldable pub set_stmts : Parts → List Stmt → Form (List Stmt)
+unfoldable pub set_stmts : {Side Known : Type 0} → Parts Side Known → List Stmt → Form (List Stmt)
 set_stmts parts before = do
   key (codes "SET")
   first ← set_one parts

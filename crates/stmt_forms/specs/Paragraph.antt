@@ -27,11 +27,12 @@ sentence_of found = record { stmts = found }
 unfoldable pub sentence_end : Found → Form Sentence
 sentence_end found = chosen found.1 (refuse Syntax) (period >> pure (sentence_of found.0))
 
-unfoldable pub sentence : Parts → Scope → Form Sentence
+unfoldable pub sentence : {Side Known : Type 0} → Parts Side Known → Scope → Form Sentence
 sentence parts scope = stmts_with parts (level parts max_nesting) scope >>= sentence_end
 
 -- as many as there are, behind those before
-abbrev pub sentences_from : Parts → Scope → List Sentence → Form (List Sentence)
+abbrev pub sentences_from : {Side Known : Type 0} → Parts Side Known →
+    Scope → List Sentence → Form (List Sentence)
 sentences_from parts scope before = loop begins_stmt (added (sentence parts scope)) before
 
 -- ---- the sentences of a paragraph: EXIT without a further word is its only statement
@@ -44,24 +45,27 @@ begins_exit_word kind =
 unfoldable pub exit_alone : Form (List Sentence)
 exit_alone = period >> pure (sentence_of (stmts.Exit ∷ []) ∷ [])
 
-unfoldable pub exit_sentence : Parts → Scope → Position → Form Sentence
+unfoldable pub exit_sentence : {Side Known : Type 0} → Parts Side Known →
+    Scope → Position → Form Sentence
 exit_sentence parts scope position = do
   first ← exit_behind scope position
   found ← stmts_from parts (level parts max_nesting) scope (first ∷ [], false)
   sentence_end found
 
-unfoldable pub exit_sentences : Parts → Scope → Position → Form (List Sentence)
+unfoldable pub exit_sentences : {Side Known : Type 0} → Parts Side Known →
+    Scope → Position → Form (List Sentence)
 exit_sentences parts scope position = do
   first ← exit_sentence parts scope position
   sentences_from parts scope (first ∷ [])
 
-unfoldable pub sentences_by_exit : Parts → Scope → Form (List Sentence)
+unfoldable pub sentences_by_exit : {Side Known : Type 0} → Parts Side Known →
+    Scope → Form (List Sentence)
 sentences_by_exit parts scope = do
   position ← key (codes "EXIT")
   where_next begins_exit_word (exit_sentences parts scope position) exit_alone
 
 -- {sentence}
-unfoldable pub sentences : Parts → Scope → Form (List Sentence)
+unfoldable pub sentences : {Side Known : Type 0} → Parts Side Known → Scope → Form (List Sentence)
 sentences parts scope =
     where_next (is_key (codes "EXIT")) (sentences_by_exit parts scope)
     (sentences_from parts scope [])
@@ -85,13 +89,14 @@ with_pending None done = done
 with_pending (Some section) done = done ++ paragraph_of None (Some section) [] ∷ []
 
 -- the first paragraph of a section
-unfoldable pub section_start : Parts → List ℕ → List Paragraph → Form Outline
+unfoldable pub section_start : {Side Known : Type 0} → Parts Side Known →
+    List ℕ → List Paragraph → Form Outline
 section_start parts name done = do
   found ← sentences parts (scope_of true)
   pure (outline_of (done ++ paragraph_of None (Some name) found ∷ []) None true)
 
 -- pname SECTION . {sentence}
-unfoldable pub section : Parts → List ℕ → Outline → Form Outline
+unfoldable pub section : {Side Known : Type 0} → Parts Side Known → List ℕ → Outline → Form Outline
 section parts name state = do
   key (codes "SECTION")
   period
@@ -102,28 +107,29 @@ abbrev pub with_paragraph : Paragraph → Outline → Outline
 with_paragraph next state = outline_of (state.done ++ next ∷ []) None state.in_section
 
 -- pname . {sentence}
-unfoldable pub paragraph : Parts → List ℕ → Outline → Form Outline
+unfoldable pub paragraph : {Side Known : Type 0} → Parts Side Known →
+    List ℕ → Outline → Form Outline
 paragraph parts name state = do
   period
   found ← sentences parts (scope_of state.in_section)
   pure (with_paragraph (paragraph_of (Some name) state.pending found) state)
 
-unfoldable pub headed : Parts → Outline → Form Outline
+unfoldable pub headed : {Side Known : Type 0} → Parts Side Known → Outline → Form Outline
 headed parts state = do
   name ← parts.header_name
   note (parts.again_fault name.0 name.1)
   where_next (is_key (codes "SECTION")) (section parts name.0 state) (paragraph parts name.0 state)
 
-abbrev pub headed_from : Parts → Outline → Form Outline
+abbrev pub headed_from : {Side Known : Type 0} → Parts Side Known → Outline → Form Outline
 headed_from parts first = loop (begins_procedure parts) (headed parts) first
 
 -- the sentences before the first name
-unfoldable pub unnamed_start : Parts → Form Outline
+unfoldable pub unnamed_start : {Side Known : Type 0} → Parts Side Known → Form Outline
 unnamed_start parts = do
   found ← sentences parts (scope_of false)
   pure (outline_of (paragraph_of None None found ∷ []) None false)
 
-unfoldable pub start : Parts → Form Outline
+unfoldable pub start : {Side Known : Type 0} → Parts Side Known → Form Outline
 start parts = where_next begins_stmt (unnamed_start parts) (pure (outline_of [] None false))
 
 -- a division without paragraphs has an empty one
@@ -135,7 +141,7 @@ abbrev pub all_of : Outline → List Paragraph
 all_of state = at_least_one (with_pending state.pending state.done)
 
 -- {sentence} {para} {section}
-unfoldable pub paragraphs : Parts → Form (List Paragraph)
+unfoldable pub paragraphs : {Side Known : Type 0} → Parts Side Known → Form (List Paragraph)
 paragraphs parts = do
   first ← start parts
   state ← headed_from parts first
@@ -143,10 +149,10 @@ paragraphs parts = do
 
 -- ---- [END PROGRAM word .], and nothing behind it
 
-unfoldable pub program_name : Parts → Form (Unit {0})
+unfoldable pub program_name : {Side Known : Type 0} → Parts Side Known → Form (Unit {0})
 program_name parts = where_next parts.is_name (word >> pure tt) (refuse Syntax)
 
-unfoldable pub end_program : Parts → Form (Unit {0})
+unfoldable pub end_program : {Side Known : Type 0} → Parts Side Known → Form (Unit {0})
 end_program parts = do
   key (codes "END")
   key (codes "PROGRAM")
@@ -154,10 +160,10 @@ end_program parts = do
   period
   pure tt
 
-unfoldable pub end_part : Parts → Form (Unit {0})
+unfoldable pub end_part : {Side Known : Type 0} → Parts Side Known → Form (Unit {0})
 end_part parts = where_next (is_key (codes "END")) (end_program parts) (pure tt)
 
-unfoldable pub division : Parts → Form (List Paragraph)
+unfoldable pub division : {Side Known : Type 0} → Parts Side Known → Form (List Paragraph)
 division parts = do
   found ← paragraphs parts
   end_part parts

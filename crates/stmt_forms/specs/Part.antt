@@ -10,11 +10,9 @@ use Rattle.grammar_forms.specs.declared.note.Note.{Note}
 use Rattle.grammar_forms.specs.declared.note.Position.{Position}
 use Rattle.grammar_forms.specs.Form.{Form}
 
-pub record Parts : Type 1 where
-  -- an operand, reference or expression as it is read, and what is known of it
-  pub Side : Type 0
-  -- what is kept of a subject of EVALUATE, to hold other sides against it
-  pub Known : Type 0
+-- Over what is kept of an operand, reference or expression as it is read, and what is kept of a
+-- subject of EVALUATE to hold others against it.
+pub record Parts (Side Known : Type 0) : Type 1 where
   pub known_of : Side → Known
   -- which tokens begin an operand, and which are names of data or files
   pub begins_operand : TokenKind → Bool

@@ -21,35 +21,38 @@ max_nesting = 500
 
 -- ---- statements that hold no others
 
-unfoldable pub moving_stmt : Parts → Form Stmt
+unfoldable pub moving_stmt : {Side Known : Type 0} → Parts Side Known → Form Stmt
 moving_stmt parts =
     where_next (is_key (codes "DISPLAY")) (display_stmt parts) (move_stmt parts)
 
 -- behind those before
-unfoldable pub moving_stmts : Parts → List Stmt → Form (List Stmt)
+unfoldable pub moving_stmts : {Side Known : Type 0} → Parts Side Known →
+    List Stmt → Form (List Stmt)
 moving_stmts parts before =
     where_next (is_key (codes "SET")) (set_stmts parts before) (added (moving_stmt parts) before)
 
-unfoldable pub writing_stmt : Parts → Form Stmt
+unfoldable pub writing_stmt : {Side Known : Type 0} → Parts Side Known → Form Stmt
 writing_stmt parts =
     where_next (is_key (codes "WRITE")) (write_stmt parts) (rewrite_stmt parts)
 
-unfoldable pub filing_stmt : Parts → Form Stmt
+unfoldable pub filing_stmt : {Side Known : Type 0} → Parts Side Known → Form Stmt
 filing_stmt parts =
     where_next (is_key (codes "OPEN")) (open_stmt parts)
     (where_next (is_key (codes "CLOSE")) (close_stmt parts) (writing_stmt parts))
 
-unfoldable pub filing_or_jump : Parts → Scope → Form Stmt
+unfoldable pub filing_or_jump : {Side Known : Type 0} → Parts Side Known → Scope → Form Stmt
 filing_or_jump parts scope =
     where_next begins_filing (filing_stmt parts) (jump_stmt parts scope)
 
-unfoldable pub simple_stmts : Parts → Scope → List Stmt → Form (List Stmt)
+unfoldable pub simple_stmts : {Side Known : Type 0} → Parts Side Known →
+    Scope → List Stmt → Form (List Stmt)
 simple_stmts parts scope before =
     where_next begins_moving (moving_stmts parts before) (added (filing_or_jump parts scope) before)
 
 -- ---- statements that hold others
 
-unfoldable pub holding_stmt : Parts → Level → Scope → Form FoundOne
+unfoldable pub holding_stmt : {Side Known : Type 0} → Parts Side Known →
+    Level → Scope → Form FoundOne
 holding_stmt parts level scope =
     where_next begins_arithmetic (arithmetic_stmt parts level scope)
     (where_next begins_choice (choice_stmt parts level scope) (perform_stmt parts level scope))
@@ -57,34 +60,38 @@ holding_stmt parts level scope =
 abbrev pub behind : List Stmt → FoundOne → Found
 behind before found = (before ++ found.0 ∷ [], found.1)
 
-unfoldable pub held_stmts : Parts → Level → Scope → List Stmt → Form Found
+unfoldable pub held_stmts : {Side Known : Type 0} → Parts Side Known →
+    Level → Scope → List Stmt → Form Found
 held_stmts parts level scope before =
     where_next (is_key (codes "READ")) (read_stmt parts level scope before)
     (holding_stmt parts level scope >>= (λ found. pure (behind before found)))
 
 -- ---- stmt
 
-unfoldable pub stmt : Parts → Level → Scope → List Stmt → Form Found
+unfoldable pub stmt : {Side Known : Type 0} → Parts Side Known →
+    Level → Scope → List Stmt → Form Found
 stmt parts level scope before =
     where_next begins_simple (simple_stmts parts scope before >>= (λ found. pure (found, false)))
     (held_stmts parts level scope before)
 
 -- behind a NOT that isn't theirs no statement goes on
-unfoldable pub stmts_turn : Parts → Level → Scope → Found → Form Found
+unfoldable pub stmts_turn : {Side Known : Type 0} → Parts Side Known →
+    Level → Scope → Found → Form Found
 stmts_turn parts level scope found =
     chosen found.1 (refuse Syntax) (stmt parts level scope found.0)
 
 -- as many statements as there are, behind those before
-abbrev pub stmts_from : Parts → Level → Scope → Found → Form Found
+abbrev pub stmts_from : {Side Known : Type 0} → Parts Side Known →
+    Level → Scope → Found → Form Found
 stmts_from parts level scope before = loop begins_stmt (stmts_turn parts level scope) before
 
 -- stmt+
-unfoldable pub stmts_with : Parts → Level → Scope → Form Found
+unfoldable pub stmts_with : {Side Known : Type 0} → Parts Side Known → Level → Scope → Form Found
 stmts_with parts level scope = stmt parts level scope [] >>= stmts_from parts level scope
 
-unfoldable pub level : Parts → ℕ → Level
+unfoldable pub level : {Side Known : Type 0} → Parts Side Known → ℕ → Level
 level parts zero = record { enter = refuse Nesting; stmts = λ scope. refuse Nesting }
 level parts (suc n) = record { enter = pure tt; stmts = stmts_with parts (level parts n) }
 
-abbrev pub stmts : Parts → ℕ → Scope → Form Found
+abbrev pub stmts : {Side Known : Type 0} → Parts Side Known → ℕ → Scope → Form Found
 stmts parts levels scope = stmts_with parts (level parts levels) scope

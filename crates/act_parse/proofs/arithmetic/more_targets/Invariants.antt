@@ -1,0 +1,11 @@
+use Rattle.std.proofs.Common.{◌≡◌, length}
+use Rattle.grammar_forms.specs.Form.{loop, added}
+use Rattle.stmt_forms.specs.Arithmetic as forms
+use Rattle.act_parse.proofs.arithmetic.more_targets.Given as goal
+
+abbrev pub invariant-items : goal.invariant-items
+invariant-items g l =
+    (forms.more_targets (g.P.Parts.parts l.parts) l.fn.first).reads l.fn.cursor ≡ (loop (g.P.Parts.parts l.parts).is_name (added (forms.target (g.P.Parts.parts l.parts))) l.found).reads l.cursor
+
+abbrev pub decreases-items : goal.decreases-items
+decreases-items g l = length l.cursor.rest

@@ -1,0 +1,105 @@
+//! Statements that hold no others.
+
+ghost use Rattle.grammar_forms.specs.Reading.{Reads};
+ghost use Rattle.stmt_forms.specs.Stmt as forms;
+
+use crate::file::{close_stmt, open_stmt, rewrite_stmt, write_stmt};
+use crate::jump::jump_stmt;
+use crate::moving::{display_stmt, move_stmt, set_stmts};
+use crate::parts::Parts;
+use crate::verb::{at_filing, at_moving};
+use cob_base::Items;
+use cob_tree::Stmt;
+use grammar_forms::{Cursor, Unread};
+use std::alloc::Global;
+use stmt_forms::Scope;
+
+#[tactic(auto, unfolding(stmt_forms::specs::Stmt::moving_stmt))]
+fn moving_stmt<P: Parts>(parts: &P, alloc: Global, cursor: &mut Cursor<'_>) -> Result<Stmt, Unread>
+    ensures { Reads ((forms.moving_stmt (P.parts parts.now)).reads cursor.old) result cursor.new }
+{
+    if cursor.sees(b"DISPLAY") {
+        display_stmt(parts, alloc, cursor)
+    } else {
+        move_stmt(parts, alloc, cursor)
+    }
+}
+
+#[tactic(auto, unfolding(stmt_forms::specs::Stmt::moving_stmts))]
+fn moving_stmts<P: Parts>(
+    parts: &P,
+    alloc: Global,
+    cursor: &mut Cursor<'_>,
+    mut found: Items<Stmt>,
+) -> Result<Items<Stmt>, Unread>
+    ensures { Reads ((forms.moving_stmts (P.parts parts.now) found).reads cursor.old)
+        result cursor.new }
+{
+    if cursor.sees(b"SET") {
+        set_stmts(parts, alloc, cursor, found)
+    } else {
+        found.push(moving_stmt(parts, alloc, cursor)?)?;
+        Ok(found)
+    }
+}
+
+#[tactic(auto, unfolding(stmt_forms::specs::Stmt::writing_stmt))]
+fn writing_stmt<P: Parts>(parts: &P, alloc: Global, cursor: &mut Cursor<'_>) -> Result<Stmt, Unread>
+    ensures { Reads ((forms.writing_stmt (P.parts parts.now)).reads cursor.old) result cursor.new }
+{
+    if cursor.sees(b"WRITE") {
+        write_stmt(parts, alloc, cursor)
+    } else {
+        rewrite_stmt(parts, alloc, cursor)
+    }
+}
+
+#[tactic(auto, unfolding(stmt_forms::specs::Stmt::filing_stmt))]
+fn filing_stmt<P: Parts>(parts: &P, alloc: Global, cursor: &mut Cursor<'_>) -> Result<Stmt, Unread>
+    ensures { Reads ((forms.filing_stmt (P.parts parts.now)).reads cursor.old) result cursor.new }
+{
+    if cursor.sees(b"OPEN") {
+        open_stmt(parts, alloc, cursor)
+    } else if cursor.sees(b"CLOSE") {
+        close_stmt(parts, alloc, cursor)
+    } else {
+        writing_stmt(parts, alloc, cursor)
+    }
+}
+
+#[tactic(auto, unfolding(stmt_forms::specs::Stmt::filing_or_jump))]
+fn filing_or_jump<P: Parts>(
+    parts: &P,
+    alloc: Global,
+    cursor: &mut Cursor<'_>,
+    scope: Scope,
+) -> Result<Stmt, Unread>
+    ensures { Reads ((forms.filing_or_jump (P.parts parts.now) scope).reads cursor.old)
+        result cursor.new }
+{
+    if at_filing(cursor) {
+        filing_stmt(parts, alloc, cursor)
+    } else {
+        jump_stmt(parts, alloc, cursor, scope)
+    }
+}
+
+/// A statement that holds no other, behind those that were found.
+#[tactic(auto, unfolding(stmt_forms::specs::Stmt::simple_stmts))]
+pub fn simple_stmts<P: Parts>(
+    parts: &P,
+    alloc: Global,
+    cursor: &mut Cursor<'_>,
+    scope: Scope,
+    mut found: Items<Stmt>,
+) -> Result<Items<Stmt>, Unread>
+    ensures { Reads ((forms.simple_stmts (P.parts parts.now) scope found).reads cursor.old)
+        result cursor.new }
+{
+    if at_moving(cursor) {
+        moving_stmts(parts, alloc, cursor, found)
+    } else {
+        found.push(filing_or_jump(parts, alloc, cursor, scope)?)?;
+        Ok(found)
+    }
+}
