@@ -6,3 +6,5 @@ pub mod Choosers
 pub mod Trees
 -- graphs, as graphs of it
 pub mod Graphs
+-- what calls make of trees
+pub mod Changes

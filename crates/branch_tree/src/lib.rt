@@ -5,6 +5,7 @@
 //! Contracts see a tree as the tree of the theory of control (`specs/Trees.antt`).
 #![tactic(auto)]
 
+mod changes;
 mod chooser;
 mod graph;
 mod jumps;

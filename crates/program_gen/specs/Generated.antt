@@ -113,7 +113,8 @@ performs_of (suc count) group = sentence (perform_group group) ∷ performs_of c
 abbrev pub main_of : ℕ → Paragraph
 main_of n =
     paragraph (codes "M")
-    (performs_of n 1 ++ sentence (Display (operand.Place counter ∷ []) true) ∷ sentence StopRun ∷ [])
+    (performs_of n 1
+    ++ sentence (Display (operand.Place counter ∷ []) true) ∷ sentence StopRun ∷ [])
 
 -- n groups, whose sequence begins behind n
 abbrev pub generated : ℕ → Program

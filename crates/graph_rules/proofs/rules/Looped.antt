@@ -32,14 +32,19 @@ module _ {Memory Left : Type 0} (acting : Acting Memory) (left : Memory → Left
     (looped : Looped keeper cell range label out body g h order) where
   abbrev State : Type 0
   State = Walk Memory Left
+
   abbrev Reads : Range → ℕ → Type 0
   Reads r c = r ≡ range → Seen keeper cell c
+
   abbrev Writes : Range → ℕ → Type 0
   Writes r c = r ≡ range → c ≢ cell
+
   abbrev Agree : Celled Memory → Celled Memory → Type 0
   Agree = hidden.Agree keeper cell range
+
   abbrev Fit : Range → List Item → Type 0
   Fit r = ItemsFit (Behind order r) (Reads r) (Writes r)
+
   abbrev EndFit : Range → End → Type 0
   EndFit r = EndFits (Behind order r) (Reads r) (Writes r)
 

@@ -1,0 +1,33 @@
+-- Flow paths here and in the theory of control are the same.
+use Rattle.std.specs.Prelude.{ℕ, List}
+use Rattle.language.specs.Language.{Chooser, Program, Range}
+use Rattle.language.specs.Items.{Item}
+use Rattle.lowering.specs.Told.{Told, MayGive, IsSource}
+use Rattle.lowering.specs.Laws.{FreelyComes}
+use Rattle.lowering.specs.flow.Paths as theory
+use Rattle.flow_paths.specs.Flow.{IsFaulty}
+use Rattle.flow_paths.specs.Levels.{Comes}
+use Rattle.flow_ties.specs.Uncounted.{point_at, range_of}
+
+-- what chooses gives some arm
+abbrev pub SomeArmIsGiven : Told → Type 0
+SomeArmIsGiven told =
+    (chooser : Chooser) → (arm : ℕ) × MayGive (told.width chooser) (told.never_first chooser) arm
+
+-- A level comes to a paragraph and a rest in the theory exactly where it comes to their point here:
+-- with any numbers of turns left in the counted loops of the rest.
+abbrev pub LevelsAreTheTheorys : Type 0
+LevelsAreTheTheorys =
+    (told : Told) (program : Program) → IsSource told program → SomeArmIsGiven told →
+    (range : Range) (number : ℕ) (rest : List Item) →
+    (FreelyComes told program range number rest →
+    Comes told.never_first program (range_of range) (point_at number rest))
+    × (Comes told.never_first program (range_of range) (point_at number rest) →
+    FreelyComes told program range number rest)
+
+-- A program is faulty in the theory exactly where it is here.
+abbrev pub FaultyIsTheTheorys : Type 0
+FaultyIsTheTheorys =
+    (told : Told) (program : Program) → IsSource told program → SomeArmIsGiven told →
+    (theory.IsFaulty told program → IsFaulty told.never_first program)
+    × (IsFaulty told.never_first program → theory.IsFaulty told program)

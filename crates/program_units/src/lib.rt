@@ -1,0 +1,35 @@
+//! A program as units: the tokens of each of its lines, with the column from which they stand.
+//!
+//! `program_units` gives the headers, a line an entry and a line a statement or phrase, in their
+//! order. What the first line of a statement is says `part_tokens`; what it holds is below it,
+//! four columns further right. Hold it against ISO 1989:1985, Reference Format, areas A and B, and
+//! the formats of the divisions.
+#![tactic(auto)]
+
+mod division;
+mod entry;
+mod picture;
+mod statement;
+mod unit;
+
+ghost use Rattle.cob_base.specs.Answers.{Makes};
+ghost use Rattle.program_units.specs.Division.{program_units};
+
+use cob_base::{Items, NoMemory};
+use cob_tree::Program;
+pub use statement::Phrase;
+use std::alloc::Global;
+pub use unit::{PrintUnit, Units, deeper};
+
+/// The units of a program, in order.
+pub fn program_units(alloc: Global, program: &Program) -> Result<Items<PrintUnit>, NoMemory>
+    ensures { Makes (program_units program.now) result }
+{
+    let mut units = Units::new(alloc);
+    units.header(b"IDENTIFICATION", b"DIVISION")?;
+    units.program_id(program.name)?;
+    units.environment(program)?;
+    units.data(alloc, program)?;
+    units.procedure(alloc, program)?;
+    Ok(units.into_items())
+}
