@@ -1,0 +1,4 @@
+-- statements that do nothing
+pub mod Skips
+-- the arms that choices give
+pub mod Gives

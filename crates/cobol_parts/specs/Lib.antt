@@ -1,0 +1,4 @@
+-- what lowering is told
+pub mod Told
+-- what is stated of it
+pub mod Laws
