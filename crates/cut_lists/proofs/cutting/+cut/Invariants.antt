@@ -1,0 +1,17 @@
+use Rattle.std.proofs.Common.{◌≡◌, ℕ, ◌++◌, drop, map}
+use Rattle.language.specs.Control.{seen_stmts, seen_when}
+use Rattle.lowering.specs.Completes.{cuts}
+use Rattle.cut_lists.specs.Told.{told_of}
+use Rattle.cut_lists.specs.Cutting.{cut_branch}
+use Rattle.cut_lists.proofs.CutLemmas.{joined}
+use Rattle.cut_lists.proofs.cutting.+cut.Given as goal
+
+abbrev pub invariant-cut_stmts-loop-stmt : goal.invariant-cut_stmts-loop-stmt
+invariant-cut_stmts-loop-stmt l = (last : ℕ) →
+    joined (seen_stmts last l.made) (cuts (told_of l.files l.returning) (seen_stmts last (drop l.stmt-index l.stmts)))
+    ≡ cuts (told_of l.files l.returning) (seen_stmts last l.stmts)
+
+abbrev pub invariant-cut_whens-loop-when : goal.invariant-cut_whens-loop-when
+invariant-cut_whens-loop-when l = (last : ℕ) →
+    map (seen_when last) l.made ++ map (cut_branch (told_of l.files l.returning)) (map (seen_when last) (drop l.when-index l.whens))
+    ≡ map (cut_branch (told_of l.files l.returning)) (map (seen_when last) l.whens)

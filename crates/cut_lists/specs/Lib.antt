@@ -1,0 +1,8 @@
+-- what lowering is told
+pub mod Told
+-- what a statement is after cutting
+pub mod Facts
+-- the same of what the tree is seen as
+pub mod Seen
+-- statements with their lists cut
+pub mod Cutting
