@@ -55,7 +55,8 @@ fn shows(answer: Result<(), Abend>) -> Done
     }
 }
 
-fn has_arms(arms: &Arms) -> bool
+/// Whether READ or arithmetic has a phrase with statements.
+pub fn has_arms(arms: &Arms) -> bool
     ensures { result ≡ has_arms arms.now }
 {
     arms.first.is_some() || arms.second.is_some()

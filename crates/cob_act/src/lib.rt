@@ -15,7 +15,7 @@ mod moving;
 mod side;
 mod text;
 
-pub use acting::{Done, act, is_inner};
+pub use acting::{Done, act, has_arms, is_inner};
 pub use arithmetic::{added, calculated};
 pub use choice::{evaluated, if_chosen};
 pub use condition::holds;
