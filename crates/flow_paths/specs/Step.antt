@@ -1,6 +1,6 @@
 -- Where control is, and what a step does to it, whatever the data.
 use Rattle.std.specs.Prelude.{ℕ, zero, suc, Bool, true, false, if◌then◌else◌, List, [], ◌∷◌, length, Option, Some, None, slice_get}
-use Rattle.language.specs.Language.{Chooser, By, Choose, GoDepending, Paragraph, Program}
+use Rattle.language.specs.Language.{Chooser, By, Choose, GoDepending, Arms, done, given, missing, Paragraph, Program}
 use Rattle.language.specs.Items.{Turning, Counted, Item, Do, SentenceEnd, Turn}
 use Rattle.control.specs.Outcome.{Got}
 use Rattle.control.specs.Doing.{Doing}
@@ -68,16 +68,24 @@ led program number (Into entry exit items) = None
 led program number (To trace nothing to) = Some (start program to)
 led program number (ToEnd trace nothing to) = Some (at to [])
 
--- how many ways it has: its arms, its names and the way behind it, or one more turn and none
+-- an arm is given
+abbrev pub some_given : Arms → Bool
+some_given done = false
+some_given (given arm others) = true
+some_given (missing others) = some_given others
+
+-- how many ways it has: its arms, where one is given; its names and the way behind it; or no turn and
+-- one more
 abbrev pub way_count : Item → ℕ
-way_count (Do (Choose picker arms)) = arm_count arms
+way_count (Do (Choose picker arms)) = if some_given arms then arm_count arms else 1
 way_count (Do (GoDepending to on)) = suc (length to)
 way_count (Turn turning body) = 2
 way_count item = 1
 
 -- its first way is never taken
 abbrev pub first_is_barred : (Chooser → Bool) → Item → Bool
-first_is_barred never_first (Do (Choose (By chooser) arms)) = never_first chooser
+first_is_barred never_first (Do (Choose (By chooser) arms)) =
+    if some_given arms then never_first chooser else false
 first_is_barred never_first item = false
 
 abbrev pub without_first : Bool → List (Option Point) → List (Option Point)

@@ -1,5 +1,5 @@
 -- What an item does here by one way it does in the theory by some ways, from some turns left to any.
-use Rattle.std.proofs.Common.{◌≡◌, ◌≢◌, ℕ, zero, suc, ◌<◌, true, false, List, [], ◌∷◌, ◌++◌, Option, Some, None, refl, ap, sym, ◌∙◌, subst, arith}
+use Rattle.std.proofs.Common.{subst, Bool, false, if◌then◌else◌, ◌≡◌, ◌≢◌, ℕ, zero, suc, ◌<◌, true, List, [], ◌∷◌, ◌++◌, Option, Some, None, refl, ap, sym, ◌∙◌, arith}
 use Rattle.std.specs.Prelude.{slice_get}
 use Rattle.control.specs.Outcome.{Got}
 use Rattle.language.specs.Language.{Chooser, Picker, If, By, ByCell, Control, Times, Until, Varying, Stmt, Choose, Loop, Perform, Go, GoDepending, NextSentence, ExitParagraph, ExitSection, ExitPerform, StopRun, Arms, Body, Program}
@@ -12,10 +12,13 @@ use Rattle.lowering.specs.Told.{Told, MayGive, OwnPicker, arm_count}
 use Rattle.lowering.specs.flow.Paths.{free_pick, free}
 use Rattle.lowering.proofs.rests.Wholes.{OwnItem}
 use Rattle.lowering.proofs.flow.Freely.{arm-told}
-use Rattle.flow_paths.specs.Step.{Point, at, start, item_by, by_way, way_of, led, way_count, first_is_barred, ways_of, way_at}
+use Rattle.flow_paths.specs.Step.{Point, at, start, item_by, by_way, way_of, led, some_given, way_count, first_is_barred, ways_of, way_at}
 use Rattle.flow_ties.specs.Uncounted.{uncounted}
 use Rattle.flow_ties.proofs.Uncounting.{s-body, s-arm, s-turn, s-nil, s-items, s-past, s-loop, IsPlain, tests-plain, steps-plain, after-plain, counted}
 use Rattle.flow_ties.proofs.Ways.{way-led}
+use Rattle.flow_ties.proofs.Telling.{none-given}
+use Rattle.flow_ties.specs.Laws.{SomeArmIsGiven}
+use Rattle.lowering.specs.Completes.{first_is_dead}
 
 module _ (told : Told) (program : Program) (number : ℕ) where
   abbrev U : List Item → List Item
@@ -55,14 +58,43 @@ module _ (told : Told) (program : Program) (number : ℕ) where
       let u = plain t.0 t.3 in
       subst (λ z. Backs x xs number z) (sym (t.2 ∙ ap (λ v. Turn v body ∷ t.1) u)) (by-same x xs t.1 ways (Turn turning body ∷ t.1) t.4 (step t.1))
 
-  module _ (paragraphs : ℕ) where
-    pick-named : (picker : Picker) (arms : Arms) (k : ℕ) (more : List ℕ) → OwnPicker told picker (arm_count arms) → k < arm_count arms → (first_is_barred told.never_first (Do (Choose picker arms)) ≡ true → k ≢ 0) → free_pick told picker (k ∷ more) ≡ Got [] k more
+  module _ (paragraphs : ℕ) (some : SomeArmIsGiven told) where
+    pick-named : (picker : Picker) (arms : Arms) (k : ℕ) (more : List ℕ) → OwnPicker told picker (arm_count arms) → k < arm_count arms → (first_is_dead told picker ≡ true → k ≢ 0) → free_pick told picker (k ∷ more) ≡ Got [] k more
     pick-named (If test) arms zero more own lt bar = refl
     pick-named (If test) arms (suc zero) more own lt bar = refl
     pick-named (If test) arms (suc (suc k)) more own lt bar = absurd (let e = own.1 in omega (arith, lt, e))
     pick-named (By chooser) arms k more own lt bar =
         ap (λ n. Got [] n more) (arm-told (told.width chooser) (told.never_first chooser) k (omega (arith, lt, own), bar))
     pick-named (ByCell cell) arms k more own lt bar = absurd own
+
+    arm-back : (picker : Picker) (arms : Arms) (xs : List Item) (k : ℕ) → ((more : List ℕ) → free_pick told picker (k ∷ more) ≡ Got [] k more) → (r : List Item) → U r ≡ U (before_arm arms k xs) → Backs (Do (Choose picker arms)) xs number r
+    arm-back picker arms xs k step r g =
+        let x : Item = Do (Choose picker arms) in
+        let b = s-arm arms k xs r g in
+        subst (λ z. Backs x xs number z) (sym b.1)
+        (by-same x xs b.0 (k ∷ []) (before_arm arms k b.0) b.2 (λ more. ap (λ a. tried a (λ n. on (free told) (before_arm arms n b.0))) (step more)))
+
+    -- some arm may be given
+    arm-there : (picker : Picker) (arms : Arms) → OwnPicker told picker (arm_count arms) → (k : ℕ) × ((more : List ℕ) → free_pick told picker (k ∷ more) ≡ Got [] k more)
+    arm-there (If test) arms own = (0, λ more. refl)
+    arm-there (By chooser) arms own = ((some chooser).0, λ more. ap (λ n. Got [] n more) (arm-told (told.width chooser) (told.never_first chooser) (some chooser).0 (some chooser).1))
+    arm-there (ByCell cell) arms own = absurd own
+
+    barred-by : (picker : Picker) (arms : Arms) (k : ℕ) → some_given arms ≡ true → (first_is_barred told.never_first (Do (Choose picker arms)) ≡ true → k ≢ 0) → (first_is_dead told picker ≡ true → k ≢ 0)
+    barred-by (If test) arms k e bar = λ f. absurd (let h : ⊥ = cc in h)
+    barred-by (By chooser) arms k e bar = λ f. bar (ap (λ b. if b then told.never_first chooser else false) e ∙ f)
+    barred-by (ByCell cell) arms k e bar = λ f. absurd (let h : ⊥ = cc in h)
+
+    choose-back : (picker : Picker) (arms : Arms) (xs : List Item) → OwnPicker told picker (arm_count arms) → (k : ℕ) → k < way_count (Do (Choose picker arms)) → (first_is_barred told.never_first (Do (Choose picker arms)) ≡ true → k ≢ 0) →
+        (to : Point) → led program number (way_of k (Do (Choose picker arms)) xs) ≡ Some to → (r : List Item) → U r ≡ U to.rest → (b : Bool) → some_given arms ≡ b → Backs (Do (Choose picker arms)) xs to.paragraph r
+    choose-back picker arms xs own k lt bar to e r h true is =
+        let x : Item = Do (Choose picker arms) in
+        let within : k < arm_count arms = subst (λ b. k < (if b then arm_count arms else 1)) is lt in
+        arrive x xs (at number (before_arm arms k xs)) to r e h (λ g. arm-back picker arms xs k (λ more. pick-named picker arms k more own within (barred-by picker arms k is bar)) r g)
+    choose-back picker arms xs own k lt bar to e r h false is =
+        let x : Item = Do (Choose picker arms) in
+        let there = arm-there picker arms own in
+        arrive x xs (at number (before_arm arms k xs)) to r e h (λ g. arm-back picker arms xs there.0 there.1 r (g ∙ ap uncounted (none-given arms k xs is ∙ sym (none-given arms there.0 xs is))))
 
     loop-back : (control : Control) (body : Body) (xs : List Item) (k : ℕ) (to : Point) → led program number (way_of k (Do (Loop control body)) xs) ≡ Some to → (r : List Item) → U r ≡ U to.rest → Backs (Do (Loop control body)) xs to.paragraph r
     loop-back (Times amount) body xs k to e r h =
@@ -138,12 +170,7 @@ module _ (told : Told) (program : Program) (number : ℕ) where
     item-back (Do (language.Do act)) xs own k lt bar to e r h =
         let x : Item = Do (language.Do act) in
         arrive x xs (at number xs) to r e h (λ g. by-same x xs r [] r g (λ more. refl))
-    item-back (Do (Choose picker arms)) xs own k lt bar to e r h =
-        let x : Item = Do (Choose picker arms) in
-        arrive x xs (at number (before_arm arms k xs)) to r e h (λ g.
-        let b = s-arm arms k xs r g in
-        subst (λ z. Backs x xs number z) (sym b.1)
-        (by-same x xs b.0 (k ∷ []) (before_arm arms k b.0) b.2 (λ more. ap (λ a. tried a (λ n. on (free told) (before_arm arms n b.0))) (pick-named picker arms k more own.0 lt bar))))
+    item-back (Do (Choose picker arms)) xs own k lt bar to e r h = choose-back picker arms xs own.0 k lt bar to e r h (some_given arms) refl
     item-back (Do (Loop control body)) xs own k lt bar to e r h = loop-back control body xs k to e r h
     item-back (Do (Perform a b)) xs own k lt bar to e r h = absurd (let z : ⊥ = cc in z)
     item-back (Do (Go n)) xs own k lt bar to e r h = go-back (Do (Go n)) xs [] n to e r h (λ more. refl)

@@ -137,7 +137,7 @@ module _ (told : Told) (program : Program) (source : IsSource told program) (som
   lift-step from before to after (goes from1 to1 pending ways k e w) fine path all rest stack h alike =
       let first = next-ways told.never_first program from.paragraph from.rest ways e in
       back-lifts from.paragraph first.0 first.1 to.paragraph rest stack (λ r g. all r stack (g ∙ ap uncounted (sym first.2)) alike)
-      (back told program from.paragraph (length program.paragraphs) first.0 first.1
+      (back told program from.paragraph (length program.paragraphs) some first.0 first.1
       (own-path told program source some from before first.0 first.1 path (ap uncounted (sym first.2)))
       k to (ap (λ ws. way_at ws k) first.3 ∙ w) rest h)
   lift-step from before to after (calls from1 next_point pending entry exit e) fine path all rest [] h alike = absurd alike

@@ -110,7 +110,7 @@ module _ (told : Told) (program : Program) (source : IsSource told program) (som
       let first = next-ways told.never_first program from.paragraph from.rest ways e in
       let here = at-first range from first.0 first.1 first.2 all in
       backed range from.paragraph first.0 first.1 to.paragraph rest here
-      (back told program from.paragraph count first.0 first.1 (own-first range from.paragraph first.0 first.1 (here (first.0 ∷ first.1) refl)) k to (ap (λ ws. way_at ws k) first.3 ∙ w) rest h)
+      (back told program from.paragraph count some first.0 first.1 (own-first range from.paragraph first.0 first.1 (here (first.0 ∷ first.1) refl)) k to (ap (λ ws. way_at ws k) first.3 ∙ w) rest h)
   comes-there range r p (over r1 from after done entry exit c e d f) same rest h =
       let all = comes-there range r1 from c same in
       let first = next-calls told.never_first program from.paragraph from.rest entry exit after e in

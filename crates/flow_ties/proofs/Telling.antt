@@ -1,15 +1,15 @@
 -- What an item does in the theory by some ways it does here, and what it does here it does there.
-use Rattle.std.proofs.Common.{◌≡◌, ◌≢◌, ℕ, zero, suc, ◌<◌, Bool, true, false, if◌then◌else◌, List, [], ◌∷◌, Option, Some, None, refl, ap, sym, ◌∙◌, arith}
+use Rattle.std.proofs.Common.{subst, Bool, false, ◌≡◌, ◌≢◌, ℕ, zero, suc, ◌<◌, true, if◌then◌else◌, List, [], ◌∷◌, Option, Some, None, refl, ap, sym, ◌∙◌, arith}
 use Rattle.std.specs.Prelude.{slice_get, length}
 use Rattle.control.specs.Doing.{arm_of}
-use Rattle.language.specs.Language.{Chooser, Picker, If, By, ByCell, Test, Act, Control, Times, Until, Varying, Stmt, Choose, Loop, Perform, Go, GoDepending, NextSentence, ExitParagraph, ExitSection, ExitPerform, StopRun, Arms, Body, Program}
+use Rattle.language.specs.Language.{Chooser, Picker, If, By, ByCell, Test, Act, Control, Times, Until, Varying, Stmt, Choose, Loop, Perform, Go, GoDepending, NextSentence, ExitParagraph, ExitSection, ExitPerform, StopRun, Arms, done, given, missing, Body, Program}
 use Rattle.language.specs.Language as language
 use Rattle.language.specs.Items.{Turning, Counted, Tests, Steps, StepsAfter, Item, Do, SentenceEnd, Turn, before_body, before_arm, past_sentence, from_loop}
 use Rattle.control.specs.Items.{Way, On, Halts, Into, To, ToEnd, way_after, on, turns, steps_on, to_one, item_way}
 use Rattle.lowering.specs.Told.{Told, MayGive, OwnPicker, arm_count}
 use Rattle.lowering.specs.flow.Paths.{next_way, later_ways, is_first, is_below, first_arm, not_dead, arm_for, free}
 use Rattle.lowering.proofs.rests.Wholes.{OwnItem}
-use Rattle.flow_paths.specs.Step.{Point, at, start, Next, Ways, Calls, Stops, turning_by, by_way, way_of, led, way_count, first_is_barred, ways_of, next_in, way_at}
+use Rattle.flow_paths.specs.Step.{Point, at, start, Next, Ways, Calls, Stops, turning_by, by_way, way_of, led, some_given, way_count, first_is_barred, ways_of, next_in, way_at}
 use Rattle.flow_ties.specs.Uncounted.{uncounted, point_at}
 use Rattle.flow_ties.specs.Laws.{SomeArmIsGiven}
 use Rattle.flow_ties.proofs.Uncounting.{u-body, u-arm, u-past, u-loop}
@@ -40,6 +40,22 @@ arm-given width never some way may =
         | false ↦ λ m. (let a = m.0 in omega (arith, a), λ f. absurd (let h : ⊥ = cc in h))
       ]) may
     ] refl
+
+pub if-both : (b c : Bool) → (if b then c else false) ≡ true → c ≡ true
+if-both true c e = e
+if-both false c e = absurd (let h : ⊥ = cc in h)
+
+-- where no arm is given, each way leads behind it, and none is barred
+pub none-given : (arms : Arms) (k : ℕ) (xs : List Item) → some_given arms ≡ false → before_arm arms k xs ≡ xs
+none-given done k xs e = refl
+none-given (given arm others) k xs e = absurd (let h : ⊥ = cc in h)
+none-given (missing others) zero xs e = refl
+none-given (missing others) (suc k) xs e = none-given others k xs e
+
+pub unbarred : (told : Told) (picker : Picker) (arms : Arms) → some_given arms ≡ false → first_is_barred told.never_first (Do (Choose picker arms)) ≡ true → ⊥
+unbarred told (If test) arms e f = (let h : ⊥ = cc in h)
+unbarred told (By chooser) arms e f = (let g : false ≡ true = ap (λ b. if b then told.never_first chooser else false) (sym e) ∙ f in let h : ⊥ = cc in h)
+unbarred told (ByCell cell) arms e f = (let h : ⊥ = cc in h)
 
 two : (b : Bool) → arm_of b < 2
 two true = omega arith
@@ -86,17 +102,26 @@ module _ (told : Told) (program : Program) (number : ℕ) where
     open-first : (x : Item) → first_is_barred told.never_first x ≡ false → first_is_barred told.never_first x ≡ true → ◌≢◌ {A = ℕ} 0 0
     open-first x e f = absurd (let h : true ≡ false = sym f ∙ e in let k : ⊥ = cc in k)
 
+    choose-tells : (picker : Picker) (arms : Arms) (xs : List Item) (k : ℕ) → k < arm_count arms → (first_is_barred told.never_first (Do (Choose picker arms)) ≡ true → k ≢ 0) → Goes (Here (Do (Choose picker arms) ∷ U xs)) (point_at number (before_arm arms k xs))
+    choose-tells picker arms xs k lt bar =
+        let x : Item = Do (Choose picker arms) in
+        elim (some_given arms) as (λ b. some_given arms ≡ b → Goes (Here (x ∷ U xs)) (point_at number (before_arm arms k xs))) [
+          | true ↦ λ e. goes-by x (U xs) k (point_at number (before_arm arms k xs)) refl (subst (λ b. k < (if b then arm_count arms else 1)) (sym e) lt) bar
+              (same-rest (before_arm arms k (U xs)) (U (before_arm arms k xs)) (sym (u-arm arms k xs)))
+          | false ↦ λ e. goes-by x (U xs) 0 (point_at number (before_arm arms k xs)) refl (subst (λ b. 0 < (if b then arm_count arms else 1)) (sym e) (omega arith)) (λ f. absurd (unbarred told picker arms e f))
+              (same-rest (before_arm arms 0 (U xs)) (U (before_arm arms k xs)) (none-given arms 0 (U xs) e ∙ ap uncounted (sym (none-given arms k xs e))))
+        ] refl
+
     pick-tells : (picker : Picker) (arms : Arms) (xs : List Item) (m : List ℕ) → OwnPicker told picker (arm_count arms) → Tells (item_way (free told) (Do (Choose picker arms)) xs m) (Here (Do (Choose picker arms) ∷ U xs))
     pick-tells (If test) arms xs m own =
-        let k = arm_of (is_first (next_way m)) in
         let lt = two (is_first (next_way m)) in
         let two_arms = own.1 in
-        goes-by (Do (Choose (If test) arms)) (U xs) k (point_at number (before_arm arms k xs)) refl (omega (arith, lt, two_arms)) (λ f. absurd (let h : ⊥ = cc in h)) (same-rest (before_arm arms k (U xs)) (U (before_arm arms k xs)) (sym (u-arm arms k xs)))
+        choose-tells (If test) arms xs (arm_of (is_first (next_way m))) (omega (arith, lt, two_arms)) (λ f. absurd (let h : ⊥ = cc in h))
     pick-tells (By chooser) arms xs m own =
         let k = arm_for (told.width chooser) (told.never_first chooser) (next_way m) in
         let given = arm-given (told.width chooser) (told.never_first chooser) (some chooser).0 (next_way m) (some chooser).1 in
         let lt = given.0 in
-        goes-by (Do (Choose (By chooser) arms)) (U xs) k (point_at number (before_arm arms k xs)) refl (omega (arith, lt, own)) given.1 (same-rest (before_arm arms k (U xs)) (U (before_arm arms k xs)) (sym (u-arm arms k xs)))
+        choose-tells (By chooser) arms xs k (omega (arith, lt, own)) (λ f. given.1 (if-both (some_given arms) (told.never_first chooser) f))
     pick-tells (ByCell cell) arms xs m own = absurd own
 
     loop-tells : (control : Control) (body : Body) (xs : List Item) (m : List ℕ) → Tells (item_way (free told) (Do (Loop control body)) xs m) (Here (Do (Loop control body) ∷ U xs))
