@@ -2,3 +2,5 @@
 pub mod Skips
 -- the arms that choices give
 pub mod Gives
+-- programs that name their own items and paragraphs
+pub mod Sources

@@ -1,10 +1,14 @@
 -- Laws of the parts of COBOL programs.
 use Rattle.std.specs.Prelude.{ℕ, Bool}
 use Rattle.statements.specs.Filing.{Declared}
-use Rattle.lowering.specs.Told.{IsTold}
+use Rattle.cob_tree.specs.declared.program.Program.{Program}
+use Rattle.language.specs.Control.{control_of}
+use Rattle.language.specs.OwnItems.{NamesOwnItems}
+use Rattle.lowering.specs.Told.{IsTold, IsSource}
 use Rattle.headline.specs.CallsReached.{GivesSome}
 use Rattle.cobol_meaning.specs.Acting.{acting}
 use Rattle.cobol_parts.specs.Told.{told_of}
+use Rattle.cobol_parts.specs.Named.{NamesOwnParagraphs}
 
 -- whatever is declared, and whichever ranges return
 abbrev pub CobolPartsDoWhatIsTold : Type 0
@@ -16,3 +20,10 @@ CobolPartsDoWhatIsTold =
 abbrev pub CobolChoosersGiveSomeArm : Type 0
 CobolChoosersGiveSomeArm =
     (declared : Declared) (returning : ℕ → ℕ → Bool) → GivesSome (told_of declared returning)
+
+-- a program that names its own items and paragraphs is a source, as lowering takes one
+abbrev pub CobolProgramsAreSources : Type 0
+CobolProgramsAreSources =
+    (declared : Declared) (returning : ℕ → ℕ → Bool) (program : Program) →
+    NamesOwnItems program → NamesOwnParagraphs program →
+    IsSource (told_of declared returning) (control_of program)

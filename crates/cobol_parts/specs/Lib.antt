@@ -1,4 +1,6 @@
 -- what lowering is told
 pub mod Told
--- what is stated of it
+-- paragraphs that statements name
+pub mod Named
+-- what is stated of both
 pub mod Laws

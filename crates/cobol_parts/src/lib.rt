@@ -7,4 +7,6 @@
 
 mod laws;
 
-pub use laws::{cobol_choosers_give_some_arm, cobol_parts_do_what_is_told};
+pub use laws::{
+    cobol_choosers_give_some_arm, cobol_parts_do_what_is_told, cobol_programs_are_sources,
+};
