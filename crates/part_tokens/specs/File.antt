@@ -7,7 +7,7 @@ use Rattle.cob_tree.specs.declared.file.FileEntry.{FileEntry}
 use Rattle.cob_tree.specs.declared.program.Paragraph.{Paragraph}
 use Rattle.cob_tree.specs.declared.program.Program.{Program}
 use Rattle.cobol_lex.specs.declared.token.TokenKind.TheVariants as kind
-use Rattle.part_tokens.specs.Token.{Tokens, joined}
+use Rattle.part_tokens.specs.Token.{Tokens, joined, procedure_token}
 
 abbrev pub file_name : Option FileEntry → Tokens
 file_name None = []
@@ -49,12 +49,12 @@ openings_tokens program before (opening ∷ openings) =
 
 abbrev pub name_tokens : Option (List ℕ) → Tokens
 name_tokens None = []
-name_tokens (Some name) = kind.Word name ∷ []
+name_tokens (Some name) = procedure_token name ∷ []
 
 -- the label of a paragraph is its name, or that of its section
 abbrev pub paragraph_label : (name section : Option (List ℕ)) → Tokens
 paragraph_label None section = name_tokens section
-paragraph_label (Some name) section = kind.Word name ∷ []
+paragraph_label (Some name) section = procedure_token name ∷ []
 
 abbrev pub label_of : Option Paragraph → Tokens
 label_of None = []

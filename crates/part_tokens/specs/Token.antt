@@ -3,6 +3,7 @@ use Rattle.std.specs.Prelude.{ℕ, ◌-◌, [], ◌∷◌, ◌++◌, ◌&&◌, �
 use Rattle.std.specs.List.{list_all}
 use Rattle.cob_base.specs.Bytes.{hyphen, left_parenthesis, right_parenthesis, capital_a, capital_z}
 use Rattle.cob_tree.specs.declared.number.Number.{Number}
+use Rattle.cobol_lex.specs.Byte.{is_digit}
 use Rattle.cobol_lex.specs.declared.token.TokenKind.{TokenKind}
 use Rattle.cobol_lex.specs.declared.token.TokenKind.TheVariants as kind
 
@@ -18,6 +19,10 @@ is_reserved_shape text =
     nat_le 1 (length text) && (nat_le (length text) 30
     && (is_capital (slice_index text 0) && (is_capital (slice_index text (length text - 1))
     && list_all is_reserved_byte text)))
+
+-- the name of a paragraph or a section, which may be digits
+abbrev pub procedure_token : List ℕ → TokenKind
+procedure_token name = if list_all is_digit name then kind.Digits name else kind.Word name
 
 -- a number with the digits that it was written with
 abbrev pub number_token : Number → TokenKind

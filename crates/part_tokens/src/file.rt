@@ -37,7 +37,7 @@ impl Tokens {
     {
         match name {
             None => Ok(()),
-            Some(name) => self.name(name),
+            Some(name) => self.procedure(name),
         }
     }
 
@@ -85,7 +85,7 @@ impl Tokens {
         };
         match paragraph.name {
             None => self.named(paragraph.section),
-            Some(name) => self.name(name),
+            Some(name) => self.procedure(name),
         }
     }
 

@@ -1,8 +1,10 @@
 //! Tokens, one behind the other.
 
 ghost use Rattle.std.specs.Prelude.{◌≡◌, ◌++◌, [], ◌∷◌, true, OnOk};
+ghost use Rattle.std.specs.List.{list_all};
+ghost use Rattle.cobol_lex.specs.Byte.{is_digit};
 ghost use Rattle.cobol_lex.specs.declared.token.TokenKind.TheVariants as kind;
-ghost use Rattle.part_tokens.specs.Token.{is_reserved_shape, number_token, opened_by, closed_by};
+ghost use Rattle.part_tokens.specs.Token.{is_reserved_shape, number_token, procedure_token, opened_by, closed_by};
 
 use cob_base::{Copied, Items, NoMemory, Text, Word};
 use cob_tree::Number;
@@ -34,6 +36,18 @@ fn reserved_word(text: &[u8]) -> Word
         Some(word) => word,
         None => unreachable!(),
     }
+}
+
+fn is_digit(byte: u8) -> bool
+    ensures { result ≡ is_digit byte }
+{
+    byte.is_ascii_digit()
+}
+
+fn are_digits(bytes: &[u8]) -> bool
+    ensures { result ≡ list_all is_digit bytes.now }
+{
+    bytes.iter().all(|byte| is_digit(*byte))
 }
 
 impl Tokens {
@@ -82,6 +96,18 @@ impl Tokens {
         ensures { OnOk result (self.new ≡ self.old ++ kind.Word name ∷ []) }
     {
         self.push(TokenKind::Word(name))
+    }
+
+    /// Adds the name of a paragraph or a section, which may be digits.
+    pub fn procedure(&mut self, name: Word) -> Result<(), NoMemory>
+        ensures { OnOk result (self.new ≡ self.old ++ procedure_token name ∷ []) }
+    {
+        if !are_digits(name.as_slice()) {
+            return self.name(name);
+        }
+        let mut digits = Text::new(self.alloc);
+        digits.add(name.as_slice())?;
+        self.push(TokenKind::Digits(digits))
     }
 
     pub fn mark(&mut self, mark: u8) -> Result<(), NoMemory>

@@ -8,11 +8,11 @@ use Rattle.cob_tree.specs.declared.program.Paragraph.{Paragraph}
 use Rattle.cob_tree.specs.declared.program.Program.{Program}
 use Rattle.cob_tree.specs.declared.program.Sentence.{Sentence}
 use Rattle.cobol_lex.specs.declared.token.TokenKind.TheVariants as kind
-use Rattle.part_tokens.specs.Token.{Tokens}
+use Rattle.part_tokens.specs.Token.{Tokens, procedure_token}
 use Rattle.part_tokens.specs.Place.{place_tokens}
 use Rattle.part_tokens.specs.File.{file_tokens}
 use Rattle.program_units.specs.declared.unit.PrintUnit.{PrintUnit}
-use Rattle.program_units.specs.Unit.{unit_at, header, naming_header, ended}
+use Rattle.program_units.specs.Unit.{unit_at, header, naming_header, section_header, ended}
 use Rattle.program_units.specs.Entry.{entry_unit}
 use Rattle.program_units.specs.Statement.{stmt_lines, list_lines}
 
@@ -89,11 +89,11 @@ data_units program (entry ∷ entries) =
 
 abbrev pub section_line : Option (List ℕ) → List PrintUnit
 section_line None = []
-section_line (Some name) = header name (codes "SECTION") ∷ []
+section_line (Some name) = section_header name (codes "SECTION") ∷ []
 
 abbrev pub named_line : Option (List ℕ) → List PrintUnit
 named_line None = []
-named_line (Some name) = unit_at 8 (kind.Word name ∷ kind.Period ∷ []) ∷ []
+named_line (Some name) = unit_at 8 (procedure_token name ∷ kind.Period ∷ []) ∷ []
 
 -- a period behind the last line of a sentence
 abbrev pub sentence_units : Program → Sentence → List PrintUnit

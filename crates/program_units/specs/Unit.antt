@@ -1,7 +1,7 @@
 -- Units, and where they stand.
 use Rattle.std.specs.Prelude.{ℕ, ◌+◌, min, List, [], ◌∷◌, ◌++◌}
 use Rattle.cobol_lex.specs.declared.token.TokenKind.TheVariants as kind
-use Rattle.part_tokens.specs.Token.{Tokens}
+use Rattle.part_tokens.specs.Token.{Tokens, procedure_token}
 use Rattle.program_units.specs.declared.unit.PrintUnit.{PrintUnit}
 
 abbrev pub unit_at : (column : ℕ) → Tokens → PrintUnit
@@ -10,6 +10,11 @@ unit_at column tokens = record { column = column; tokens = tokens }
 -- the header of a division or a section
 abbrev pub header : (first second : List ℕ) → PrintUnit
 header first second = unit_at 8 (kind.Word first ∷ kind.Word second ∷ kind.Period ∷ [])
+
+-- a header that begins with the name of a section
+abbrev pub section_header : (name word : List ℕ) → PrintUnit
+section_header name word =
+    unit_at 8 (procedure_token name ∷ kind.Word word ∷ kind.Period ∷ [])
 
 -- a header, and a name behind it with a period of its own
 abbrev pub naming_header : (word name : List ℕ) → PrintUnit

@@ -165,7 +165,7 @@ impl Units {
             return Ok(());
         };
         let mut tokens = self.tokens();
-        tokens.name(name)?;
+        tokens.procedure(name)?;
         tokens.push(TokenKind::Period)?;
         self.push(8, tokens)
     }
@@ -175,7 +175,7 @@ impl Units {
     {
         match section {
             None => Ok(()),
-            Some(name) => self.named_header(name, b"SECTION"),
+            Some(name) => self.section_header(name, b"SECTION"),
         }
     }
 

@@ -12,6 +12,7 @@ mod picture;
 mod statement;
 mod unit;
 
+ghost use Rattle.std.specs.Prelude.{◌≤◌, All, IfOk};
 ghost use Rattle.cob_base.specs.Answers.{Makes};
 ghost use Rattle.program_units.specs.Division.{program_units};
 
@@ -21,8 +22,16 @@ pub use statement::Phrase;
 use std::alloc::Global;
 pub use unit::{PrintUnit, Units, deeper};
 
-/// The units of a program, in order.
+/// The units of a program, in order, each from column 32 or one before it.
 pub fn program_units(alloc: Global, program: &Program) -> Result<Items<PrintUnit>, NoMemory>
+    ensures value { Makes (program_units program.now) result }
+    ensures narrow { IfOk result (λ units. All (λ unit. unit.column ≤ 32) units) }
+{
+    let units = all_units(alloc, program)?;
+    Ok(units)
+}
+
+fn all_units(alloc: Global, program: &Program) -> Result<Items<PrintUnit>, NoMemory>
     ensures { Makes (program_units program.now) result }
 {
     let mut units = Units::new(alloc);

@@ -3,7 +3,7 @@
 ghost use Rattle.std.specs.Prelude.{◌≡◌, ◌++◌, [], ◌∷◌, true, min, ◌+◌, OnOk, MatchOption};
 ghost use Rattle.cobol_lex.specs.declared.token.TokenKind.TheVariants as kind;
 ghost use Rattle.part_tokens.specs.Token.{is_reserved_shape};
-ghost use Rattle.program_units.specs.Unit.{unit_at, header, naming_header, deeper, ended};
+ghost use Rattle.program_units.specs.Unit.{unit_at, header, naming_header, section_header, deeper, ended};
 
 use cob_base::{Items, NoMemory, Word};
 use cobol_lex::TokenKind;
@@ -143,13 +143,13 @@ impl Units {
         self.push(8, tokens)
     }
 
-    /// Adds a header that begins with a name.
-    pub fn named_header(&mut self, name: Word, text: &[u8]) -> Result<(), NoMemory>
+    /// Adds a header that begins with the name of a section.
+    pub fn section_header(&mut self, name: Word, text: &[u8]) -> Result<(), NoMemory>
         requires { is_reserved_shape text.now ≡ true }
-        ensures { OnOk result (self.new ≡ self.old ++ header name text.now ∷ []) }
+        ensures { OnOk result (self.new ≡ self.old ++ section_header name text.now ∷ []) }
     {
         let mut tokens = self.tokens();
-        tokens.name(name)?;
+        tokens.procedure(name)?;
         tokens.word(text)?;
         tokens.push(TokenKind::Period)?;
         self.push(8, tokens)
