@@ -6,7 +6,8 @@ ghost use Rattle.branch_tree.specs.Changes.{GoesOn};
 ghost use Rattle.branch_tree.specs.Trees.{seen_tree};
 
 use crate::graph::{Graph, Node};
-use crate::tree::{End, Tree};
+use crate::tree::{End, Piece, Tree};
+use cob_base::Items;
 
 impl Tree {
     /// Gives the tree another end.
@@ -49,3 +50,9 @@ impl Graph {
         }
     }
 }
+
+/// Lets trees go.
+pub fn drop_trees(_trees: Items<Tree>) {}
+
+/// Lets pieces go.
+pub fn drop_pieces(_pieces: Vec<Piece>) {}

@@ -12,6 +12,7 @@ mod jumps;
 mod label;
 mod tree;
 
+pub use changes::{drop_pieces, drop_trees};
 pub use chooser::{Chooser, Picker, Test};
 pub use graph::{Added, Graph, Node};
 pub use label::Label;

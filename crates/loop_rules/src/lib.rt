@@ -1,0 +1,13 @@
+//! Loop: a node with a jump to itself, whose other live leaves have at most one target, becomes a
+//! loop, and then that target.
+//!
+//! The first of these forms that fits is taken: endless, where there is no target; tested before;
+//! tested after; and else with a flag, which is cleared where the loop begins. The definition is that
+//! of the theory of control, `close_graph` in `graph_rules/specs/Reduced.antt`.
+#![tactic(auto)]
+
+mod forms;
+mod nodes;
+
+pub use forms::{Form, Turning, form_of, looped};
+pub use nodes::{close_at, close_loop, loops_at};
