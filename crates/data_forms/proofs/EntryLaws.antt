@@ -1,7 +1,6 @@
 -- Clauses and entries are lawful.
 use Rattle.std.proofs.Common.{ℕ, true, false, List}
 use Rattle.std.specs.Prelude.{codes}
-use Rattle.grammar_forms.specs.declared.note.Position.{Position}
 use Rattle.grammar_forms.proofs.MakerLaws.{Law, pure, key, maybe, period, digits, picture, where_next, many, some, loose, ◌>>=◌, ◌>>◌}
 use Rattle.word_forms.proofs.WordLaws.{name, literal}
 use Rattle.data_forms.specs.Choice as choices

@@ -1,8 +1,8 @@
 -- Words that may be one or another, or be left out.
-use Rattle.std.specs.Prelude.{ℕ, Bool, ◌||◌, codes, List}
+use Rattle.std.specs.Prelude.{ℕ, Bool, ◌||◌, List}
 use Rattle.cobol_lex.specs.declared.token.TokenKind.{TokenKind}
 use Rattle.grammar_forms.specs.declared.note.Position.{Position}
-use Rattle.grammar_forms.specs.Form.{Form, pure, ◌>>=◌, ◌>>◌, where_next}
+use Rattle.grammar_forms.specs.Form.{Form, pure, ◌>>◌, where_next}
 use Rattle.grammar_forms.specs.Part.{key, maybe, period, is_key}
 
 -- one of two words

@@ -1,8 +1,7 @@
 -- Clauses of a data description entry (ISO 1989:1985, the data description entry). The USAGE clause
 -- has DISPLAY alone; other usages come in here.
-use Rattle.std.specs.Prelude.{ℕ, Bool, true, false, ◌||◌, codes, List, Option, Some, None}
+use Rattle.std.specs.Prelude.{Bool, true, false, ◌||◌, codes, List, Option, Some, None}
 use Rattle.cobol_lex.specs.declared.token.TokenKind.{TokenKind}
-use Rattle.cob_tree.specs.declared.place.Operand.{Operand}
 use Rattle.data_forms.specs.declared.draft.Clause.{Clause}
 use Rattle.data_forms.specs.declared.draft.Clause.TheVariants as clauses
 use Rattle.data_forms.specs.declared.draft.SpanDraft.{SpanDraft}

@@ -1,10 +1,9 @@
 -- FD and the DATA DIVISION (ISO 1989:1985, the DATA DIVISION).
-use Rattle.std.specs.Prelude.{ℕ, Bool, ◌||◌, codes, List, []}
+use Rattle.std.specs.Prelude.{Bool, ◌||◌, codes, List, []}
 use Rattle.cobol_lex.specs.declared.token.TokenKind.{TokenKind}
 use Rattle.data_forms.specs.declared.draft.DataDraft.{DataDraft}
 use Rattle.data_forms.specs.declared.draft.EntryDraft.{EntryDraft}
 use Rattle.data_forms.specs.declared.draft.FdDraft.{FdDraft}
-use Rattle.grammar_forms.specs.declared.note.Position.{Position}
 use Rattle.grammar_forms.specs.Form.{Form, pure, ◌>>=◌, ◌>>◌, loop, where_next, many, some}
 use Rattle.grammar_forms.specs.Part.{key, maybe, period, digits, is_key}
 use Rattle.word_forms.specs.Word.{name, is_name}
