@@ -6,3 +6,5 @@ pub mod FactRows
 pub mod CutLemmas
 -- the same, row by row
 pub mod CutRows
+-- sections make no difference to what has no escape
+pub mod Alike

@@ -6,3 +6,5 @@ pub mod Facts
 pub mod Seen
 -- statements with their lists cut
 pub mod Cutting
+-- what is stated of them
+pub mod Laws

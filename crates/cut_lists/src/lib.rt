@@ -7,6 +7,7 @@
 
 mod cutting;
 mod facts;
+pub mod laws;
 mod told;
 
 pub use cutting::{cut_stmt, cut_stmts};
