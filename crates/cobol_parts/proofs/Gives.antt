@@ -1,12 +1,13 @@
 -- Each choice gives one of its arms, and READ its first only where AT END or a status item stands.
 use Rattle.std.proofs.Common.{◌≡◌, ◌≢◌, ℕ, zero, suc, ◌+◌, ◌-◌, ◌≤◌, ◌<◌, Bool, true, false, not, ◌&&◌, ◌||◌, if◌then◌else◌, ◌==◌, List, [], ◌∷◌, length, Option, Some, None, Ok, Err, is_some, refl, ap, arith}
-use Rattle.std.specs.Prelude.{nat_le, unsigned_abs}
+use Rattle.std.specs.Prelude.{nat_le, unsigned_abs, is_none, slice_get}
 use Rattle.std.specs.Int.{is_positive}
 use Rattle.std.proofs.lemmas.Bool.{leb-true, eqb-true, eqb-false, false≢true}
 use mathlib.Core.Bool.{true≢false}
 use Rattle.cob_num.specs.declared.number.Dec.{Dec}
 use Rattle.cob_tree.specs.declared.choice.Test.{Test}
 use Rattle.cob_tree.specs.declared.entry.Entry.{Entry}
+use Rattle.cob_tree.specs.declared.file.FileEntry.{FileEntry}
 use Rattle.cob_tree.specs.declared.place.Place.{Place}
 use Rattle.cob_tree.specs.declared.ending.Abend.TheVariants.{Io}
 use Rattle.cob_store.specs.declared.spot.Spot.{Spot}
@@ -20,12 +21,12 @@ use Rattle.statements.specs.Choice.{Asked, asked, one_holds, when_chosen, evalua
 use Rattle.statements.specs.Side.{valued}
 use Rattle.statements.specs.Arithmetic.{calculated}
 use Rattle.statements.specs.Does.{memory_in, of_sum}
-use Rattle.statements.specs.Filing.{Declared, Effect, Operation, Ended, Went, Chose, Abended, no_effect, after, then_do, of_outcome, into, into_by, end_by, always_ends, settled, status_spot, status_place, operated_to, record_put, read_end, address_at, record_spot}
+use Rattle.statements.specs.Filing.{Declared, Effect, Operation, Ended, Went, Chose, Abended, no_effect, after, then_do, of_outcome, into, into_by, end_by, always_ends, settled, status_spot, status_by, operated_to, record_put, read_end, address_at, record_spot}
 use Rattle.language.specs.Language.{Chooser, Evaluate, Arith, Depending}
 use Rattle.language.specs.Language as language
 use Rattle.lowering.specs.Told.{ChoiceIsTold}
 use Rattle.cobol_meaning.specs.Acting.{Memory, answered, chosen, name_in, arm_in, chooses_in}
-use Rattle.cobol_parts.specs.Told.{never_first, width}
+use Rattle.cut_lists.specs.Told.{never_ends, status_missing, width_of}
 
 -- ---- EVALUATE
 
@@ -132,14 +133,22 @@ module _ (declared : Declared) (file : ℕ) (has_end : Bool) (before later : Roo
   spot-goes_on (Err abend) = tt
 
   place-goes_on : (place : Option Place) (ends : Bool) → has_end ≡ ends →
-      GoesOn (not (is_some place || ends)) attempt.status
+      GoesOn (if ends then false else is_none place) attempt.status
       (by_spot (status_spot declared before place)).end
-  place-goes_on (Some place) ends is = spot-goes_on (status_spot declared before (Some place))
+  place-goes_on (Some place) true is = spot-goes_on (status_spot declared before (Some place))
+  place-goes_on (Some place) false is = spot-goes_on (status_spot declared before (Some place))
   place-goes_on None true is = spot-goes_on (Ok None)
   place-goes_on None false is =
       end-goes_on true ((false || (has_end && attempt.status == 10))
       && not (always_ends attempt.status)) attempt.status
       (λ never. ap (λ b. (b && attempt.status == 10) && not (always_ends attempt.status)) is)
+
+  entry-goes_on : (entry : Option FileEntry) (ends : Bool) → has_end ≡ ends →
+      GoesOn (if ends then false else status_missing entry) attempt.status
+      (by_spot (status_spot declared before (status_by entry))).end
+  entry-goes_on None true is = spot-goes_on (Ok None)
+  entry-goes_on None false is = spot-goes_on (Ok None)
+  entry-goes_on (Some entry) ends is = place-goes_on entry.status ends is
 
 -- INTO, and then the second arm
 into-told : (memory : Memory) (never : Bool) (operations : List Operation) (store : Roots)
@@ -175,7 +184,7 @@ module _ (memory : Memory) (declared : Declared) (file : ℕ) (place : Option Pl
 -- ---- each chooser
 
 pub chooses : (declared : Declared) (chooser : Chooser) (memory : Memory) →
-    ChoiceIsTold (width chooser) (never_first declared chooser)
+    ChoiceIsTold (width_of chooser) (never_ends declared.files chooser)
     (chooses_in declared chooser memory)
 chooses declared (Evaluate subject tests has_other) memory =
     arms-told memory (length tests)
@@ -188,9 +197,9 @@ chooses declared (language.Read file into has_end) memory =
     let effect : Effect = operated_to declared Read file (has_end && attempt.status == 10)
     memory.store (record_put declared file memory.store attempt) attempt in
     read-told memory declared file into attempt.world effect.operations effect.store
-    (never_first declared (language.Read file into has_end)) attempt.status effect.end
-    (place-goes_on declared file has_end memory.store
-    (record_put declared file memory.store attempt) attempt (status_place declared file) has_end
+    (never_ends declared.files (language.Read file into has_end)) attempt.status effect.end
+    (entry-goes_on declared file has_end memory.store
+    (record_put declared file memory.store attempt) attempt (slice_get declared.files file) has_end
     refl)
 chooses declared (Arith calc into) memory =
     sum-told memory (calculated declared.areas.items calc true into memory.store).store

@@ -7,7 +7,7 @@ use Rattle.cob_tree.specs.declared.stmt.Stmt.TheOpen.{Stmt-F}
 use Rattle.statements.specs.Filing.{Declared}
 use Rattle.control.specs.Outcome.{Got}
 use Rattle.cobol_meaning.specs.Acting.{Memory, does_to}
-use Rattle.cobol_parts.specs.Told.{does_nothing}
+use Rattle.cut_lists.specs.Told.{does_nothing}
 
 skips-rolled : (declared : Declared) (memory : Memory) (view : Stmt-F Stmt Arms When) →
     does_nothing (roll-Stmt view) ≡ true →

@@ -16,7 +16,7 @@ use Rattle.cob_tree.specs.declared.stmt.Arms.{Arms, roll-Arms, map-Arms, fold-ro
 use Rattle.cob_tree.specs.declared.stmt.When.{When, roll-When, map-When, fold-roll-When}
 use Rattle.cob_tree.specs.declared.stmt.Stmt.{Stmt, ind-Stmt, map-Stmt, roll-Stmt, fold-roll-Stmt}
 use Rattle.cob_tree.specs.declared.stmt.Stmt.TheOpen.{Stmt-F, Arms-F, When-F}
-use Rattle.statements.specs.Filing.{Declared, status_place}
+use Rattle.statements.specs.Filing.{Declared}
 use Rattle.language.specs.Language as language
 use Rattle.language.specs.All.{all}
 use Rattle.language.specs.Control.{arith_of, arith_stmt, arm_before, else_of, evaluate_of, picker_by, test_of, control_in, loop_of, perform_of, tests_of, Branch, branches_before, Both, both_arms, both_step, branch_step, seen_step, seen, seen_when, seen_both, seen_stmts, seen_sentence, section_last, seen_paragraphs, control_of}
@@ -25,7 +25,7 @@ use Rattle.language.specs.OwnItems.{NamesOwnItems, operand_own, place_own, optio
 use Rattle.language.specs.OwnItems as items
 use Rattle.language.proofs.OwnCells.{cond-own, move-own, arith-own, evaluate-own, OwnTurns, control-own}
 use Rattle.lowering.specs.Told.{Told, AllBelow, FirstMayBeMissing, OwnPicker, OwnStmt, OwnStmts, OwnArms, OwnParagraph, OwnParagraphs, IsSource, arm_count}
-use Rattle.cobol_parts.specs.Told.{told_of, width}
+use Rattle.cut_lists.specs.Told.{told_of, width_of}
 use Rattle.cobol_parts.specs.Named as named
 use Rattle.cobol_parts.specs.Named.{turns, is_there, stmt_named, arms_named, when_named, stmts_named, sentences_named, paragraphs_named, NamesOwnParagraphs}
 
@@ -40,9 +40,9 @@ all-below count (number ∷ to) e =
     let h = and_parts (is_there count number) (all (map (is_there count) to)) e in
     (below count number h.0, all-below count to h.1)
 
-module _ (declared : Declared) (returning : ℕ → ℕ → Bool) (count : ℕ) where
+module _ (declared : Declared) (returning : List (List ℕ)) (count : ℕ) where
   abbrev told : Told
-  told = told_of declared returning
+  told = told_of declared.files returning
 
   -- ---- statements with parts that fit
 
@@ -58,10 +58,6 @@ module _ (declared : Declared) (returning : ℕ → ℕ → Bool) (count : ℕ) 
   arith-fits calc into (Some first) (Some second) act arms =
       (refl, arms, λ never. absurd (false≢true never))
 
-  with-end : (b : Bool) → not (b || true) ≡ true → ⊥
-  with-end true e = false≢true e
-  with-end false e = false≢true e
-
   read-fits : (file : ℕ) (into : Option Place) (first second : Option language.Stmts) →
       OwnArms told count (both_arms (record { first = first; second = second })) →
       OwnStmt told count (language.Choose (language.By (language.Read file into (is_some first)))
@@ -69,9 +65,9 @@ module _ (declared : Declared) (returning : ℕ → ℕ → Bool) (count : ℕ) 
   read-fits file into None None arms = (refl, arms, λ never. tt)
   read-fits file into None (Some second) arms = (refl, arms, λ never. tt)
   read-fits file into (Some first) None arms =
-      (refl, arms, λ never. absurd (with-end (is_some (status_place declared file)) never))
+      (refl, arms, λ never. absurd (false≢true never))
   read-fits file into (Some first) (Some second) arms =
-      (refl, arms, λ never. absurd (with-end (is_some (status_place declared file)) never))
+      (refl, arms, λ never. absurd (false≢true never))
 
   loop-fits : (control : Control) (body : language.Stmts) → turns control ≡ true →
       OwnTurns (control_in control) → OwnStmts told count body →
@@ -87,7 +83,7 @@ module _ (declared : Declared) (returning : ℕ → ℕ → Bool) (count : ℕ) 
   perform-fits (Some control) entry exit h a b = (h, (a, b))
 
   picker-fits : (cell : Option ℕ) (counted : Bool) (chooser : language.Chooser) (arms : ℕ) →
-      own.OwnPicker (picker_by cell counted chooser) → width chooser ≡ arms →
+      own.OwnPicker (picker_by cell counted chooser) → width_of chooser ≡ arms →
       OwnPicker told (picker_by cell counted chooser) arms
   picker-fits None counted chooser arms h e = e
   picker-fits (Some cell) false chooser arms h e = e
@@ -396,11 +392,11 @@ paragraph-count : (number : ℕ) (paragraphs : List Paragraph) →
 paragraph-count number [] = refl
 paragraph-count number (paragraph ∷ others) = ap suc (paragraph-count (suc number) others)
 
-pub source : (declared : Declared) (returning : ℕ → ℕ → Bool) (program : Program) →
+pub source : (declared : Declared) (returning : List (List ℕ)) (program : Program) →
     NamesOwnItems program → NamesOwnParagraphs program →
-    IsSource (told_of declared returning) (control_of program)
+    IsSource (told_of declared.files returning) (control_of program)
 source declared returning program items paragraphs =
-    subst (λ count. OwnParagraphs (told_of declared returning) count
+    subst (λ count. OwnParagraphs (told_of declared.files returning) count
     (seen_paragraphs 0 program.paragraphs)) (paragraph-count 0 program.paragraphs)
     (paragraphs-fit declared returning (length program.paragraphs) 0 program.paragraphs
     (omega arith) items paragraphs)

@@ -1,6 +1,4 @@
--- what lowering is told
-pub mod Told
 -- paragraphs that statements name
 pub mod Named
--- what is stated of both
+-- what is stated of programs and their parts
 pub mod Laws
