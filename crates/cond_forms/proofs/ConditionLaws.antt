@@ -3,6 +3,7 @@ use Rattle.std.proofs.Common.{ℕ, zero, suc, Bool, true, false, List, Option, S
 use Rattle.std.specs.Prelude.{codes}
 use Rattle.cob_base.specs.Bytes.{left_parenthesis, right_parenthesis}
 use Rattle.cob_tree.specs.declared.cond.ClassKind.{ClassKind}
+use Rattle.cob_tree.specs.declared.cond.Cond.{Cond}
 use Rattle.cob_tree.specs.declared.cond.Rel.{Rel}
 use Rattle.grammar_forms.specs.declared.note.Position.{Position}
 use Rattle.grammar_forms.specs.Form.{Form}
@@ -308,17 +309,27 @@ module _ (names : Names) {inner : Inner} (I : InnerLaw inner) {content : ℕ →
 
   -- ---- cond
 
-  pub and_part : (state : Joined) → Law true (conditions.and_part names inner content state)
+  pub and_part : (before : Option Cond) (left : Cond) (setting : Option Setting) (count : ℕ) →
+      Law true (conditions.and_part names inner content before left setting count)
   unfolding conditions.and_part
-  and_part state = key (codes "AND") >> (neg state.part.setting state.part.count >>= (λ next. pure))
+  and_part before left setting count = do
+    key (codes "AND")
+    next ← neg setting count
+    pure
 
-  pub or_part : (state : Joined) → Law true (conditions.or_part names inner content state)
+  pub or_part : (before : Option Cond) (left : Cond) (setting : Option Setting) (count : ℕ) →
+      Law true (conditions.or_part names inner content before left setting count)
   unfolding conditions.or_part
-  or_part state = key (codes "OR") >> (neg state.part.setting state.part.count >>= (λ next. pure))
+  or_part before left setting count = do
+    key (codes "OR")
+    next ← neg setting count
+    pure
 
   pub join : (state : Joined) → Law true (conditions.join names inner content state)
   unfolding conditions.join
-  join state = chosen state.part.not_read refuse (where_next (and_part state) (or_part state))
+  join state = chosen state.part.not_read refuse
+      (where_next (and_part _ _ state.part.setting state.part.count)
+      (or_part _ _ state.part.setting state.part.count))
 
   pub conds_from : (first : Part) → Law false (conditions.conds_from names inner content first)
   unfolding conditions.conds_from

@@ -2,6 +2,7 @@
 use Rattle.std.proofs.Common.{ℕ, zero, suc, ◌≤◌, Bool, true, false, Option, Some, None, arith}
 use Rattle.std.specs.Prelude.{codes}
 use Rattle.cob_base.specs.Bytes.{left_parenthesis}
+use Rattle.cob_tree.specs.declared.cond.Cond.{Cond}
 use Rattle.grammar_forms.specs.declared.note.Position.{Position}
 use Rattle.grammar_forms.specs.declared.why.Why.TheVariants.{Parens}
 use Rattle.grammar_forms.specs.Form.{Form}
@@ -154,26 +155,30 @@ module _ (names : Names) {less more : Inner} (I : InnerDeepens less more) where
     neg setting count = where_next (not_neg setting count) (where_next
         (abbreviated false setting count) (prim_part false setting count))
 
-    and_part : (state : Joined) →
-        Deepens (levels_of Parens) true (conditions.and_part names less c state)
-        (conditions.and_part names more d state)
+    and_part : (before : Option Cond) (left : Cond) (setting : Option Setting) (count : ℕ) →
+        Deepens (levels_of Parens) true (conditions.and_part names less c before left setting count)
+        (conditions.and_part names more d before left setting count)
     unfolding conditions.and_part
-    and_part state = same (key (codes "AND")) >> (neg state.part.setting state.part.count >>=
-        (λ next. same pure))
+    and_part before left setting count = do
+      same (key (codes "AND"))
+      next ← neg setting count
+      same pure
 
-    or_part : (state : Joined) →
-        Deepens (levels_of Parens) true (conditions.or_part names less c state)
-        (conditions.or_part names more d state)
+    or_part : (before : Option Cond) (left : Cond) (setting : Option Setting) (count : ℕ) →
+        Deepens (levels_of Parens) true (conditions.or_part names less c before left setting count)
+        (conditions.or_part names more d before left setting count)
     unfolding conditions.or_part
-    or_part state = same (key (codes "OR")) >> (neg state.part.setting state.part.count >>=
-        (λ next. same pure))
+    or_part before left setting count = do
+      same (key (codes "OR"))
+      next ← neg setting count
+      same pure
 
-    join : (state : Joined) →
-        Deepens (levels_of Parens) true (conditions.join names less c state)
+    join : (state : Joined) → Deepens (levels_of Parens) true (conditions.join names less c state)
         (conditions.join names more d state)
     unfolding conditions.join
-    join state = chosen state.part.not_read (same refuse) (where_next (and_part state)
-        (or_part state))
+    join state = chosen state.part.not_read (same refuse)
+        (where_next (and_part _ _ state.part.setting state.part.count)
+        (or_part _ _ state.part.setting state.part.count))
 
     conds_from : (first : Part) →
         Deepens (levels_of Parens) false (conditions.conds_from names less c first)

@@ -17,6 +17,7 @@ use Rattle.cond_forms.specs.declared.part.Part.{Part}
 use Rattle.cond_forms.specs.declared.test.Prim.{Prim}
 use Rattle.cond_forms.specs.declared.test.Prim.TheVariants as prims
 use Rattle.cond_forms.specs.declared.test.Read.{Read}
+use Rattle.cond_forms.specs.declared.test.Setting.{Setting}
 use Rattle.cond_forms.specs.Token.{joins}
 use Rattle.cond_forms.specs.Test.{read_test}
 use Rattle.cond_forms.specs.Primary.{prim}
@@ -27,33 +28,42 @@ abbrev pub whole_of : Option Cond → Cond → Cond
 whole_of None cond = cond
 whole_of (Some before) cond = conds.Or before cond
 
-abbrev pub and_of : Cond → Cond → Cond
-and_of left right = conds.And left right
-
-abbrev pub and_joined : Joined → Part → Joined
-and_joined state next = record {
-  before = state.before;
-  part = part_of (and_of state.part.cond next.cond) next.setting next.count next.not_read;
+-- so far, and with one more part behind AND
+abbrev pub and_joined : (before : Option Cond) → (left : Cond) → (next : Part) → Joined
+and_joined before left next = record {
+  before = before;
+  part = part_of (conds.And left next.cond) next.setting next.count next.not_read;
 }
 
-abbrev pub or_joined : Joined → Part → Joined
-or_joined state next = record { before = Some (whole_of state.before state.part.cond); part = next }
+-- the same behind OR
+abbrev pub or_joined : (before : Option Cond) → (left : Cond) → (next : Part) → Joined
+or_joined before left next = record { before = Some (whole_of before left); part = next }
 
-unfoldable pub and_part : Names → Inner → (ℕ → Form Read) → Joined → Form Joined
-and_part names inner content state =
-    key (codes "AND") >> (neg names inner content state.part.setting state.part.count >>=
-    (λ next. pure (and_joined state next)))
+abbrev pub joined_whole : Joined → Part
+joined_whole state =
+    part_of (whole_of state.before state.part.cond) state.part.setting state.part.count
+    state.part.not_read
 
-unfoldable pub or_part : Names → Inner → (ℕ → Form Read) → Joined → Form Joined
-or_part names inner content state =
-    key (codes "OR") >> (neg names inner content state.part.setting state.part.count >>=
-    (λ next. pure (or_joined state next)))
+unfoldable pub and_part : Names → Inner → (ℕ → Form Read) →
+    Option Cond → Cond → Option Setting → ℕ → Form Joined
+and_part names inner content before left setting count = do
+  key (codes "AND")
+  next ← neg names inner content setting count
+  pure (and_joined before left next)
+
+unfoldable pub or_part : Names → Inner → (ℕ → Form Read) →
+    Option Cond → Cond → Option Setting → ℕ → Form Joined
+or_part names inner content before left setting count = do
+  key (codes "OR")
+  next ← neg names inner content setting count
+  pure (or_joined before left next)
 
 -- nothing is joined where a NOT was read that isn't the condition's own
 unfoldable pub join : Names → Inner → (ℕ → Form Read) → Joined → Form Joined
 join names inner content state = chosen state.part.not_read (refuse Syntax)
-    (where_next (is_key (codes "AND")) (and_part names inner content state)
-    (or_part names inner content state))
+    (where_next (is_key (codes "AND"))
+    (and_part names inner content state.before state.part.cond state.part.setting state.part.count)
+    (or_part names inner content state.before state.part.cond state.part.setting state.part.count))
 
 abbrev pub joins_from : Names → Inner → (ℕ → Form Read) → Joined → Form Joined
 joins_from names inner content first = loop joins (join names inner content) first
@@ -62,8 +72,7 @@ joins_from names inner content first = loop joins (join names inner content) fir
 unfoldable pub conds_from : Names → Inner → (ℕ → Form Read) → Part → Form Part
 conds_from names inner content first = do
   state ← joins_from names inner content (record { before = None; part = first })
-  pure (part_of (whole_of state.before state.part.cond) state.part.setting state.part.count
-      state.part.not_read)
+  pure (joined_whole state)
 
 unfoldable pub cond_with : Names → Inner → (ℕ → Form Read) → ℕ → Form Part
 cond_with names inner content count =

@@ -6,7 +6,8 @@ use Rattle.cob_tree.specs.declared.place.Op.{Op}
 use Rattle.cob_tree.specs.declared.place.Place.{Place}
 use Rattle.grammar_forms.specs.declared.note.Position.{Position}
 use Rattle.grammar_forms.specs.declared.why.Why.TheVariants.{Terms}
-use Rattle.grammar_forms.proofs.MakerLaws.{Law, pure, refuse, note, one, key, mark, word, digits, decimal, literal, valued, chosen, where_next, loop, many, added, loose, too_deep, unless, ◌>>=◌, ◌>>◌}
+use Rattle.grammar_forms.proofs.MakerLaws.{Law, pure, refuse, note, one, key, mark, digits, chosen, where_next, loop, many, added, loose, too_deep, unless, ◌>>=◌, ◌>>◌}
+use Rattle.word_forms.proofs.WordLaws.{name, literal}
 use Rattle.data_names.specs.declared.name.Found.{Found}
 use Rattle.data_names.specs.Names.{Names}
 use Rattle.expr_forms.specs.declared.chain.Chain.{Chain}
@@ -39,9 +40,6 @@ pub operator : Law true expressions.operator
 operator = one (λ position kind. tokens.op_of kind)
 
 -- ---- references
-
-pub name : Law true references.name
-name = where_next word refuse
 
 pub qualifier : Law true references.qualifier
 unfolding references.qualifier
@@ -88,30 +86,9 @@ reference names I count = name >>= (λ first. reference_behind names I first.0 f
 
 -- ---- operands
 
-pub digits_operand : (count : ℕ) → Law true (operands.digits_operand count)
-unfolding operands.digits_operand
-digits_operand count = digits >>= (λ found. pure)
-
-pub decimal_operand : (count : ℕ) → Law true (operands.decimal_operand count)
-unfolding operands.decimal_operand
-decimal_operand count = decimal >>= (λ found. pure)
-
-pub text_operand : (count : ℕ) → Law true (operands.text_operand count)
-unfolding operands.text_operand
-text_operand count = literal >>= (λ found. pure)
-
-pub figure_operand : (count : ℕ) → Law true (operands.figure_operand count)
-unfolding operands.figure_operand
-figure_operand count = valued tokens.figure_of >>= (λ found. pure)
-
-pub byte_operand : (count : ℕ) → Law true (operands.byte_operand count)
-unfolding operands.byte_operand
-byte_operand count = where_next (text_operand count) (figure_operand count)
-
 pub literal_operand : (count : ℕ) → Law true (operands.literal_operand count)
 unfolding operands.literal_operand
-literal_operand count =
-    where_next (digits_operand count) (where_next (decimal_operand count) (byte_operand count))
+literal_operand count = literal >>= (λ found. pure)
 
 pub operand : (names : Names) {inner : Inner} → InnerLaw inner → (count : ℕ) →
     Law true (operands.operand names inner count)

@@ -15,6 +15,7 @@ use Rattle.grammar_forms.specs.Reading.{Bound, Deeper, levels_of}
 use Rattle.grammar_forms.proofs.MakerLaws as laws
 use Rattle.grammar_forms.proofs.MakerLaws.{Law, pure, refuse, note, mark, too_deep}
 use Rattle.grammar_forms.proofs.Deeper.{Deepens, same, chosen, where_next, loop, shorter, ◌>>=◌, ◌>>◌}
+use Rattle.word_forms.proofs.WordLaws.{name}
 use Rattle.data_names.specs.declared.name.Found.{Found}
 use Rattle.data_names.specs.Names.{Names}
 use Rattle.expr_forms.specs.declared.chain.Chain.{Chain}
@@ -110,7 +111,7 @@ module _ (names : Names) {less more : Inner} (I : InnerDeepens less more) where
       Deepens (levels_of Parens) true (references.reference names less count)
       (references.reference names more count)
   unfolding references.reference
-  reference count = same law.name >>= (λ first. reference_behind first.0 first.1 count)
+  reference count = same name >>= (λ first. reference_behind first.0 first.1 count)
 
   pub operand : (count : ℕ) →
       Deepens (levels_of Parens) true (operands.operand names less count)
@@ -228,7 +229,7 @@ module _ (names : Names) {less more : Inner} (I : InnerDeepens less more) where
       (front_forms.name_front names more count)
   unfolding front_forms.name_front
   name_front count = do
-    first ← same law.name
+    first ← same name
     of ← same law.qualifiers
     where_next (same (law.tally count 1) >>= (λ sum. ref_behind _ of _ sum >>=
         (λ side. same pure))) (same note >> same pure)

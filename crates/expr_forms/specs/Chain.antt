@@ -38,8 +38,7 @@ opened op side = record {
 
 abbrev pub multiplied : Op → Bool → Side → Side → Side
 multiplied op exact left right = record {
-  what = whats.Sum (exprs.Both op (expr_of left.what)
-      (expr_of right.what));
+  what = whats.Sum (exprs.Both op (expr_of left.what) (expr_of right.what));
   kind = kinds.Number (exact && (is_whole left.kind && is_whole right.kind));
   make = makes.Joined;
   position = left.position;

@@ -23,8 +23,7 @@ bare_sub place = item_sub place false (codes "0")
 
 abbrev pub number_either : List ℕ → Position → Either
 number_either digits position = record {
-  subs = number_sub digits ∷
-      [];
+  subs = number_sub digits ∷ [];
   base = None;
   chain = chain_of (digits_side digits position);
   leaves = 1;

@@ -83,7 +83,8 @@ abbrev pub makes_fault : Make → Make → (left right : Side) → Option Note
 makes_fault makes.Literal makes.Literal left right = usage right.position
 makes_fault _ _ left right = kinds_fault (compared_as left.kind) (compared_as right.kind) left right
 
--- two literals, text beside a number that is none without decimals, or a figurative constant beside a number
+-- two literals, text beside a number that isn't without decimals, or a figurative constant beside a
+-- number
 unfoldable pub relation_fault : Side → Side → Option Note
 relation_fault left right = makes_fault left.make right.make left right
 

@@ -14,14 +14,16 @@ use Rattle.expr_forms.specs.Fault.{number_fault, found_fault}
 use Rattle.expr_forms.specs.Side.{sum_side}
 use Rattle.expr_forms.specs.Chain.{chain_of, finish}
 use Rattle.expr_forms.specs.Either.{number_either, ref_either, with_number, subs_of}
-use Rattle.expr_forms.specs.Token.{is_name, is_digits, begins_turn}
+use Rattle.expr_forms.specs.Token.{begins_turn}
+use Rattle.word_forms.specs.Word.{is_name, name}
+use Rattle.word_forms.specs.Constant.{is_digits}
 use Rattle.cob_base.specs.Bytes.{left_parenthesis, right_parenthesis, plus_sign, hyphen, colon}
 use Rattle.grammar_forms.specs.Form.{Form, pure, note, ◌>>=◌, ◌>>◌, loop, chosen, where_next}
 use Rattle.grammar_forms.specs.Part.{mark, digits, is_mark}
 use Rattle.data_names.specs.Names.{Names}
 use Rattle.data_names.specs.Look.{look}
 use Rattle.expr_forms.specs.Limit.{Inner, tally}
-use Rattle.expr_forms.specs.Reference.{name, qualifiers, ref_behind}
+use Rattle.expr_forms.specs.Reference.{qualifiers, ref_behind}
 use Rattle.expr_forms.specs.Expression.{unsigned, unary, operated, operator, turn}
 use Rattle.expr_forms.specs.Window.{window_behind}
 use Rattle.expr_forms.specs.Subscript.{more_subs}
@@ -35,18 +37,18 @@ sum_front side = pure (fronts.Sum (chain_of side.0) side.1)
 unfoldable pub plus_front : Names → Inner → ℕ → Form Front
 plus_front names inner count = do
   position ← mark plus_sign
-  where_next is_digits digits_front (unsigned names inner count >>=
-      (λ side. sum_front (sum_side position side.0, side.1)))
+  where_next is_digits digits_front
+      (unsigned names inner count >>= (λ side. sum_front (sum_side position side.0, side.1)))
 
 unfoldable pub name_front : Names → Inner → ℕ → Form Front
 name_front names inner count = do
   first ← name
   of ← qualifiers
   where_next (is_mark left_parenthesis)
-      (tally count 1 >>= (λ more. ref_behind inner
-      (look names first.0 of) of first.1 more >>= sum_front))
-      (note (found_fault (look names first.0 of) 0 false first.1) >> pure (fronts.Either (ref_either
-      (look names first.0 of) of first.1)))
+      (tally count 1
+      >>= (λ more. ref_behind inner (look names first.0 of) of first.1 more >>= sum_front))
+      (note (found_fault (look names first.0 of) 0 false first.1)
+      >> pure (fronts.Either (ref_either (look names first.0 of) of first.1)))
 
 unfoldable pub unary_front : Names → Inner → ℕ → Form Front
 unary_front names inner count = unary names inner count >>= sum_front
@@ -71,8 +73,9 @@ decided names inner count e op = do
 
 unfoldable pub number_turn : Op → Bool → Either → Form Front
 number_turn op negative e =
-    digits >>= (λ found. note (number_fault e.chain.last) >> pure (fronts.Either
-    (with_number op negative found.0 found.1 e)))
+    digits
+    >>= (λ found. note (number_fault e.chain.last)
+    >> pure (fronts.Either (with_number op negative found.0 found.1 e)))
 
 -- behind `+`, or behind `-` where the last subscript takes one
 unfoldable pub number_or_decided : Names → Inner → ℕ → Either → Op → Bool → Form Front

@@ -28,4 +28,5 @@ pub record ExpressionsAreRead : Type 0 where
 -- parenthesis that was one too many
 abbrev pub ParenthesesOnlyAdd : Type 0
 ParenthesesOnlyAdd = (names : Names) (count m n : ℕ) → m ≤ n →
-    OnlyAdds (levels_of Parens) (expr names (inner names m) count) (expr names (inner names n) count)
+    OnlyAdds (levels_of Parens)
+    (expr names (inner names m) count) (expr names (inner names n) count)

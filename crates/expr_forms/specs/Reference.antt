@@ -9,17 +9,14 @@ use Rattle.expr_forms.specs.declared.reference.Suffix.{Suffix}
 use Rattle.expr_forms.specs.declared.reference.Suffix.TheVariants as suffixes
 use Rattle.expr_forms.specs.Fault.{found_fault}
 use Rattle.expr_forms.specs.Side.{ref_side}
-use Rattle.expr_forms.specs.Token.{is_name, is_of}
+use Rattle.expr_forms.specs.Token.{is_of}
 use Rattle.cob_base.specs.Bytes.{left_parenthesis}
-use Rattle.grammar_forms.specs.declared.why.Why.TheVariants.{Syntax}
-use Rattle.grammar_forms.specs.Form.{Form, pure, refuse, note, ◌>>=◌, ◌>>◌, where_next, many}
-use Rattle.grammar_forms.specs.Part.{key, word, is_key, is_mark}
+use Rattle.grammar_forms.specs.Form.{Form, pure, note, ◌>>=◌, ◌>>◌, where_next, many}
+use Rattle.grammar_forms.specs.Part.{key, is_key, is_mark}
 use Rattle.data_names.specs.Names.{Names}
+use Rattle.word_forms.specs.Word.{name}
 use Rattle.data_names.specs.Look.{look}
 use Rattle.expr_forms.specs.Limit.{Inner}
-
-abbrev pub name : Form (List ℕ × Position)
-name = where_next is_name word (refuse Syntax)
 
 unfoldable pub qualifier : Form (List ℕ)
 qualifier = do

@@ -1,5 +1,5 @@
 -- Operands and expressions as they are read, with what is known of them.
-use Rattle.std.specs.Prelude.{ℕ, Bool, true, false, List, Option, Some, None}
+use Rattle.std.specs.Prelude.{ℕ, ◌==◌, Bool, true, false, List, Option, Some, None}
 use Rattle.cob_tree.specs.declared.number.Number.{Number}
 use Rattle.cob_tree.specs.declared.place.Expr.{Expr}
 use Rattle.cob_tree.specs.declared.place.Expr.TheVariants as exprs
@@ -77,6 +77,12 @@ digits_side digits position =
 abbrev pub figure_kind : Figure → ValueKind
 figure_kind figures.Zero = kinds.Number true
 figure_kind _ = kinds.Figure
+
+abbrev pub literal_kind : Operand → ValueKind
+literal_kind (operands.Number number) = kinds.Number (number.scale == 0)
+literal_kind (operands.Text text) = kinds.Text
+literal_kind (operands.Figure figure) = figure_kind figure
+literal_kind (operands.Place place) = kinds.Unknown
 
 -- ---- signs and parentheses
 

@@ -5,14 +5,15 @@ use Rattle.cob_tree.specs.declared.place.Sub.{Sub}
 use Rattle.expr_forms.specs.Fault.{whole_fault_at, found_fault, kind_of}
 use Rattle.expr_forms.specs.Side.{place_of}
 use Rattle.expr_forms.specs.Either.{number_sub, item_sub, bare_sub}
-use Rattle.expr_forms.specs.Token.{is_name, is_digits}
+use Rattle.word_forms.specs.Word.{is_name, name}
+use Rattle.word_forms.specs.Constant.{is_digits}
 use Rattle.cob_base.specs.Bytes.{plus_sign, hyphen}
 use Rattle.cobol_lex.specs.declared.token.TokenKind.{TokenKind}
 use Rattle.grammar_forms.specs.Form.{Form, pure, note, ◌>>=◌, ◌>>◌, loop, where_next, added}
 use Rattle.grammar_forms.specs.Part.{mark, digits, is_mark}
 use Rattle.data_names.specs.Names.{Names}
 use Rattle.data_names.specs.Look.{look}
-use Rattle.expr_forms.specs.Reference.{name, qualifiers}
+use Rattle.expr_forms.specs.Reference.{qualifiers}
 
 abbrev pub begins_sub : TokenKind → Bool
 begins_sub kind = is_mark plus_sign kind || (is_digits kind || is_name kind)

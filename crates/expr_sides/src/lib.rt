@@ -20,10 +20,7 @@ pub use fault::{
     number_fault, relation_fault, value_fault, whole_fault, whole_fault_at,
 };
 pub use side::{
-    digits_side, enclosed, expr_of, figure_kind, literal_side, negated, number_of, place_of,
+    digits_side, enclosed, expr_of, literal_kind, literal_side, negated, number_of, place_of,
     ref_side, shape_of, sum_side,
 };
-pub use token::{
-    at_decimal, at_digits, at_figure, at_literal, at_name, at_of, at_operand, at_turn, figure,
-    operator,
-};
+pub use token::{at_of, at_operand, at_turn, operator};

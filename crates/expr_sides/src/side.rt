@@ -123,13 +123,24 @@ pub fn digits_side(digits: Text, position: Position) -> Side
     )
 }
 
-/// What a figurative constant is.
-pub fn figure_kind(figure: Figure) -> ValueKind
+fn figure_kind(figure: Figure) -> ValueKind
     ensures { result ≡ sides.figure_kind figure }
 {
     match figure {
         Figure::Zero => ValueKind::Number(true),
         _ => ValueKind::Figure,
+    }
+}
+
+/// What a literal is.
+pub fn literal_kind(literal: &Operand) -> ValueKind
+    ensures { result ≡ sides.literal_kind literal.now }
+{
+    match literal {
+        Operand::Number(number) => ValueKind::Number(number.scale == 0),
+        Operand::Text(_) => ValueKind::Text,
+        Operand::Figure(figure) => figure_kind(*figure),
+        Operand::Place(_) => ValueKind::Unknown,
     }
 }
 
