@@ -7,10 +7,11 @@ use Rattle.ref_format.specs.Entry.{is_comment_header, is_division, division_head
 use Rattle.ref_format.specs.Row.{Begins, Row, row_line}
 use Rattle.cobol_print.specs.Spacing.{fits, start_of}
 use Rattle.cobol_print.specs.Line.{NoEntryRow, Rest, turned, next_column, onto, column_behind, begun, rest_of, lines_of}
-use Rattle.cobol_print.specs.Unit.{program_id, division}
+use Rattle.program_units.specs.Unit.{header}
+use Rattle.program_units.specs.Division.{program_id}
 use Rattle.cobol_print.specs.Laws.{HeadsBeginNoEntry}
 use Rattle.cobol_lex.specs.declared.token.TokenKind.TheVariants as kind
-use Rattle.cobol_print.specs.declared.unit.PrintUnit.{PrintUnit}
+use Rattle.program_units.specs.declared.unit.PrintUnit.{PrintUnit}
 use Rattle.cobol_print.proofs.PlacedLemmas.{in_line, next_is}
 
 and-false : (x : Bool) → (x && false) ≡ false
@@ -66,11 +67,11 @@ name_line name units short =
     let rest : Rest = rest_of 8 19 false (kind.Word name ∷ kind.Period ∷ []) (lines_of units) in
     (46 ∷ rest.here, ap (λ below. Begins (codes "PROGRAM-ID" ++ 46 ∷ rest.here) ∷ below) (name_below name (lines_of units) short))
 
-third : (word : List ℕ) (units : List PrintUnit) → (word ≡ codes "ENVIRONMENT") ⊎ ((word ≡ codes "DATA") ⊎ (word ≡ codes "PROCEDURE")) → NoEntryRow false (lines_of (division word ∷ units))
+third : (word : List ℕ) (units : List PrintUnit) → (word ≡ codes "ENVIRONMENT") ⊎ ((word ≡ codes "DATA") ⊎ (word ≡ codes "PROCEDURE")) → NoEntryRow false (lines_of (header word (codes "DIVISION") ∷ units))
 unfolding card_of comment_headers division_headers
-third word units (inl e) = subst (λ w. NoEntryRow false (lines_of (division w ∷ units))) (sym e) (refl, over_all (lines_of units))
-third word units (inr (inl e)) = subst (λ w. NoEntryRow false (lines_of (division w ∷ units))) (sym e) (refl, over_all (lines_of units))
-third word units (inr (inr e)) = subst (λ w. NoEntryRow false (lines_of (division w ∷ units))) (sym e) (refl, over_all (lines_of units))
+third word units (inl e) = subst (λ w. NoEntryRow false (lines_of (header w (codes "DIVISION") ∷ units))) (sym e) (refl, over_all (lines_of units))
+third word units (inr (inl e)) = subst (λ w. NoEntryRow false (lines_of (header w (codes "DIVISION") ∷ units))) (sym e) (refl, over_all (lines_of units))
+third word units (inr (inr e)) = subst (λ w. NoEntryRow false (lines_of (header w (codes "DIVISION") ∷ units))) (sym e) (refl, over_all (lines_of units))
 
 second : (text : List ℕ) (rows : List Row) → NoEntryRow false rows → NoEntryRow false (Begins (codes "PROGRAM-ID" ++ text) ∷ rows)
 unfolding card_of comment_headers division_headers
@@ -79,5 +80,5 @@ second text rows more = (refl, more)
 pub heads_begin_no_entry : HeadsBeginNoEntry
 unfolding card_of comment_headers division_headers
 heads_begin_no_entry name word units short is =
-    let named = name_line name (division word ∷ units) short in
-    (refl, subst (NoEntryRow false) (sym named.1) (second named.0 (lines_of (division word ∷ units)) (third word units is)))
+    let named = name_line name (header word (codes "DIVISION") ∷ units) short in
+    (refl, subst (NoEntryRow false) (sym named.1) (second named.0 (lines_of (header word (codes "DIVISION") ∷ units)) (third word units is)))

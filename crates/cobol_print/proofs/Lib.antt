@@ -7,3 +7,6 @@ pub mod LineLemmas
 pub mod PrintedReadsBack
 pub mod PrintsAll
 pub mod HeadsBeginNoEntry
+-- Programs: their units are lawful, and what is printed of them unfolds.
+pub mod GivenLemmas
+pub mod ProgramsUnfold

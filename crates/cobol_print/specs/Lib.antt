@@ -3,8 +3,12 @@ pub mod Spacing
 -- Units as lines, and the lines as bytes.
 pub mod Line
 pub mod Stream
+-- A program as bytes: `printed`.
+pub mod Program
 -- The tokens with their lines, and which units can be printed.
 pub mod Printed
 pub mod Unit
+-- Which programs can.
+pub mod Given
 -- What holds of all that is printed.
 pub mod Laws

@@ -8,7 +8,7 @@ use Rattle.cobol_lex.specs.Written.{written, IsLawful}
 use Rattle.cobol_lex.specs.declared.awaits.Awaits.{Awaits}
 use Rattle.cobol_lex.specs.declared.token.TokenKind.{TokenKind}
 use Rattle.cobol_lex.specs.declared.token.TokenKind.TheVariants as kind
-use Rattle.cobol_print.specs.declared.unit.PrintUnit.{PrintUnit}
+use Rattle.program_units.specs.declared.unit.PrintUnit.{PrintUnit}
 use Rattle.cobol_print.specs.Spacing.{hugs}
 
 abbrev pub all_tokens : List PrintUnit → List TokenKind
@@ -56,23 +56,3 @@ pub record IsUnit (unit : PrintUnit) : Type 0 where
   pub low : 8 ≤ unit.column
   pub begins : BeginsWell unit.tokens
   pub sized : All (IsSized unit.column) unit.tokens
-
--- ---- a program's first lines
-
-abbrev pub identification : PrintUnit
-identification = record {
-  column = 8;
-  tokens = kind.Word (codes "IDENTIFICATION") ∷ kind.Word (codes "DIVISION") ∷ kind.Period ∷ [];
-}
-
-abbrev pub program_id : (name : List ℕ) → PrintUnit
-program_id name = record {
-  column = 8;
-  tokens = kind.Word (codes "PROGRAM-ID") ∷ kind.Period ∷ kind.Word name ∷ kind.Period ∷ [];
-}
-
-abbrev pub division : (word : List ℕ) → PrintUnit
-division word = record {
-  column = 8;
-  tokens = kind.Word word ∷ kind.Word (codes "DIVISION") ∷ kind.Period ∷ [];
-}

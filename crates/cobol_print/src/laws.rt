@@ -1,6 +1,6 @@
 //! What holds of all that is printed. These functions do nothing; their contracts are laws.
 
-ghost use Rattle.cobol_print.specs.Laws.{HeadsBeginNoEntry, PrintedReadsBack, PrintsAll};
+ghost use Rattle.cobol_print.specs.Laws.{HeadsBeginNoEntry, PrintedReadsBack, PrintsAll, ProgramsUnfold};
 
 use cobol_lex::laid_reads_back;
 use ref_format::rows_are_read;
@@ -23,3 +23,12 @@ pub fn heads_begin_no_entry()
 pub fn prints_all()
     ensures { PrintsAll }
 {}
+
+/// What is printed of a program whose names, numbers and literals a text can have unfolds without
+/// a fault to a text with the tokens of its units.
+pub fn programs_unfold()
+    ensures { ProgramsUnfold }
+{
+    rows_are_read();
+    laid_reads_back();
+}

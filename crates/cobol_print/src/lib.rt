@@ -1,10 +1,12 @@
-//! Units to lines in the reference format.
+//! Programs to bytes in the reference format.
 //!
-//! A unit is a column and the tokens that stand from it. `print_units` lays units out in lines of
-//! 72 columns and cuts literals that are too long for one, as `lines_of` says. That this is right
-//! is said by `printed_reads_back`: what is printed unfolds without a fault, to a text with these
-//! very tokens. Hold it against ISO 1989:1985, Reference Format, continuation of lines. That the
-//! lines are those that a person would write is tested.
+//! `print` gives the lines of a program's units. A unit is a column and the tokens that stand from
+//! it. `print_units` lays units out in lines of 72 columns and cuts literals that are too long for
+//! one, as `lines_of` says. That this is right is said by `printed_reads_back`: what is printed
+//! unfolds without a fault, to a text with these very tokens, and by `programs_unfold`, which says
+//! it of programs. Hold it against ISO 1989:1985,
+//! Reference Format, continuation of lines. That the lines are those that a person would write is
+//! tested.
 #![tactic(auto)]
 
 mod laws;
@@ -13,17 +15,27 @@ mod spacing;
 mod spelling;
 #[cfg(test)]
 mod tests;
-mod unit;
 
 ghost use Rattle.std.specs.Prelude.{◌≤◌, All};
 ghost use Rattle.cob_base.specs.Answers.{Makes};
 ghost use Rattle.cobol_print.specs.Line.{lines_of, bytes_of_lines};
+ghost use Rattle.cobol_print.specs.Program.{printed};
 
 use cob_base::{NoMemory, Text};
-pub use laws::{heads_begin_no_entry, printed_reads_back, prints_all};
+use cob_tree::Program;
+pub use laws::{heads_begin_no_entry, printed_reads_back, prints_all, programs_unfold};
 use layout::Layout;
+pub use program_units::PrintUnit;
+use program_units::program_units;
 use std::alloc::Global;
-pub use unit::PrintUnit;
+
+/// The bytes of a program.
+pub fn print(alloc: Global, program: &Program) -> Result<Text, NoMemory>
+    ensures { Makes (printed program.now) result }
+{
+    let units = program_units(alloc, program)?;
+    print_units(alloc, units.as_slice())
+}
 
 /// The lines of the units, one behind the other.
 pub fn print_units(alloc: Global, units: &[PrintUnit]) -> Result<Text, NoMemory>

@@ -2,5 +2,5 @@
 pub mod UnitLemmas
 -- The lines of statements that hold lists.
 pub mod StatementLemmas
--- All units stand in columns 8 to 32.
-pub mod ColumnLemmas
+-- All units stand in columns 8 to 32, and begin with a word or digits.
+pub mod LineLemmas

@@ -41,7 +41,8 @@ file_units program files = map (file_unit program) files
 
 abbrev pub some_files_units : Program → List FileEntry → List PrintUnit
 some_files_units program files =
-    header (codes "ENVIRONMENT") (codes "DIVISION") ∷ header (codes "INPUT-OUTPUT") (codes "SECTION")
+    header (codes "ENVIRONMENT") (codes "DIVISION")
+    ∷ header (codes "INPUT-OUTPUT") (codes "SECTION")
     ∷ unit_at 8 (kind.Word (codes "FILE-CONTROL") ∷ kind.Period ∷ []) ∷ file_units program files
 
 -- a division stands only where it has something
@@ -95,10 +96,13 @@ abbrev pub named_line : Option (List ℕ) → List PrintUnit
 named_line None = []
 named_line (Some name) = unit_at 8 (procedure_token name ∷ kind.Period ∷ []) ∷ []
 
--- a period behind the last line of a sentence
+-- the lines of the statements of a sentence
+abbrev pub sentence_lines : Program → Sentence → List PrintUnit
+sentence_lines program sentence = list_lines (map (stmt_lines program) sentence.stmts) 12 false
+
+-- a period behind the last of them
 abbrev pub sentence_units : Program → Sentence → List PrintUnit
-sentence_units program sentence =
-    ended (list_lines (map (stmt_lines program) sentence.stmts) 12 false)
+sentence_units program sentence = ended (sentence_lines program sentence)
 
 abbrev pub paragraph_units : Program → Paragraph → List PrintUnit
 paragraph_units program paragraph =

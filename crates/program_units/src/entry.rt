@@ -34,7 +34,8 @@ fn level_column(level: u8) -> usize
 }
 
 fn add_name(tokens: &mut Tokens, entry: &Entry) -> Result<(), NoMemory>
-    ensures { OnOk result (tokens.new ≡ tokens.old ++ kind.Word (entry_name (Some entry.now)) ∷ []) }
+    ensures { OnOk result
+        (tokens.new ≡ tokens.old ++ kind.Word (entry_name (Some entry.now)) ∷ []) }
 {
     match entry.name {
         None => tokens.word(b"FILLER"),

@@ -96,8 +96,8 @@ impl Units {
     }
 
     fn head(&mut self, program: &Program, stmt: &Stmt, column: usize) -> Result<(), NoMemory>
-        ensures { OnOk result
-            (self.new ≡ self.old ++ unit_at column (head_step program.now (out-Stmt stmt.now)) ∷ []) }
+        ensures { OnOk result (self.new ≡
+            self.old ++ unit_at column (head_step program.now (out-Stmt stmt.now)) ∷ []) }
     {
         let mut tokens = self.tokens();
         tokens.head(program, stmt)?;
@@ -151,8 +151,8 @@ impl Units {
         column: usize,
         closed: bool,
     ) -> Result<(), NoMemory>
-        ensures { OnOk result
-            (self.new ≡ self.old ++ list_lines (map (stmt_lines program.now) stmts.now) column closed) }
+        ensures { OnOk result (self.new ≡
+            self.old ++ list_lines (map (stmt_lines program.now) stmts.now) column closed) }
     {
         let mut left = stmts.len();
         if left == 0 {
@@ -242,8 +242,8 @@ impl Units {
         not: bool,
         column: usize,
     ) -> Result<(), NoMemory>
-        ensures { OnOk result
-            (self.new ≡ self.old ++ arm_lines (map (stmt_lines program.now) stmts.now) phrase not column) }
+        ensures { OnOk result (self.new ≡
+            self.old ++ arm_lines (map (stmt_lines program.now) stmts.now) phrase not column) }
     {
         self.phrase(phrase, not, deeper(column))?;
         self.list(program, stmts, deeper(deeper(column)), true)

@@ -1,7 +1,7 @@
 use Rattle.std.proofs.Common.{◌≤◌, List, sym, subst}
 use Rattle.std.specs.Prelude.{All}
 use Rattle.program_units.specs.declared.unit.PrintUnit.{PrintUnit}
-use Rattle.program_units.proofs.ColumnLemmas.{units-narrow}
+use Rattle.program_units.proofs.LineLemmas.{units-narrow}
 use Rattle.program_units.proofs.program_units.Goals as goal
 
 pub returns-clause-narrow : goal.returns-clause-narrow

@@ -1,9 +1,13 @@
--- All units of a program stand in columns 8 to 32.
+-- All units of a program stand in columns 8 to 32, and begin with a word or digits.
 use Rattle.std.proofs.Common.{ℕ, ◌≤◌, ◌==◌, length, Bool, true, false, List, [], ◌∷◌, ◌++◌, map, Option, Some, None, sym, subst, arith}
 use Rattle.std.specs.Prelude.{codes, All, ◌&&◌, ◌||◌, if◌then◌else◌}
-use Rattle.std.specs.List.{flat_map}
+use Rattle.std.specs.List.{flat_map, list_all}
+use Rattle.std.proofs.lemmas.List.{append_assoc}
 use Rattle.std.proofs.lemmas.List.Elements.{All-nil, All-cons}
+use Rattle.cob_tree.specs.declared.calc.Calc.{Calc}
+use Rattle.cob_tree.specs.declared.calc.Calc.TheVariants as calc
 use Rattle.cob_tree.specs.declared.choice.Test.{Test}
+use Rattle.cobol_lex.specs.Byte.{is_digit}
 use Rattle.cob_tree.specs.declared.entry.Entry.{Entry}
 use Rattle.cob_tree.specs.declared.file.FileEntry.{FileEntry}
 use Rattle.cob_tree.specs.declared.program.Paragraph.{Paragraph}
@@ -15,22 +19,28 @@ use Rattle.cob_tree.specs.declared.stmt.Stmt.{Stmt, ind-Stmt, map-Stmt, roll-Stm
 use Rattle.cob_tree.specs.declared.stmt.Stmt.TheOpen.{Stmt-F, Arms-F}
 use Rattle.cobol_lex.specs.declared.token.TokenKind.TheVariants as kind
 use Rattle.part_tokens.specs.Token.{Tokens, procedure_token}
-use Rattle.part_tokens.specs.Arithmetic.{end_word}
+use Rattle.part_tokens.specs.Arithmetic.{end_word, calc_front, calc_back, targets_tokens}
 use Rattle.part_tokens.specs.Choice.{test_tokens}
 use Rattle.part_tokens.specs.Condition.{not_tokens}
 use Rattle.part_tokens.specs.Head.{head_step}
 use Rattle.program_units.specs.declared.statement.Phrase.{Phrase}
 use Rattle.program_units.specs.declared.statement.Phrase.TheVariants.{AtEnd, OnSizeError}
 use Rattle.program_units.specs.declared.unit.PrintUnit.{PrintUnit}
-use Rattle.program_units.specs.Unit.{unit_at, deeper, ended}
+use Rattle.program_units.specs.Unit.{unit_at, header, deeper, ended}
 use Rattle.program_units.specs.Statement.{Lines, ArmLines, WhenLines, phrase_tokens, other_tokens, tests_lines, end_lines, some_lines, list_lines, arm_lines, arm_if_any, whens_lines, held_by_other, held_by_else, held_step, stmt_step, arms_step, when_step, stmt_lines, arms_lines, when_lines}
 use Rattle.program_units.specs.Entry.{entry_unit, level_column}
-use Rattle.program_units.specs.Division.{file_unit, file_units, environment_units, fd_unit, file_section, headers_between, entries_units, data_units, section_line, named_line, sentence_units, paragraph_units, paragraphs_units, program_units}
+use Rattle.program_units.specs.Division.{program_id, file_unit, file_units, environment_units, fd_unit, file_section, headers_between, entries_units, data_units, section_line, named_line, sentence_lines, sentence_units, paragraph_units, paragraphs_units, program_units}
 
-abbrev IsIn : PrintUnit → Type 0
-IsIn unit = (8 ≤ unit.column) × (unit.column ≤ 32)
+-- the first token is a word or digits
+abbrev pub Begins : Tokens → Type 0
+Begins (kind.Word word ∷ tokens) = Unit {0}
+Begins (kind.Digits digits ∷ tokens) = Unit {0}
+Begins _ = ⊥
 
-AreIn : List PrintUnit → Type 0
+abbrev pub IsIn : PrintUnit → Type 0
+IsIn unit = (8 ≤ unit.column) × (unit.column ≤ 32) × Begins unit.tokens
+
+unfoldable pub AreIn : List PrintUnit → Type 0
 AreIn [] = Unit {0}
 AreIn (unit ∷ units) = IsIn unit × AreIn units
 
@@ -53,14 +63,14 @@ deeper-low column low = omega arith
 deeper-high : (column : ℕ) → deeper column ≤ 32
 deeper-high column = omega arith
 
-one-in : (column : ℕ) (tokens : Tokens) → 8 ≤ column → column ≤ 32 → AreIn (unit_at column tokens ∷ [])
+one-in : (column : ℕ) (tokens : Tokens) → 8 ≤ column → column ≤ 32 → Begins tokens → AreIn (unit_at column tokens ∷ [])
 unfolding AreIn
-one-in column tokens low high = ((low, high), tt)
+one-in column tokens low high begins = ((low, high, begins), tt)
 
-cons-in : (column : ℕ) (tokens : Tokens) (units : List PrintUnit) → 8 ≤ column → column ≤ 32 → AreIn units →
+cons-in : (column : ℕ) (tokens : Tokens) (units : List PrintUnit) → 8 ≤ column → column ≤ 32 → Begins tokens → AreIn units →
     AreIn (unit_at column tokens ∷ units)
 unfolding AreIn
-cons-in column tokens units low high h = ((low, high), h)
+cons-in column tokens units low high begins h = ((low, high, begins), h)
 
 none-in : AreIn []
 unfolding AreIn
@@ -76,25 +86,67 @@ some-in (stmt ∷ stmts) h column closed low high =
     (h.0 column (closed && length stmts == 0) low high) (some-in stmts h.1 column closed low high)
 
 list-in : (stmts : List Lines) → AreAll AreInFrom stmts → AreInFrom (list_lines stmts)
-list-in [] h column closed low high = one-in column (kind.Word (codes "CONTINUE") ∷ []) low high
+list-in [] h column closed low high = one-in column (kind.Word (codes "CONTINUE") ∷ []) low high tt
 list-in (stmt ∷ stmts) h column closed low high = some-in (stmt ∷ stmts) h column closed low high
 
 end-in : (asked : Bool) (word : List ℕ) (column : ℕ) → 8 ≤ column → column ≤ 32 → AreIn (end_lines asked word column)
-end-in true word column low high = one-in column (kind.Word word ∷ []) low high
+end-in true word column low high = one-in column (kind.Word word ∷ []) low high tt
 end-in false word column low high = none-in
+
+phrase-begins : (not : Bool) (phrase : Phrase) → Begins (not_tokens not ++ phrase_tokens phrase)
+phrase-begins true phrase = tt
+phrase-begins false AtEnd = tt
+phrase-begins false OnSizeError = tt
+
+calc-begins : (program : Program) (calc : Calc) (more : Tokens) → Begins (calc_front program calc ++ more)
+calc-begins program (calc.Add parts) more = tt
+calc-begins program (calc.AddGiving parts) more = tt
+calc-begins program (calc.Subtract parts) more = tt
+calc-begins program (calc.SubtractGiving parts from) more = tt
+calc-begins program (calc.Multiply by) more = tt
+calc-begins program (calc.MultiplyGiving one by) more = tt
+calc-begins program (calc.Divide by) more = tt
+calc-begins program (calc.DivideGiving by into) more = tt
+calc-begins program (calc.Compute expr) more = tt
+
+head-begins : (program : Program) (stmt : Stmt-F Lines ArmLines WhenLines) → Begins (head_step program stmt)
+head-begins program (Stmt-F.Arith calc into arms) =
+    subst Begins (sym (append_assoc (calc_front program calc) (targets_tokens program into) (calc_back program calc)))
+    (calc-begins program calc (targets_tokens program into ++ calc_back program calc))
+head-begins program (Stmt-F.Read file into arms) = tt
+head-begins program (Stmt-F.If cond met unmet) = tt
+head-begins program (Stmt-F.Evaluate subject whens other) = tt
+head-begins program (Stmt-F.Loop control body) = tt
+head-begins program (Stmt-F.Display items advance) = tt
+head-begins program (Stmt-F.Move from to) = tt
+head-begins program (Stmt-F.SetTrue place) = tt
+head-begins program (Stmt-F.Opens openings) = tt
+head-begins program (Stmt-F.Closes files) = tt
+head-begins program (Stmt-F.Write entry from) = tt
+head-begins program (Stmt-F.Rewrite entry from) = tt
+head-begins program (Stmt-F.Perform entry exit control) = tt
+head-begins program (Stmt-F.Go to) = tt
+head-begins program (Stmt-F.GoDepending to on) = tt
+head-begins program Stmt-F.NextSentence = tt
+head-begins program Stmt-F.StopRun = tt
+head-begins program Stmt-F.Exit = tt
+head-begins program Stmt-F.ExitParagraph = tt
+head-begins program Stmt-F.ExitSection = tt
+head-begins program (Stmt-F.ExitPerform cycle) = tt
+head-begins program Stmt-F.Continue = tt
 
 arm-in : (stmts : List Lines) (phrase : Phrase) (not : Bool) → AreAll AreInFrom stmts → (column : ℕ) → 8 ≤ column → column ≤ 32 →
     AreIn (arm_lines stmts phrase not column)
 arm-in stmts phrase not h column low high =
     let low_1 : 8 ≤ deeper column = deeper-low column low in
     cons-in (deeper column) (not_tokens not ++ phrase_tokens phrase) (list_lines stmts (deeper (deeper column)) true)
-    low_1 (deeper-high column)
+    low_1 (deeper-high column) (phrase-begins not phrase)
     (list-in stmts h (deeper (deeper column)) true (deeper-low (deeper column) low_1) (deeper-high (deeper column)))
 
 tests-in : (program : Program) (column : ℕ) (tests : List Test) → 8 ≤ column → column ≤ 32 → AreIn (tests_lines program column tests)
 tests-in program column [] low high = none-in
 tests-in program column (test ∷ tests) low high =
-    cons-in column (kind.Word (codes "WHEN") ∷ test_tokens program test) (tests_lines program column tests) low high
+    cons-in column (kind.Word (codes "WHEN") ∷ test_tokens program test) (tests_lines program column tests) low high tt
     (tests-in program column tests low high)
 
 when-in : (program : Program) (column : ℕ) (tests : List Test) (stmts : List Lines) → AreAll AreInFrom stmts → 8 ≤ column → column ≤ 32 →
@@ -118,30 +170,30 @@ whens-in (when ∷ whens) h column low high =
     in-append (when column) (whens_lines whens column) (h.0 column low high) (whens-in whens h.1 column low high)
 
 end-word-in : (column : ℕ) (word : List ℕ) → 8 ≤ column → column ≤ 32 → AreIn (unit_at column (kind.Word word ∷ []) ∷ [])
-end-word-in column word low high = one-in column (kind.Word word ∷ []) low high
+end-word-in column word low high = one-in column (kind.Word word ∷ []) low high tt
 
 other-in : (stmts : List Lines) → AreAll AreInFrom stmts → (column : ℕ) → 8 ≤ column → column ≤ 32 → AreIn (held_by_other (Some stmts) column)
 other-in stmts h column low high =
     let low_1 : 8 ≤ deeper column = deeper-low column low in
     let body : List PrintUnit = list_lines stmts (deeper (deeper column)) false in
     let end : List PrintUnit = unit_at column (kind.Word (codes "END-EVALUATE") ∷ []) ∷ [] in
-    cons-in (deeper column) other_tokens (body ++ end) low_1 (deeper-high column)
+    cons-in (deeper column) other_tokens (body ++ end) low_1 (deeper-high column) tt
     (in-append body end
     (list-in stmts h (deeper (deeper column)) false (deeper-low (deeper column) low_1) (deeper-high (deeper column)))
-    (one-in column (kind.Word (codes "END-EVALUATE") ∷ []) low high))
+    (one-in column (kind.Word (codes "END-EVALUATE") ∷ []) low high tt))
 
 body-in : (stmts : List Lines) (word : List ℕ) → AreAll AreInFrom stmts → (column : ℕ) → 8 ≤ column → column ≤ 32 →
     AreIn (list_lines stmts (deeper column) false ++ unit_at column (kind.Word word ∷ []) ∷ [])
 body-in stmts word h column low high =
     in-append (list_lines stmts (deeper column) false) (unit_at column (kind.Word word ∷ []) ∷ [])
     (list-in stmts h (deeper column) false (deeper-low column low) (deeper-high column))
-    (one-in column (kind.Word word ∷ []) low high)
+    (one-in column (kind.Word word ∷ []) low high tt)
 
 else-in : (stmts : List Lines) → AreAll AreInFrom stmts → (column : ℕ) → 8 ≤ column → column ≤ 32 → AreIn (held_by_else stmts column)
-else-in [] h column low high = one-in column (kind.Word (codes "END-IF") ∷ []) low high
+else-in [] h column low high = one-in column (kind.Word (codes "END-IF") ∷ []) low high tt
 else-in (stmt ∷ stmts) h column low high =
     cons-in column (kind.Word (codes "ELSE") ∷ [])
-    (list_lines (stmt ∷ stmts) (deeper column) false ++ unit_at column (kind.Word (codes "END-IF") ∷ []) ∷ []) low high
+    (list_lines (stmt ∷ stmts) (deeper column) false ++ unit_at column (kind.Word (codes "END-IF") ∷ []) ∷ []) low high tt
     (body-in (stmt ∷ stmts) (codes "END-IF") h column low high)
 
 module _ (program : Program) where
@@ -193,7 +245,7 @@ module _ (program : Program) where
   held-in (Stmt-F.Evaluate subject whens None) column closed low high =
       in-append (whens_lines (map (when_lines program) (map (λ x. x.0) whens)) column) _
       (whens-in _ (all-whens-in whens) column low high)
-      (one-in column (kind.Word (codes "END-EVALUATE") ∷ []) low high)
+      (one-in column (kind.Word (codes "END-EVALUATE") ∷ []) low high tt)
   held-in (Stmt-F.Evaluate subject whens (Some other)) column closed low high =
       in-append (whens_lines (map (when_lines program) (map (λ x. x.0) whens)) column) _
       (whens-in _ (all-whens-in whens) column low high)
@@ -223,6 +275,7 @@ module _ (program : Program) where
       subst AreInFrom (sym (fold-roll-Stmt Lines ArmLines WhenLines (stmt_step program) arms_step (when_step program) (mapped y)))
       (λ column closed low high.
       cons-in column (head_step program (lines_of (mapped y))) (held_step (lines_of (mapped y)) column closed) low high
+      (head-begins program (lines_of (mapped y)))
       (held-in y column closed low high))
 
   abbrev mapped_arms : Arms-F SuchStmt SuchArms SuchWhen → Arms-F Stmt Arms When
@@ -280,17 +333,33 @@ module _ (program : Program) where
 
 -- ---- sentences, and the divisions
 
+ended-begins : (tokens : Tokens) → Begins tokens → Begins (tokens ++ kind.Period ∷ [])
+ended-begins (kind.Word word ∷ tokens) h = tt
+ended-begins (kind.Digits digits ∷ tokens) h = tt
+ended-begins [] h = absurd h
+ended-begins (kind.Decimal number ∷ tokens) h = absurd h
+ended-begins (kind.Literal value ∷ tokens) h = absurd h
+ended-begins (kind.Picture picture ∷ tokens) h = absurd h
+ended-begins (kind.Period ∷ tokens) h = absurd h
+ended-begins (kind.Mark b ∷ tokens) h = absurd h
+ended-begins (kind.LessEqual ∷ tokens) h = absurd h
+ended-begins (kind.GreaterEqual ∷ tokens) h = absurd h
+ended-begins (kind.Power ∷ tokens) h = absurd h
+
 ended-in : (units : List PrintUnit) → AreIn units → AreIn (ended units)
 unfolding AreIn
 ended-in [] h = tt
-ended-in (unit ∷ []) h = (h.0, tt)
+ended-in (unit ∷ []) h = ((h.0.0, h.0.1, ended-begins unit.tokens h.0.2), tt)
 ended-in (unit ∷ next ∷ units) h = (h.0, ended-in (next ∷ units) h.1)
 
-header-in : (tokens : Tokens) → AreIn (unit_at 8 tokens ∷ [])
-header-in tokens = one-in 8 tokens (omega arith) (omega arith)
+header-in : (tokens : Tokens) → Begins tokens → AreIn (unit_at 8 tokens ∷ [])
+header-in tokens begins = one-in 8 tokens (omega arith) (omega arith) begins
 
-headed-in : (tokens : Tokens) (units : List PrintUnit) → AreIn units → AreIn (unit_at 8 tokens ∷ units)
-headed-in tokens units h = cons-in 8 tokens units (omega arith) (omega arith) h
+headed-in : (tokens : Tokens) (units : List PrintUnit) → Begins tokens → AreIn units → AreIn (unit_at 8 tokens ∷ units)
+headed-in tokens units begins h = cons-in 8 tokens units (omega arith) (omega arith) begins h
+
+header-on : (first second : List ℕ) (units : List PrintUnit) → AreIn units → AreIn (header first second ∷ units)
+header-on first second units h = headed-in (kind.Word first ∷ kind.Word second ∷ kind.Period ∷ []) units tt h
 
 sentence-in : (program : Program) (sentence : Sentence) → AreIn (sentence_units program sentence)
 sentence-in program sentence =
@@ -301,13 +370,19 @@ sentences-in program [] = none-in
 sentences-in program (sentence ∷ sentences) =
     in-append (sentence_units program sentence) _ (sentence-in program sentence) (sentences-in program sentences)
 
+procedure-begins : (digits : Bool) (name : List ℕ) (more : Tokens) → Begins ((if digits then kind.Digits name else kind.Word name) ∷ more)
+procedure-begins true name more = tt
+procedure-begins false name more = tt
+
 section-in : (section : Option (List ℕ)) → AreIn (section_line section)
 section-in None = none-in
 section-in (Some name) = header-in (procedure_token name ∷ kind.Word (codes "SECTION") ∷ kind.Period ∷ [])
+    (procedure-begins (list_all is_digit name) name (kind.Word (codes "SECTION") ∷ kind.Period ∷ []))
 
 named-in : (name : Option (List ℕ)) → AreIn (named_line name)
 named-in None = none-in
 named-in (Some name) = header-in (procedure_token name ∷ kind.Period ∷ [])
+    (procedure-begins (list_all is_digit name) name (kind.Period ∷ []))
 
 paragraph-in : (program : Program) (paragraph : Paragraph) → AreIn (paragraph_units program paragraph)
 paragraph-in program paragraph =
@@ -323,29 +398,30 @@ paragraphs-in program (paragraph ∷ paragraphs) =
 files-in : (program : Program) (files : List FileEntry) → AreIn (file_units program files)
 files-in program [] = none-in
 files-in program (file ∷ files) =
-    cons-in 12 (file_unit program file).tokens (file_units program files) (omega arith) (omega arith) (files-in program files)
+    cons-in 12 (file_unit program file).tokens (file_units program files) (omega arith) (omega arith) tt (files-in program files)
 
 environment-in : (program : Program) (files : List FileEntry) → AreIn (environment_units program files)
 environment-in program [] = none-in
 environment-in program (file ∷ files) =
-    headed-in _ _ (headed-in _ _ (headed-in _ _ (files-in program (file ∷ files))))
+    header-on (codes "ENVIRONMENT") (codes "DIVISION") _ (header-on (codes "INPUT-OUTPUT") (codes "SECTION") _
+    (headed-in (kind.Word (codes "FILE-CONTROL") ∷ kind.Period ∷ []) (file_units program (file ∷ files)) tt (files-in program (file ∷ files))))
 
 fd-in : (program : Program) (file : ℕ) → AreIn (fd_unit program file ∷ [])
-fd-in program file = header-in (fd_unit program file).tokens
+fd-in program file = header-in (fd_unit program file).tokens tt
 
 file_section-in : (program : Program) (file : ℕ) → AreIn (file_section program file)
-file_section-in program file = headed-in _ _ (fd-in program file)
+file_section-in program file = header-on (codes "FILE") (codes "SECTION") (fd_unit program file ∷ []) (fd-in program file)
 
 fd-if-in : (program : Program) (file : ℕ) (same : Bool) → AreIn (if same then [] else fd_unit program file ∷ [])
 fd-if-in program file true = none-in
 fd-if-in program file false = fd-in program file
 
 headers-in : (program : Program) (before : Option (Option ℕ)) (file : Option ℕ) → AreIn (headers_between program before file)
-headers-in program None None = header-in _
+headers-in program None None = header-on (codes "WORKING-STORAGE") (codes "SECTION") [] none-in
 headers-in program None (Some file) = file_section-in program file
 headers-in program (Some None) None = none-in
 headers-in program (Some None) (Some file) = file_section-in program file
-headers-in program (Some (Some other)) None = header-in _
+headers-in program (Some (Some other)) None = header-on (codes "WORKING-STORAGE") (codes "SECTION") [] none-in
 headers-in program (Some (Some other)) (Some file) = fd-if-in program file (other == file)
 
 level-low : (b : Bool) → 8 ≤ (if b then 8 else 12)
@@ -361,24 +437,30 @@ entries-in program before [] = none-in
 entries-in program before (entry ∷ entries) =
     in-append (headers_between program before entry.file) _ (headers-in program before entry.file)
     (cons-in (level_column entry.level) (entry_unit program entry).tokens (entries_units program (Some entry.file) entries)
-    (level-low (entry.level == 1 || entry.level == 77)) (level-high (entry.level == 1 || entry.level == 77))
+    (level-low (entry.level == 1 || entry.level == 77)) (level-high (entry.level == 1 || entry.level == 77)) tt
     (entries-in program (Some entry.file) entries))
 
 data-in : (program : Program) (entries : List Entry) → AreIn (data_units program entries)
 data-in program [] = none-in
-data-in program (entry ∷ entries) = headed-in _ _ (entries-in program None (entry ∷ entries))
+data-in program (entry ∷ entries) = header-on (codes "DATA") (codes "DIVISION") _ (entries-in program None (entry ∷ entries))
 
 program-in : (program : Program) → AreIn (program_units program)
 program-in program =
-    headed-in _ _ (headed-in _ _
+    header-on (codes "IDENTIFICATION") (codes "DIVISION") _
+    (headed-in (program_id program.name).tokens _ tt
     (in-append (environment_units program program.files ++ data_units program program.entries) _
     (in-append (environment_units program program.files) _ (environment-in program program.files) (data-in program program.entries))
-    (headed-in _ _ (paragraphs-in program program.paragraphs))))
+    (header-on (codes "PROCEDURE") (codes "DIVISION") _ (paragraphs-in program program.paragraphs))))
 
 all-narrow : (units : List PrintUnit) → AreIn units → All (λ unit. unit.column ≤ 32) units
 unfolding AreIn
 all-narrow [] h = All-nil (λ (unit : PrintUnit). unit.column ≤ 32)
 all-narrow (unit ∷ units) h = All-cons (λ (unit : PrintUnit). unit.column ≤ 32) unit units h.0.1 (all-narrow units h.1)
+
+-- the lines of a sentence before its period
+pub sentence-lines-in : (program : Program) (sentence : Sentence) → AreIn (sentence_lines program sentence)
+sentence-lines-in program sentence =
+    list-in (map (stmt_lines program) sentence.stmts) (stmts-in program sentence.stmts) 12 false (omega arith) (omega arith)
 
 pub units-narrow : (program : Program) → All (λ unit. unit.column ≤ 32) (program_units program)
 units-narrow program = all-narrow (program_units program) (program-in program)
