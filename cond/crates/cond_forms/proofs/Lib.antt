@@ -1,0 +1,3 @@
+-- Conditions: their laws, and their limit of parentheses.
+pub mod ConditionLaws
+pub mod ConditionLevels

@@ -1,0 +1,3 @@
+-- References and expressions: their laws, and their limit of parentheses.
+pub mod ExpressionLaws
+pub mod ExpressionLevels

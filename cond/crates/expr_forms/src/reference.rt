@@ -1,0 +1,19 @@
+//! What stands behind the words of a reference.
+
+use cob_base::{Boxed, Items};
+use cob_tree::{Sub, Window};
+
+/// What stands in the parentheses behind a reference.
+#[derive(Debug, Drop)]
+pub enum Suffix {
+    Subs(Items<Sub>),
+    Window(Boxed<Window>),
+}
+
+/// The subscripts and the window behind a reference, and how many terms there are up to there.
+#[derive(Debug, Drop)]
+pub struct Behind {
+    pub subs: Items<Sub>,
+    pub window: Option<Boxed<Window>>,
+    pub count: u32,
+}

@@ -1,0 +1,26 @@
+//! Operands and expressions as they are read, made and judged: each function gives what the
+//! definition of its name in `expr_forms` says.
+//!
+//! `token` sees which token is next, `fault` says what is wrong with a use, `side`, `chain` and
+//! `either` make what is read. Hold the definitions, not this crate, against ISO 1989:1985.
+#![tactic(auto)]
+
+mod chain;
+mod either;
+mod fault;
+mod side;
+mod token;
+
+pub use chain::{chain_of, finish, joined};
+pub use either::{
+    bare_sub, either_fault, item_sub, number_either, number_sub, ref_either, subs_of, with_number,
+};
+pub use fault::{
+    condition_fault, found_fault, is_condition, is_whole, item_of, kind_of, last_fault,
+    number_fault, relation_fault, value_fault, whole_fault, whole_fault_at,
+};
+pub use side::{
+    digits_side, enclosed, expr_of, literal_kind, literal_side, negated, number_of, place_of,
+    ref_side, shape_of, sum_side,
+};
+pub use token::{at_of, at_operand, at_turn, operator};

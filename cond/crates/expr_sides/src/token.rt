@@ -1,0 +1,67 @@
+//! What the next token is.
+
+ghost use Rattle.std.specs.Prelude.{◌≡◌};
+ghost use Rattle.grammar_forms.specs.Form as form;
+ghost use Rattle.grammar_forms.specs.Reading.{Reads};
+ghost use Rattle.expr_forms.specs.Token as tokens;
+
+use cob_tree::Op;
+use cobol_lex::TokenKind;
+use grammar_forms::{Cursor, Unread, Why};
+use word_forms::{sees_literal, sees_name};
+
+/// Whether OF or IN is next.
+#[tactic(auto, unfolding(expr_forms::specs::Token::is_of))]
+pub fn at_of(cursor: &Cursor<'_>) -> bool
+    ensures { result ≡ form.is_next tokens.is_of cursor.now }
+{
+    cursor.sees(b"OF") || cursor.sees(b"IN")
+}
+
+/// Whether an operand is next.
+#[tactic(auto, unfolding(expr_forms::specs::Token::begins_operand))]
+pub fn at_operand(cursor: &Cursor<'_>) -> bool
+    ensures { result ≡ form.is_next tokens.begins_operand cursor.now }
+{
+    sees_literal(cursor) || sees_name(cursor)
+}
+
+fn op_of_byte(byte: u8) -> Option<Op>
+    ensures { result ≡ tokens.op_of_byte byte }
+{
+    match byte {
+        b'+' => Some(Op::Add),
+        b'-' => Some(Op::Sub),
+        b'*' => Some(Op::Mul),
+        b'/' => Some(Op::Div),
+        _ => None,
+    }
+}
+
+/// Whether an operator of an expression is next.
+#[tactic(auto, unfolding(expr_forms::specs::Token::begins_turn))]
+pub fn at_turn(cursor: &Cursor<'_>) -> bool
+    ensures { result ≡ form.is_next tokens.begins_turn cursor.now }
+{
+    match cursor.peek() {
+        Some(TokenKind::Mark(b)) => op_of_byte(*b).is_some(),
+        _ => false,
+    }
+}
+
+/// Takes an operator of an expression.
+pub fn operator(cursor: &mut Cursor<'_>) -> Result<Op, Unread>
+    ensures { Reads ((form.one (λ position kind. tokens.op_of kind)).reads cursor.old) result cursor.new }
+{
+    let op = match cursor.peek() {
+        Some(TokenKind::Mark(b)) => op_of_byte(*b),
+        _ => None,
+    };
+    match op {
+        None => Err(Unread::Stop(Why::Syntax)),
+        Some(op) => {
+            cursor.skip();
+            Ok(op)
+        }
+    }
+}

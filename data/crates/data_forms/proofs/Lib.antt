@@ -1,0 +1,4 @@
+-- Clauses and entries are lawful.
+pub mod EntryLaws
+-- The divisions are lawful.
+pub mod DivisionLaws

@@ -1,0 +1,31 @@
+-- Data description entries (ISO 1989:1985, the data description entry).
+use Rattle.std.specs.Prelude.{ℕ, codes, List, Option, Some, None}
+use Rattle.data_forms.specs.declared.draft.Clause.{Clause}
+use Rattle.data_forms.specs.declared.draft.EntryDraft.{EntryDraft}
+use Rattle.grammar_forms.specs.Form.{Form, pure, ◌>>=◌, ◌>>◌, where_next, many}
+use Rattle.grammar_forms.specs.Part.{key, digits, period, is_key}
+use Rattle.word_forms.specs.Word.{name, is_name}
+use Rattle.data_forms.specs.Clause.{clause, begins_clause}
+
+-- [word | FILLER]
+unfoldable pub filler : Form (Option (List ℕ))
+filler = key (codes "FILLER") >> pure None
+
+unfoldable pub own_name : Form (Option (List ℕ))
+own_name = name >>= (λ found. pure (Some found.0))
+
+unfoldable pub entry_name : Form (Option (List ℕ))
+entry_name =
+    where_next (is_key (codes "FILLER")) filler (where_next is_name own_name (pure None))
+
+unfoldable pub entry_clauses : Form (List Clause)
+entry_clauses = many begins_clause clause
+
+-- level [word | FILLER] {clause} .
+unfoldable pub entry : Form EntryDraft
+entry = do
+  level ← digits
+  name ← entry_name
+  clauses ← entry_clauses
+  period
+  pure (record { at = level.1; level = level.0; name = name; clauses = clauses })

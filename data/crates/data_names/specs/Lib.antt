@@ -1,0 +1,6 @@
+-- The groups that an entry stands in.
+pub mod Grouping
+-- Entries and files as references see them.
+pub mod Names
+-- What a reference stands for.
+pub mod Look

@@ -1,0 +1,40 @@
+//! Declared names, and what a reference stands for.
+
+use cob_base::{Items, Word};
+
+/// What an item holds, as far as its uses go.
+#[derive(Clone, Copy, Debug, PartialEq, Eq)]
+pub enum Kind {
+    /// A number; whether it is without decimals.
+    Number { whole: bool },
+    /// A lowest item of characters.
+    Text,
+    /// An item with items below it.
+    Group,
+    /// The name of a level 88.
+    Condition,
+}
+
+/// An entry as references see it.
+#[derive(Debug, Drop)]
+pub struct Name {
+    /// None for FILLER.
+    pub word: Option<Word>,
+    /// What may qualify it: the names of the groups above it, the nearest first, and its file's. For a
+    /// level 88 the first is its item's.
+    pub above: Items<Word>,
+    pub kind: Kind,
+    /// How many subscripts it takes.
+    pub dims: usize,
+}
+
+/// What a reference stands for.
+#[derive(Clone, Copy, Debug, PartialEq, Eq)]
+pub enum Found {
+    /// Nothing that is declared.
+    Unknown,
+    /// More than one item.
+    Ambiguous,
+    /// The entry of this number, from 0.
+    Item { item: u32, kind: Kind, dims: usize },
+}

@@ -1,0 +1,54 @@
+-- Whether a literal fits an item: there are numbers and texts, and a number fits by its value.
+use Rattle.std.specs.Prelude.{ℕ, ◌-◌, Bool, true, false, not, ◌&&◌, ◌||◌, ◌==◌, nat_le, List, length, take, drop, Option, Some, None, if◌then◌else◌}
+use Rattle.std.specs.List.{list_all, prefix_len}
+use Rattle.cob_base.specs.Bytes.{digit_0}
+use Rattle.cob_tree.specs.declared.entry.Entry.{Entry}
+use Rattle.cob_tree.specs.declared.number.Number.{Number}
+use Rattle.cob_tree.specs.declared.picture.Picture.{Picture}
+use Rattle.cob_tree.specs.declared.picture.Picture.TheVariants as pictures
+use Rattle.cob_tree.specs.declared.place.Figure.TheVariants as figures
+use Rattle.cob_tree.specs.declared.place.Operand.{Operand}
+use Rattle.cob_tree.specs.declared.place.Operand.TheVariants as operands
+
+abbrev pub is_zero : ℕ → Bool
+is_zero digit = digit == digit_0
+
+-- the digits before the decimal point, and those behind it
+abbrev pub whole_digits : Number → List ℕ
+whole_digits number = take (length number.digits - number.scale) number.digits
+
+abbrev pub part_digits : Number → List ℕ
+part_digits number = drop (length number.digits - number.scale) number.digits
+
+-- how many digits there are without the zeros that they begin with
+abbrev pub leading_digits : List ℕ → ℕ
+leading_digits digits = length digits - prefix_len is_zero digits
+
+-- no digit but zeros would be lost, nor the sign of a number that isn't zero
+abbrev pub number_fits : Number → (signed : Bool) → (whole part : ℕ) → Bool
+number_fits number signed whole part =
+    nat_le (leading_digits (whole_digits number)) whole
+    && (list_all is_zero (drop part (part_digits number))
+    && (signed || (not number.negative || list_all is_zero number.digits)))
+
+abbrev pub fits_number : Operand → (signed : Bool) → (whole part : ℕ) → Bool
+fits_number (operands.Number number) signed whole part = number_fits number signed whole part
+fits_number (operands.Figure figures.Zero) signed whole part = true
+fits_number _ signed whole part = false
+
+-- a text of at most so many bytes, or a figurative constant
+abbrev pub fits_text : Operand → ℕ → Bool
+fits_text (operands.Text text) size = nat_le (length text) size
+fits_text (operands.Figure figure) size = true
+fits_text _ size = false
+
+abbrev pub fits_picture : Operand → Option Picture → ℕ → Bool
+fits_picture literal None size = true
+fits_picture literal (Some (pictures.Number signed whole part)) size =
+    fits_number literal signed whole part
+fits_picture literal (Some _) size = fits_text literal size
+
+-- it fits an item of this size; one whose picture is none has a fault already
+abbrev pub fits : Operand → Entry → (is_group : Bool) → ℕ → Bool
+fits literal item is_group size =
+    if is_group then fits_text literal size else fits_picture literal item.picture size

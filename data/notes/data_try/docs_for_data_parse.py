@@ -1,0 +1,6 @@
+exec(open('TMP/docs.py').read().split("after('docs/MAP")[0])
+s=open('docs/MAP.md').read()
+s=s.replace("| `data_forms` | how the divisions before the PROCEDURE DIVISION are spelled; no code reads by it yet |","| `data_forms` | how the divisions before the PROCEDURE DIVISION are spelled |\n| `data_parse` | reads these divisions to drafts |")
+open('docs/MAP.md','w').write(s)
+before('docs/PROOF_COSTS.md','| `cobol_print` | 21 |','| `data_parse` | 101 | 2 min | 30 to 60 s | the loops |\n')
+after('docs/PROMISES.md','| The forms of the divisions before','| These divisions are read to exactly the drafts that they spell, or reading stops where the form stops, or memory ran out | `data_parse`: `divisions`, `environment`, `data_part`, `entry` | `Reads ((divisions ..).reads ..)` |\n')

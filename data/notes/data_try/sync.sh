@@ -1,0 +1,1 @@
+cd TMP/dtry; rm -rf crates/data_rules; mkdir -p crates/data_rules; cp -r CLONE/crates/data_rules/{src,specs,proofs} crates/data_rules/; python3 strip.py; echo -n > crates/data_rules/specs/Lib.antt; echo -n > crates/data_rules/proofs/Lib.antt; rm -rf crates/data_rules/proofs/*/

@@ -1,0 +1,4 @@
+-- the lowest label at which a rule applies
+pub mod Lowest
+-- one step of the rules
+pub mod Steps

@@ -1,0 +1,2 @@
+-- what the dispatch makes
+pub mod DispatchRows

@@ -1,0 +1,2 @@
+-- the trees of nodes
+pub mod Trees

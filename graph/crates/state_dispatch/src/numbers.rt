@@ -1,0 +1,46 @@
+//! Labels of nodes, and their numbers.
+
+ghost use Rattle.std.specs.Prelude.{◌≡◌, ◌<◌, ◌≤◌, ◌^◌, suc, length};
+ghost use Rattle.cob_base.specs.Answers.{Makes};
+ghost use Rattle.closing.specs.Dispatches.{labels_of, number_in, one_further};
+ghost use Rattle.branch_tree.specs.Graphs.{seen_nodes};
+
+use branch_tree::{Label, Node};
+use cob_base::{Items, NoMemory};
+use std::alloc::Global;
+
+/// The labels of the nodes, in their order.
+pub fn labels_of(alloc: Global, nodes: &[Node]) -> Result<Items<Label>, NoMemory>
+    ensures { Makes (labels_of (seen_nodes nodes.now)) result }
+{
+    let mut labels = Items::new(alloc);
+    for node in nodes {
+        labels.push(node.label)?;
+    }
+    Ok(labels)
+}
+
+fn one_further(number: u32) -> u32
+    requires { suc number < 2 ^ 32 }
+    ensures { result ≡ one_further number }
+{
+    if number == 0 { 0 } else { number + 1 }
+}
+
+/// The number of the label in the list, from 1; 0 where it isn't there.
+pub fn number_in(labels: &[Label], label: Label) -> u32
+    requires { suc (length labels.now) < 2 ^ 32 }
+    ensures { result ≡ number_in labels.now label }
+{
+    let mut number = 0u32;
+    let mut left = labels.len();
+    while left > 0 {
+        left -= 1;
+        number = if labels[left] == label {
+            1
+        } else {
+            one_further(number)
+        };
+    }
+    number
+}

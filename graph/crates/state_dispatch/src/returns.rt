@@ -1,0 +1,46 @@
+//! Whether some leaf returns.
+
+ghost use Rattle.std.specs.Prelude.{◌≡◌};
+ghost use Rattle.closing.specs.Dispatches.{tree_returns, trees_return, some_returns};
+ghost use Rattle.branch_tree.specs.Graphs.{seen_nodes};
+ghost use Rattle.branch_tree.specs.Trees.{seen_tree, seen_trees};
+
+use branch_tree::{End, Node, Tree};
+
+/// Whether a leaf of the tree returns.
+#[cycle(returns)]
+pub fn tree_returns(tree: &Tree) -> bool
+    ensures { result ≡ tree_returns (seen_tree tree.now) }
+{
+    match &tree.end {
+        End::Pick { arms, .. } => trees_return(arms.as_slice()),
+        End::Jump(_) => false,
+        End::Return => true,
+        End::Stop => false,
+        End::Dead => false,
+    }
+}
+
+#[cycle(returns)]
+fn trees_return(arms: &[Tree]) -> bool
+    ensures { result ≡ trees_return (seen_trees arms.now) }
+{
+    for arm in arms {
+        if tree_returns(arm) {
+            return true;
+        }
+    }
+    false
+}
+
+/// Whether a leaf of a node returns.
+pub fn some_returns(nodes: &[Node]) -> bool
+    ensures { result ≡ some_returns (seen_nodes nodes.now) }
+{
+    for node in nodes {
+        if tree_returns(&node.tree) {
+            return true;
+        }
+    }
+    false
+}

@@ -1,0 +1,4 @@
+-- Each form is lawful, a file for each file of forms.
+pub mod SimpleLaws
+pub mod HoldingLaws
+pub mod ParagraphLaws

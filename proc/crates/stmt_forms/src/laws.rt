@@ -1,0 +1,22 @@
+//! What holds of the forms. These functions do nothing; their contracts are laws.
+
+ghost use Rattle.std.specs.Prelude.{ℕ};
+ghost use Rattle.grammar_forms.specs.Reading.{IsReader};
+ghost use Rattle.stmt_forms.specs.declared.scope.Scope.{Scope};
+ghost use Rattle.stmt_forms.specs.Part.{Parts};
+ghost use Rattle.stmt_forms.specs.Laws.{PartsAreLawful};
+ghost use Rattle.stmt_forms.specs.Stmt.{stmts};
+ghost use Rattle.stmt_forms.specs.Paragraph.{division};
+
+/// What statements are made of: forms of operands, references, conditions and names.
+pub trait Made<Side, Known> {
+    ghost parts: { Parts Side Known };
+}
+
+/// Whatever lawful forms they stand on, statements, nested to any level, and the whole division read
+/// what they spell and nothing else, and stop at the first token up to which the tokens aren't cut.
+pub fn statements_are_read<Side, Known, M: Made<Side, Known>>()
+    ensures stmts { PartsAreLawful M.parts →
+        (levels : ℕ) (scope : Scope) → IsReader (stmts M.parts levels scope) }
+    ensures division { PartsAreLawful M.parts → IsReader (division M.parts) }
+{}
