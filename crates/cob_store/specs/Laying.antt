@@ -12,7 +12,7 @@ use Rattle.cob_store.specs.declared.area.Form.TheVariants as forms
 use Rattle.cob_store.specs.declared.laying.Laid.{Laid}
 use Rattle.cob_store.specs.declared.laying.Open.{Open}
 use Rattle.cob_store.specs.Area.{root_of, start_of}
-use Rattle.cob_store.specs.Size.{capped, depth, is_condition, sized, times}
+use Rattle.cob_store.specs.Size.{capped, is_apart, is_condition, sized, times}
 
 -- the groups that an item of this depth stands in
 abbrev pub groups_of : ℕ → List Open → List Open
@@ -73,7 +73,7 @@ area_of entry size root start dims =
 
 abbrev pub opened : Entry → ℕ → ℕ → List Dim → Open
 opened entry root start dims =
-    record { depth = depth entry; root = root; next = start; dims = dims }
+    record { depth = entry.level; root = root; next = start; dims = dims }
 
 abbrev pub root_laid : Laid → Entry → ℕ → ℕ → List Dim → Laid
 root_laid laid entry size root dims = record {
@@ -114,11 +114,17 @@ abbrev pub condition_laid : Laid → Option Area → Laid
 condition_laid laid None = laid
 condition_laid laid (Some area) = record laid { areas = laid.areas ++ area ∷ [] }
 
+-- an item of level 77 neither opens a group nor closes one
+abbrev pub apart_laid : Laid → Entry → ℕ → Laid
+apart_laid laid entry size = record (alone_laid laid entry size) { groups = laid.groups }
+
 abbrev pub laid_by : Laid → Entry → ℕ → Laid
 laid_by laid entry size =
     if is_condition entry
     then condition_laid laid (last_area laid.areas)
-    else item_laid laid entry size (groups_of (depth entry) laid.groups)
+    else if is_apart entry
+    then apart_laid laid entry size
+    else item_laid laid entry size (groups_of entry.level laid.groups)
 
 abbrev pub laid_from : Laid → List Entry → List ℕ → Laid
 laid_from laid (entry ∷ entries) (size ∷ sizes) = laid_from (laid_by laid entry size) entries sizes

@@ -22,12 +22,13 @@ picture_size (pictures.Number signed whole part) sign = whole + part + sign_size
 picture_size (pictures.Letters size) sign = size
 picture_size (pictures.Any size) sign = size
 
--- a level 88 takes no storage; 77 stands as high as 01
+-- a level 88 takes no storage
 abbrev pub is_condition : Entry → Bool
 is_condition entry = entry.level == 88
 
-abbrev pub depth : Entry → ℕ
-depth entry = if entry.level == 77 then 1 else entry.level
+-- an item of level 77 stands in no group and has no items in it, wherever it is written
+abbrev pub is_apart : Entry → Bool
+is_apart entry = entry.level == 77
 
 -- the bytes of the pieces below an item, and the pieces behind it
 abbrev pub inside : ℕ → ℕ → List Piece → ℕ
@@ -61,18 +62,24 @@ abbrev pub item_sized : Entry → ℕ → Sized → Sized
 item_sized entry size later = record {
   sizes = size ∷ later.sizes;
   pieces = record {
-    depth = depth entry;
+    depth = entry.level;
     bytes = added entry.redefines
         (times entry.occurs size);
-  } ∷ behind (depth entry) later.pieces;
+  } ∷ behind entry.level later.pieces;
 }
+
+-- an entry whose bytes are in no item before it
+abbrev pub apart_sized : ℕ → Sized → Sized
+apart_sized size later = record { sizes = size ∷ later.sizes; pieces = later.pieces }
 
 abbrev pub sized_by : Entry → Sized → Sized
 sized_by entry later =
     if is_condition entry
-    then record { sizes = 0 ∷ later.sizes; pieces = later.pieces }
+    then apart_sized 0 later
+    else if is_apart entry
+    then apart_sized (size_by entry.picture entry.sign 0) later
     else item_sized entry (size_by entry.picture entry.sign
-    (inside (depth entry) 0 later.pieces)) later
+    (inside entry.level 0 later.pieces)) later
 
 abbrev pub sized : List Entry → Sized
 sized [] = record { sizes = []; pieces = [] }

@@ -2,11 +2,10 @@
 
 ghost use Rattle.std.specs.Prelude.{◌≡◌, Ok, ◌∷◌, ◌++◌, ◌<◌, [], ◌^◌, OnOk, length, option_copied, slice_get};
 ghost use Rattle.cob_base.specs.Answers.{Answers, Makes};
-ghost use Rattle.cob_store.specs.Size.{depth};
-ghost use Rattle.cob_store.specs.Laying.{alone_laid, below_laid, condition_laid, dims_of, form_by, groups_of, item_laid, laid_by, last_area, layout_of, lengthened, next_by, root_by, same_file, start_by};
+ghost use Rattle.cob_store.specs.Laying.{alone_laid, apart_laid, below_laid, condition_laid, dims_of, form_by, groups_of, item_laid, laid_by, last_area, layout_of, lengthened, next_by, root_by, same_file, start_by};
 
 use crate::area::{Area, Areas, Dim, Form, area_at};
-use crate::size::{depth, is_condition, sizes_of, times};
+use crate::size::{is_apart, is_condition, sizes_of, times};
 use crate::stack::Stack;
 use cob_base::{Items, NoMemory};
 use cob_tree::{Entry, NameFault, Picture, Sign};
@@ -170,7 +169,7 @@ fn lay_root(alloc: Global, laid: &mut Laid, entry: &Entry, size: u32) -> Result<
     })?;
     lengthen(&mut laid.roots, root, size)?;
     laid.groups.push(Open {
-        depth: depth(entry),
+        depth: entry.level,
         root,
         next: 0,
         dims: inner,
@@ -202,7 +201,7 @@ fn lay_inner(
     })?;
     laid.groups.push(Open { next, ..group })?;
     laid.groups.push(Open {
-        depth: depth(entry),
+        depth: entry.level,
         root,
         next: start,
         dims: inner,
@@ -213,13 +212,23 @@ fn lay_inner(
 
 fn lay_item(alloc: Global, laid: &mut Laid, entry: &Entry, size: u32) -> Result<(), NoMemory>
     requires { length laid.old.roots < 2 ^ 32 }
-    ensures { OnOk result (laid.new ≡ item_laid laid.old entry.now size (groups_of (depth entry.now) laid.old.groups)) }
+    ensures { OnOk result (laid.new ≡ item_laid laid.old entry.now size (groups_of entry.now.level laid.old.groups)) }
 {
-    close_groups(&mut laid.groups, depth(entry));
+    close_groups(&mut laid.groups, entry.level);
     match laid.groups.pop() {
         None => lay_root(alloc, laid, entry, size),
         Some(group) => lay_inner(alloc, laid, entry, size, group),
     }
+}
+
+// Neither opens a group nor closes one.
+fn lay_apart(alloc: Global, laid: &mut Laid, entry: &Entry, size: u32) -> Result<(), NoMemory>
+    requires { length laid.old.roots < 2 ^ 32 }
+    ensures { OnOk result (laid.new ≡ apart_laid laid.old entry.now size) }
+{
+    lay_root(alloc, laid, entry, size)?;
+    laid.groups.pop();
+    Ok(())
 }
 
 // A level 88 lies where the item before it lies.
@@ -251,6 +260,8 @@ fn lay(alloc: Global, laid: &mut Laid, entry: &Entry, size: u32) -> Result<(), N
 {
     if is_condition(entry) {
         lay_condition(alloc, laid)
+    } else if is_apart(entry) {
+        lay_apart(alloc, laid, entry, size)
     } else {
         lay_item(alloc, laid, entry, size)
     }

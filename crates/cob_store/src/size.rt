@@ -2,7 +2,7 @@
 
 ghost use Rattle.std.specs.Prelude.{◌≡◌};
 ghost use Rattle.cob_base.specs.Answers.{Makes};
-ghost use Rattle.cob_store.specs.Size.{added, behind, depth, inside, is_condition, picture_size, sign_size, size_by, sized, times};
+ghost use Rattle.cob_store.specs.Size.{added, behind, inside, is_apart, is_condition, picture_size, sign_size, size_by, sized, times};
 
 use crate::stack::Stack;
 use cob_base::NoMemory;
@@ -43,10 +43,10 @@ pub fn is_condition(entry: &Entry) -> bool
     entry.level == 88
 }
 
-pub fn depth(entry: &Entry) -> u8
-    ensures { result ≡ depth entry.now }
+pub fn is_apart(entry: &Entry) -> bool
+    ensures { result ≡ is_apart entry.now }
 {
-    if entry.level == 77 { 1 } else { entry.level }
+    entry.level == 77
 }
 
 pub fn times(occurs: Option<u32>, size: u32) -> u32
@@ -104,12 +104,14 @@ pub fn sizes_of(alloc: Global, entries: &[Entry]) -> Result<Stack<u32>, NoMemory
         let entry = &entries[at];
         if is_condition(entry) {
             sizes.push(0)?;
+        } else if is_apart(entry) {
+            sizes.push(size_by(entry.picture, entry.sign, 0))?;
         } else {
-            let bytes = take_inside(&mut pieces, depth(entry));
+            let bytes = take_inside(&mut pieces, entry.level);
             let size = size_by(entry.picture, entry.sign, bytes);
             sizes.push(size)?;
             pieces.push(Piece {
-                depth: depth(entry),
+                depth: entry.level,
                 bytes: added(entry.redefines, times(entry.occurs, size)),
             })?;
         }
