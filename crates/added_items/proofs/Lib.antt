@@ -1,0 +1,4 @@
+-- bytes of a store with more roots behind its own
+pub mod Bytes
+-- places and expressions
+pub mod Places

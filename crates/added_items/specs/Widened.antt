@@ -1,0 +1,17 @@
+-- Programs with items behind their own: where these lie, and what is stored there.
+use Rattle.std.specs.Prelude.{ℕ, ◌≡◌, ◌<◌, List, ◌++◌, length, Some, slice_get}
+use Rattle.cob_store.specs.declared.area.Area.{Area}
+use Rattle.cob_store.specs.Store.{Roots}
+use Rattle.cob_store.specs.Place.{Memory}
+
+-- each item lies in some root that is stored
+abbrev pub AreInside : List Area → Roots → Type 0
+AreInside areas store =
+    (item : ℕ) (area : Area) → slice_get areas item ≡ Some area → area.root < length store
+
+-- these items and bytes behind a program's own
+abbrev pub beside : List Area → Roots → Memory → Memory
+beside more tail memory = record {
+  areas = memory.areas ++ more;
+  store = memory.store ++ tail;
+}
