@@ -2,3 +2,5 @@
 pub mod Bytes
 -- places and expressions
 pub mod Places
+-- what is read of them
+pub mod Sides

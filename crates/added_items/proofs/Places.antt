@@ -41,7 +41,7 @@ pub then-same : {A B : Type 0} (x : Answer A) (f g : A → Answer B) → ((a : A
 then-same (Ok a) f g h = h a
 then-same (Err abend) f g h = refl
 
-then-root : {A : Type 0} (root : ℕ) (x : Answer A) (f : A → Answer Spot) → ((a : A) → IsOfRoot root (f a)) → IsOfRoot root (and_then x f)
+pub then-root : {A : Type 0} (root : ℕ) (x : Answer A) (f : A → Answer Spot) → ((a : A) → IsOfRoot root (f a)) → IsOfRoot root (and_then x f)
 then-root root (Ok a) f h = h a
 then-root root (Err abend) f h = tt
 
