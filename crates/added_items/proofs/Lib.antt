@@ -4,3 +4,5 @@ pub mod Bytes
 pub mod Places
 -- what is read of them
 pub mod Sides
+-- conditions and choices
+pub mod Conditions
