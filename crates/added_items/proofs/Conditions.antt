@@ -34,7 +34,7 @@ use Rattle.added_items.proofs.Sides as sides
 use Rattle.added_items.proofs.Sides.{item-below}
 
 -- the values of an entry whose entries are within
-entry-within : (count : ℕ) (entries : List Entry) → entries_within count entries ≡ true → (item : ℕ) → spans_within count (spans_of (slice_get entries item)) ≡ true
+pub entry-within : (count : ℕ) (entries : List Entry) → entries_within count entries ≡ true → (item : ℕ) → spans_within count (spans_of (slice_get entries item)) ≡ true
 entry-within count [] e item = refl
 entry-within count (entry ∷ entries) e zero = (and_parts (spans_within count entry.ranges) (entries_within count entries) e).0
 entry-within count (entry ∷ entries) e (suc item) = entry-within count entries (and_parts (spans_within count entry.ranges) (entries_within count entries) e).1 item

@@ -6,3 +6,7 @@ pub mod Places
 pub mod Sides
 -- conditions and choices
 pub mod Conditions
+-- outcomes with more behind what is stored
+pub mod Outcomes
+-- MOVE and SET
+pub mod Moves

@@ -3,6 +3,7 @@ use Rattle.std.specs.Prelude.{ℕ, ◌≡◌, ◌<◌, List, ◌++◌, length, S
 use Rattle.cob_store.specs.declared.area.Area.{Area}
 use Rattle.cob_store.specs.Store.{Roots}
 use Rattle.cob_store.specs.Place.{Memory}
+use Rattle.statements.specs.Outcome.{Outcome}
 
 -- each item lies in some root that is stored
 abbrev pub AreInside : List Area → Roots → Type 0
@@ -15,3 +16,7 @@ beside more tail memory = record {
   areas = memory.areas ++ more;
   store = memory.store ++ tail;
 }
+
+-- the same outcome, with these bytes behind what is stored
+abbrev pub widened : {A : Type 0} → Roots → Outcome A → Outcome A
+widened tail outcome = record { store = outcome.store ++ tail; answer = outcome.answer }
