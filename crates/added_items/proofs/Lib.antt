@@ -10,3 +10,5 @@ pub mod Conditions
 pub mod Outcomes
 -- MOVE and SET
 pub mod Moves
+-- what is done to files
+pub mod Files

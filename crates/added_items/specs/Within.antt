@@ -10,6 +10,7 @@ use Rattle.cob_tree.specs.declared.cond.Cond.{Cond, fold-Cond}
 use Rattle.cob_tree.specs.declared.cond.Cond.TheOpen.{Cond-F}
 use Rattle.cob_tree.specs.declared.entry.Entry.{Entry}
 use Rattle.cob_tree.specs.declared.entry.Span.{Span}
+use Rattle.cob_tree.specs.declared.file.FileEntry.{FileEntry}
 use Rattle.cob_tree.specs.declared.calc.Calc.{Calc}
 use Rattle.cob_tree.specs.declared.calc.Calc.TheVariants as calc
 use Rattle.cob_tree.specs.declared.calc.Target.{Target}
@@ -84,6 +85,10 @@ module _ (count : ℕ) where
 
   abbrev pub entries_within : List Entry → Bool
   entries_within entries = all (map (λ entry. spans_within entry.ranges) entries)
+
+  -- the status items of files
+  abbrev pub files_within : List FileEntry → Bool
+  files_within files = all (map (λ file. if_any place_within file.status) files)
 
   -- conditions, arithmetic and choices
 
