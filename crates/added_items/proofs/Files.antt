@@ -39,7 +39,7 @@ first-in-none file number (entry ∷ others) e =
     first-past file number entry.file others h.0 (first-in-none file (number + 1) others h.1)
 
 -- the first entry of a file, with others of no file behind: the same, or past all
-abbrev FirstThere : (file number size more wide plain : ℕ) → Type 0
+abbrev pub FirstThere : (file number size more wide plain : ℕ) → Type 0
 FirstThere file number size more wide plain =
     ((wide ≡ plain) × (plain < number + size)) ⊎ ((wide ≡ number + size + more) × (plain ≡ number + size))
 
@@ -49,7 +49,7 @@ first-by true file number size more wide plain h = inl (refl, omega arith)
 first-by false file number size more wide plain (inl h) = inl (h.0, omega (arith, h.1))
 first-by false file number size more wide plain (inr h) = inr (omega (arith, h.0), omega (arith, h.1))
 
-first-there : (file number : ℕ) (entries added : List Entry) → all (map (λ entry. not (is_some entry.file)) added) ≡ true →
+pub first-there : (file number : ℕ) (entries added : List Entry) → all (map (λ entry. not (is_some entry.file)) added) ≡ true →
     FirstThere file number (length entries) (length added) (first_entry file number (entries ++ added)) (first_entry file number entries)
 first-there file number [] added e = inr (let is = first-in-none file number added e in (omega (arith, is), omega arith))
 first-there file number (entry ∷ others) added e =

@@ -12,3 +12,5 @@ pub mod Outcomes
 pub mod Moves
 -- what is done to files
 pub mod Files
+-- OPEN, CLOSE, READ, WRITE and REWRITE
+pub mod Filing

@@ -39,7 +39,7 @@ use Rattle.added_items.proofs.Outcomes.{inside-kept}
 use Rattle.added_items.proofs.Conditions.{entry-within}
 
 -- the form of a place
-form-same : (areas more : List Area) (place : Place) → place_within (length areas) place ≡ true → form_of (areas ++ more) place ≡ form_of areas place
+pub form-same : (areas more : List Area) (place : Place) → place_within (length areas) place ≡ true → form_of (areas ++ more) place ≡ form_of areas place
 form-same areas more place e = ap (area_form (is_some (out-Place place).window)) (get-append areas more (out-Place place).item (item-below (length areas) place e))
 
 groups-same : (areas more : List Area) (places : List Place) → places_within (length areas) places ≡ true → all_groups (areas ++ more) places ≡ all_groups areas places
