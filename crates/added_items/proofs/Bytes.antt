@@ -1,5 +1,5 @@
 -- Bytes of a store with more roots behind its own.
-use Rattle.std.proofs.Common.{◌≡◌, ℕ, zero, suc, ◌<◌, Bool, true, false, if◌then◌else◌, List, [], ◌∷◌, ◌++◌, length, refl, ap, sym, ◌∙◌, subst, arith}
+use Rattle.std.proofs.Common.{◌≡◌, ℕ, zero, suc, ◌<◌, Bool, true, false, if◌then◌else◌, List, [], ◌∷◌, ◌++◌, length, refl, ap, ◌∙◌, arith}
 use Rattle.std.specs.Prelude.{◌+◌, slice_get, slice_set, unwrap_or, take, drop, nat_le, Ok, Some}
 use Rattle.cob_store.specs.Answer.{and_then}
 use Rattle.cob_store.specs.Number.{number_in}

@@ -1,8 +1,7 @@
 -- Conditions and choices.
 use Rattle.std.proofs.Common.{◌≡◌, ℕ, zero, suc, ◌<◌, Bool, true, false, ◌&&◌, List, [], ◌∷◌, ◌++◌, length, map, Option, Some, None, refl, ap, sym, ◌∙◌, subst}
-use Rattle.std.specs.Prelude.{Ok, Err, if◌then◌else◌, not, slice_get}
+use Rattle.std.specs.Prelude.{Ok, if◌then◌else◌, not, slice_get}
 use Rattle.std.specs.Ordering.{is_eq, is_le, is_ge}
-use Rattle.std.specs.declared.cmp.Ordering.{Ordering}
 use Rattle.std.proofs.lemmas.Bool.{and_parts}
 use Rattle.cob_tree.specs.declared.entry.Entry.{Entry}
 use Rattle.cob_tree.specs.declared.entry.Span.{Span}
@@ -16,9 +15,9 @@ use Rattle.cob_tree.specs.declared.place.Expr.{Expr}
 use Rattle.cob_tree.specs.declared.place.Operand.{Operand}
 use Rattle.cob_tree.specs.declared.place.Place.{Place, out-Place}
 use Rattle.cob_store.specs.declared.area.Area.{Area}
-use Rattle.cob_store.specs.Answer.{Answer, and_then}
+use Rattle.cob_store.specs.Answer.{and_then}
 use Rattle.cob_store.specs.Store.{Roots}
-use Rattle.cob_store.specs.Place.{Memory, expr_value}
+use Rattle.cob_store.specs.Place.{Memory}
 use Rattle.statements.specs.Side.{Side, place_side, operand_side, expr_side, compared, valued}
 use Rattle.statements.specs.Condition as condition
 use Rattle.statements.specs.Condition.{Tests, rel_holds, is_of_class, has_sign, turned, in_span, in_spans, spans_of, named, holds}

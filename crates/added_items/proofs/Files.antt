@@ -1,27 +1,13 @@
 -- What is done to files.
-use Rattle.std.proofs.Common.{◌≡◌, ℕ, zero, suc, ◌+◌, ◌<◌, ◌≤◌, Bool, true, false, ◌&&◌, ◌⊎◌, inl, inr, List, [], ◌∷◌, ◌++◌, length, map, Option, Some, None, refl, ap, sym, ◌∙◌, subst, arith}
-use Rattle.std.specs.Prelude.{Ok, Err, if◌then◌else◌, not, ◌||◌, ◌==◌, slice_get, unwrap_or, is_some, IsTrue}
+use Rattle.std.proofs.Common.{◌≡◌, ℕ, suc, ◌+◌, ◌<◌, Bool, true, false, ◌⊎◌, inl, inr, List, [], ◌∷◌, ◌++◌, length, map, Option, Some, None, refl, ap, sym, subst, arith}
+use Rattle.std.specs.Prelude.{if◌then◌else◌, not, is_some}
 use Rattle.std.proofs.lemmas.Bool.{and_parts}
 use Rattle.cob_tree.specs.declared.entry.Entry.{Entry}
-use Rattle.cob_tree.specs.declared.file.FileEntry.{FileEntry}
-use Rattle.cob_tree.specs.declared.file.Opening.{Opening}
-use Rattle.cob_tree.specs.declared.place.Operand.{Operand}
-use Rattle.cob_tree.specs.declared.place.Place.{Place}
-use Rattle.cob_store.specs.declared.area.Area.{Area}
-use Rattle.cob_store.specs.declared.spot.Spot.{Spot}
-use Rattle.cob_store.specs.declared.spot.Reached.{Reached}
-use Rattle.cob_store.specs.Answer.{Answer, and_then}
-use Rattle.cob_store.specs.Store.{Roots, put_at}
-use Rattle.cob_store.specs.Place.{Memory, memory_of, reached, reach_of}
-use Rattle.file_model.specs.World.{World, Verb}
-use Rattle.file_model.specs.Attempts.{Attempt}
-use Rattle.statements.specs.Filing.{Declared, Effect, Operation, Ended, Went, Chose, Abended, first_entry, is_of_file, status_by, status_place, status_spot, with_status, status_bytes, settled, operated_to, then_by, then_do, after, each_file, last_world, no_effect}
+use Rattle.cob_store.specs.Store.{Roots}
+use Rattle.file_model.specs.World.{World}
+use Rattle.statements.specs.Filing.{Effect, Operation, Ended, Went, Chose, Abended, first_entry, is_of_file, then_by, then_do, after, each_file, last_world, no_effect}
 use Rattle.language.specs.All.{all}
-use Rattle.added_items.specs.Within.{place_within, if_any, files_within}
-use Rattle.added_items.specs.Widened.{AreInside, widened_effect}
-use Rattle.added_items.proofs.Bytes.{get-append, put-same, put-long}
-use Rattle.added_items.proofs.Places as places
-use Rattle.added_items.proofs.Places.{IsRooted}
+use Rattle.added_items.specs.Widened.{widened_effect}
 
 -- ---- the records of files
 

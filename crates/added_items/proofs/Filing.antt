@@ -1,10 +1,9 @@
 -- OPEN, CLOSE, READ, WRITE and REWRITE.
-use Rattle.std.proofs.Common.{◌≡◌, ℕ, zero, suc, ◌+◌, ◌<◌, ◌≤◌, Bool, true, false, ◌&&◌, ◌⊎◌, inl, inr, List, [], ◌∷◌, ◌++◌, length, map, Option, Some, None, refl, ap, sym, ◌∙◌, subst, arith}
-use Rattle.std.specs.Prelude.{Ok, Err, if◌then◌else◌, not, ◌||◌, ◌==◌, slice_get, unwrap_or, is_some}
+use Rattle.std.proofs.Common.{◌≡◌, ℕ, zero, suc, ◌+◌, ◌<◌, ◌≤◌, Bool, true, false, ◌&&◌, ◌⊎◌, inl, inr, List, [], ◌∷◌, ◌++◌, length, Option, Some, None, refl, ap, sym, ◌∙◌, subst, arith}
+use Rattle.std.specs.Prelude.{Ok, Err, if◌then◌else◌, not, ◌==◌, slice_get, unwrap_or}
 use Rattle.std.proofs.lemmas.Bool.{and_parts}
 use Rattle.std.proofs.lemmas.Option.{slice_get_past}
 use Rattle.std.proofs.lemmas.List.{length-append}
-use Rattle.cob_tree.specs.declared.entry.Entry.{Entry}
 use Rattle.cob_tree.specs.declared.file.FileEntry.{FileEntry}
 use Rattle.cob_tree.specs.declared.file.Opening.{Opening}
 use Rattle.cob_tree.specs.declared.place.Operand.{Operand}
@@ -14,14 +13,13 @@ use Rattle.cob_store.specs.declared.spot.Spot.{Spot}
 use Rattle.cob_store.specs.declared.spot.Reached.{Reached}
 use Rattle.cob_store.specs.Answer.{Answer, and_then}
 use Rattle.cob_store.specs.Store.{Roots, put_at, spot_bytes}
-use Rattle.cob_store.specs.Place.{Memory, memory_of, OfMemory, reached, reached_in, reach_of}
+use Rattle.cob_store.specs.Place.{memory_of, reached, reached_in}
 use Rattle.file_model.specs.World.{World, Verb, Open, Read, Write, Rewrite, Close}
 use Rattle.file_model.specs.Attempts.{Address, Attempt, opened_at, closed_at, read_at, written_at, rewritten_at, padded_to}
-use Rattle.statements.specs.Outcome.{Outcome, done}
-use Rattle.statements.specs.Moving.{area_form, item_reached, operand_sent, place_sent, sent_on, form_of, is_group}
+use Rattle.statements.specs.Outcome.{Outcome}
+use Rattle.statements.specs.Moving.{area_form, item_reached, operand_sent, place_sent, form_of, is_group}
 use Rattle.statements.specs.Filing as filing
 use Rattle.statements.specs.Filing.{Declared, Effect, Ended, Went, Chose, Abended, address_at, addresses, record_entry, root_by, record_spot, file_by, file_of, status_by, status_place, status_spot, with_status, status_bytes, settled, operated_to, operated, opened, shut, of_outcome, into_by, into, record_put, read_end, read_by, item_form, from_by, entry_bytes, put_out}
-use Rattle.language.specs.All.{all}
 use Rattle.added_items.specs.Within.{place_within, operand_within, if_any, files_within}
 use Rattle.added_items.specs.Widened.{AreInside, AddedItems, declared_beside, IsWhole, AreApart}
 use Rattle.added_items.proofs.Bytes.{get-append, spot-same, put-same, put-long}
@@ -125,15 +123,15 @@ module _ (declared : Declared) (added : AddedItems) (tail : Roots) (whole : IsWh
 
   operated-by : (verb : Verb) (file : ℕ) (cared : Bool) (before later : Roots) (attempt : Attempt) → length before ≡ roots → length later ≡ roots →
       (wide plain : Answer (Option Spot)) → wide ≡ plain → IsRootedAnswer before plain →
-      WidensEffect (elim wide [ | Ok item ↦ settled verb file cared item (later ++ tail) attempt | Err abend ↦ filing.no_effect (before ++ tail) (Abended abend) ])
-      (elim plain [ | Ok item ↦ settled verb file cared item later attempt | Err abend ↦ filing.no_effect before (Abended abend) ])
+      WidensEffect (elim wide [ Ok item ↦ settled verb file cared item (later ++ tail) attempt | Err abend ↦ filing.no_effect (before ++ tail) (Abended abend) ])
+      (elim plain [ Ok item ↦ settled verb file cared item later attempt | Err abend ↦ filing.no_effect before (Abended abend) ])
   operated-by verb file cared before later attempt long later_long wide plain same h =
-      subst (λ x. WidensEffect (elim x [ | Ok item ↦ settled verb file cared item (later ++ tail) attempt | Err abend ↦ filing.no_effect (before ++ tail) (Abended abend) ])
-      (elim plain [ | Ok item ↦ settled verb file cared item later attempt | Err abend ↦ filing.no_effect before (Abended abend) ])) (sym same) (by_answer plain h)
+      subst (λ x. WidensEffect (elim x [ Ok item ↦ settled verb file cared item (later ++ tail) attempt | Err abend ↦ filing.no_effect (before ++ tail) (Abended abend) ])
+      (elim plain [ Ok item ↦ settled verb file cared item later attempt | Err abend ↦ filing.no_effect before (Abended abend) ])) (sym same) (by_answer plain h)
     where
       by_answer : (x : Answer (Option Spot)) → IsRootedAnswer before x →
-          WidensEffect (elim x [ | Ok item ↦ settled verb file cared item (later ++ tail) attempt | Err abend ↦ filing.no_effect (before ++ tail) (Abended abend) ])
-          (elim x [ | Ok item ↦ settled verb file cared item later attempt | Err abend ↦ filing.no_effect before (Abended abend) ])
+          WidensEffect (elim x [ Ok item ↦ settled verb file cared item (later ++ tail) attempt | Err abend ↦ filing.no_effect (before ++ tail) (Abended abend) ])
+          (elim x [ Ok item ↦ settled verb file cared item later attempt | Err abend ↦ filing.no_effect before (Abended abend) ])
       by_answer (Ok item) h = record {
         same = ap (λ s. record (settled verb file cared item later attempt) { store = s }) (with_status-same later item attempt.status (rooted-later before later item (later_long ∙ sym long) h));
         long = with_status-long later item attempt.status ∙ later_long;
@@ -155,7 +153,7 @@ module _ (declared : Declared) (added : AddedItems) (tail : Roots) (whole : IsWh
 
   -- ---- READ
 
-  of_outcome-widens : (wide plain : Outcome (Unit {0})) (end : Ended) → outcomes.Widens tail roots wide plain →
+  pub of_outcome-widens : (wide plain : Outcome (Unit {0})) (end : Ended) → outcomes.Widens tail roots wide plain →
       WidensEffect (of_outcome wide.store wide.answer end) (of_outcome plain.store plain.answer end)
   of_outcome-widens wide plain end h = subst (λ x. WidensEffect (of_outcome x.store x.answer end) (of_outcome plain.store plain.answer end)) (sym h.same) (by_answer plain.answer)
     where

@@ -14,3 +14,5 @@ pub mod Moves
 pub mod Files
 -- OPEN, CLOSE, READ, WRITE and REWRITE
 pub mod Filing
+-- the parts of a program
+pub mod Parts

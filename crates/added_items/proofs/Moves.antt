@@ -1,7 +1,6 @@
 -- MOVE, SET and arithmetic.
-use Rattle.std.proofs.Common.{◌≡◌, ℕ, ◌<◌, Bool, true, false, ◌&&◌, List, [], ◌∷◌, ◌++◌, length, map, Option, Some, None, refl, ap, sym, ◌∙◌, subst}
+use Rattle.std.proofs.Common.{◌≡◌, ℕ, ◌<◌, Bool, true, false, ◌&&◌, List, [], ◌∷◌, ◌++◌, length, Option, Some, None, refl, ap, sym, ◌∙◌, subst}
 use Rattle.std.specs.Prelude.{Ok, Err, if◌then◌else◌, not, ◌||◌, slice_get, option_and_then, is_some}
-use Rattle.std.specs.List.{list_all}
 use Rattle.std.proofs.lemmas.Bool.{and_parts}
 use Rattle.cob_num.specs.declared.storing.Stored.{Stored}
 use Rattle.cob_num.specs.Exact.{sum_of, difference_of, product_of}
@@ -21,13 +20,12 @@ use Rattle.cob_store.specs.declared.spot.Reached.{Reached}
 use Rattle.cob_store.specs.Answer.{Answer, and_then}
 use Rattle.cob_store.specs.Number.{number_bytes}
 use Rattle.cob_store.specs.Store.{Roots, put_at}
-use Rattle.cob_store.specs.Place.{Memory, memory_of, Value, OfMemory, kept, number_at, reached, operand_value, expr_value}
+use Rattle.cob_store.specs.Place.{memory_of, Value, OfMemory, kept, number_at, reached, operand_value}
 use Rattle.statements.specs.Outcome.{Outcome, done, go_on, each}
 use Rattle.statements.specs.Condition.{spans_of}
 use Rattle.statements.specs.Moving.{area_form, form_of, is_group, Sender, received, put_answer, receive, all_groups, operand_sent, moved, sent_on, first_moved, set}
-use Rattle.statements.specs.Arithmetic.{Basis, Given, Quotient, Plus, Less, Times, Over, both, sum_on, summed, basis_of, value_for, stored_in, given_by, given, part_of, targeted, all_targeted, calculated}
-use Rattle.language.specs.All.{all}
-use Rattle.added_items.specs.Within.{place_within, operand_within, expr_within, operands_within, places_within, spans_within, span_within, entries_within, if_any, calc_within, targets_within}
+use Rattle.statements.specs.Arithmetic.{Basis, Given, Quotient, Plus, Less, Times, Over, both, sum_on, summed, basis_of, value_for, given_by, given, part_of, targeted, all_targeted, calculated}
+use Rattle.added_items.specs.Within.{place_within, operand_within, operands_within, places_within, spans_within, span_within, entries_within, if_any, calc_within, targets_within}
 use Rattle.added_items.specs.Widened.{AreInside}
 use Rattle.added_items.proofs.Bytes.{get-append, number-same}
 use Rattle.added_items.proofs.Places as places

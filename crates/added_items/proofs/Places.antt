@@ -1,8 +1,7 @@
 -- Places and expressions of the program: the same is reached, and they are worth the same.
-use Rattle.std.proofs.Common.{◌≡◌, ℕ, ◌<◌, nat_lt, Bool, true, false, ◌&&◌, List, [], ◌∷◌, ◌++◌, length, map, Option, Some, None, refl, ap, sym, ◌∙◌, subst, ltb-true}
-use Rattle.std.specs.Prelude.{Ok, Err, slice_get, option_map}
+use Rattle.std.proofs.Common.{◌≡◌, ℕ, ◌<◌, nat_lt, Bool, true, ◌&&◌, List, [], ◌∷◌, ◌++◌, length, map, Option, Some, None, refl, ap, sym, ◌∙◌, subst, ltb-true}
+use Rattle.std.specs.Prelude.{Ok, Err, slice_get}
 use Rattle.std.proofs.lemmas.Bool.{and_parts}
-use Rattle.cob_tree.specs.declared.place.Figure.{Figure}
 use Rattle.cob_tree.specs.declared.place.Figure.TheVariants as figures
 use Rattle.cob_tree.specs.declared.number.Number.{Number}
 use Rattle.cob_tree.specs.declared.place.Expr.{Expr, ind-Expr, map-Expr, roll-Expr, fold-roll-Expr}
@@ -281,10 +280,11 @@ module _ (areas more : List Area) (store tail : Roots) (inside : AreInside areas
       × IsRooted store (reached_in here (plain_subs subs) (plain_window window) area)
   reached-found subs window first second None h = (refl, tt)
   reached-found subs window first second (Some area) h = (
-      ap (λ o. and_then (and_then o (λ offsets. Ok (occurrence_at offsets area.dims area.start))) (λ start. windowed_by there (plain_window window) (place.spot_of area start) area.form)) (offsets-same subs first area.dims [])
-      ∙ then-same (subscripted here (plain_subs subs) area.dims area.start) _ _ (λ start. window-same window second (place.spot_of area start) area.form),
-      rooted-then (subscripted here (plain_subs subs) area.dims area.start) (λ start. windowed_by here (plain_window window) (place.spot_of area start) area.form)
-      (λ start. window-rooted window second (place.spot_of area start) area.form (h area refl)))
+    ap (λ o. and_then (and_then o (λ offsets. Ok (occurrence_at offsets area.dims area.start))) (λ start. windowed_by there (plain_window window) (place.spot_of area start) area.form)) (offsets-same subs first area.dims [])
+        ∙ then-same (subscripted here (plain_subs subs) area.dims area.start) _ _ (λ start. window-same window second (place.spot_of area start) area.form),
+    rooted-then (subscripted here (plain_subs subs) area.dims area.start) (λ start. windowed_by here (plain_window window) (place.spot_of area start) area.form)
+        (λ start. window-rooted window second (place.spot_of area start) area.form (h area refl)),
+  )
 
   place-found : (item : ℕ) (subs : List SuchSub) (window : Option SuchWindow) →
       (nat_lt item (length areas) && all (subs_within subs) && if_there (window_if window)) ≡ true →

@@ -1,14 +1,14 @@
 -- What is read of places, operands and expressions: as bytes, as a side of a comparison, as it is
 -- shown, and as a sender.
-use Rattle.std.proofs.Common.{◌≡◌, ℕ, ◌<◌, nat_lt, Bool, true, false, ◌&&◌, List, [], ◌∷◌, ◌++◌, length, map, Option, Some, None, refl, ap, sym, ◌∙◌, subst, ltb-true}
+use Rattle.std.proofs.Common.{◌≡◌, ℕ, ◌<◌, nat_lt, Bool, true, ◌&&◌, List, [], ◌∷◌, ◌++◌, length, refl, ap, sym, ◌∙◌, ltb-true}
 use Rattle.std.specs.Prelude.{Ok, Err, if◌then◌else◌}
 use Rattle.std.proofs.lemmas.Bool.{and_parts}
 use Rattle.cob_tree.specs.declared.place.Expr.{Expr, out-Expr, fold_out-Expr, map-Expr}
 use Rattle.cob_tree.specs.declared.place.Operand.{Operand, out-Operand, fold_out-Operand, map-Operand}
-use Rattle.cob_tree.specs.declared.place.Place.{Place, out-Place, fold_out-Place, map-Place}
+use Rattle.cob_tree.specs.declared.place.Place.{Place, out-Place, fold_out-Place}
 use Rattle.cob_tree.specs.declared.place.Sub.{Sub}
 use Rattle.cob_tree.specs.declared.place.Window.{Window}
-use Rattle.cob_tree.specs.declared.place.Expr.TheOpen.{Expr-F, Operand-F, Place-F}
+use Rattle.cob_tree.specs.declared.place.Expr.TheOpen.{Expr-F, Operand-F}
 use Rattle.cob_store.specs.declared.area.Area.{Area}
 use Rattle.cob_store.specs.declared.spot.Reached.{Reached}
 use Rattle.cob_store.specs.Answer.{Answer, and_then}
@@ -19,7 +19,6 @@ use Rattle.statements.specs.Side.{Side, Amount, Literal, Bytes, valued, item_sid
 use Rattle.statements.specs.Display.{operand_shown, shown_on, displayed}
 use Rattle.statements.specs.Text.{printed_number}
 use Rattle.statements.specs.Moving.{Sender, Written, Spelled, Figured, sent, place_sent, operand_sent}
-use Rattle.language.specs.All.{all}
 use Rattle.added_items.specs.Within as within
 use Rattle.added_items.specs.Within.{place_within, operand_within, expr_within, sub_within, window_within, operands_within}
 use Rattle.added_items.specs.Widened.{AreInside}
@@ -72,11 +71,11 @@ module _ (areas more : List Area) (store tail : Roots) (inside : AreInside areas
 
   abbrev side_at : Memory → Operand-F Expr Operand Place Sub Window → Answer Side
   side_at memory y = elim y [
-      | Operand-F.Place place ↦ place_side memory place
-      | Operand-F.Number number ↦ Ok (Literal number)
-      | Operand-F.Text bytes ↦ Ok (Bytes bytes)
-      | Operand-F.Figure figure ↦ Ok (figure_side figure)
-    ]
+    | Operand-F.Place place ↦ place_side memory place
+    | Operand-F.Number number ↦ Ok (Literal number)
+    | Operand-F.Text bytes ↦ Ok (Bytes bytes)
+    | Operand-F.Figure figure ↦ Ok (figure_side figure)
+  ]
 
   side_at-same : (y : Operand-F Expr Operand Place Sub Window) →
       within.operand_step (length areas) (map-Operand Expr Operand Place Sub Window Bool Bool Bool Bool Bool (expr_within (length areas)) (operand_within (length areas)) (place_within (length areas)) (sub_within (length areas)) (window_within (length areas)) y) ≡ true →
@@ -91,9 +90,9 @@ module _ (areas more : List Area) (store tail : Roots) (inside : AreInside areas
 
   abbrev expr_side_at : Memory → Expr → Expr-F Expr Operand Place Sub Window → Answer Side
   expr_side_at memory expr y = elim y [
-      | Expr-F.Leaf operand ↦ operand_side memory operand
-      | _ ↦ and_then (expr_value expr memory) (λ value. and_then (valued value) (λ number. Ok (Amount number)))
-    ]
+    | Expr-F.Leaf operand ↦ operand_side memory operand
+    | _ ↦ and_then (expr_value expr memory) (λ value. and_then (valued value) (λ number. Ok (Amount number)))
+  ]
 
   valued-same : (expr : Expr) → expr_within (length areas) expr ≡ true →
       and_then (expr_value expr there) (λ value. and_then (valued value) (λ number. Ok (Amount number)))
@@ -114,11 +113,11 @@ module _ (areas more : List Area) (store tail : Roots) (inside : AreInside areas
 
   abbrev shown_at : Memory → Operand-F Expr Operand Place Sub Window → Answer (List ℕ)
   shown_at memory y = elim y [
-      | Operand-F.Place place ↦ and_then (reached place memory) (λ place. Ok (spot_bytes memory.store place.spot))
-      | Operand-F.Number number ↦ Ok (printed_number number)
-      | Operand-F.Text bytes ↦ Ok bytes
-      | Operand-F.Figure figure ↦ Ok (figure_byte figure ∷ [])
-    ]
+    | Operand-F.Place place ↦ and_then (reached place memory) (λ place. Ok (spot_bytes memory.store place.spot))
+    | Operand-F.Number number ↦ Ok (printed_number number)
+    | Operand-F.Text bytes ↦ Ok bytes
+    | Operand-F.Figure figure ↦ Ok (figure_byte figure ∷ [])
+  ]
 
   shown_at-same : (y : Operand-F Expr Operand Place Sub Window) →
       within.operand_step (length areas) (map-Operand Expr Operand Place Sub Window Bool Bool Bool Bool Bool (expr_within (length areas)) (operand_within (length areas)) (place_within (length areas)) (sub_within (length areas)) (window_within (length areas)) y) ≡ true →
@@ -145,11 +144,11 @@ module _ (areas more : List Area) (store tail : Roots) (inside : AreInside areas
 
   abbrev sent_at : Memory → Bool → Operand-F Expr Operand Place Sub Window → Answer Sender
   sent_at memory asked y = elim y [
-      | Operand-F.Place place ↦ place_sent memory asked (reached place)
-      | Operand-F.Number number ↦ Ok (Written number)
-      | Operand-F.Text bytes ↦ Ok (Spelled bytes)
-      | Operand-F.Figure figure ↦ Ok (Figured figure)
-    ]
+    | Operand-F.Place place ↦ place_sent memory asked (reached place)
+    | Operand-F.Number number ↦ Ok (Written number)
+    | Operand-F.Text bytes ↦ Ok (Spelled bytes)
+    | Operand-F.Figure figure ↦ Ok (Figured figure)
+  ]
 
   sent_at-same : (asked : Bool) (y : Operand-F Expr Operand Place Sub Window) →
       within.operand_step (length areas) (map-Operand Expr Operand Place Sub Window Bool Bool Bool Bool Bool (expr_within (length areas)) (operand_within (length areas)) (place_within (length areas)) (sub_within (length areas)) (window_within (length areas)) y) ≡ true →

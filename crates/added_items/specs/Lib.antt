@@ -2,3 +2,7 @@
 pub mod Within
 -- programs with items behind their own
 pub mod Widened
+-- parts that name items of their own
+pub mod Own
+-- what is stated of them
+pub mod Laws

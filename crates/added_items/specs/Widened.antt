@@ -1,12 +1,14 @@
 -- Programs with items behind their own: where these lie, and what is stored there.
-use Rattle.std.specs.Prelude.{ℕ, ◌≡◌, ◌<◌, Bool, true, List, ◌++◌, length, map, not, is_some, Some, IsTrue, slice_get}
+use Rattle.std.specs.Prelude.{ℕ, ◌≡◌, ◌<◌, List, ◌++◌, length, map, not, is_some, Some, IsTrue, slice_get}
 use Rattle.cob_store.specs.declared.area.Area.{Area}
 use Rattle.cob_store.specs.Store.{Roots}
 use Rattle.cob_store.specs.Place.{Memory}
 use Rattle.cob_tree.specs.declared.entry.Entry.{Entry}
-use Rattle.cob_store.specs.declared.area.Areas.{Areas}
 use Rattle.statements.specs.Outcome.{Outcome}
 use Rattle.statements.specs.Filing.{Declared, Effect}
+use Rattle.control.specs.Outcome.{Tried, Got, Ends}
+use Rattle.control.specs.Doing.{keeping}
+use Rattle.cobol_meaning.specs.Acting as meaning
 use Rattle.language.specs.All.{all}
 use Rattle.added_items.specs.Within.{entries_within, files_within}
 
@@ -59,3 +61,17 @@ pub record IsWhole (declared : Declared) : Type 0 where
 pub record AreApart (added : AddedItems) : Type 0 where
   pub sized : length added.entries ≡ length added.areas
   pub of_no_file : IsTrue (all (map (λ entry. not (is_some entry.file)) added.entries))
+
+-- the same world, with these bytes behind what is stored
+abbrev pub with_tail : Roots → meaning.Memory → meaning.Memory
+with_tail tail memory = record memory { store = memory.store ++ tail }
+
+-- so many roots are stored at the end
+abbrev pub IsLong : {A : Type 0} → ℕ → Tried meaning.Memory A → Type 0
+IsLong roots (Got trace value memory) = length memory.store ≡ roots
+IsLong roots (Ends trace kind memory) = length memory.store ≡ roots
+
+-- both show and give the same, and leave the same, but for these bytes behind what is stored
+pub record Keeps {A : Type 0} (tail : Roots) (roots : ℕ) (wide plain : Tried meaning.Memory A) : Type 0 where
+  pub same : wide ≡ keeping (with_tail tail) plain
+  pub long : IsLong roots plain

@@ -5,3 +5,7 @@
 //! does there what it does in the source, and leaves the added bytes as they are. Nothing here runs:
 //! the functions are laws.
 #![tactic(auto)]
+
+mod laws;
+
+pub use laws::own_parts_do_the_same;

@@ -1,0 +1,37 @@
+-- Laws of programs with items behind their own.
+use Rattle.std.specs.Prelude.{◌≡◌, length, IsTrue}
+use Rattle.cob_tree.specs.declared.cond.Cond.{Cond}
+use Rattle.cob_tree.specs.declared.place.Operand.{Operand}
+use Rattle.cob_tree.specs.declared.stmt.Stmt.{Stmt}
+use Rattle.cob_store.specs.Store.{Roots}
+use Rattle.language.specs.Language.{Chooser}
+use Rattle.statements.specs.Filing.{Declared}
+use Rattle.cobol_meaning.specs.Acting.{Memory, does_to, tests_in, chooses_in, counts_in}
+use Rattle.added_items.specs.Within.{cond_within, operand_within}
+use Rattle.added_items.specs.Own.{items, stmt_own, chooser_own}
+use Rattle.added_items.specs.Widened.{AddedItems, declared_beside, IsWhole, AreApart, with_tail, Keeps}
+
+-- each part of the program does beside the added items what it does alone, and leaves their bytes
+pub record DoTheSame (declared : Declared) (added : AddedItems) (tail : Roots) (memory : Memory) : Type 0 where
+  pub act : (stmt : Stmt) → IsTrue (stmt_own declared stmt) →
+      Keeps tail (length declared.areas.roots)
+      (does_to (declared_beside added declared) stmt (with_tail tail memory))
+      (does_to declared stmt memory)
+  pub test : (cond : Cond) → IsTrue (cond_within (items declared) cond) →
+      Keeps tail (length declared.areas.roots)
+      (tests_in (declared_beside added declared) cond (with_tail tail memory))
+      (tests_in declared cond memory)
+  pub choose : (chooser : Chooser) → IsTrue (chooser_own declared chooser) →
+      Keeps tail (length declared.areas.roots)
+      (chooses_in (declared_beside added declared) chooser (with_tail tail memory))
+      (chooses_in declared chooser memory)
+  pub count : (amount : Operand) → IsTrue (operand_within (items declared) amount) →
+      Keeps tail (length declared.areas.roots)
+      (counts_in (declared_beside added declared) amount (with_tail tail memory))
+      (counts_in declared amount memory)
+
+abbrev pub OwnPartsDoTheSame : Type 0
+OwnPartsDoTheSame =
+    (declared : Declared) (added : AddedItems) (tail : Roots) (memory : Memory) →
+    IsWhole declared → AreApart added → length memory.store ≡ length declared.areas.roots →
+    DoTheSame declared added tail memory
