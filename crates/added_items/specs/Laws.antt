@@ -12,7 +12,8 @@ use Rattle.added_items.specs.Own.{items, stmt_own, chooser_own}
 use Rattle.added_items.specs.Widened.{AddedItems, declared_beside, IsWhole, AreApart, with_tail, Keeps}
 
 -- each part of the program does beside the added items what it does alone, and leaves their bytes
-pub record DoTheSame (declared : Declared) (added : AddedItems) (tail : Roots) (memory : Memory) : Type 0 where
+pub record DoTheSame (declared : Declared) (added : AddedItems) (tail : Roots) (memory : Memory)
+    : Type 0 where
   pub act : (stmt : Stmt) → IsTrue (stmt_own declared stmt) →
       Keeps tail (length declared.areas.roots)
       (does_to (declared_beside added declared) stmt (with_tail tail memory))

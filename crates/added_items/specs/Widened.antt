@@ -48,8 +48,8 @@ declared_beside added declared = record {
   };
 }
 
--- a program whose entries each have an area, whose areas lie in its roots, and whose files and level
--- 88s name items of its own
+-- a program whose entries each have an area, whose areas lie in its roots, and whose files and
+-- level 88s name items of its own
 pub record IsWhole (declared : Declared) : Type 0 where
   pub sized : length declared.entries ≡ length declared.areas.items
   pub inside : (item : ℕ) (area : Area) → slice_get declared.areas.items item ≡ Some area →
@@ -72,6 +72,7 @@ IsLong roots (Got trace value memory) = length memory.store ≡ roots
 IsLong roots (Ends trace kind memory) = length memory.store ≡ roots
 
 -- both show and give the same, and leave the same, but for these bytes behind what is stored
-pub record Keeps {A : Type 0} (tail : Roots) (roots : ℕ) (wide plain : Tried meaning.Memory A) : Type 0 where
+pub record Keeps {A : Type 0} (tail : Roots) (roots : ℕ)
+    (wide plain : Tried meaning.Memory A) : Type 0 where
   pub same : wide ≡ keeping (with_tail tail) plain
   pub long : IsLong roots plain
