@@ -1,0 +1,2 @@
+-- digits, and the signs beside and within them
+pub mod ReadBack

@@ -1,0 +1,2 @@
+-- what is stated of the bytes of number items
+pub mod Laws
