@@ -16,3 +16,5 @@ pub mod Files
 pub mod Filing
 -- the parts of a program
 pub mod Parts
+-- where the items of a layout lie
+pub mod Layouts

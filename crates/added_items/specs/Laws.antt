@@ -1,13 +1,17 @@
 -- Laws of programs with items behind their own.
-use Rattle.std.specs.Prelude.{◌≡◌, length, IsTrue}
+use Rattle.std.specs.Prelude.{ℕ, ◌≡◌, ◌<◌, List, ◌++◌, length, Some, slice_get, IsTrue}
 use Rattle.cob_tree.specs.declared.cond.Cond.{Cond}
+use Rattle.cob_tree.specs.declared.entry.Entry.{Entry}
 use Rattle.cob_tree.specs.declared.place.Operand.{Operand}
 use Rattle.cob_tree.specs.declared.stmt.Stmt.{Stmt}
 use Rattle.cob_store.specs.Store.{Roots}
+use Rattle.cob_store.specs.declared.area.Area.{Area}
+use Rattle.cob_store.specs.Laying.{layout_of}
 use Rattle.language.specs.Language.{Chooser}
 use Rattle.statements.specs.Filing.{Declared}
 use Rattle.cobol_meaning.specs.Acting.{Memory, does_to, tests_in, chooses_in, counts_in}
 use Rattle.added_items.specs.Within.{cond_within, operand_within}
+use Rattle.added_items.specs.Laying.{begins_with_item, have_levels, stand_alone, laid_behind}
 use Rattle.added_items.specs.Own.{items, stmt_own, chooser_own}
 use Rattle.added_items.specs.Widened.{AddedItems, declared_beside, IsWhole, AreApart, with_tail, Keeps}
 
@@ -36,3 +40,17 @@ OwnPartsDoTheSame =
     (declared : Declared) (added : AddedItems) (tail : Roots) (memory : Memory) →
     IsWhole declared → AreApart added → length memory.store ≡ length declared.areas.roots →
     DoTheSame declared added tail memory
+
+-- each entry has an area, which lies in some root
+abbrev pub LayoutsAreInside : Type 0
+LayoutsAreInside =
+    (entries : List Entry) → IsTrue (begins_with_item entries) →
+    (length entries ≡ length (layout_of entries).items)
+    × ((item : ℕ) (area : Area) → slice_get (layout_of entries).items item ≡ Some area →
+    area.root < length (layout_of entries).roots)
+
+-- items that stand alone lie behind all others, each in a root of its own
+abbrev pub AddedItemsLieBehind : Type 0
+AddedItemsLieBehind =
+    (entries added : List Entry) → IsTrue (have_levels entries) → IsTrue (stand_alone added) →
+    layout_of (entries ++ added) ≡ laid_behind (layout_of entries) added

@@ -6,3 +6,5 @@ pub mod Widened
 pub mod Own
 -- what is stated of them
 pub mod Laws
+-- items of level 01 behind all others
+pub mod Laying

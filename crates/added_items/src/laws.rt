@@ -1,9 +1,20 @@
 //! Laws of programs with items behind their own.
 
-ghost use Rattle.added_items.specs.Laws.{OwnPartsDoTheSame};
+ghost use Rattle.added_items.specs.Laws.{AddedItemsLieBehind, LayoutsAreInside, OwnPartsDoTheSame};
 
 /// A part that names items of the program's own does the same where other items stand behind these,
 /// and leaves their bytes.
 pub fn own_parts_do_the_same()
     ensures { OwnPartsDoTheSame }
+{}
+
+/// Each entry of a layout has an area, and each area lies in a root.
+pub fn layouts_are_inside()
+    ensures { LayoutsAreInside }
+{}
+
+/// Items of level 01 that stand behind a program's own lie behind them, each in a root of its own,
+/// and change nothing of where the others lie.
+pub fn added_items_lie_behind()
+    ensures { AddedItemsLieBehind }
 {}
