@@ -312,18 +312,18 @@ none-open (group ∷ groups) h = none-by (nat_lt group.depth 1) refl (none-open 
     none-by false is rest = rest
 
 -- what an entry is that stands alone
-record Alone (entry : Entry) : Type 0 where
-  level : entry.level ≡ 1
-  file : entry.file ≡ None
-  redefines : entry.redefines ≡ None
-  occurs : entry.occurs ≡ None
-  picture : is_some entry.picture ≡ true
+pub record Alone (entry : Entry) : Type 0 where
+  pub level : entry.level ≡ 1
+  pub file : entry.file ≡ None
+  pub redefines : entry.redefines ≡ None
+  pub occurs : entry.occurs ≡ None
+  pub picture : is_some entry.picture ≡ true
 
 none-of : {X : Type 0} (x : Option X) → not (is_some x) ≡ true → x ≡ None
 none-of None h = refl
 none-of (Some x) h = absurd (cc)
 
-alone-of : (entry : Entry) → stands_alone entry ≡ true → Alone entry
+pub alone-of : (entry : Entry) → stands_alone entry ≡ true → Alone entry
 alone-of entry e =
     let a = and_parts (entry.level == 1 && not (is_some entry.file) && not (is_some entry.redefines) && not (is_some entry.occurs)) (is_some entry.picture) e in
     let b = and_parts (entry.level == 1 && not (is_some entry.file) && not (is_some entry.redefines)) (not (is_some entry.occurs)) a.0 in
@@ -377,7 +377,7 @@ new-root roots size = by_case (nat_lt (length roots) (length roots)) refl
     by_case true is = absurd (omega (arith, ltb-true (length roots) (length roots) (sym is)))
     by_case false is = refl
 
-joined : {X : Type 0} (xs : List X) (x : X) (ys : List X) → (xs ++ x ∷ []) ++ ys ≡ xs ++ x ∷ ys
+pub joined : {X : Type 0} (xs : List X) (x : X) (ys : List X) → (xs ++ x ∷ []) ++ ys ≡ xs ++ x ∷ ys
 joined [] x ys = refl
 joined (y ∷ xs) x ys = ap (λ l. y ∷ l) (joined xs x ys)
 

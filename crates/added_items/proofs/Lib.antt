@@ -18,3 +18,5 @@ pub mod Filing
 pub mod Parts
 -- where the items of a layout lie
 pub mod Layouts
+-- what is stored at the start of a run
+pub mod Starts

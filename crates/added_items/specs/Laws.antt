@@ -1,5 +1,5 @@
 -- Laws of programs with items behind their own.
-use Rattle.std.specs.Prelude.{ℕ, ◌≡◌, ◌<◌, List, ◌++◌, length, Some, slice_get, IsTrue}
+use Rattle.std.specs.Prelude.{ℕ, ◌≡◌, ◌<◌, List, ◌++◌, length, map, Some, slice_get, IsTrue}
 use Rattle.cob_tree.specs.declared.cond.Cond.{Cond}
 use Rattle.cob_tree.specs.declared.entry.Entry.{Entry}
 use Rattle.cob_tree.specs.declared.place.Operand.{Operand}
@@ -7,11 +7,12 @@ use Rattle.cob_tree.specs.declared.stmt.Stmt.{Stmt}
 use Rattle.cob_store.specs.Store.{Roots}
 use Rattle.cob_store.specs.declared.area.Area.{Area}
 use Rattle.cob_store.specs.Laying.{layout_of}
+use Rattle.cob_store.specs.Starting.{initial_store}
 use Rattle.language.specs.Language.{Chooser}
 use Rattle.statements.specs.Filing.{Declared}
 use Rattle.cobol_meaning.specs.Acting.{Memory, does_to, tests_in, chooses_in, counts_in}
 use Rattle.added_items.specs.Within.{cond_within, operand_within}
-use Rattle.added_items.specs.Laying.{begins_with_item, have_levels, stand_alone, laid_behind}
+use Rattle.added_items.specs.Laying.{begins_with_item, first_bytes, have_levels, stand_alone, laid_behind}
 use Rattle.added_items.specs.Own.{items, stmt_own, chooser_own}
 use Rattle.added_items.specs.Widened.{AddedItems, declared_beside, IsWhole, AreApart, with_tail, Keeps}
 
@@ -54,3 +55,10 @@ abbrev pub AddedItemsLieBehind : Type 0
 AddedItemsLieBehind =
     (entries added : List Entry) → IsTrue (have_levels entries) → IsTrue (stand_alone added) →
     layout_of (entries ++ added) ≡ laid_behind (layout_of entries) added
+
+-- a run starts with what it starts with alone, and behind it the first bytes of each added item
+abbrev pub AddedItemsStartBehind : Type 0
+AddedItemsStartBehind =
+    (entries added : List Entry) → IsTrue (begins_with_item entries) → IsTrue (have_levels entries) →
+    IsTrue (stand_alone added) →
+    initial_store (entries ++ added) ≡ initial_store entries ++ map first_bytes added

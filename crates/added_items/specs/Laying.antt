@@ -4,7 +4,8 @@ use Rattle.cob_tree.specs.declared.entry.Entry.{Entry}
 use Rattle.cob_store.specs.declared.area.Area.{Area}
 use Rattle.cob_store.specs.declared.area.Areas.{Areas}
 use Rattle.cob_store.specs.Size.{is_condition, size_by}
-use Rattle.cob_store.specs.Laying.{area_of}
+use Rattle.cob_store.specs.Laying.{area_of, form_by}
+use Rattle.cob_store.specs.Starting.{started}
 use Rattle.language.specs.All.{all}
 
 -- an item of level 01 by itself, without items in it
@@ -39,3 +40,7 @@ laid_behind areas entries = record {
   items = areas.items ++ areas_alone (length areas.roots) entries;
   roots = areas.roots ++ map size_alone entries;
 }
+
+-- what its root holds at the start of a run
+abbrev pub first_bytes : Entry → List ℕ
+first_bytes entry = started (form_by entry.sign entry.picture) (size_alone entry) entry.value

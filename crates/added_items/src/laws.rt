@@ -1,6 +1,6 @@
 //! Laws of programs with items behind their own.
 
-ghost use Rattle.added_items.specs.Laws.{AddedItemsLieBehind, LayoutsAreInside, OwnPartsDoTheSame};
+ghost use Rattle.added_items.specs.Laws.{AddedItemsLieBehind, AddedItemsStartBehind, LayoutsAreInside, OwnPartsDoTheSame};
 
 /// A part that names items of the program's own does the same where other items stand behind these,
 /// and leaves their bytes.
@@ -17,4 +17,10 @@ pub fn layouts_are_inside()
 /// and change nothing of where the others lie.
 pub fn added_items_lie_behind()
     ensures { AddedItemsLieBehind }
+{}
+
+/// At the start of a run, behind what the program's own items hold stand the first bytes of each
+/// item that was added.
+pub fn added_items_start_behind()
+    ensures { AddedItemsStartBehind }
 {}

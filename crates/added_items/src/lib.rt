@@ -8,4 +8,6 @@
 
 mod laws;
 
-pub use laws::{added_items_lie_behind, layouts_are_inside, own_parts_do_the_same};
+pub use laws::{
+    added_items_lie_behind, added_items_start_behind, layouts_are_inside, own_parts_do_the_same,
+};
