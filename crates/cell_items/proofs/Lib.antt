@@ -1,0 +1,4 @@
+-- reading an added item, and storing in it
+pub mod Cells
+-- MOVE of a number
+pub mod Moves

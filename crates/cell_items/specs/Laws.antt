@@ -1,0 +1,26 @@
+-- What is done with an added item.
+use Rattle.std.specs.Prelude.{ℕ, ◌≡◌, ◌^◌, ◌<◌, Bool, ℤ, unsigned_abs, List, [], ◌∷◌, length, Some, slice_get, slice_set}
+use Rattle.cob_num.specs.declared.number.Dec.{Dec}
+use Rattle.cob_tree.specs.declared.number.Number.{Number}
+use Rattle.cob_store.specs.declared.area.Area.{Area}
+use Rattle.cob_store.specs.Store.{Roots}
+use Rattle.cob_store.specs.Place.{literal_value}
+use Rattle.statements.specs.Outcome.{done}
+use Rattle.statements.specs.Moving.{moved}
+use Rattle.cell_items.specs.Cell.{cell_place, number_operand, IsCell, cell_bytes, Holds}
+
+-- a literal that is worth a whole number of so many digits at most
+pub record IsWhole (number : Number) (worth : Dec) (digits : ℕ) : Type 0 where
+  pub value : literal_value number ≡ Some worth
+  pub whole : worth.scale ≡ 0
+  pub fits : unsigned_abs worth.value < 10 ^ digits
+
+-- MOVE of such a literal puts its value into the item's root, and changes no other
+abbrev pub MovedNumbersAreHeld : Type 0
+MovedNumbersAreHeld =
+    (areas : List Area) (item root digits : ℕ) (signed : Bool) (store : Roots) (value : ℤ)
+    (number : Number) (worth : Dec) →
+    IsCell areas item root digits signed → Holds store root digits signed value →
+    IsWhole number worth digits →
+    moved areas (number_operand number) (cell_place item ∷ []) store
+    ≡ done (slice_set store root (cell_bytes digits signed worth.value)) tt

@@ -1,0 +1,8 @@
+//! Laws of items that restructuring adds.
+
+ghost use Rattle.cell_items.specs.Laws.{MovedNumbersAreHeld};
+
+/// A whole number that is moved to such an item is what its root holds then; no other root changes.
+pub fn moved_numbers_are_held()
+    ensures { MovedNumbersAreHeld }
+{}
