@@ -2,3 +2,5 @@
 pub mod Cells
 -- MOVE of a number
 pub mod Moves
+-- comparisons
+pub mod Tests

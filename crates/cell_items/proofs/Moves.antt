@@ -1,34 +1,30 @@
 -- MOVE of a number to an added item.
-use Rattle.std.proofs.Common.{◌≡◌, ℕ, zero, suc, ◌+◌, ◌-◌, ◌*◌, ◌/◌, ◌%◌, ◌^◌, ◌<◌, ◌≤◌, nat_le, nat_lt, Bool, true, false, ◌&&◌, not, if◌then◌else◌, List, [], ◌∷◌, ◌++◌, length, map, Option, Some, None, refl, ap, sym, ◌∙◌, subst, arith, le-leb, append-nil}
-use Rattle.std.specs.Prelude.{Ok, Err, take, drop, slice_get, slice_set, unwrap_or, option_and_then, ℤ, pos, negsuc, neg_ℤ, unsigned_abs}
+use Rattle.std.proofs.Common.{◌≡◌, ℕ, zero, suc, ◌+◌, ◌-◌, ◌*◌, ◌/◌, ◌%◌, ◌^◌, ◌<◌, ◌≤◌, nat_le, Bool, false, ◌&&◌, not, if◌then◌else◌, List, [], ◌∷◌, ◌++◌, length, Some, None, refl, ap, ◌∙◌, arith, le-leb, append-nil}
+use Rattle.std.specs.Prelude.{Ok, drop, slice_get, slice_set, unwrap_or, ℤ, pos, negsuc, unsigned_abs}
 use Rattle.std.proofs.lemmas.Option.{slice_get_within}
 use Rattle.std.proofs.Math.Nat.{mod-eq_of_lt}
 use Rattle.std.proofs.Math.ListN.{drop_of_length-le}
 use Rattle.cob_num.specs.declared.number.Dec.{Dec}
-use Rattle.cob_num.specs.declared.storing.Stored.{Stored}
 use Rattle.cob_num.specs.Storing.{whole_units, with_sign, stored_of}
 use Rattle.cob_tree.specs.declared.ending.Abend.TheVariants.{BadDigits}
 use Rattle.cob_tree.specs.declared.number.Number.{Number}
 use Rattle.cob_tree.specs.declared.picture.Sign.TheVariants.{Within}
-use Rattle.cob_tree.specs.declared.place.Operand.{Operand, out-Operand, out-roll-Operand}
+use Rattle.cob_tree.specs.declared.place.Operand.{Operand, out-roll-Operand}
 use Rattle.cob_tree.specs.declared.place.Place.{Place}
 use Rattle.cob_tree.specs.declared.place.Expr.{Expr}
 use Rattle.cob_tree.specs.declared.place.Sub.{Sub}
 use Rattle.cob_tree.specs.declared.place.Window.{Window}
 use Rattle.cob_tree.specs.declared.place.Expr.TheOpen.{Operand-F}
 use Rattle.cob_store.specs.declared.area.Area.{Area}
-use Rattle.cob_store.specs.declared.area.Form.{Form}
 use Rattle.cob_store.specs.declared.area.Form.TheVariants as forms
-use Rattle.cob_store.specs.declared.spot.Spot.{Spot}
-use Rattle.cob_store.specs.declared.spot.Reached.{Reached}
 use Rattle.cob_store.specs.Answer.{Answer, and_then, there_or}
-use Rattle.cob_store.specs.Store.{Roots, root_bytes, put_at, replaced}
-use Rattle.cob_store.specs.Place.{Memory, memory_of, Value, kept, reached, literal_value}
+use Rattle.cob_store.specs.Store.{Roots, put_at, replaced}
+use Rattle.cob_store.specs.Place.{Memory, memory_of, reached}
 use Rattle.statements.specs.Outcome.{Outcome, done, go_on, each}
-use Rattle.statements.specs.Moving.{Sender, Written, Spelled, Figured, sender_number, number_received, received, put_answer, receive, place_sent, operand_sent, all_groups, moved}
+use Rattle.statements.specs.Moving.{Sender, Written, Spelled, Figured, number_received, received, put_answer, receive, place_sent, operand_sent, all_groups, moved}
 use Rattle.cell_items.specs.Laws.{IsWhole}
 use Rattle.cell_items.specs.Cell.{cell_place, number_operand, IsCell, cell_bytes, Holds}
-use Rattle.cell_items.proofs.Cells.{cell_reached, cell-found, bytes-long}
+use Rattle.cell_items.proofs.Cells.{cell-found, bytes-long}
 
 -- ---- a whole number is kept as it is
 
@@ -51,7 +47,7 @@ pub number-given : (digits : ℕ) (signed : Bool) (number : Dec) → 1 ≤ digit
 number-given digits signed number some few whole fits =
     ap (λ n. and_then (there_or BadDigits (if nat_le 1 n && nat_le n 18 then Some (stored_of number n 0 false) else None)) (λ stored. Ok (cell_bytes digits signed stored.value))) no-part
     ∙ ap (λ b. and_then (there_or BadDigits (if b then Some (stored_of number digits 0 false) else None)) (λ stored. Ok (cell_bytes digits signed stored.value)))
-      (ap (λ b. b && nat_le digits 18) (le-leb 1 digits some) ∙ le-leb digits 18 few)
+    (ap (λ b. b && nat_le digits 18) (le-leb 1 digits some) ∙ le-leb digits 18 few)
     ∙ ap (λ value. Ok (cell_bytes digits signed value)) (stored-whole number digits whole fits)
   where
     no-part : digits + 0 ≡ digits
@@ -83,11 +79,11 @@ set-holds (x ∷ store) (suc root) bytes h = set-holds store root bytes (omega (
 
 sent_at : Memory → Bool → Operand-F Expr Operand Place Sub Window → Answer Sender
 sent_at memory asked y = elim y [
-    | Operand-F.Place place ↦ place_sent memory asked (reached place)
-    | Operand-F.Number number ↦ Ok (Written number)
-    | Operand-F.Text bytes ↦ Ok (Spelled bytes)
-    | Operand-F.Figure figure ↦ Ok (Figured figure)
-  ]
+  | Operand-F.Place place ↦ place_sent memory asked (reached place)
+  | Operand-F.Number number ↦ Ok (Written number)
+  | Operand-F.Text bytes ↦ Ok (Spelled bytes)
+  | Operand-F.Figure figure ↦ Ok (Figured figure)
+]
 
 number-sent : (memory : Memory) (asked : Bool) (number : Number) → operand_sent memory asked (number_operand number) ≡ Ok (Written number)
 unfolding sent_at

@@ -1,5 +1,5 @@
 -- An added item: a number item in a root of its own.
-use Rattle.std.specs.Prelude.{ℕ, zero, ◌≡◌, ◌<◌, ◌≤◌, Bool, true, false, ℤ, List, [], ◌∷◌, length, Option, Some, None, slice_get}
+use Rattle.std.specs.Prelude.{ℕ, ◌≡◌, ◌≤◌, Bool, ℤ, List, [], Some, None, slice_get}
 use Rattle.cob_tree.specs.declared.place.Place.{Place, roll-Place}
 use Rattle.cob_tree.specs.declared.place.Operand.{Operand, roll-Operand}
 use Rattle.cob_tree.specs.declared.place.Expr.{Expr, roll-Expr}
@@ -29,8 +29,11 @@ pub record IsCell (areas : List Area) (item root digits : ℕ) (signed : Bool) :
   pub some : 1 ≤ digits
   pub few : digits ≤ 18
   pub lies : slice_get areas item ≡ Some (record {
-    root = root; start = 0; size = digits;
-    form = forms.Number signed digits 0 Within; dims = [];
+    root = root;
+    start = 0;
+    size = digits;
+    form = forms.Number signed digits 0 Within;
+    dims = [];
   })
 
 -- the bytes of a number in such an item

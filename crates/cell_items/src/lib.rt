@@ -7,4 +7,4 @@
 
 mod laws;
 
-pub use laws::moved_numbers_are_held;
+pub use laws::{held_numbers_are_compared, moved_numbers_are_held};
