@@ -1,0 +1,2 @@
+-- targets of jumps, in label order
+pub mod ExitRows

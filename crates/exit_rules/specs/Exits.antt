@@ -1,0 +1,28 @@
+-- What Exits answers, and leaves.
+use Rattle.std.specs.Prelude.{◌≡◌, Bool, true, false, if◌then◌else◌, Result, Ok, Err, List, [], ◌∷◌}
+use Rattle.cob_base.specs.declared.memory.NoMemory.{NoMemory}
+use Rattle.language.specs.Language.{none}
+use Rattle.control.specs.Graph.{Label, Tree, tree, Jump, Return}
+use Rattle.graph_rules.specs.Reduced.{Graph, has_node}
+use Rattle.closing.specs.Closes.{has_exits, exits_graph}
+
+-- bare jumps to labels
+abbrev pub jump_trees : List Label → List Tree
+jump_trees [] = []
+jump_trees (label ∷ labels) = tree none (Jump label) ∷ jump_trees labels
+
+-- a bare return, where there is to be one
+abbrev pub return_trees : Bool → List Tree
+return_trees true = tree none Return ∷ []
+return_trees false = []
+
+-- the label is that of a node on which Exits applies
+abbrev pub may_exit : Graph → Label → Bool
+may_exit graph label = if has_node graph.nodes label then has_exits graph label else false
+
+-- true with the node as a loop, exactly where the rule applies; else, and without memory, the graph
+-- is as it was
+abbrev pub CloseExits : Result Bool NoMemory → Label → Graph → Graph → Type 0
+CloseExits (Ok true) label old new = (may_exit old label ≡ true) × (new ≡ exits_graph label old)
+CloseExits (Ok false) label old new = (may_exit old label ≡ false) × (new ≡ old)
+CloseExits (Err fault) label old new = new ≡ old

@@ -1,0 +1,2 @@
+-- a node's tree as a loop with exits
+pub mod Exits
