@@ -8,6 +8,14 @@ use Rattle.cob_tree.specs.declared.stmt.Stmt.{Stmt}
 use Rattle.cob_tree.specs.declared.stmt.When.{When}
 use Rattle.grammar_forms.specs.declared.note.Position.{Position}
 use Rattle.grammar_forms.proofs.MakerLaws.{Law, pure, refuse, note, key, word, digits, chosen, where_next, loop, added, maybe, loose, ◌>>=◌, ◌>>◌}
+use Rattle.cob_tree.specs.declared.choice.Test.{Test}
+use Rattle.grammar_forms.specs.Form.{Form}
+use Rattle.stmt_forms.specs.declared.head.NotPhrase.{NotPhrase}
+use Rattle.stmt_forms.specs.declared.head.NotPhrase.TheVariants as nots
+use Rattle.stmt_forms.specs.declared.head.PerformHead.{PerformHead}
+use Rattle.stmt_forms.specs.declared.head.PerformHead.TheVariants as heads
+use Rattle.stmt_forms.specs.declared.head.ReadHead.{ReadHead}
+use Rattle.stmt_forms.specs.declared.head.ReadHead.TheVariants as reads
 use Rattle.stmt_forms.specs.declared.phrase.Phrase.{Phrase}
 use Rattle.stmt_forms.specs.declared.phrase.Phrase.TheVariants as phrases
 use Rattle.stmt_forms.specs.declared.scope.Scope.{Scope}
@@ -53,36 +61,50 @@ pub test_part : Law false loops.test_part
 unfolding loops.test_part loops.test_words loops.after_word
 test_part = where_next (loose (maybe (codes "WITH") >> (key (codes "TEST") >> where_next (key (codes "BEFORE") >> pure) (key (codes "AFTER") >> pure)))) pure
 
+-- ---- heads
+
+module _ {enter : Form (Unit {0})} (E : Law false enter) where
+  pub entering_words : (phrase : Phrase) → Law true (arms.entering_words phrase enter)
+  unfolding arms.entering_words
+  entering_words phrase = E >> phrase_words phrase
+
+  pub first_phrase : (phrase : Phrase) → Law false (arms.first_phrase phrase enter)
+  unfolding arms.first_phrase
+  first_phrase phrase = where_next (loose (entering_words phrase >> pure)) pure
+
+  pub behind_not : (phrase : Phrase) (has_first : Bool) → Law false (arms.behind_not phrase enter has_first)
+  unfolding arms.behind_not arms.own_words
+  behind_not phrase has_first = where_next (loose (chosen has_first (phrase_words phrase) (entering_words phrase) >> pure)) pure
+
+  pub not_phrase : (phrase : Phrase) (has_first not_read : Bool) → Law false (arms.not_phrase phrase enter has_first not_read)
+  unfolding arms.not_phrase arms.not_or_none
+  not_phrase phrase has_first not_read = chosen not_read (behind_not phrase has_first) (where_next (loose (key (codes "NOT") >> behind_not phrase has_first)) pure)
+
 -- ---- what is held
 
 module _ {level : Level} (L : LevelIsLawful level) where
-  pub arm : (phrase : Phrase) (scope : Scope) → Law true (arms.arm phrase level scope)
-  unfolding arms.arm
-  arm phrase scope = phrase_words phrase >> (L.stmts scope >>= (λ found. pure))
+  pub held_arm : (scope : Scope) → Law true (arms.held_arm level scope)
+  unfolding arms.held_arm
+  held_arm scope = L.stmts scope >>= (λ found. pure)
 
-  pub entered_arm : (phrase : Phrase) (scope : Scope) → Law true (arms.entered_arm phrase level scope)
-  unfolding arms.entered_arm
-  entered_arm phrase scope = L.enter >> arm phrase scope
-
-  pub first_arm : (phrase : Phrase) (scope : Scope) → Law false (arms.first_arm phrase level scope)
+  pub first_arm : (scope : Scope) (present : Bool) → Law false (arms.first_arm level scope present)
   unfolding arms.first_arm
-  first_arm phrase scope = where_next (loose (entered_arm phrase scope)) pure
+  first_arm scope present = chosen present (loose (held_arm scope)) pure
 
-  pub second_behind : (phrase : Phrase) (scope : Scope) (has_first : Bool) → Law false (arms.second_behind phrase level scope has_first)
-  unfolding arms.second_behind arms.second_entered
-  second_behind phrase scope has_first = where_next (loose (chosen has_first (arm phrase scope) (entered_arm phrase scope))) pure
-
-  pub second_arm : (phrase : Phrase) (scope : Scope) (first : Arm) → Law false (arms.second_arm phrase level scope first)
-  unfolding arms.second_arm arms.second_or_none
-  second_arm phrase scope first = chosen first.1 (second_behind phrase scope _) (where_next (loose (key (codes "NOT") >> second_behind phrase scope _)) pure)
+  pub second_arm : (scope : Scope) (found : NotPhrase) → Law false (arms.second_arm level scope found)
+  unfolding arms.second_arm
+  second_arm scope nots.Missing = pure
+  second_arm scope nots.Own = loose (held_arm scope)
+  second_arm scope nots.Foreign = pure
 
   pub both_arms : (phrase : Phrase) (scope : Scope) → Law false (arms.arms phrase level scope)
-  unfolding arms.arms
-  both_arms phrase scope = first_arm phrase scope >>= (λ first. second_arm phrase scope first >>= (λ second. pure))
+  unfolding arms.arms arms.second_behind
+  both_arms phrase scope = first_phrase L.enter phrase >>= (λ present. first_arm scope present >>= (λ first. not_phrase L.enter phrase _ first.1 >>= (λ following. second_arm scope following >>= (λ second. pure))))
 
-  pub worked : (w : List ℕ) (scope : Scope) (work : Work) → Law false (arms.worked w level scope work)
-  unfolding arms.worked
-  worked w scope work = both_arms phrases.Size scope >>= (λ found. end_word w found.1 >> pure)
+  pub read_by : (scope : Scope) (before : List Stmt) (head : ReadHead) → Law false (arms.read_by level scope before head)
+  unfolding arms.read_by arms.read_arms
+  read_by scope before (reads.WithSentence file) = pure
+  read_by scope before (reads.Open file into) = both_arms phrases.End scope >>= (λ found. end_word (codes "END-READ") found.1 >> pure)
 
   pub else_part : (scope : Scope) → Law false (choice.else_part level scope)
   unfolding choice.else_part
@@ -92,17 +114,23 @@ module _ {level : Level} (L : LevelIsLawful level) where
   unfolding choice.if_behind choice.if_ended
   if_behind scope cond first = chosen first.1 pure (else_part scope >>= (λ second. end_word (codes "END-IF") second.1 >> pure))
 
-  pub other_part : (scope : Scope) (state : Whens) → Law false (choice.other_part level scope state)
-  unfolding choice.other_part choice.other_arm
-  other_part scope state = chosen state.other (loose (L.stmts scope >>= (λ held. pure))) pure
+  pub when_held : (scope : Scope) (before : List When) (tests : List Test) → Law true (choice.when_held level scope before tests)
+  unfolding choice.when_held
+  when_held scope before tests = L.stmts scope >>= (λ held. pure)
+
+  pub whens_by : (scope : Scope) (before : List When) (head : Option (List Test)) → Law false (choice.whens_by level scope before head)
+  unfolding choice.whens_by
+  whens_by scope before None = pure
+  whens_by scope before (Some tests) = loose (when_held scope before tests)
 
   pub evaluated : (scope : Scope) (subject : Subject) (state : Whens) → Law false (choice.evaluated level scope subject state)
-  unfolding choice.evaluated
-  evaluated scope subject state = other_part scope state >>= (λ other. end_word (codes "END-EVALUATE") other.1 >> pure)
+  unfolding choice.evaluated choice.other_part
+  evaluated scope subject state = chosen state.other (loose (held_arm scope)) pure >>= (λ other. end_word (codes "END-EVALUATE") other.1 >> pure)
 
-  pub loop_body : (scope : Scope) (control : Control) → Law true (loops.loop_body level scope control)
-  unfolding loops.loop_body
-  loop_body scope control = L.stmts (loops.looped scope) >>= (λ held. chosen held.1 refuse (loose (key (codes "END-PERFORM") >> pure)))
+  pub perform_by : (scope : Scope) (head : PerformHead) → Law false (loops.perform_by level scope head)
+  unfolding loops.perform_by loops.loop_body loops.loop_end loops.loop_closed
+  perform_by scope (heads.Whole stmt not_read) = pure
+  perform_by scope (heads.Inline control) = loose (L.stmts (loops.looped scope) >>= (λ held. chosen held.1 refuse (loose (key (codes "END-PERFORM") >> pure))))
 
 module _ {Side Known : Type 0} {parts : Parts Side Known} (P : PartsAreLawful parts) where
   -- ---- conditions and values
@@ -141,6 +169,18 @@ module _ {Side Known : Type 0} {parts : Parts Side Known} (P : PartsAreLawful pa
   pub next_test : (known : Option Known) → Law true (choice.next_test parts known)
   unfolding choice.next_test
   next_test known = key (codes "WHEN") >> test known
+
+  pub all_tests : (known : Option Known) → Law true (choice.all_tests parts known)
+  unfolding choice.all_tests
+  all_tests known = test known >>= (λ first. loop (λ front. added front (next_test known)))
+
+  pub first_tests : (known : Option Known) → Law true (choice.first_tests parts known)
+  unfolding choice.first_tests
+  first_tests known = key (codes "WHEN") >> all_tests known
+
+  pub when_head : (known : Option Known) → Law true (choice.when_head parts known)
+  unfolding choice.when_head choice.other_words
+  when_head known = key (codes "WHEN") >> where_next (key (codes "OTHER") >> pure) (all_tests known >>= (λ tests. pure))
 
   -- ---- control
 
@@ -193,55 +233,87 @@ module _ {Side Known : Type 0} {parts : Parts Side Known} (P : PartsAreLawful pa
   unfolding loops.perform_word
   perform_word = word >>= (λ name. perform_named name.0 name.1)
 
+  -- ---- arithmetic and READ
+
+  pub arithmetic_work : Law true (arms.arithmetic_work parts)
+  unfolding arms.arithmetic_work arms.adding_work arms.multiplying_work arms.computing_work
+  arithmetic_work =
+      where_next (where_next (simple.add P >>= (λ work. pure)) (simple.subtract P >>= (λ work. pure)))
+      (where_next (where_next (simple.multiply P >>= (λ work. pure)) (simple.divide P >>= (λ work. pure))) (simple.compute P >>= (λ work. pure)))
+
+  pub read_open : (file : Option ℕ) → Law false (arms.read_open parts file)
+  unfolding arms.read_open
+  read_open file = simple.into_part P file >>= (λ into. pure)
+
+  pub read_head : Law true (arms.read_head parts)
+  unfolding arms.read_head arms.read_next arms.read_sentence
+  read_head = simple.read_file P >>= (λ file. where_next (loose (key (codes "NEXT") >> where_next (loose (key (codes "SENTENCE") >> pure)) (read_open file))) (read_open file))
+
+  -- ---- heads that enter a level
+
+  module _ {enter : Form (Unit {0})} (E : Law false enter) where
+    pub if_head : Law true (choice.if_head parts enter)
+    unfolding choice.if_head
+    if_head = E >> (key (codes "IF") >> (test_cond >>= (λ cond. maybe (codes "THEN") >> pure)))
+
+    pub evaluate_head : Law true (choice.evaluate_head parts enter)
+    unfolding choice.evaluate_head
+    evaluate_head = E >> (key (codes "EVALUATE") >> subject)
+
+    pub until_head : Law true (loops.until_head parts enter)
+    unfolding loops.until_head loops.inline
+    until_head = E >> (until_control >>= (λ control. chosen control.1 refuse pure))
+
+    pub times_head : (side : Side) → Law true (loops.times_head parts side)
+    unfolding loops.times_head
+    times_head side = times_behind side >>= (λ control. pure)
+
+    pub item_head : (name : List ℕ) (position : Position) → Law true (loops.item_head parts enter name position)
+    unfolding loops.item_head
+    item_head name position = E >> (P.reference_behind name position >>= times_head)
+
+    pub digits_head : (found : List ℕ) (position : Position) → Law true (loops.digits_head parts enter found position)
+    unfolding loops.digits_head
+    digits_head found position = E >> times_head _
+
+    pub operand_head : Law true (loops.operand_head parts enter)
+    unfolding loops.operand_head
+    operand_head = E >> (P.operand >>= times_head)
+
+    pub perform_name : Law true (loops.perform_name parts enter)
+    unfolding loops.perform_name
+    perform_name = word >>= (λ name. where_next (loose (item_head name.0 name.1)) (perform_named name.0 name.1))
+
+    pub perform_digits : Law true (loops.perform_digits parts enter)
+    unfolding loops.perform_digits
+    perform_digits = digits >>= (λ found. where_next (loose (digits_head found.0 found.1)) (perform_named found.0 found.1))
+
+    pub perform_other : Law true (loops.perform_other parts enter)
+    unfolding loops.perform_other loops.perform_operand
+    perform_other = where_next perform_digits (where_next perform_word (where_next operand_head refuse))
+
+    pub perform_head : Law true (loops.perform_head parts enter)
+    unfolding loops.perform_head loops.perform_behind
+    perform_head = key (codes "PERFORM") >> where_next until_head (where_next perform_name perform_other)
+
+  -- ---- statements, over those that are held
+
   module _ {level : Level} (L : LevelIsLawful level) where
-    -- ---- arithmetic and READ
-
     pub arithmetic_stmt : (scope : Scope) → Law true (arms.arithmetic_stmt parts level scope)
-    unfolding arms.arithmetic_stmt arms.adding_stmt arms.multiplying_stmt arms.add_stmt arms.subtract_stmt arms.multiply_stmt arms.divide_stmt arms.compute_stmt
-    arithmetic_stmt scope =
-        where_next (where_next (simple.add P >>= worked L (codes "END-ADD") scope) (simple.subtract P >>= worked L (codes "END-SUBTRACT") scope))
-        (where_next (where_next (simple.multiply P >>= worked L (codes "END-MULTIPLY") scope) (simple.divide P >>= worked L (codes "END-DIVIDE") scope))
-        (simple.compute P >>= worked L (codes "END-COMPUTE") scope))
-
-    pub read_behind : (scope : Scope) (file : Option ℕ) (before : List Stmt) → Law false (arms.read_behind parts level scope file before)
-    unfolding arms.read_behind
-    read_behind scope file before = simple.into_part P file >>= (λ into. both_arms L phrases.End scope >>= (λ found. end_word (codes "END-READ") found.1 >> pure))
-
-    pub read_next : (scope : Scope) (file : Option ℕ) (before : List Stmt) → Law true (arms.read_next parts level scope file before)
-    unfolding arms.read_next arms.read_and_next
-    read_next scope file before = key (codes "NEXT") >> where_next (loose (key (codes "SENTENCE") >> pure)) (read_behind scope file before)
+    unfolding arms.arithmetic_stmt arms.end_work
+    arithmetic_stmt scope = arithmetic_work >>= (λ worked. both_arms L phrases.Size scope >>= (λ found. end_word _ found.1 >> pure))
 
     pub read_stmt : (scope : Scope) (before : List Stmt) → Law true (arms.read_stmt parts level scope before)
     unfolding arms.read_stmt
-    read_stmt scope before = simple.read_file P >>= (λ file. where_next (loose (read_next scope file before)) (read_behind scope file before))
-
-    -- ---- IF and EVALUATE
+    read_stmt scope before = read_head >>= read_by L scope before
 
     pub if_stmt : (scope : Scope) → Law true (choice.if_stmt parts level scope)
     unfolding choice.if_stmt
-    if_stmt scope = do
-      L.enter
-      key (codes "IF")
-      cond ← test_cond
-      maybe (codes "THEN")
-      first ← L.stmts scope
-      if_behind L scope cond first
-
-    pub when_behind : (scope : Scope) (known : Option Known) → Law true (choice.when_behind parts level scope known)
-    unfolding choice.when_behind
-    when_behind scope known = do
-      first ← test known
-      all ← loop (λ front. added front (next_test known))
-      held ← L.stmts scope
-      pure
-
-    pub when_more : (scope : Scope) (known : Option Known) (before : List When) → Law true (choice.when_more parts level scope known before)
-    unfolding choice.when_more
-    when_more scope known before = when_behind scope known >>= (λ next. pure)
+    if_stmt scope = if_head L.enter >>= (λ cond. L.stmts scope >>= if_behind L scope cond)
 
     pub when_next : (scope : Scope) (known : Option Known) (before : List When) → Law true (choice.when_next parts level scope known before)
-    unfolding choice.when_next choice.when_other
-    when_next scope known before = key (codes "WHEN") >> where_next (key (codes "OTHER") >> pure) (when_more scope known before)
+    unfolding choice.when_next
+    when_next scope known before = when_head known >>= whens_by L scope before
 
     pub whens_turn : (scope : Scope) (known : Option Known) (state : Whens) → Law true (choice.whens_turn parts level scope known state)
     unfolding choice.whens_turn
@@ -249,63 +321,19 @@ module _ {Side Known : Type 0} {parts : Parts Side Known} (P : PartsAreLawful pa
 
     pub whens : (scope : Scope) (known : Option Known) → Law true (choice.whens parts level scope known)
     unfolding choice.whens
-    whens scope known = do
-      key (codes "WHEN")
-      first ← when_more scope known []
-      loop (whens_turn scope known)
+    whens scope known = first_tests known >>= (λ tests. when_held L scope [] tests >>= (λ first. loop (whens_turn scope known)))
 
     pub evaluate_stmt : (scope : Scope) → Law true (choice.evaluate_stmt parts level scope)
     unfolding choice.evaluate_stmt
-    evaluate_stmt scope = do
-      L.enter
-      key (codes "EVALUATE")
-      found ← subject
-      state ← whens scope found.1
-      evaluated L scope found.0 state
+    evaluate_stmt scope = evaluate_head L.enter >>= (λ found. whens scope found.1 >>= evaluated L scope found.0)
 
     pub choice_stmt : (scope : Scope) → Law true (choice.choice_stmt parts level scope)
     unfolding choice.choice_stmt
     choice_stmt scope = where_next (if_stmt scope) (evaluate_stmt scope)
 
-    -- ---- PERFORM
-
-    pub until_loop : (scope : Scope) → Law true (loops.until_loop parts level scope)
-    unfolding loops.until_loop
-    until_loop scope = L.enter >> (until_control >>= (λ control. chosen control.1 refuse (loose (loop_body L scope control.0))))
-
-    pub times_loop : (scope : Scope) (side : Side) → Law true (loops.times_loop parts level scope side)
-    unfolding loops.times_loop
-    times_loop scope side = times_behind side >>= loop_body L scope
-
-    pub item_loop : (scope : Scope) (name : List ℕ) (position : Position) → Law true (loops.item_loop parts level scope name position)
-    unfolding loops.item_loop
-    item_loop scope name position = L.enter >> (P.reference_behind name position >>= times_loop scope)
-
-    pub digits_loop : (scope : Scope) (found : List ℕ) (position : Position) → Law true (loops.digits_loop parts level scope found position)
-    unfolding loops.digits_loop
-    digits_loop scope found position = L.enter >> times_loop scope _
-
-    pub operand_loop : (scope : Scope) → Law true (loops.operand_loop parts level scope)
-    unfolding loops.operand_loop
-    operand_loop scope = L.enter >> (P.operand >>= times_loop scope)
-
-    pub perform_name : (scope : Scope) → Law true (loops.perform_name parts level scope)
-    unfolding loops.perform_name
-    perform_name scope = word >>= (λ name. where_next (loose (item_loop scope name.0 name.1)) (perform_named name.0 name.1))
-
-    pub perform_digits : (scope : Scope) → Law true (loops.perform_digits parts level scope)
-    unfolding loops.perform_digits
-    perform_digits scope = digits >>= (λ found. where_next (loose (digits_loop scope found.0 found.1)) (perform_named found.0 found.1))
-
-    pub perform_other : (scope : Scope) → Law true (loops.perform_other parts level scope)
-    unfolding loops.perform_other loops.perform_operand
-    perform_other scope = where_next (perform_digits scope) (where_next perform_word (where_next (operand_loop scope) refuse))
-
     pub perform_stmt : (scope : Scope) → Law true (loops.perform_stmt parts level scope)
-    unfolding loops.perform_stmt loops.perform_behind
-    perform_stmt scope = key (codes "PERFORM") >> where_next (until_loop scope) (where_next (perform_name scope) (perform_other scope))
-
-    -- ---- all statements, over those that are held
+    unfolding loops.perform_stmt
+    perform_stmt scope = perform_head L.enter >>= perform_by L scope
 
     pub holding_stmt : (scope : Scope) → Law true (all.holding_stmt parts level scope)
     unfolding all.holding_stmt
@@ -327,10 +355,18 @@ module _ {Side Known : Type 0} {parts : Parts Side Known} (P : PartsAreLawful pa
     unfolding all.stmts_with
     stmts_with scope = stmt scope [] >>= (λ before. loop (stmts_turn scope))
 
+  pub enter : (levels : ℕ) → Law false (all.enter levels)
+  unfolding all.enter
+  enter zero = refuse
+  enter (suc n) = pure
+
+  pub held : (levels : ℕ) (scope : Scope) → Law true (all.held parts levels scope)
+  unfolding all.held
+  held zero scope = refuse
+  held (suc n) scope = stmts_with (record { enter = enter n; stmts = held n }) scope
+
   pub level : (levels : ℕ) → LevelIsLawful (all.level parts levels)
-  unfolding all.level
-  level zero = record { enter = refuse; stmts = λ scope. refuse }
-  level (suc n) = record { enter = pure; stmts = stmts_with (level n) }
+  level levels = record { enter = enter levels; stmts = held levels }
 
   pub stmts : (levels : ℕ) (scope : Scope) → Law true (all.stmts parts levels scope)
   stmts levels scope = stmts_with (level levels) scope

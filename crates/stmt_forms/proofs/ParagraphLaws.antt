@@ -15,7 +15,7 @@ use Rattle.stmt_forms.proofs.SimpleLaws as simple
 use Rattle.stmt_forms.proofs.HoldingLaws as holding
 
 pub sentence_end : (found : Found) → Law false (paragraphs.sentence_end found)
-unfolding paragraphs.sentence_end
+unfolding paragraphs.sentence_end paragraphs.sentence_closed
 sentence_end found = chosen found.1 refuse (loose (period >> pure))
 
 module _ {Side Known : Type 0} {parts : Parts Side Known} (P : PartsAreLawful parts) where

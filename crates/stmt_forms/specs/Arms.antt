@@ -10,9 +10,16 @@ use Rattle.cob_tree.specs.declared.stmt.Stmt.TheVariants as stmts
 use Rattle.grammar_forms.specs.Form.{Form, pure, ◌>>=◌, ◌>>◌, chosen, where_next}
 use Rattle.grammar_forms.specs.Part.{key, maybe, is_key}
 use Rattle.stmt_forms.specs.declared.scope.Scope.{Scope}
+use Rattle.stmt_forms.specs.declared.head.ArithmeticVerb.{ArithmeticVerb}
+use Rattle.stmt_forms.specs.declared.head.ArithmeticVerb.TheVariants as verbs
+use Rattle.stmt_forms.specs.declared.head.NotPhrase.{NotPhrase}
+use Rattle.stmt_forms.specs.declared.head.NotPhrase.TheVariants as nots
+use Rattle.stmt_forms.specs.declared.head.ReadHead.{ReadHead}
+use Rattle.stmt_forms.specs.declared.head.ReadHead.TheVariants as reads
 use Rattle.stmt_forms.specs.declared.phrase.Phrase.{Phrase}
 use Rattle.stmt_forms.specs.declared.phrase.Phrase.TheVariants as phrases
 use Rattle.stmt_forms.specs.Part.{Parts}
+use Rattle.cob_tree.specs.declared.place.Place.{Place}
 use Rattle.stmt_forms.specs.Verb.{begins_adding, begins_multiplying}
 use Rattle.stmt_forms.specs.Arithmetic.{Work, add, subtract, multiply, divide, compute}
 use Rattle.stmt_forms.specs.File.{index_or_0, is_some, read_file, into_part}
@@ -27,7 +34,7 @@ FoundOne = Stmt × Bool
 
 -- how statements are held, one level down
 pub record Level : Type 1 where
-  -- nothing, where one level is left
+  -- nothing, where a level is left
   pub enter : Form (Unit {0})
   pub stmts : Scope → Form Found
 
@@ -62,50 +69,62 @@ phrase_words phrases.Size = size_words
 abbrev pub Arm : Type 0
 Arm = Option (List Stmt) × Bool
 
-unfoldable pub arm : Phrase → Level → Scope → Form Arm
-arm phrase level scope = do
-  phrase_words phrase
-  found ← level.stmts scope
-  pure (Some found.0, found.1)
+-- the words of the first phrase of a statement, which enters a level
+unfoldable pub entering_words : Phrase → (enter : Form (Unit {0})) → Form (Unit {0})
+entering_words phrase enter = enter >> phrase_words phrase
 
--- the first phrase of a statement enters a level
-unfoldable pub entered_arm : Phrase → Level → Scope → Form Arm
-entered_arm phrase level scope = level.enter >> arm phrase level scope
+-- whether the first arm is there
+unfoldable pub first_phrase : Phrase → (enter : Form (Unit {0})) → Form Bool
+first_phrase phrase enter =
+    where_next (begins_phrase phrase) (entering_words phrase enter >> pure true) (pure false)
 
-unfoldable pub first_arm : Phrase → Level → Scope → Form Arm
-first_arm phrase level scope =
-    where_next (begins_phrase phrase) (entered_arm phrase level scope) (pure (None, false))
-
-unfoldable pub second_entered : Phrase → Level → Scope → (has_first : Bool) → Form Arm
-second_entered phrase level scope has_first =
-    chosen has_first (arm phrase level scope) (entered_arm phrase level scope)
+unfoldable pub own_words : Phrase → (enter : Form (Unit {0})) → (has_first : Bool) → Form NotPhrase
+own_words phrase enter has_first =
+    chosen has_first (phrase_words phrase) (entering_words phrase enter) >> pure nots.Own
 
 -- behind a NOT, which may be that of a statement further out
-unfoldable pub second_behind : Phrase → Level → Scope → (has_first : Bool) → Form Arm
-second_behind phrase level scope has_first =
-    where_next (begins_phrase phrase) (second_entered phrase level scope has_first)
-    (pure (None, true))
+unfoldable pub behind_not : Phrase → (enter : Form (Unit {0})) → (has_first : Bool) → Form NotPhrase
+behind_not phrase enter has_first =
+    where_next (begins_phrase phrase) (own_words phrase enter has_first) (pure nots.Foreign)
 
-unfoldable pub second_or_none : Phrase → Level → Scope → (has_first : Bool) → Form Arm
-second_or_none phrase level scope has_first =
-    where_next (is_key (codes "NOT"))
-    (key (codes "NOT") >> second_behind phrase level scope has_first)
-    (pure (None, false))
+unfoldable pub not_or_none : Phrase → (enter : Form (Unit {0})) → (has_first : Bool) →
+    Form NotPhrase
+not_or_none phrase enter has_first =
+    where_next (is_key (codes "NOT")) (key (codes "NOT") >> behind_not phrase enter has_first)
+    (pure nots.Missing)
 
-unfoldable pub second_arm : Phrase → Level → Scope → Arm → Form Arm
-second_arm phrase level scope first =
-    chosen first.1 (second_behind phrase level scope (is_some first.0))
-    (second_or_none phrase level scope (is_some first.0))
+-- behind the first arm, where NOT may have been read
+unfoldable pub not_phrase : Phrase → (enter : Form (Unit {0})) → (has_first not_read : Bool) →
+    Form NotPhrase
+not_phrase phrase enter has_first not_read =
+    chosen not_read (behind_not phrase enter has_first) (not_or_none phrase enter has_first)
+
+unfoldable pub held_arm : Level → Scope → Form Arm
+held_arm level scope = level.stmts scope >>= (λ found. pure (Some found.0, found.1))
+
+unfoldable pub first_arm : Level → Scope → (present : Bool) → Form Arm
+first_arm level scope present = chosen present (held_arm level scope) (pure (None, false))
+
+unfoldable pub second_arm : Level → Scope → NotPhrase → Form Arm
+second_arm level scope nots.Missing = pure (None, false)
+second_arm level scope nots.Own = held_arm level scope
+second_arm level scope nots.Foreign = pure (None, true)
 
 abbrev pub arms_of : Option (List Stmt) → Option (List Stmt) → Arms
 arms_of first second = roll-Arms (record { first = first; second = second })
 
+unfoldable pub second_behind : Phrase → Level → Scope → Arm → Form (Arms × Bool)
+second_behind phrase level scope first = do
+  following ← not_phrase phrase level.enter (is_some first.0) first.1
+  second ← second_arm level scope following
+  pure (arms_of first.0 second.0, second.1)
+
 -- [phrase stmt+] [NOT phrase stmt+]
 unfoldable pub arms : Phrase → Level → Scope → Form (Arms × Bool)
 arms phrase level scope = do
-  first ← first_arm phrase level scope
-  second ← second_arm phrase level scope first
-  pure (arms_of first.0 second.0, second.1)
+  present ← first_phrase phrase level.enter
+  first ← first_arm level scope present
+  second_behind phrase level scope first
 
 -- the word that ends a statement, unless NOT was read
 unfoldable pub end_word : List ℕ → Bool → Form (Unit {0})
@@ -113,81 +132,88 @@ end_word word not_read = chosen not_read (pure tt) (maybe word)
 
 -- ---- arithmetic
 
--- [[ON] SIZE ERROR stmt+] [NOT [ON] SIZE ERROR stmt+] [END-verb]
-unfoldable pub worked : List ℕ → Level → Scope → Work → Form FoundOne
-worked word level scope work = do
-  found ← arms phrases.Size level scope
-  end_word word found.1
-  pure (stmts.Arith work.0 work.1 found.0, found.1)
+abbrev pub Worked : Type 0
+Worked = ArithmeticVerb × Work
 
-unfoldable pub add_stmt : {Side Known : Type 0} → Parts Side Known → Level → Scope → Form FoundOne
-add_stmt parts level scope = add parts >>= worked (codes "END-ADD") level scope
+abbrev pub verbed : ArithmeticVerb → Form Work → Form Worked
+verbed verb form = form >>= (λ work. pure (verb, work))
 
-unfoldable pub subtract_stmt : {Side Known : Type 0} → Parts Side Known →
-    Level → Scope → Form FoundOne
-subtract_stmt parts level scope = subtract parts >>= worked (codes "END-SUBTRACT") level scope
+unfoldable pub adding_work : {Side Known : Type 0} → Parts Side Known → Form Worked
+adding_work parts =
+    where_next (is_key (codes "ADD")) (verbed verbs.Add (add parts))
+    (verbed verbs.Subtract (subtract parts))
 
-unfoldable pub multiply_stmt : {Side Known : Type 0} → Parts Side Known →
-    Level → Scope → Form FoundOne
-multiply_stmt parts level scope = multiply parts >>= worked (codes "END-MULTIPLY") level scope
+unfoldable pub multiplying_work : {Side Known : Type 0} → Parts Side Known → Form Worked
+multiplying_work parts =
+    where_next (is_key (codes "MULTIPLY")) (verbed verbs.Multiply (multiply parts))
+    (verbed verbs.Divide (divide parts))
 
-unfoldable pub divide_stmt : {Side Known : Type 0} → Parts Side Known →
-    Level → Scope → Form FoundOne
-divide_stmt parts level scope = divide parts >>= worked (codes "END-DIVIDE") level scope
+unfoldable pub computing_work : {Side Known : Type 0} → Parts Side Known → Form Worked
+computing_work parts = verbed verbs.Compute (compute parts)
 
-unfoldable pub compute_stmt : {Side Known : Type 0} → Parts Side Known →
-    Level → Scope → Form FoundOne
-compute_stmt parts level scope = compute parts >>= worked (codes "END-COMPUTE") level scope
+unfoldable pub arithmetic_work : {Side Known : Type 0} → Parts Side Known → Form Worked
+arithmetic_work parts =
+    where_next begins_adding (adding_work parts)
+    (where_next begins_multiplying (multiplying_work parts) (computing_work parts))
 
-unfoldable pub adding_stmt : {Side Known : Type 0} → Parts Side Known →
-    Level → Scope → Form FoundOne
-adding_stmt parts level scope =
-    where_next (is_key (codes "ADD")) (add_stmt parts level scope) (subtract_stmt parts level scope)
+abbrev pub end_of : ArithmeticVerb → List ℕ
+end_of verbs.Add = codes "END-ADD"
+end_of verbs.Subtract = codes "END-SUBTRACT"
+end_of verbs.Multiply = codes "END-MULTIPLY"
+end_of verbs.Divide = codes "END-DIVIDE"
+end_of verbs.Compute = codes "END-COMPUTE"
 
-unfoldable pub multiplying_stmt : {Side Known : Type 0} → Parts Side Known →
-    Level → Scope → Form FoundOne
-multiplying_stmt parts level scope =
-    where_next (is_key (codes "MULTIPLY")) (multiply_stmt parts level scope)
-    (divide_stmt parts level scope)
+unfoldable pub end_work : ArithmeticVerb → Bool → Form (Unit {0})
+end_work verb not_read = end_word (end_of verb) not_read
 
+-- work [[ON] SIZE ERROR stmt+] [NOT [ON] SIZE ERROR stmt+] [END-verb]
 unfoldable pub arithmetic_stmt : {Side Known : Type 0} → Parts Side Known →
     Level → Scope → Form FoundOne
-arithmetic_stmt parts level scope =
-    where_next begins_adding (adding_stmt parts level scope)
-    (where_next begins_multiplying (multiplying_stmt parts level scope)
-    (compute_stmt parts level scope))
+arithmetic_stmt parts level scope = do
+  worked ← arithmetic_work parts
+  found ← arms phrases.Size level scope
+  end_work worked.0 found.1
+  pure (stmts.Arith worked.1.0 worked.1.1 found.0, found.1)
 
 -- ---- READ
+
+-- [RECORD] [INTO ref]
+unfoldable pub read_open : {Side Known : Type 0} → Parts Side Known → Option ℕ → Form ReadHead
+read_open parts file = into_part parts file >>= (λ into. pure (reads.Open (index_or_0 file) into))
+
+-- READ word NEXT SENTENCE is two statements
+unfoldable pub read_sentence : Option ℕ → Form ReadHead
+read_sentence file = key (codes "SENTENCE") >> pure (reads.WithSentence (index_or_0 file))
+
+unfoldable pub read_next : {Side Known : Type 0} → Parts Side Known → Option ℕ → Form ReadHead
+read_next parts file =
+    key (codes "NEXT")
+    >> where_next (is_key (codes "SENTENCE")) (read_sentence file) (read_open parts file)
+
+-- READ word [NEXT] [RECORD] [INTO ref]
+unfoldable pub read_head : {Side Known : Type 0} → Parts Side Known → Form ReadHead
+read_head parts = do
+  file ← read_file parts
+  where_next (is_key (codes "NEXT")) (read_next parts file) (read_open parts file)
 
 abbrev pub no_arms : Arms
 no_arms = arms_of None None
 
--- READ word NEXT SENTENCE is two statements
-unfoldable pub read_and_next : ℕ → List Stmt → Form Found
-read_and_next file before = do
-  key (codes "SENTENCE")
-  pure (before ++ stmts.Read file None no_arms ∷ stmts.NextSentence ∷ [], false)
+abbrev pub read_and_next : List Stmt → ℕ → List Stmt
+read_and_next before file = (before ++ stmts.Read file None no_arms ∷ []) ++ stmts.NextSentence ∷ []
 
--- [RECORD] [INTO ref] [[AT] END stmt+] [NOT [AT] END stmt+] [END-READ]
-unfoldable pub read_behind : {Side Known : Type 0} → Parts Side Known →
-    Level → Scope → Option ℕ → List Stmt → Form Found
-read_behind parts level scope file before = do
-  into ← into_part parts file
+-- [[AT] END stmt+] [NOT [AT] END stmt+] [END-READ]
+unfoldable pub read_arms : Level → Scope → List Stmt → ℕ → Option Place → Form Found
+read_arms level scope before file into = do
   found ← arms phrases.End level scope
   end_word (codes "END-READ") found.1
-  pure (before ++ stmts.Read (index_or_0 file) into found.0 ∷ [], found.1)
+  pure (before ++ stmts.Read file into found.0 ∷ [], found.1)
 
-unfoldable pub read_next : {Side Known : Type 0} → Parts Side Known →
-    Level → Scope → Option ℕ → List Stmt → Form Found
-read_next parts level scope file before = do
-  key (codes "NEXT")
-  where_next (is_key (codes "SENTENCE")) (read_and_next (index_or_0 file) before)
-      (read_behind parts level scope file before)
+unfoldable pub read_by : Level → Scope → List Stmt → ReadHead → Form Found
+read_by level scope before (reads.WithSentence file) = pure (read_and_next before file, false)
+read_by level scope before (reads.Open file into) = read_arms level scope before file into
 
 -- READ word [NEXT] [RECORD] [INTO ref] [[AT] END stmt+] [NOT [AT] END stmt+] [END-READ]
 unfoldable pub read_stmt : {Side Known : Type 0} → Parts Side Known →
     Level → Scope → List Stmt → Form Found
-read_stmt parts level scope before = do
-  file ← read_file parts
-  where_next (is_key (codes "NEXT")) (read_next parts level scope file before)
-      (read_behind parts level scope file before)
+read_stmt parts level scope before = read_head parts >>= read_by level scope before

@@ -16,7 +16,7 @@ use Rattle.grammar_forms.specs.Part.{key, maybe, is_key}
 use Rattle.stmt_forms.specs.declared.scope.Scope.{Scope}
 use Rattle.stmt_forms.specs.declared.whens.Whens.{Whens}
 use Rattle.stmt_forms.specs.Part.{Parts}
-use Rattle.stmt_forms.specs.Arms.{Level, Found, FoundOne, Arm, end_word}
+use Rattle.stmt_forms.specs.Arms.{Level, Found, FoundOne, Arm, held_arm, end_word}
 
 -- ---- IF
 
@@ -41,13 +41,20 @@ unfoldable pub if_behind : Level → Scope → Cond → Found → Form FoundOne
 if_behind level scope cond first =
     chosen first.1 (pure (stmts.If cond first.0 [], true)) (if_ended level scope cond first.0)
 
--- IF cond [THEN] stmt+ [ELSE stmt+] [END-IF]
-unfoldable pub if_stmt : {Side Known : Type 0} → Parts Side Known → Level → Scope → Form FoundOne
-if_stmt parts level scope = do
-  level.enter
+-- IF cond [THEN]
+unfoldable pub if_head : {Side Known : Type 0} → Parts Side Known → (enter : Form (Unit {0})) →
+    Form Cond
+if_head parts enter = do
+  enter
   key (codes "IF")
   cond ← test_cond parts
   maybe (codes "THEN")
+  pure cond
+
+-- IF cond [THEN] stmt+ [ELSE stmt+] [END-IF]
+unfoldable pub if_stmt : {Side Known : Type 0} → Parts Side Known → Level → Scope → Form FoundOne
+if_stmt parts level scope = do
+  cond ← if_head parts level.enter
   first ← level.stmts scope
   if_behind level scope cond first
 
@@ -137,38 +144,49 @@ abbrev pub more_tests : {Side Known : Type 0} → (parts : Parts Side Known) →
     Option Known → List Test → Form (List Test)
 more_tests parts known before = loop (is_key (codes "WHEN")) (added (next_test parts known)) before
 
+-- test {WHEN test}
+unfoldable pub all_tests : {Side Known : Type 0} → (parts : Parts Side Known) → Option Known →
+    Form (List Test)
+all_tests parts known = do
+  first ← test parts known
+  more_tests parts known (first ∷ [])
+
 -- ---- EVALUATE
 
 abbrev pub when_of : List Test → List Stmt → When
 when_of tests held = roll-When (record { tests = tests; stmts = held })
 
--- tests that share their statements, behind the first WHEN
-unfoldable pub when_behind : {Side Known : Type 0} → (parts : Parts Side Known) →
-    Level → Scope → Option Known → Form (When × Bool)
-when_behind parts level scope known = do
-  first ← test parts known
-  all ← more_tests parts known (first ∷ [])
-  held ← level.stmts scope
-  pure (when_of all held.0, held.1)
-
 abbrev pub whens_of : List When → Bool → Bool → Whens
 whens_of whens other not_read = record { whens = whens; other = other; not_read = not_read }
 
-unfoldable pub when_more : {Side Known : Type 0} → (parts : Parts Side Known) →
-    Level → Scope → Option Known → List When → Form Whens
-when_more parts level scope known before = do
-  next ← when_behind parts level scope known
-  pure (whens_of (before ++ next.0 ∷ []) false next.1)
+-- tests that share their statements, behind those before
+unfoldable pub when_held : Level → Scope → List When → List Test → Form Whens
+when_held level scope before tests = do
+  held ← level.stmts scope
+  pure (whens_of (before ++ when_of tests held.0 ∷ []) false held.1)
 
-unfoldable pub when_other : List When → Form Whens
-when_other before = key (codes "OTHER") >> pure (whens_of before true false)
+unfoldable pub first_tests : {Side Known : Type 0} → (parts : Parts Side Known) → Option Known →
+    Form (List Test)
+first_tests parts known = key (codes "WHEN") >> all_tests parts known
+
+unfoldable pub other_words : Form (Option (List Test))
+other_words = key (codes "OTHER") >> pure None
+
+-- the tests behind WHEN, or OTHER
+unfoldable pub when_head : {Side Known : Type 0} → (parts : Parts Side Known) → Option Known →
+    Form (Option (List Test))
+when_head parts known =
+    key (codes "WHEN")
+    >> where_next (is_key (codes "OTHER")) other_words
+    (all_tests parts known >>= (λ tests. pure (Some tests)))
+
+unfoldable pub whens_by : Level → Scope → List When → Option (List Test) → Form Whens
+whens_by level scope before None = pure (whens_of before true false)
+whens_by level scope before (Some tests) = when_held level scope before tests
 
 unfoldable pub when_next : {Side Known : Type 0} → (parts : Parts Side Known) →
     Level → Scope → Option Known → List When → Form Whens
-when_next parts level scope known before =
-    key (codes "WHEN")
-    >> where_next (is_key (codes "OTHER")) (when_other before)
-    (when_more parts level scope known before)
+when_next parts level scope known before = when_head parts known >>= whens_by level scope before
 
 -- no WHEN may stand directly behind WHEN OTHER, or behind a NOT
 unfoldable pub whens_turn : {Side Known : Type 0} → (parts : Parts Side Known) →
@@ -182,12 +200,16 @@ abbrev pub whens_from : {Side Known : Type 0} → (parts : Parts Side Known) →
 whens_from parts level scope known first =
     loop (is_key (codes "WHEN")) (whens_turn parts level scope known) first
 
-unfoldable pub other_arm : Level → Scope → Form Arm
-other_arm level scope = level.stmts scope >>= (λ held. pure (Some held.0, held.1))
+unfoldable pub whens : {Side Known : Type 0} → (parts : Parts Side Known) →
+    Level → Scope → Option Known → Form Whens
+whens parts level scope known = do
+  tests ← first_tests parts known
+  first ← when_held level scope [] tests
+  whens_from parts level scope known first
 
 unfoldable pub other_part : Level → Scope → Whens → Form Arm
 other_part level scope state =
-    chosen state.other (other_arm level scope) (pure (None, state.not_read))
+    chosen state.other (held_arm level scope) (pure (None, state.not_read))
 
 unfoldable pub evaluated : Level → Scope → Subject → Whens → Form FoundOne
 evaluated level scope subject state = do
@@ -195,24 +217,22 @@ evaluated level scope subject state = do
   end_word (codes "END-EVALUATE") other.1
   pure (stmts.Evaluate subject state.whens other.0, other.1)
 
-unfoldable pub whens : {Side Known : Type 0} → (parts : Parts Side Known) →
-    Level → Scope → Option Known → Form Whens
-whens parts level scope known = do
-  key (codes "WHEN")
-  first ← when_more parts level scope known []
-  whens_from parts level scope known first
+-- EVALUATE (TRUE | FALSE | expr)
+unfoldable pub evaluate_head : {Side Known : Type 0} → (parts : Parts Side Known) →
+    (enter : Form (Unit {0})) → Form (Subjected Known)
+evaluate_head parts enter = do
+  enter
+  key (codes "EVALUATE")
+  subject parts
 
 -- EVALUATE (TRUE | FALSE | expr) (when+ stmt+)+ [WHEN OTHER stmt+] [END-EVALUATE]
 unfoldable pub evaluate_stmt : {Side Known : Type 0} → Parts Side Known →
     Level → Scope → Form FoundOne
 evaluate_stmt parts level scope = do
-  level.enter
-  key (codes "EVALUATE")
-  found ← subject parts
+  found ← evaluate_head parts level.enter
   state ← whens parts level scope found.1
   evaluated level scope found.0 state
 
-unfoldable pub choice_stmt : {Side Known : Type 0} → Parts Side Known →
-    Level → Scope → Form FoundOne
+unfoldable pub choice_stmt : {Side Known : Type 0} → Parts Side Known → Level → Scope → Form FoundOne
 choice_stmt parts level scope =
     where_next (is_key (codes "IF")) (if_stmt parts level scope) (evaluate_stmt parts level scope)

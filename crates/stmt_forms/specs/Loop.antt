@@ -5,16 +5,19 @@ use Rattle.cobol_lex.specs.declared.token.TokenKind.{TokenKind}
 use Rattle.cob_tree.specs.declared.control.Control.{Control}
 use Rattle.cob_tree.specs.declared.control.Control.TheVariants as controls
 use Rattle.cob_tree.specs.declared.place.Place.{Place}
+use Rattle.cob_tree.specs.declared.stmt.Stmt.{Stmt}
 use Rattle.cob_tree.specs.declared.stmt.Stmt.TheVariants as stmts
 use Rattle.grammar_forms.specs.declared.note.Position.{Position}
 use Rattle.grammar_forms.specs.declared.why.Why.TheVariants.{Syntax}
 use Rattle.grammar_forms.specs.Form.{Form, pure, refuse, note, ◌>>=◌, ◌>>◌, chosen, where_next}
 use Rattle.grammar_forms.specs.Part.{key, maybe, word, digits, is_key, is_mark}
+use Rattle.stmt_forms.specs.declared.head.PerformHead.{PerformHead}
+use Rattle.stmt_forms.specs.declared.head.PerformHead.TheVariants as heads
 use Rattle.stmt_forms.specs.declared.scope.Scope.{Scope}
 use Rattle.stmt_forms.specs.Part.{Parts}
 use Rattle.stmt_forms.specs.Arithmetic.{number_operand}
 use Rattle.stmt_forms.specs.Jump.{is_digits, procedure, procedure_named}
-use Rattle.stmt_forms.specs.Arms.{Level, FoundOne}
+use Rattle.stmt_forms.specs.Arms.{Level, Found, FoundOne}
 use Rattle.stmt_forms.specs.Choice.{begins_thru, thru}
 
 -- how often, and whether a NOT was read behind it that isn't its own
@@ -86,46 +89,41 @@ times_behind parts side = do
 unfoldable pub times_control : {Side Known : Type 0} → Parts Side Known → Form Control
 times_control parts = parts.operand >>= times_behind parts
 
--- ---- PERFORM ctl stmt+ END-PERFORM
+-- ---- the head of PERFORM ctl stmt+ END-PERFORM
 
-abbrev pub looped : Scope → Scope
-looped scope = record scope { in_loop = true }
+unfoldable pub inline : Controlled → Form PerformHead
+inline control = chosen control.1 (refuse Syntax) (pure (heads.Inline control.0))
 
-unfoldable pub loop_body : Level → Scope → Control → Form FoundOne
-loop_body level scope control = do
-  held ← level.stmts (looped scope)
-  chosen held.1 (refuse Syntax)
-      (key (codes "END-PERFORM") >> pure (stmts.Loop control held.0, false))
-
-unfoldable pub until_loop : {Side Known : Type 0} → Parts Side Known → Level → Scope → Form FoundOne
-until_loop parts level scope = do
-  level.enter
+unfoldable pub until_head : {Side Known : Type 0} → Parts Side Known → (enter : Form (Unit {0})) →
+    Form PerformHead
+until_head parts enter = do
+  enter
   control ← until_control parts
-  chosen control.1 (refuse Syntax) (loop_body level scope control.0)
+  inline control
 
-unfoldable pub times_loop : {Side Known : Type 0} → (parts : Parts Side Known) →
-    Level → Scope → Side → Form FoundOne
-times_loop parts level scope side = times_behind parts side >>= loop_body level scope
+unfoldable pub times_head : {Side Known : Type 0} → (parts : Parts Side Known) → Side →
+    Form PerformHead
+times_head parts side = times_behind parts side >>= (λ control. pure (heads.Inline control))
 
 -- by an item, behind its first word
-unfoldable pub item_loop : {Side Known : Type 0} → Parts Side Known →
-    Level → Scope → List ℕ → Position → Form FoundOne
-item_loop parts level scope name position = do
-  level.enter
+unfoldable pub item_head : {Side Known : Type 0} → Parts Side Known → (enter : Form (Unit {0})) →
+    List ℕ → Position → Form PerformHead
+item_head parts enter name position = do
+  enter
   side ← parts.reference_behind name position
-  times_loop parts level scope side
+  times_head parts side
 
-unfoldable pub digits_loop : {Side Known : Type 0} → Parts Side Known →
-    Level → Scope → List ℕ → Position → Form FoundOne
-digits_loop parts level scope digits position =
-    level.enter >> times_loop parts level scope (parts.digits_side digits position)
+unfoldable pub digits_head : {Side Known : Type 0} → Parts Side Known → (enter : Form (Unit {0})) →
+    List ℕ → Position → Form PerformHead
+digits_head parts enter digits position =
+    enter >> times_head parts (parts.digits_side digits position)
 
-unfoldable pub operand_loop : {Side Known : Type 0} → Parts Side Known →
-    Level → Scope → Form FoundOne
-operand_loop parts level scope = do
-  level.enter
+unfoldable pub operand_head : {Side Known : Type 0} → Parts Side Known →
+    (enter : Form (Unit {0})) → Form PerformHead
+operand_head parts enter = do
+  enter
   side ← parts.operand
-  times_loop parts level scope side
+  times_head parts side
 
 -- ---- PERFORM pname [THRU pname] [ctl]
 
@@ -141,13 +139,13 @@ times_or_once parts =
 unfoldable pub control_part : {Side Known : Type 0} → Parts Side Known → Form Controlled
 control_part parts = where_next begins_until (until_control parts) (times_or_once parts)
 
-unfoldable pub perform_named : {Side Known : Type 0} → Parts Side Known →
-    List ℕ → Position → Form FoundOne
+unfoldable pub perform_named : {Side Known : Type 0} → Parts Side Known → List ℕ → Position →
+    Form PerformHead
 perform_named parts name position = do
   first ← procedure_named parts name position
   exit ← exit_of parts first.1
   control ← control_part parts
-  pure (stmts.Perform first.0 exit control.0, control.1)
+  pure (heads.Whole (stmts.Perform first.0 exit control.0) control.1)
 
 -- ---- PERFORM: a name may be that of an item or of a paragraph
 
@@ -158,40 +156,62 @@ continues_item kind =
     || (is_key (codes "OF") kind || (is_key (codes "IN") kind || is_mark left_parenthesis kind))
 
 unfoldable pub perform_name : {Side Known : Type 0} → Parts Side Known →
-    Level → Scope → Form FoundOne
-perform_name parts level scope = do
+    (enter : Form (Unit {0})) → Form PerformHead
+perform_name parts enter = do
   name ← word
-  where_next continues_item (item_loop parts level scope name.0 name.1)
+  where_next continues_item (item_head parts enter name.0 name.1)
       (perform_named parts name.0 name.1)
 
 unfoldable pub perform_digits : {Side Known : Type 0} → Parts Side Known →
-    Level → Scope → Form FoundOne
-perform_digits parts level scope = do
+    (enter : Form (Unit {0})) → Form PerformHead
+perform_digits parts enter = do
   found ← digits
-  where_next (is_key (codes "TIMES")) (digits_loop parts level scope found.0 found.1)
+  where_next (is_key (codes "TIMES")) (digits_head parts enter found.0 found.1)
       (perform_named parts found.0 found.1)
 
 -- a name without letter is that of a paragraph
-unfoldable pub perform_word : {Side Known : Type 0} → Parts Side Known → Form FoundOne
+unfoldable pub perform_word : {Side Known : Type 0} → Parts Side Known → Form PerformHead
 perform_word parts = word >>= (λ name. perform_named parts name.0 name.1)
 
 unfoldable pub perform_operand : {Side Known : Type 0} → Parts Side Known →
-    Level → Scope → Form FoundOne
-perform_operand parts level scope =
+    (enter : Form (Unit {0})) → Form PerformHead
+perform_operand parts enter =
     where_next parts.is_procedure_word (perform_word parts)
-    (where_next parts.begins_operand (operand_loop parts level scope) (refuse Syntax))
+    (where_next parts.begins_operand (operand_head parts enter) (refuse Syntax))
 
 unfoldable pub perform_other : {Side Known : Type 0} → Parts Side Known →
-    Level → Scope → Form FoundOne
-perform_other parts level scope =
-    where_next is_digits (perform_digits parts level scope) (perform_operand parts level scope)
+    (enter : Form (Unit {0})) → Form PerformHead
+perform_other parts enter =
+    where_next is_digits (perform_digits parts enter) (perform_operand parts enter)
 
 unfoldable pub perform_behind : {Side Known : Type 0} → Parts Side Known →
-    Level → Scope → Form FoundOne
-perform_behind parts level scope =
-    where_next begins_until (until_loop parts level scope)
-    (where_next parts.is_name (perform_name parts level scope) (perform_other parts level scope))
+    (enter : Form (Unit {0})) → Form PerformHead
+perform_behind parts enter =
+    where_next begins_until (until_head parts enter)
+    (where_next parts.is_name (perform_name parts enter) (perform_other parts enter))
+
+unfoldable pub perform_head : {Side Known : Type 0} → Parts Side Known →
+    (enter : Form (Unit {0})) → Form PerformHead
+perform_head parts enter = key (codes "PERFORM") >> perform_behind parts enter
+
+-- ---- stmt+ END-PERFORM
+
+abbrev pub looped : Scope → Scope
+looped scope = record scope { in_loop = true }
+
+unfoldable pub loop_closed : Control → List Stmt → Form FoundOne
+loop_closed control body = key (codes "END-PERFORM") >> pure (stmts.Loop control body, false)
+
+unfoldable pub loop_end : Control → Found → Form FoundOne
+loop_end control held = chosen held.1 (refuse Syntax) (loop_closed control held.0)
+
+unfoldable pub loop_body : Level → Scope → Control → Form FoundOne
+loop_body level scope control = level.stmts (looped scope) >>= loop_end control
+
+unfoldable pub perform_by : Level → Scope → PerformHead → Form FoundOne
+perform_by level scope (heads.Whole stmt not_read) = pure (stmt, not_read)
+perform_by level scope (heads.Inline control) = loop_body level scope control
 
 unfoldable pub perform_stmt : {Side Known : Type 0} → Parts Side Known →
     Level → Scope → Form FoundOne
-perform_stmt parts level scope = key (codes "PERFORM") >> perform_behind parts level scope
+perform_stmt parts level scope = perform_head parts level.enter >>= perform_by level scope

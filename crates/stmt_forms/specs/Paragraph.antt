@@ -23,9 +23,12 @@ use Rattle.stmt_forms.specs.Stmt.{max_nesting, level, stmts_with, stmts_from}
 abbrev pub sentence_of : List Stmt → Sentence
 sentence_of found = record { stmts = found }
 
+unfoldable pub sentence_closed : List Stmt → Form Sentence
+sentence_closed found = period >> pure (sentence_of found)
+
 -- a NOT that no statement takes may not stand there
 unfoldable pub sentence_end : Found → Form Sentence
-sentence_end found = chosen found.1 (refuse Syntax) (period >> pure (sentence_of found.0))
+sentence_end found = chosen found.1 (refuse Syntax) (sentence_closed found.0)
 
 unfoldable pub sentence : {Side Known : Type 0} → Parts Side Known → Scope → Form Sentence
 sentence parts scope = stmts_with parts (level parts max_nesting) scope >>= sentence_end

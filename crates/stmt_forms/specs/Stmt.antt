@@ -89,9 +89,19 @@ stmts_from parts level scope before = loop begins_stmt (stmts_turn parts level s
 unfoldable pub stmts_with : {Side Known : Type 0} → Parts Side Known → Level → Scope → Form Found
 stmts_with parts level scope = stmt parts level scope [] >>= stmts_from parts level scope
 
-unfoldable pub level : {Side Known : Type 0} → Parts Side Known → ℕ → Level
-level parts zero = record { enter = refuse Nesting; stmts = λ scope. refuse Nesting }
-level parts (suc n) = record { enter = pure tt; stmts = stmts_with parts (level parts n) }
+-- nothing, where a level is left
+unfoldable pub enter : ℕ → Form (Unit {0})
+enter zero = refuse Nesting
+enter (suc n) = pure tt
+
+-- what is held, with one level less
+unfoldable pub held : {Side Known : Type 0} → Parts Side Known → ℕ → Scope → Form Found
+held parts zero scope = refuse Nesting
+held parts (suc n) scope =
+    stmts_with parts (record { enter = enter n; stmts = held parts n }) scope
+
+abbrev pub level : {Side Known : Type 0} → Parts Side Known → ℕ → Level
+level parts levels = record { enter = enter levels; stmts = held parts levels }
 
 abbrev pub stmts : {Side Known : Type 0} → Parts Side Known → ℕ → Scope → Form Found
 stmts parts levels scope = stmts_with parts (level parts levels) scope

@@ -6,12 +6,14 @@
 //! spells and nothing else, and stops at the first fault. The crate has no code that reads.
 #![tactic(auto)]
 
+mod head;
 mod laws;
 mod outline;
 mod phrase;
 mod scope;
 mod whens;
 
+pub use head::{ArithmeticVerb, NotPhrase, PerformHead, ReadHead};
 pub use laws::{Made, statements_are_read};
 pub use outline::Outline;
 pub use phrase::Phrase;
