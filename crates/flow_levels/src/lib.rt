@@ -10,7 +10,9 @@ mod facts;
 pub mod laws;
 mod reach;
 mod settling;
+mod working;
 
 pub use facts::{calls_of, ends_of};
 pub use reach::{Reach, ends_at, reached};
-pub use settling::settle;
+pub use settling::{comes_back, has_end, round, settle};
+pub use working::{Wait, Work, look, look_all};

@@ -5,6 +5,7 @@ ghost use Rattle.flow_places.specs.Table.{IsTidy, IsClosed, ReturnsHere};
 ghost use Rattle.flow_levels.specs.Reaching.{HasEnd, AllPlaces, SaysSoundly, StaysSound, trues};
 
 use crate::reach::{ends_at, reached};
+use crate::working::look_all;
 use cob_base::NoMemory;
 use cob_tree::Range;
 use flow_places::{Place, Table};
@@ -65,13 +66,16 @@ pub fn round(alloc: Global, table: &Table, returns: &mut Vec<bool>) -> Result<bo
     Ok(more)
 }
 
-/// Which ranges return.
+/// Which ranges return: those that are found by looking again at what waits, and then, in rounds,
+/// that there are no others.
 pub fn settle(alloc: Global, table: &Table) -> Result<Vec<bool>, NoMemory>
     requires { IsTidy table.now }
+    ensures size { IfOk result (λ returns. length returns.items ≡ length table.now.ranges) }
     ensures sound { IfOk result (λ returns. SaysSoundly table.now returns.items) }
     ensures closed { IfOk result (λ returns. IsClosed table.now returns.items) }
 {
     let mut returns = vec![in alloc; false; table.ranges.len()]?;
+    look_all(alloc, table, &mut returns)?;
     'rounds: loop {
         if !round(alloc, table, &mut returns)? {
             return Ok(returns);

@@ -1,0 +1,11 @@
+use Rattle.std.proofs.Common.{Bool, ◌≡◌, ℕ, length}
+use Rattle.language.specs.Language.{Chooser, Program}
+use Rattle.flow_paths.specs.Step.{Point}
+use Rattle.flow_places.specs.Table.{IsTable, IsSound}
+use Rattle.flow_levels.proofs.working.look_all.Given as goal
+
+abbrev pub invariant-loop-at : goal.invariant-loop-at
+invariant-loop-at l = record {
+  size : length l.returns.items ≡ length l.table.ranges;
+  sound : (never_first : Chooser → Bool) (program : Program) (points : ℕ → Point) → IsTable never_first program l.table points → IsSound never_first program l.table l.fn.returns.items → IsSound never_first program l.table l.returns.items;
+}
