@@ -1,0 +1,2 @@
+-- ranges in their order, one after the other
+pub mod Ordered

@@ -1,0 +1,2 @@
+-- the ranges that statements name
+pub mod Named

@@ -1,0 +1,11 @@
+//! The ranges that the PERFORM statements of a program name.
+//!
+//! `specs/Named.antt` says which they are. `ranges_of` gives main and each of them once, so that a
+//! range's number is found by halving.
+#![tactic(auto)]
+
+mod named;
+mod rising;
+
+pub use named::{named_paragraphs, named_stmts};
+pub use rising::{is_before, place_of, ranges_of, rising_of};
