@@ -2,3 +2,7 @@
 pub mod GroupingLemmas
 -- Entries and files as references see them, one by one.
 pub mod NamesLemmas
+-- What is found among the items that a word names is what is found among all.
+pub mod IndexLemmas
+-- Two words are equal either way round.
+pub mod WordLemmas

@@ -4,3 +4,5 @@ pub mod Grouping
 pub mod Names
 -- What a reference stands for.
 pub mod Look
+-- Looking up by the word alone.
+pub mod Index

@@ -1,5 +1,5 @@
 -- Entries and files as references see them.
-use Rattle.std.specs.Prelude.{ℕ, ◌==◌, List, [], ◌∷◌, ◌++◌, map, Option, Some, None, slice_get, if◌then◌else◌}
+use Rattle.std.specs.Prelude.{ℕ, Bool, ◌&&◌, ◌==◌, List, [], ◌∷◌, ◌++◌, map, Option, Some, None, slice_get, if◌then◌else◌}
 use Rattle.cob_tree.specs.declared.entry.Entry.{Entry}
 use Rattle.cob_tree.specs.declared.file.FileEntry.{FileEntry}
 use Rattle.cob_tree.specs.declared.picture.Picture.{Picture}
@@ -7,7 +7,7 @@ use Rattle.cob_tree.specs.declared.picture.Picture.TheVariants as pictures
 use Rattle.data_names.specs.declared.name.Kind.{Kind}
 use Rattle.data_names.specs.declared.name.Kind.TheVariants as kinds
 use Rattle.data_names.specs.declared.name.Name.{Name}
-use Rattle.data_names.specs.Grouping.{bound_of, dims_in, group_words, groups_of, has_items}
+use Rattle.data_names.specs.Grouping.{bound_of, dims_in, group_words, groups_of, has_items, is_numbered}
 
 -- the names of a program's entries and files, each at its number
 pub record Names : Type 0 where
@@ -18,10 +18,14 @@ abbrev pub picture_kind : Option Picture → Kind
 picture_kind (Some (pictures.Number signed whole part)) = kinds.Number (part == 0)
 picture_kind _ = kinds.Text
 
+-- an item of a record with items below it
+abbrev pub is_group : Entry → (behind : List Entry) → Bool
+is_group entry behind = is_numbered entry.level && has_items entry.level entry.file behind
+
 abbrev pub kind_of : Entry → (behind : List Entry) → Kind
 kind_of entry behind =
     if entry.level == 88 then kinds.Condition
-    else (if has_items entry.level entry.file behind then kinds.Group else picture_kind entry.picture)
+    else (if is_group entry behind then kinds.Group else picture_kind entry.picture)
 
 abbrev pub file_name : Option FileEntry → List (List ℕ)
 file_name (Some file) = file.name ∷ []

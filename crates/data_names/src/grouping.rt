@@ -7,25 +7,29 @@ use cob_base::{Items, NoMemory, Word};
 use cob_tree::Entry;
 use std::alloc::Global;
 
-fn is_numbered(level: u8) -> bool
+/// Whether it is a level of the items of a record, 01 to 49.
+pub fn is_numbered(level: u8) -> bool
     ensures { result ≡ is_numbered level }
 {
     0 < level && level < 50
 }
 
-fn bound_of(level: u8) -> u8
+/// What an entry of this level stands in has a lower level than this.
+pub fn bound_of(level: u8) -> u8
     ensures { result ≡ bound_of level }
 {
     if level < 50 || level == 88 { level } else { 0 }
 }
 
-fn holds(bound: u8, entry: &Entry) -> bool
+/// Whether it is an item that something stands in which is bounded so.
+pub fn holds(bound: u8, entry: &Entry) -> bool
     ensures { result ≡ holds bound entry.now }
 {
     (is_numbered(entry.level) || entry.level == 77) && entry.level < bound
 }
 
-fn same_file(file: Option<u32>, other: Option<u32>) -> bool
+/// Whether two entries stand in one FD, or both in working storage.
+pub fn same_file(file: Option<u32>, other: Option<u32>) -> bool
     ensures { result ≡ same_file file other }
 {
     match (file, other) {
@@ -35,6 +39,7 @@ fn same_file(file: Option<u32>, other: Option<u32>) -> bool
     }
 }
 
+/// Whether it stands under OCCURS itself.
 pub fn repeats(entry: &Entry) -> bool
     ensures { result ≡ repeats entry.now }
 {

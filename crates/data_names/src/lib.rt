@@ -1,14 +1,17 @@
 //! The names that a program declares, and what a reference to one of them stands for.
 //!
-//! `names` makes a table of the names of a program's files and entries; `look` and `look_file` look a
-//! reference up in it. Hold `specs/Grouping` and `specs/Look` against ISO 1989:1985, data description
-//! entries (level numbers) and uniqueness of reference: an item fits a reference where its name
-//! matches and the qualifiers are names of groups above it or its file, in their order.
+//! A `NameTable` has the names of a program's files and entries; `look` and `look_file` look a reference
+//! up in it, `look` among the items that its word names alone. Hold `specs/Grouping` and `specs/Look`
+//! against ISO 1989:1985, data description entries (level numbers) and uniqueness of reference: an item
+//! fits a reference where its name matches and the qualifiers are names of groups above it or its file,
+//! in their order.
 #![tactic(auto)]
 
 mod grouping;
+mod index;
 mod name;
 mod table;
 
+pub use grouping::{bound_of, has_items, holds, is_numbered, repeats, same_file};
 pub use name::{Found, Kind, Name};
-pub use table::NameTable;
+pub use table::{NameTable, is_group};

@@ -1,38 +1,43 @@
 //! The table of the names of a program.
 
-ghost use Rattle.std.specs.Prelude.{◌≡◌, ◌++◌, ◌<◌, ◌^◌, [], length, map, reverse, position, slice_get, OnOk};
-ghost use Rattle.std.specs.List.{list_any};
+ghost use Rattle.std.specs.Prelude.{◌≡◌, ◌++◌, ◌<◌, ◌^◌, List, ℕ, [], ◌∷◌, length, map, reverse, position, slice_get, IfOk, OnOk, if◌then◌else◌};
 ghost use Rattle.std.specs.Option.{option_copied};
 ghost use Rattle.std.specs.Str.{bytes_eq};
 ghost use Rattle.cob_base.specs.Answers.{Makes};
+ghost use Rattle.data_names.specs.Index.{and_item, find_among, numbers_in, places_of, tally};
 ghost use Rattle.data_names.specs.Look as look;
 ghost use Rattle.data_names.specs.Names as names;
 
-use crate::grouping::{groups_above, has_items, repeats};
+use crate::grouping::{groups_above, has_items, is_numbered, repeats};
+use crate::index::{WordIndex, add_number, numbers_of};
 use crate::name::{Found, Kind, Name};
 use cob_base::{Items, NoMemory, Word};
 use cob_tree::{Entry, FileEntry, Picture};
+use indexmap::IndexMap;
 use std::alloc::Global;
 use std::marker::Model;
 
 /// The names of a program's files and items, each by its number.
 ///
 /// A contract sees a table as the names of the entries and those of the files, in their order.
-#[derive(Debug, Drop)]
+#[derive(Drop)]
 pub struct NameTable {
     items: Items<Name>,
     files: Items<Word>,
+    /// The numbers of the items of each name.
+    index: WordIndex,
 }
 
 impl Model for NameTable {
-    ghost use Rattle.std.specs.Prelude.{◌<◌, ◌^◌, length};
+    ghost use Rattle.std.specs.Prelude.{◌≡◌, ◌<◌, ◌^◌, List, ℕ, length};
+    ghost use Rattle.data_names.specs.Index.{numbers_in, places_of};
     ghost use Rattle.data_names.specs.Names.{Names};
 
     ghost Value = { Names };
 
     ghost view = { λ t. record { items = t.items; files = t.files } };
 
-    ghost invariant = { λ t. (length t.items < 2 ^ 31) × (length t.files < 2 ^ 31) };
+    ghost invariant = { λ t. (length t.items < 2 ^ 31) × (length t.files < 2 ^ 31) × ((word : List ℕ) → numbers_in t.index word ≡ places_of word t.items) };
 }
 
 impl NameTable {
@@ -42,17 +47,23 @@ impl NameTable {
         requires entries { length entries.now < 2 ^ 31 }
         ensures { Makes (names.names_of files.now entries.now) result }
     {
+        let items = item_names(alloc, files, entries)?;
+        let files = file_names(alloc, files)?;
+        let index = index_of(alloc, items.as_slice())?;
         Ok(NameTable {
-            items: item_names(alloc, files, entries)?,
-            files: file_names(alloc, files)?,
+            items,
+            files,
+            index,
         })
     }
 
     /// The entry that a word with these qualifiers stands for.
+    #[tactic(auto, using(crate::proofs::IndexLemmas::find_among_find))]
     pub fn look(&self, word: &Word, of: &[Word]) -> Found
         ensures { result ≡ look.look self.now word.now of.now }
     {
-        find(self.items.as_slice(), word, of)
+        let places = numbers_of(&self.index, word);
+        find_among(self.items.as_slice(), places, word, of)
     }
 
     /// The number of the file of this name, from 0; where two have it, of the first.
@@ -97,12 +108,19 @@ fn picture_kind(picture: Option<Picture>) -> Kind
     }
 }
 
+/// Whether it is an item with items below it, where these entries stand behind it.
+pub fn is_group(entry: &Entry, behind: &[Entry]) -> bool
+    ensures { result ≡ names.is_group entry.now behind.now }
+{
+    is_numbered(entry.level) && has_items(entry.level, entry.file, behind)
+}
+
 fn kind_of(entry: &Entry, behind: &[Entry]) -> Kind
     ensures { result ≡ names.kind_of entry.now behind.now }
 {
     if entry.level == 88 {
         Kind::Condition
-    } else if has_items(entry.level, entry.file, behind) {
+    } else if is_group(entry, behind) {
         Kind::Group
     } else {
         picture_kind(entry.picture)
@@ -199,42 +217,68 @@ fn place_of(files: &[Word], word: &Word) -> Option<usize>
     files.iter().position(|file| *word == *file)
 }
 
-// The place of the first that fits.
-fn first_fit(names: &[Name], word: &Word, of: &[Word]) -> Option<usize>
-    ensures { result ≡ position (look.fits word.now of.now) names.now }
+// The numbers of the items of each name.
+#[tactic(auto, using(crate::proofs::IndexLemmas::places_of_push))]
+fn index_of(alloc: Global, items: &[Name]) -> Result<WordIndex, NoMemory>
+    requires { length items.now < 2 ^ 31 }
+    ensures { IfOk result (λ index. (word : List ℕ) → numbers_in index word ≡ places_of word items.now) }
 {
-    names.iter().position(|name| fits(name, word, of))
+    let mut index = IndexMap::new(alloc);
+    for (at, name) in items.iter().enumerate() {
+        add_name(alloc, &mut index, name.word, at as u32)?;
+    }
+    Ok(index)
 }
 
-fn fits_any(names: &[Name], word: &Word, of: &[Word]) -> bool
-    ensures { result ≡ list_any (look.fits word.now of.now) names.now }
+#[tactic(auto, using(crate::proofs::WordLemmas::bytes_eq_sym))]
+fn add_name(
+    alloc: Global,
+    index: &mut WordIndex,
+    word: Option<Word>,
+    place: u32,
+) -> Result<(), NoMemory>
+    ensures { OnOk result ((other : List ℕ) → numbers_in index.new other ≡ numbers_in index.old other ++ (if look.is_called other word then place ∷ [] else [])) }
 {
-    names.iter().any(|name| fits(name, word, of))
-}
-
-fn found_at(names: &[Name], item: usize) -> Found
-    requires short { length names.now < 2 ^ 31 }
-    requires within { item < length names.now }
-    ensures { result ≡ look.found_at item (slice_get names.now item) }
-{
-    let name = &names[item];
-    Found::Item {
-        item: item as u32,
-        kind: name.kind,
-        dims: name.dims,
+    match word {
+        None => Ok(()),
+        Some(word) => add_number(alloc, index, word, place),
     }
 }
 
-fn find(names: &[Name], word: &Word, of: &[Word]) -> Found
-    requires { length names.now < 2 ^ 31 }
-    ensures { result ≡ look.find names.now word.now of.now }
+fn and_item(before: Found, item: u32, name: &Name) -> Found
+    ensures { result ≡ and_item before item name.now }
 {
-    let Some(item) = first_fit(names, word, of) else {
-        return Found::Unknown;
-    };
-    if fits_any(&names[item + 1..], word, of) {
-        Found::Ambiguous
-    } else {
-        found_at(names, item)
+    match before {
+        Found::Unknown => Found::Item {
+            item,
+            kind: name.kind,
+            dims: name.dims,
+        },
+        _ => Found::Ambiguous,
     }
+}
+
+fn tally(names: &[Name], word: &Word, of: &[Word], before: Found, item: u32) -> Found
+    ensures { result ≡ tally names.now word.now of.now before item }
+{
+    match names.get(item as usize) {
+        None => before,
+        Some(name) => {
+            if fits(name, word, of) {
+                and_item(before, item, name)
+            } else {
+                before
+            }
+        }
+    }
+}
+
+fn find_among(names: &[Name], places: &[u32], word: &Word, of: &[Word]) -> Found
+    ensures { result ≡ find_among names.now word.now of.now places.now }
+{
+    let mut found = Found::Unknown;
+    for place in places {
+        found = tally(names, word, of, found, *place);
+    }
+    found
 }

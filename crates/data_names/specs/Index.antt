@@ -1,0 +1,41 @@
+-- Looking up by the word alone: the numbers of the entries that it names, in their order.
+use Rattle.std.specs.Prelude.{ℕ, ◌+◌, List, [], ◌∷◌, Option, Some, None, slice_get, if◌then◌else◌}
+use Rattle.std.specs.List.{fold}
+use Rattle.std.specs.Option.{unwrap_or}
+use Rattle.std.specs.Str.{bytes_eq}
+use Rattle.indexmap.specs.IndexMap.{IndexMap, get}
+use Rattle.data_names.specs.declared.name.Found.{Found}
+use Rattle.data_names.specs.declared.name.Found.TheVariants as found
+use Rattle.data_names.specs.declared.name.Name.{Name}
+use Rattle.data_names.specs.Look.{fits, is_called}
+
+-- these from this number on
+abbrev pub places_from : (at : ℕ) → List ℕ → List Name → List ℕ
+places_from at word [] = []
+places_from at word (name ∷ names) =
+    if is_called word name.word then at ∷ places_from (at + 1) word names
+    else places_from (at + 1) word names
+
+abbrev pub places_of : List ℕ → List Name → List ℕ
+places_of word names = places_from 0 word names
+
+-- what was found, and one item more
+abbrev pub and_item : Found → ℕ → Name → Found
+and_item found.Unknown item name = found.Item item name.kind name.dims
+and_item _ item name = found.Ambiguous
+
+-- the item of this number too, where it fits
+abbrev pub tally_by : List ℕ → (of : List (List ℕ)) → Found → ℕ → Option Name → Found
+tally_by word of result item None = result
+tally_by word of result item (Some name) =
+    if fits word of name then and_item result item name else result
+
+abbrev pub tally : List Name → List ℕ → (of : List (List ℕ)) → Found → ℕ → Found
+tally names word of result item = tally_by word of result item (slice_get names item)
+
+abbrev pub find_among : List Name → List ℕ → (of : List (List ℕ)) → (places : List ℕ) → Found
+find_among names word of places = fold (tally names word of) found.Unknown places
+
+-- the numbers that an index has for a word
+abbrev pub numbers_in : {S : Type 0} → IndexMap (List ℕ) (List ℕ) S → List ℕ → List ℕ
+numbers_in index word = unwrap_or (get bytes_eq index word) []

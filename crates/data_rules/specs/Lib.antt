@@ -1,0 +1,22 @@
+-- Which fault counts.
+pub mod Fault
+-- Clauses by their kind.
+pub mod Clause
+-- What a draft says of its entry by itself.
+pub mod Base
+-- Where an entry stands.
+pub mod Standing
+-- Whether a literal fits an item.
+pub mod Literal
+-- The rules on levels, pictures, signs and repetitions.
+pub mod Item
+-- The rules on VALUE.
+pub mod Value
+-- What an entry redefines.
+pub mod Redefining
+-- The rules on an entry.
+pub mod Rule
+-- The rules on files.
+pub mod File
+-- What drafts declare, and their first fault.
+pub mod Declaring

@@ -1,0 +1,213 @@
+//! What drafts declare.
+
+ghost use Rattle.std.specs.Prelude.{◌≡◌, ◌++◌, ◌<◌, ◌^◌, [], length, OnOk, IfOk};
+ghost use Rattle.std.specs.List.{fold};
+ghost use Rattle.cob_base.specs.Answers.{Makes};
+ghost use Rattle.data_rules.specs.Declaring as declaring;
+
+use crate::base::base_of;
+use crate::file::{file_number, files_of};
+use crate::judging::fault_by;
+use crate::redefining::redefined_in;
+use crate::standing::behind;
+use cob_base::{Copied, Items, NoMemory};
+use cob_tree::{Entry, FileEntry, Picture};
+use data_forms::{Divisions, EntryDraft, FdDraft, SelectDraft};
+use data_names::is_group;
+use data_sizes::sizes_of;
+use grammar_forms::Note;
+use std::alloc::Global;
+
+/// The files and entries of a program, and the first fault of their rules.
+#[derive(Debug, Drop)]
+pub struct Declared {
+    pub files: Items<FileEntry>,
+    pub entries: Items<Entry>,
+    pub fault: Option<Note>,
+}
+
+fn add_section(
+    alloc: Global,
+    bases: &mut Items<Entry>,
+    drafts: &[EntryDraft],
+    file: Option<u32>,
+) -> Result<(), NoMemory>
+    ensures { OnOk result (bases.new ≡ bases.old ++ declaring.section_bases file drafts.now) }
+{
+    for draft in drafts {
+        bases.push(base_of(alloc, draft, file)?)?;
+    }
+    Ok(())
+}
+
+#[tactic(auto, using(crate::proofs::StepLemmas::record_bases_step))]
+fn record_bases(
+    alloc: Global,
+    selects: &[SelectDraft],
+    fds: &[FdDraft],
+) -> Result<Items<Entry>, NoMemory>
+    requires selects { length selects.now < 2 ^ 31 }
+    requires fds { length fds.now < 2 ^ 31 }
+    ensures { Makes (declaring.record_bases selects.now 0 fds.now) result }
+{
+    let mut bases = Items::new(alloc);
+    for (at, fd) in fds.iter().enumerate() {
+        let file = file_number(selects, fd, at) as u32;
+        add_section(alloc, &mut bases, fd.entries.as_slice(), Some(file))?;
+    }
+    Ok(bases)
+}
+
+// Entries and files are numbered below 2^31.
+fn bases_of(alloc: Global, divisions: &Divisions) -> Result<Items<Entry>, NoMemory>
+    ensures value { Makes (declaring.bases_of divisions.now) result }
+    ensures short { IfOk result (λ bases. length bases < 2 ^ 31) }
+{
+    let selects = divisions.selects.as_slice();
+    let fds = divisions.data_part.fds.as_slice();
+    if selects.len() >= 2_147_483_648 {
+        return Err(NoMemory);
+    }
+    if fds.len() >= 2_147_483_648 {
+        return Err(NoMemory);
+    }
+    let mut bases = record_bases(alloc, selects, fds)?;
+    add_section(
+        alloc,
+        &mut bases,
+        divisions.data_part.storage.as_slice(),
+        None,
+    )?;
+    if bases.len() >= 2_147_483_648 {
+        return Err(NoMemory);
+    }
+    Ok(bases)
+}
+
+fn picture_of(bases: &[Entry], at: usize, entry: &Entry) -> Option<Picture>
+    ensures { result ≡ declaring.picture_of bases.now at entry.now }
+{
+    if is_group(entry, behind(bases, at)) {
+        None
+    } else {
+        entry.picture
+    }
+}
+
+fn redefines_of(bases: &[Entry], at: usize, entry: &Entry, draft: &EntryDraft) -> Option<u32>
+    requires { length bases.now < 2 ^ 31 }
+    ensures { result ≡ declaring.redefines_of bases.now at entry.now draft.now }
+{
+    if entry.level == 88 {
+        return None;
+    }
+    match redefined_in(bases, at, entry, draft.clauses.as_slice()) {
+        None => None,
+        Some(number) => Some(number as u32),
+    }
+}
+
+fn settled(
+    alloc: Global,
+    bases: &[Entry],
+    at: usize,
+    draft: &EntryDraft,
+    entry: &Entry,
+) -> Result<Entry, NoMemory>
+    requires { length bases.now < 2 ^ 31 }
+    ensures { Makes (declaring.settled bases.now at draft.now entry.now) result }
+{
+    let value = entry.value.copy(alloc)?;
+    let ranges = entry.ranges.copy(alloc)?;
+    Ok(Entry {
+        level: entry.level,
+        name: entry.name,
+        file: entry.file,
+        redefines: redefines_of(bases, at, entry, draft),
+        picture: picture_of(bases, at, entry),
+        sign: entry.sign,
+        occurs: entry.occurs,
+        value,
+        ranges,
+    })
+}
+
+fn settle(
+    alloc: Global,
+    bases: &[Entry],
+    entries: &mut Items<Entry>,
+    draft: &EntryDraft,
+) -> Result<(), NoMemory>
+    requires { length bases.now < 2 ^ 31 }
+    ensures { OnOk result (entries.new ≡ declaring.settle bases.now entries.old draft.now) }
+{
+    let at = entries.len();
+    match bases.get(at) {
+        None => Ok(()),
+        Some(entry) => entries.push(settled(alloc, bases, at, draft, entry)?),
+    }
+}
+
+#[tactic(auto, using(crate::proofs::StepLemmas::fold_step))]
+fn settle_all(
+    alloc: Global,
+    bases: &[Entry],
+    entries: &mut Items<Entry>,
+    drafts: &[EntryDraft],
+) -> Result<(), NoMemory>
+    requires { length bases.now < 2 ^ 31 }
+    ensures { OnOk result (entries.new ≡ declaring.settle_all bases.now entries.old drafts.now) }
+{
+    for draft in drafts {
+        settle(alloc, bases, entries, draft)?;
+    }
+    Ok(())
+}
+
+#[tactic(auto, using(crate::proofs::StepLemmas::fold_step))]
+fn settle_records(alloc: Global, bases: &[Entry], fds: &[FdDraft]) -> Result<Items<Entry>, NoMemory>
+    requires { length bases.now < 2 ^ 31 }
+    ensures { Makes (fold (declaring.settle_records bases.now) [] fds.now) result }
+{
+    let mut entries = Items::new(alloc);
+    for fd in fds {
+        settle_all(alloc, bases, &mut entries, fd.entries.as_slice())?;
+    }
+    Ok(entries)
+}
+
+fn settled_by(
+    alloc: Global,
+    bases: &[Entry],
+    divisions: &Divisions,
+) -> Result<Items<Entry>, NoMemory>
+    requires { length bases.now < 2 ^ 31 }
+    ensures { Makes (declaring.settled_by bases.now divisions.now) result }
+{
+    let mut entries = settle_records(alloc, bases, divisions.data_part.fds.as_slice())?;
+    settle_all(
+        alloc,
+        bases,
+        &mut entries,
+        divisions.data_part.storage.as_slice(),
+    )?;
+    Ok(entries)
+}
+
+/// The files and entries that these divisions declare, and the first fault of their rules in the
+/// order of tokens; there is none exactly where all rules hold. With a fault the entries are of no
+/// use.
+pub fn declared_of(alloc: Global, divisions: &Divisions) -> Result<Declared, NoMemory>
+    ensures { Makes (declaring.declared_of divisions.now) result }
+{
+    let bases = bases_of(alloc, divisions)?;
+    let entries = settled_by(alloc, bases.as_slice(), divisions)?;
+    let sizes = sizes_of(alloc, entries.as_slice())?;
+    let fault = fault_by(bases.as_slice(), sizes.as_slice(), divisions);
+    let files = files_of(alloc, divisions.selects.as_slice())?;
+    Ok(Declared {
+        files,
+        entries,
+        fault,
+    })
+}

@@ -1,0 +1,84 @@
+//! The first fault of all entries.
+
+ghost use Rattle.std.specs.Prelude.{◌≡◌, Some, None};
+ghost use Rattle.std.specs.List.{fold};
+ghost use Rattle.data_rules.specs.Declaring as declaring;
+
+use crate::fault::first_of;
+use crate::file::{fds_fault, selects_fault};
+use crate::rule::entry_fault;
+use cob_tree::Entry;
+use data_forms::{Divisions, EntryDraft, FdDraft};
+use grammar_forms::Note;
+
+/// How many entries were judged, and their first fault.
+#[derive(Clone, Copy, Debug)]
+pub struct Judged {
+    pub at: usize,
+    pub fault: Option<Note>,
+}
+
+fn judge(bases: &[Entry], sizes: &[u64], judged: Judged, draft: &EntryDraft) -> Judged
+    ensures { result ≡ declaring.judge bases.now sizes.now judged draft.now }
+{
+    let at = judged.at;
+    if at < bases.len() {
+        Judged {
+            at: at + 1,
+            fault: first_of(
+                judged.fault,
+                entry_fault(bases, sizes, at, &bases[at], draft),
+            ),
+        }
+    } else {
+        judged
+    }
+}
+
+#[tactic(auto, using(crate::proofs::StepLemmas::fold_step))]
+fn judge_all(bases: &[Entry], sizes: &[u64], judged: Judged, drafts: &[EntryDraft]) -> Judged
+    ensures { result ≡ declaring.judge_all bases.now sizes.now judged drafts.now }
+{
+    let mut found = judged;
+    for draft in drafts {
+        found = judge(bases, sizes, found, draft);
+    }
+    found
+}
+
+#[tactic(auto, using(crate::proofs::StepLemmas::fold_step))]
+fn judge_records(bases: &[Entry], sizes: &[u64], judged: Judged, fds: &[FdDraft]) -> Judged
+    ensures { result ≡ fold (declaring.judge_records bases.now sizes.now) judged fds.now }
+{
+    let mut found = judged;
+    for fd in fds {
+        found = judge_all(bases, sizes, found, fd.entries.as_slice());
+    }
+    found
+}
+
+fn files_fault(divisions: &Divisions) -> Option<Note>
+    ensures { result ≡ declaring.files_fault divisions.now }
+{
+    let selects = divisions.selects.as_slice();
+    let fds = divisions.data_part.fds.as_slice();
+    first_of(selects_fault(fds, selects), fds_fault(selects, fds))
+}
+
+/// The first fault of the files and entries, whose bytes lie so.
+pub fn fault_by(bases: &[Entry], sizes: &[u64], divisions: &Divisions) -> Option<Note>
+    ensures { result ≡ (declaring.judged_by bases.now sizes.now (declaring.start_of divisions.now) divisions.now).fault }
+{
+    let start = Judged {
+        at: 0,
+        fault: files_fault(divisions),
+    };
+    let records = judge_records(bases, sizes, start, divisions.data_part.fds.as_slice());
+    let all = judge_all(
+        bases,
+        sizes,
+        records,
+        divisions.data_part.storage.as_slice(),
+    );
+    all.fault
+}

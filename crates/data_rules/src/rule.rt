@@ -1,0 +1,129 @@
+//! The rules on an entry.
+
+ghost use Rattle.std.specs.Prelude.{◌≡◌, slice_get};
+ghost use Rattle.data_rules.specs.Rule as rules;
+
+use crate::base::spans_of;
+use crate::clause::{again_fault, other_fault};
+use crate::fault::{fault_at, first_of};
+use crate::item::{level_stands, occurs_fault, picture_fault, sign_fault};
+use crate::literal::Target;
+use crate::redefining::{redefines_fault, size_at};
+use crate::standing::{Standing, before, behind, holder_of, standing_of};
+use crate::value::{missing_fault, spans_fault, value_fault};
+use cob_tree::Entry;
+use data_forms::EntryDraft;
+use data_names::is_group;
+use grammar_forms::{NameKind, Note};
+
+/// What a literal for this entry is to fit.
+fn target_of(bases: &[Entry], sizes: &[u64], at: usize, entry: &Entry) -> Target
+    ensures { result ≡ rules.target_of bases.now sizes.now at entry.now }
+{
+    Target {
+        group: is_group(entry, behind(bases, at)),
+        picture: entry.picture,
+        size: size_at(sizes, at),
+    }
+}
+
+fn fits_at(bases: &[Entry], sizes: &[u64], draft: &EntryDraft, item: usize) -> Option<Note>
+    ensures { result ≡ rules.fits_at bases.now sizes.now draft.now item (slice_get bases.now item) }
+{
+    match bases.get(item) {
+        None => None,
+        Some(entry) => spans_fault(
+            target_of(bases, sizes, item, entry),
+            spans_of(draft.clauses.as_slice()),
+        ),
+    }
+}
+
+fn fits_fault(
+    bases: &[Entry],
+    sizes: &[u64],
+    draft: &EntryDraft,
+    item: Option<usize>,
+) -> Option<Note>
+    ensures { result ≡ rules.fits_fault bases.now sizes.now draft.now item }
+{
+    match item {
+        None => None,
+        Some(item) => fits_at(bases, sizes, draft, item),
+    }
+}
+
+fn condition_fault(
+    bases: &[Entry],
+    sizes: &[u64],
+    draft: &EntryDraft,
+    item: Option<usize>,
+) -> Option<Note>
+    ensures { result ≡ rules.condition_fault bases.now sizes.now draft.now item }
+{
+    let clauses = draft.clauses.as_slice();
+    let again = first_of(again_fault(clauses), other_fault(clauses));
+    let missing = first_of(again, missing_fault(draft.at, clauses));
+    first_of(missing, fits_fault(bases, sizes, draft, item))
+}
+
+fn clauses_fault(
+    entry: &Entry,
+    target: Target,
+    standing: Standing,
+    draft: &EntryDraft,
+) -> Option<Note>
+    ensures { result ≡ rules.clauses_fault entry.now target standing draft.now }
+{
+    let clauses = draft.clauses.as_slice();
+    let again = again_fault(clauses);
+    let picture = picture_fault(entry.picture, target.group, draft.at, clauses);
+    let sign = sign_fault(entry.picture, target.group, clauses);
+    let occurs = occurs_fault(entry.level, standing.dims, clauses);
+    let value = value_fault(entry, target, standing.barred, clauses);
+    first_of(
+        first_of(first_of(first_of(again, picture), sign), occurs),
+        value,
+    )
+}
+
+fn item_fault(
+    bases: &[Entry],
+    sizes: &[u64],
+    at: usize,
+    entry: &Entry,
+    draft: &EntryDraft,
+) -> Option<Note>
+    ensures { result ≡ rules.item_fault bases.now sizes.now at entry.now draft.now }
+{
+    first_of(
+        clauses_fault(
+            entry,
+            target_of(bases, sizes, at, entry),
+            standing_of(entry, before(bases, at)),
+            draft,
+        ),
+        redefines_fault(bases, sizes, at, entry, draft.clauses.as_slice()),
+    )
+}
+
+/// The first fault of an entry.
+pub fn entry_fault(
+    bases: &[Entry],
+    sizes: &[u64],
+    at: usize,
+    entry: &Entry,
+    draft: &EntryDraft,
+) -> Option<Note>
+    ensures { result ≡ rules.entry_fault bases.now sizes.now at entry.now draft.now }
+{
+    let holder = holder_of(entry, before(bases, at));
+    if !level_stands(entry.level, holder) {
+        return fault_at(NameKind::Level, draft.at);
+    }
+    if entry.level == 88 {
+        condition_fault(bases, sizes, draft, holder)
+    } else {
+        item_fault(bases, sizes, at, entry, draft)
+    }
+}
