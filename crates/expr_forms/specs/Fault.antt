@@ -20,8 +20,10 @@ fault_at kind position = Some (record { kind = kind; position = position })
 abbrev pub usage : Position → Option Note
 usage position = fault_at faults.Usage position
 
+-- a number without decimals; what an unknown name stands for is not held against it
 abbrev pub is_whole : ValueKind → Bool
 is_whole (kinds.Number whole) = whole
+is_whole kinds.Unknown = true
 is_whole _ = false
 
 abbrev pub number_fault_at : Position → ValueKind → Option Note

@@ -19,12 +19,13 @@ fn usage(position: Position) -> Option<Note>
     fault_at(NameKind::Usage, position)
 }
 
-/// Whether a value is a number without decimals.
+/// Whether a value is a number without decimals, as far as is known.
 pub fn is_whole(kind: ValueKind) -> bool
     ensures { result ≡ faults.is_whole kind }
 {
     match kind {
         ValueKind::Number(whole) => whole,
+        ValueKind::Unknown => true,
         _ => false,
     }
 }
