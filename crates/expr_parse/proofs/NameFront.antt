@@ -1,0 +1,12 @@
+-- The form of a name in front of what may be subscripts, in parts, is the whole form.
+use Rattle.std.proofs.Common.{◌≡◌, ℕ, refl}
+use Rattle.grammar_forms.specs.Form.{Input}
+use Rattle.data_names.specs.Names.{Names}
+use Rattle.expr_forms.specs.Limit.{Inner}
+use Rattle.expr_forms.specs.Front as whole
+use Rattle.expr_parse.specs.Front as in_parts
+
+pub same_front : (names : Names) (inner : Inner) (count : ℕ) (p : Input) →
+    (in_parts.named_front names inner count).reads p ≡ (whole.name_front names inner count).reads p
+unfolding whole.name_front in_parts.named_front in_parts.name_behind in_parts.enclosing_front in_parts.bare_front
+same_front names inner count p = refl

@@ -1,0 +1,2 @@
+-- Parts of the form of what may be subscripts.
+pub mod Front

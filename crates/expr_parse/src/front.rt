@@ -1,0 +1,461 @@
+//! Subscripts or a window behind a reference.
+
+ghost use Rattle.std.specs.Prelude.{◌≡◌};
+ghost use Rattle.grammar_forms.specs.Reading.{Reads};
+ghost use Rattle.expr_forms.specs.Subscript as subscripts;
+ghost use Rattle.expr_forms.specs.Front as fronts;
+ghost use Rattle.expr_forms.specs.Levels.{inner};
+ghost use Rattle.expr_parse.specs.Front as names_in_front;
+
+use crate::expression::{operated, turn, unary, unsigned};
+use crate::limit::tally;
+use crate::reference::{qualifiers, ref_behind};
+use crate::subscript::more_subs;
+use crate::window::window_behind;
+use cob_base::{Boxed, Items, Word};
+use cob_tree::Op;
+use data_names::{Found, NameTable};
+use expr_forms::{Either, Front, Suffix};
+use expr_sides::{
+    at_turn, chain_of, either_fault, finish, found_fault, number_either, operator, ref_either,
+    subs_of, sum_side, with_number,
+};
+use grammar_forms::{Cursor, Position, Unread};
+use std::alloc::Global;
+use word_forms::{name, sees_digits, sees_name};
+
+#[tactic(auto, unfolding(expr_forms::specs::Front::digits_front))]
+fn digits_front(alloc: Global, cursor: &mut Cursor<'_>) -> Result<Front, Unread>
+    ensures { Reads (fronts.digits_front.reads cursor.old) result cursor.new }
+{
+    let (digits, position) = cursor.digits(alloc)?;
+    Ok(Front::Either(number_either(alloc, digits, position)?))
+}
+
+#[cycle(exprs)]
+#[tactic(auto, unfolding(expr_forms::specs::Front::plus_front))]
+fn plus_front(
+    alloc: Global,
+    cursor: &mut Cursor<'_>,
+    names: &NameTable,
+    levels: u32,
+    count: u32,
+) -> Result<Front, Unread>
+    ensures { Reads ((fronts.plus_front names.now (inner names.now levels) count).reads cursor.old)
+        result cursor.new }
+{
+    let position = cursor.mark(b'+')?;
+    if sees_digits(cursor) {
+        digits_front(alloc, cursor)
+    } else {
+        let (side, count) = unsigned(alloc, cursor, names, levels, count)?;
+        Ok(Front::Sum(chain_of(sum_side(position, side)), count))
+    }
+}
+
+/// Goes on behind a name that a parenthesis follows, so that it is no subscript.
+#[cycle(exprs)]
+#[tactic(auto, unfolding(crate::specs::Front::enclosing_front))]
+fn enclosing_front(
+    alloc: Global,
+    cursor: &mut Cursor<'_>,
+    names: &NameTable,
+    levels: u32,
+    found: Found,
+    of: Items<Word>,
+    position: Position,
+    count: u32,
+) -> Result<Front, Unread>
+    ensures { Reads ((names_in_front.enclosing_front
+        (inner names.now levels) found of position count).reads cursor.old) result cursor.new }
+{
+    let count = tally(cursor, count, 1)?;
+    let (side, count) = ref_behind(alloc, cursor, names, levels, found, of, position, count)?;
+    Ok(Front::Sum(chain_of(side), count))
+}
+
+#[tactic(auto, unfolding(crate::specs::Front::bare_front))]
+fn bare_front(
+    alloc: Global,
+    cursor: &mut Cursor<'_>,
+    found: Found,
+    of: Items<Word>,
+    position: Position,
+) -> Result<Front, Unread>
+    ensures { Reads ((names_in_front.bare_front found of position).reads cursor.old)
+        result cursor.new }
+{
+    cursor.note(found_fault(found, 0, false, position));
+    Ok(Front::Either(ref_either(alloc, found, of, position)?))
+}
+
+/// Goes on behind a name.
+#[cycle(exprs)]
+#[tactic(auto, unfolding(crate::specs::Front::name_behind))]
+fn name_behind(
+    alloc: Global,
+    cursor: &mut Cursor<'_>,
+    names: &NameTable,
+    levels: u32,
+    found: Found,
+    of: Items<Word>,
+    position: Position,
+    count: u32,
+) -> Result<Front, Unread>
+    ensures { Reads ((names_in_front.name_behind
+        (inner names.now levels) found of position count).reads cursor.old) result cursor.new }
+{
+    if cursor.sees_mark(b'(') {
+        enclosing_front(alloc, cursor, names, levels, found, of, position, count)
+    } else {
+        bare_front(alloc, cursor, found, of, position)
+    }
+}
+
+#[cycle(exprs)]
+#[tactic(auto, unfolding(crate::specs::Front::named_front))]
+fn named_front(
+    alloc: Global,
+    cursor: &mut Cursor<'_>,
+    names: &NameTable,
+    levels: u32,
+    count: u32,
+) -> Result<Front, Unread>
+    ensures { Reads ((names_in_front.named_front names.now (inner names.now levels) count).reads
+        cursor.old) result cursor.new }
+{
+    let (word, position) = name(cursor)?;
+    let of = qualifiers(alloc, cursor)?;
+    let found = names.look(&word, of.as_slice());
+    name_behind(alloc, cursor, names, levels, found, of, position, count)
+}
+
+#[cycle(exprs)]
+fn name_front(
+    alloc: Global,
+    cursor: &mut Cursor<'_>,
+    names: &NameTable,
+    levels: u32,
+    count: u32,
+) -> Result<Front, Unread>
+    ensures { Reads ((fronts.name_front names.now (inner names.now levels) count).reads cursor.old)
+        result cursor.new }
+{
+    named_front(alloc, cursor, names, levels, count)
+}
+
+#[cycle(exprs)]
+#[tactic(auto, unfolding(expr_forms::specs::Front::unary_front))]
+fn unary_front(
+    alloc: Global,
+    cursor: &mut Cursor<'_>,
+    names: &NameTable,
+    levels: u32,
+    count: u32,
+) -> Result<Front, Unread>
+    ensures { Reads ((fronts.unary_front names.now (inner names.now levels) count).reads cursor.old)
+        result cursor.new }
+{
+    let (side, count) = unary(alloc, cursor, names, levels, count)?;
+    Ok(Front::Sum(chain_of(side), count))
+}
+
+#[cycle(exprs)]
+#[tactic(auto, unfolding(expr_forms::specs::Front::other_front))]
+fn other_front(
+    alloc: Global,
+    cursor: &mut Cursor<'_>,
+    names: &NameTable,
+    levels: u32,
+    count: u32,
+) -> Result<Front, Unread>
+    ensures { Reads ((fronts.other_front names.now (inner names.now levels) count).reads cursor.old)
+        result cursor.new }
+{
+    if sees_name(cursor) {
+        name_front(alloc, cursor, names, levels, count)
+    } else {
+        unary_front(alloc, cursor, names, levels, count)
+    }
+}
+
+#[cycle(exprs)]
+#[tactic(auto, unfolding(expr_forms::specs::Front::first_front))]
+pub fn first_front(
+    alloc: Global,
+    cursor: &mut Cursor<'_>,
+    names: &NameTable,
+    levels: u32,
+    count: u32,
+) -> Result<Front, Unread>
+    ensures { Reads ((fronts.first_front names.now (inner names.now levels) count).reads cursor.old)
+        result cursor.new }
+{
+    if cursor.sees_mark(b'+') {
+        plus_front(alloc, cursor, names, levels, count)
+    } else if sees_digits(cursor) {
+        digits_front(alloc, cursor)
+    } else {
+        other_front(alloc, cursor, names, levels, count)
+    }
+}
+
+/// Goes on behind an operator after which it is no subscripts.
+#[cycle(exprs)]
+#[tactic(auto, unfolding(expr_forms::specs::Front::decided))]
+fn decided(
+    alloc: Global,
+    cursor: &mut Cursor<'_>,
+    names: &NameTable,
+    levels: u32,
+    count: u32,
+    either: Either,
+    op: Op,
+) -> Result<Front, Unread>
+    ensures { Reads ((fronts.decided names.now
+        (inner names.now levels) count either op).reads cursor.old) result cursor.new }
+{
+    let Either { chain, leaves, .. } = either;
+    let count = tally(cursor, count, leaves)?;
+    let (chain, count) = operated(alloc, cursor, names, levels, op, chain, count)?;
+    Ok(Front::Sum(chain, count))
+}
+
+#[tactic(auto, unfolding(expr_forms::specs::Front::number_turn))]
+fn number_turn(
+    alloc: Global,
+    cursor: &mut Cursor<'_>,
+    op: Op,
+    negative: bool,
+    either: Either,
+) -> Result<Front, Unread>
+    ensures { Reads ((fronts.number_turn op negative either).reads cursor.old) result cursor.new }
+{
+    let (digits, position) = cursor.digits(alloc)?;
+    cursor.note(either_fault(&either));
+    let either = with_number(alloc, op, negative, digits, position, either)?;
+    Ok(Front::Either(either))
+}
+
+#[cycle(exprs)]
+#[tactic(auto, unfolding(expr_forms::specs::Front::number_or_decided))]
+fn number_or_decided(
+    alloc: Global,
+    cursor: &mut Cursor<'_>,
+    names: &NameTable,
+    levels: u32,
+    count: u32,
+    either: Either,
+    op: Op,
+    negative: bool,
+) -> Result<Front, Unread>
+    ensures { Reads ((fronts.number_or_decided names.now
+        (inner names.now levels) count either op negative).reads cursor.old) result cursor.new }
+{
+    if sees_digits(cursor) {
+        number_turn(alloc, cursor, op, negative, either)
+    } else {
+        decided(alloc, cursor, names, levels, count, either, op)
+    }
+}
+
+#[cycle(exprs)]
+#[tactic(auto, unfolding(expr_forms::specs::Front::plus_turn))]
+fn plus_turn(
+    alloc: Global,
+    cursor: &mut Cursor<'_>,
+    names: &NameTable,
+    levels: u32,
+    count: u32,
+    either: Either,
+) -> Result<Front, Unread>
+    ensures { Reads ((fronts.plus_turn names.now
+        (inner names.now levels) count either).reads cursor.old) result cursor.new }
+{
+    cursor.mark(b'+')?;
+    number_or_decided(alloc, cursor, names, levels, count, either, Op::Add, false)
+}
+
+/// Whether the last subscript is an item alone.
+fn takes_minus(either: &Either) -> bool
+    ensures { result ≡ fronts.takes_minus either.now }
+{
+    either.base.is_some()
+}
+
+#[cycle(exprs)]
+#[tactic(auto, unfolding(expr_forms::specs::Front::minus_behind))]
+fn minus_behind(
+    alloc: Global,
+    cursor: &mut Cursor<'_>,
+    names: &NameTable,
+    levels: u32,
+    count: u32,
+    either: Either,
+) -> Result<Front, Unread>
+    ensures { Reads ((fronts.minus_behind names.now
+        (inner names.now levels) count either).reads cursor.old) result cursor.new }
+{
+    if takes_minus(&either) {
+        number_or_decided(alloc, cursor, names, levels, count, either, Op::Sub, true)
+    } else {
+        decided(alloc, cursor, names, levels, count, either, Op::Sub)
+    }
+}
+
+#[cycle(exprs)]
+#[tactic(auto, unfolding(expr_forms::specs::Front::minus_turn))]
+fn minus_turn(
+    alloc: Global,
+    cursor: &mut Cursor<'_>,
+    names: &NameTable,
+    levels: u32,
+    count: u32,
+    either: Either,
+) -> Result<Front, Unread>
+    ensures { Reads ((fronts.minus_turn names.now
+        (inner names.now levels) count either).reads cursor.old) result cursor.new }
+{
+    cursor.mark(b'-')?;
+    minus_behind(alloc, cursor, names, levels, count, either)
+}
+
+#[cycle(exprs)]
+#[tactic(auto, unfolding(expr_forms::specs::Front::factor_turn))]
+fn factor_turn(
+    alloc: Global,
+    cursor: &mut Cursor<'_>,
+    names: &NameTable,
+    levels: u32,
+    count: u32,
+    either: Either,
+) -> Result<Front, Unread>
+    ensures { Reads ((fronts.factor_turn names.now
+        (inner names.now levels) count either).reads cursor.old) result cursor.new }
+{
+    let op = operator(cursor)?;
+    decided(alloc, cursor, names, levels, count, either, op)
+}
+
+#[cycle(exprs)]
+#[tactic(auto, unfolding(expr_forms::specs::Front::front_turn))]
+fn front_turn(
+    alloc: Global,
+    cursor: &mut Cursor<'_>,
+    names: &NameTable,
+    levels: u32,
+    count: u32,
+    front: Front,
+) -> Result<Front, Unread>
+    ensures { Reads ((fronts.front_turn names.now
+        (inner names.now levels) count front).reads cursor.old) result cursor.new }
+{
+    match front {
+        Front::Sum(chain, more) => {
+            let (chain, count) = turn(alloc, cursor, names, levels, (chain, more))?;
+            Ok(Front::Sum(chain, count))
+        }
+        Front::Either(either) => {
+            if cursor.sees_mark(b'+') {
+                plus_turn(alloc, cursor, names, levels, count, either)
+            } else if cursor.sees_mark(b'-') {
+                minus_turn(alloc, cursor, names, levels, count, either)
+            } else {
+                factor_turn(alloc, cursor, names, levels, count, either)
+            }
+        }
+    }
+}
+
+#[cycle(exprs)]
+pub fn front_turns(
+    alloc: Global,
+    cursor: &mut Cursor<'_>,
+    names: &NameTable,
+    levels: u32,
+    count: u32,
+    first: Front,
+) -> Result<Front, Unread>
+    ensures { Reads ((fronts.front_turns names.now
+        (inner names.now levels) count first).reads cursor.old) result cursor.new }
+{
+    let mut front = first;
+    'fronts: while at_turn(cursor) {
+        front = front_turn(alloc, cursor, names, levels, count, front)?;
+    }
+    Ok(front)
+}
+
+#[tactic(auto, unfolding(expr_forms::specs::Front::subs_suffix))]
+fn subs_suffix(
+    alloc: Global,
+    cursor: &mut Cursor<'_>,
+    names: &NameTable,
+    count: u32,
+    either: Either,
+) -> Result<(Suffix, u32), Unread>
+    ensures { Reads ((fronts.subs_suffix names.now count either).reads cursor.old)
+        result cursor.new }
+{
+    cursor.note(either.fault);
+    let first = subs_of(alloc, either)?;
+    let subs = more_subs(alloc, cursor, names, first)?;
+    cursor.mark(b')')?;
+    Ok((Suffix::Subs(subs), count))
+}
+
+#[cycle(exprs)]
+#[tactic(auto, unfolding(expr_forms::specs::Front::front_end))]
+pub fn front_end(
+    alloc: Global,
+    cursor: &mut Cursor<'_>,
+    names: &NameTable,
+    levels: u32,
+    alone: bool,
+    count: u32,
+    front: Front,
+) -> Result<(Suffix, u32), Unread>
+    ensures { Reads ((fronts.front_end names.now (inner names.now levels) alone count front).reads
+        cursor.old) result cursor.new }
+{
+    match front {
+        Front::Sum(chain, more) => {
+            let first = finish(alloc, chain)?;
+            let (window, count) = window_behind(alloc, cursor, names, levels, alone, first, more)?;
+            Ok((Suffix::Window(Boxed::new(alloc, window)?), count))
+        }
+        Front::Either(either) => {
+            if cursor.sees_mark(b':') {
+                let Either { chain, leaves, .. } = either;
+                let count = tally(cursor, count, leaves)?;
+                let first = finish(alloc, chain)?;
+                let (window, count) = window_behind(
+                    alloc, cursor, names, levels, alone, first, count,
+                )?;
+                Ok((Suffix::Window(Boxed::new(alloc, window)?), count))
+            } else {
+                subs_suffix(alloc, cursor, names, count, either)
+            }
+        }
+    }
+}
+
+/// Reads subscripts or a window.
+#[cycle(exprs)]
+#[tactic(auto, unfolding(expr_forms::specs::Front::in_suffix))]
+pub fn in_suffix(
+    alloc: Global,
+    cursor: &mut Cursor<'_>,
+    names: &NameTable,
+    levels: u32,
+    alone: bool,
+    count: u32,
+) -> Result<(Suffix, u32), Unread>
+    ensures { Reads ((fronts.in_suffix names.now (inner names.now levels) alone count).reads
+        cursor.old) result cursor.new }
+{
+    cursor.mark(b'(')?;
+    let first = first_front(alloc, cursor, names, levels, count)?;
+    let front = front_turns(alloc, cursor, names, levels, count, first)?;
+    front_end(alloc, cursor, names, levels, alone, count, front)
+}

@@ -1,0 +1,246 @@
+//! What stands in parentheses, with so many levels of them.
+
+ghost use Rattle.grammar_forms.specs.Reading.{Reads};
+ghost use Rattle.expr_forms.specs.Reference as references;
+ghost use Rattle.expr_forms.specs.Operand as operands;
+ghost use Rattle.expr_forms.specs.Levels as knots;
+ghost use Rattle.expr_forms.specs.Levels.{inner};
+
+use crate::expression::{expr, in_nested, literal_operand};
+use crate::front::in_suffix;
+use crate::limit::tally;
+use crate::reference::qualifiers;
+use crate::window::in_window;
+use cob_base::{Boxed, Items, Word};
+use cob_tree::Window;
+use data_names::{Found, NameTable};
+use expr_forms::{Behind, Side, Suffix};
+use expr_sides::{at_operand, found_fault, ref_side};
+use grammar_forms::{Cursor, Position, Unread, Why};
+use std::alloc::Global;
+use word_forms::{name, sees_name};
+
+/// How many levels of parentheses one expression may have.
+const MAX_PARENS: u32 = 500;
+
+/// Reads an expression in parentheses, where a level is left.
+#[cycle(exprs)]
+pub fn nested(
+    alloc: Global,
+    cursor: &mut Cursor<'_>,
+    names: &NameTable,
+    levels: u32,
+    count: u32,
+) -> Result<(Side, u32), Unread>
+    ensures { Reads (((inner names.now levels).nested count).reads cursor.old) result cursor.new }
+{
+    if levels == 0 {
+        let begins = cursor.sees_mark(b'(');
+        return Err(cursor.too_deep(Why::Parens, begins));
+    }
+    in_nested(alloc, cursor, names, levels - 1, count)
+}
+
+/// Reads subscripts or a window, where a level is left.
+#[cycle(exprs)]
+pub fn suffix(
+    alloc: Global,
+    cursor: &mut Cursor<'_>,
+    names: &NameTable,
+    levels: u32,
+    count: u32,
+) -> Result<(Suffix, u32), Unread>
+    ensures { Reads (((inner names.now levels).suffix count).reads cursor.old) result cursor.new }
+{
+    if levels == 0 {
+        let begins = cursor.sees_mark(b'(');
+        return Err(cursor.too_deep(Why::Parens, begins));
+    }
+    in_suffix(alloc, cursor, names, levels - 1, false, count)
+}
+
+/// Reads a window, where a level is left.
+#[cycle(exprs)]
+pub fn window(
+    alloc: Global,
+    cursor: &mut Cursor<'_>,
+    names: &NameTable,
+    levels: u32,
+    count: u32,
+) -> Result<(Window, u32), Unread>
+    ensures { Reads (((inner names.now levels).window count).reads cursor.old) result cursor.new }
+{
+    if levels == 0 {
+        let begins = cursor.sees_mark(b'(');
+        return Err(cursor.too_deep(Why::Parens, begins));
+    }
+    in_window(alloc, cursor, names, levels - 1, false, count)
+}
+
+#[tactic(auto, unfolding(expr_forms::specs::Reference::behind))]
+fn data_behind(
+    alloc: Global,
+    cursor: &mut Cursor<'_>,
+    names: &NameTable,
+    count: u32,
+) -> Result<Behind, Unread>
+    ensures { Reads ((references.behind (knots.outer names.now) count).reads cursor.old)
+        result cursor.new }
+{
+    if !cursor.sees_mark(b'(') {
+        return Ok(Behind {
+            subs: Items::new(alloc),
+            window: None,
+            count,
+        });
+    }
+    let (found, count) = in_suffix(alloc, cursor, names, MAX_PARENS, true, count)?;
+    match found {
+        Suffix::Window(window) => Ok(Behind {
+            subs: Items::new(alloc),
+            window: Some(window),
+            count,
+        }),
+        Suffix::Subs(subs) => {
+            if cursor.sees_mark(b'(') {
+                let (inner, count) = in_window(alloc, cursor, names, MAX_PARENS, true, count)?;
+                Ok(Behind {
+                    subs,
+                    window: Some(Boxed::new(alloc, inner)?),
+                    count,
+                })
+            } else {
+                Ok(Behind {
+                    subs,
+                    window: None,
+                    count,
+                })
+            }
+        }
+    }
+}
+
+#[tactic(auto, unfolding(expr_forms::specs::Reference::ref_behind))]
+fn data_ref_behind(
+    alloc: Global,
+    cursor: &mut Cursor<'_>,
+    names: &NameTable,
+    found: Found,
+    of: Items<Word>,
+    position: Position,
+    count: u32,
+) -> Result<(Side, u32), Unread>
+    ensures { Reads ((references.ref_behind (knots.outer names.now) found of position count).reads
+        cursor.old) result cursor.new }
+{
+    let Behind {
+        subs,
+        window,
+        count,
+    } = data_behind(alloc, cursor, names, count)?;
+    cursor.note(found_fault(found, subs.len(), window.is_some(), position));
+    Ok((ref_side(found, of, subs, window, position), count))
+}
+
+#[tactic(auto, unfolding(expr_forms::specs::Reference::reference_behind))]
+fn data_words_behind(
+    alloc: Global,
+    cursor: &mut Cursor<'_>,
+    names: &NameTable,
+    first: Word,
+    position: Position,
+    count: u32,
+) -> Result<(Side, u32), Unread>
+    ensures { Reads ((references.reference_behind names.now (knots.outer names.now) first position
+        count).reads cursor.old) result cursor.new }
+{
+    let of = qualifiers(alloc, cursor)?;
+    let found = names.look(&first, of.as_slice());
+    data_ref_behind(alloc, cursor, names, found, of, position, count)
+}
+
+#[tactic(auto, unfolding(expr_forms::specs::Reference::reference))]
+fn data_words(
+    alloc: Global,
+    cursor: &mut Cursor<'_>,
+    names: &NameTable,
+    count: u32,
+) -> Result<(Side, u32), Unread>
+    ensures { Reads ((references.reference names.now (knots.outer names.now) count).reads
+        cursor.old) result cursor.new }
+{
+    let (first, position) = name(cursor)?;
+    data_words_behind(alloc, cursor, names, first, position, count)
+}
+
+#[tactic(auto, unfolding(expr_forms::specs::Operand::operand))]
+fn data_value(
+    alloc: Global,
+    cursor: &mut Cursor<'_>,
+    names: &NameTable,
+    count: u32,
+) -> Result<(Side, u32), Unread>
+    ensures { Reads ((operands.operand names.now (knots.outer names.now) count).reads cursor.old)
+        result cursor.new }
+{
+    if !at_operand(cursor) {
+        return Err(Unread::Stop(Why::Syntax));
+    }
+    let count = tally(cursor, count, 1)?;
+    if sees_name(cursor) {
+        data_words(alloc, cursor, names, count)
+    } else {
+        literal_operand(alloc, cursor, count)
+    }
+}
+
+/// Reads a reference outside of any expression.
+#[tactic(auto, unfolding(expr_forms::specs::Levels::data_reference))]
+pub fn data_reference(
+    alloc: Global,
+    cursor: &mut Cursor<'_>,
+    names: &NameTable,
+) -> Result<Side, Unread>
+    ensures { Reads ((knots.data_reference names.now).reads cursor.old) result cursor.new }
+{
+    let (side, _) = data_words(alloc, cursor, names, 0)?;
+    Ok(side)
+}
+
+/// Reads a reference outside of any expression behind its first word, which stands there.
+#[tactic(auto, unfolding(expr_forms::specs::Levels::data_reference_behind))]
+pub fn data_reference_behind(
+    alloc: Global,
+    cursor: &mut Cursor<'_>,
+    names: &NameTable,
+    first: Word,
+    position: Position,
+) -> Result<Side, Unread>
+    ensures { Reads ((knots.data_reference_behind names.now first position).reads cursor.old)
+        result cursor.new }
+{
+    let (side, _) = data_words_behind(alloc, cursor, names, first, position, 0)?;
+    Ok(side)
+}
+
+/// Reads a reference or a literal outside of any expression.
+#[tactic(auto, unfolding(expr_forms::specs::Levels::data_operand))]
+pub fn data_operand(
+    alloc: Global,
+    cursor: &mut Cursor<'_>,
+    names: &NameTable,
+) -> Result<Side, Unread>
+    ensures { Reads ((knots.data_operand names.now).reads cursor.old) result cursor.new }
+{
+    let (side, _) = data_value(alloc, cursor, names, 0)?;
+    Ok(side)
+}
+
+/// Reads an expression that no other one holds.
+#[tactic(auto, unfolding(expr_forms::specs::Levels::whole_expr))]
+pub fn whole_expr(alloc: Global, cursor: &mut Cursor<'_>, names: &NameTable) -> Result<Side, Unread>
+    ensures { Reads ((knots.whole_expr names.now).reads cursor.old) result cursor.new }
+{
+    let (side, _) = expr(alloc, cursor, names, MAX_PARENS, 0)?;
+    Ok(side)
+}

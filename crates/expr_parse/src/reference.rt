@@ -1,0 +1,145 @@
+//! References.
+
+ghost use Rattle.grammar_forms.specs.Reading.{Reads};
+ghost use Rattle.expr_forms.specs.Reference as references;
+ghost use Rattle.expr_forms.specs.Levels.{inner};
+
+use crate::levels::{suffix, window};
+use cob_base::{Boxed, Items, Word};
+use data_names::{Found, NameTable};
+use expr_forms::{Behind, Side, Suffix};
+use expr_sides::{at_of, found_fault, ref_side};
+use grammar_forms::{Cursor, Position, Unread};
+use std::alloc::Global;
+use word_forms::name;
+
+#[tactic(auto, unfolding(expr_forms::specs::Reference::qualifier))]
+fn qualifier(cursor: &mut Cursor<'_>) -> Result<Word, Unread>
+    ensures { Reads (references.qualifier.reads cursor.old) result cursor.new }
+{
+    if cursor.sees(b"OF") {
+        cursor.key(b"OF")?;
+    } else {
+        cursor.key(b"IN")?;
+    }
+    let (word, _) = name(cursor)?;
+    Ok(word)
+}
+
+/// Takes the qualifiers behind a name, as many as there are.
+pub fn qualifiers(alloc: Global, cursor: &mut Cursor<'_>) -> Result<Items<Word>, Unread>
+    ensures { Reads (references.qualifiers.reads cursor.old) result cursor.new }
+{
+    let mut found = Items::new(alloc);
+    'words: while at_of(cursor) {
+        found.push(qualifier(cursor)?)?;
+    }
+    Ok(found)
+}
+
+#[cycle(exprs)]
+#[tactic(auto, unfolding(expr_forms::specs::Reference::behind))]
+fn behind(
+    alloc: Global,
+    cursor: &mut Cursor<'_>,
+    names: &NameTable,
+    levels: u32,
+    count: u32,
+) -> Result<Behind, Unread>
+    ensures { Reads ((references.behind (inner names.now levels) count).reads cursor.old)
+        result cursor.new }
+{
+    if !cursor.sees_mark(b'(') {
+        return Ok(Behind {
+            subs: Items::new(alloc),
+            window: None,
+            count,
+        });
+    }
+    let (found, count) = suffix(alloc, cursor, names, levels, count)?;
+    match found {
+        Suffix::Window(window) => Ok(Behind {
+            subs: Items::new(alloc),
+            window: Some(window),
+            count,
+        }),
+        Suffix::Subs(subs) => {
+            if cursor.sees_mark(b'(') {
+                let (inner, count) = window(alloc, cursor, names, levels, count)?;
+                Ok(Behind {
+                    subs,
+                    window: Some(Boxed::new(alloc, inner)?),
+                    count,
+                })
+            } else {
+                Ok(Behind {
+                    subs,
+                    window: None,
+                    count,
+                })
+            }
+        }
+    }
+}
+
+/// Reads what stands behind the words of a reference.
+#[cycle(exprs)]
+#[tactic(auto, unfolding(expr_forms::specs::Reference::ref_behind))]
+pub fn ref_behind(
+    alloc: Global,
+    cursor: &mut Cursor<'_>,
+    names: &NameTable,
+    levels: u32,
+    found: Found,
+    of: Items<Word>,
+    position: Position,
+    count: u32,
+) -> Result<(Side, u32), Unread>
+    ensures { Reads ((references.ref_behind
+        (inner names.now levels) found of position count).reads cursor.old) result cursor.new }
+{
+    let Behind {
+        subs,
+        window,
+        count,
+    } = behind(alloc, cursor, names, levels, count)?;
+    cursor.note(found_fault(found, subs.len(), window.is_some(), position));
+    Ok((ref_side(found, of, subs, window, position), count))
+}
+
+/// Reads a reference behind its first word.
+#[cycle(exprs)]
+#[tactic(auto, unfolding(expr_forms::specs::Reference::reference_behind))]
+pub fn reference_behind(
+    alloc: Global,
+    cursor: &mut Cursor<'_>,
+    names: &NameTable,
+    levels: u32,
+    first: Word,
+    position: Position,
+    count: u32,
+) -> Result<(Side, u32), Unread>
+    ensures { Reads ((references.reference_behind names.now (inner names.now levels) first position
+        count).reads cursor.old) result cursor.new }
+{
+    let of = qualifiers(alloc, cursor)?;
+    let found = names.look(&first, of.as_slice());
+    ref_behind(alloc, cursor, names, levels, found, of, position, count)
+}
+
+/// Reads a reference.
+#[cycle(exprs)]
+#[tactic(auto, unfolding(expr_forms::specs::Reference::reference))]
+pub fn reference(
+    alloc: Global,
+    cursor: &mut Cursor<'_>,
+    names: &NameTable,
+    levels: u32,
+    count: u32,
+) -> Result<(Side, u32), Unread>
+    ensures { Reads ((references.reference names.now (inner names.now levels) count).reads
+        cursor.old) result cursor.new }
+{
+    let (first, position) = name(cursor)?;
+    reference_behind(alloc, cursor, names, levels, first, position, count)
+}

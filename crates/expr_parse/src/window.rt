@@ -1,0 +1,84 @@
+//! Windows.
+
+ghost use Rattle.std.specs.Prelude.{◌≡◌};
+ghost use Rattle.grammar_forms.specs.Reading.{Reads};
+ghost use Rattle.expr_forms.specs.Window as windows;
+ghost use Rattle.expr_forms.specs.Levels.{inner};
+
+use crate::expression::expr;
+use cob_tree::{Expr, Window};
+use data_names::NameTable;
+use expr_forms::Side;
+use expr_sides::{expr_of, whole_fault};
+use grammar_forms::{Cursor, Unread};
+use std::alloc::Global;
+
+/// What is counted where a window's second expression begins.
+fn second_count(alone: bool, count: u32) -> u32
+    ensures { result ≡ windows.second_count alone count }
+{
+    if alone { 0 } else { count }
+}
+
+#[cycle(exprs)]
+#[tactic(auto, unfolding(expr_forms::specs::Window::length_part))]
+fn length_part(
+    alloc: Global,
+    cursor: &mut Cursor<'_>,
+    names: &NameTable,
+    levels: u32,
+    count: u32,
+) -> Result<(Option<Expr>, u32), Unread>
+    ensures { Reads ((windows.length_part names.now
+        (inner names.now levels) count).reads cursor.old) result cursor.new }
+{
+    if cursor.sees_mark(b')') {
+        Ok((None, count))
+    } else {
+        let (side, count) = expr(alloc, cursor, names, levels, count)?;
+        cursor.note(whole_fault(&side));
+        Ok((Some(expr_of(side.what)), count))
+    }
+}
+
+/// Goes on behind the first expression of a window.
+#[cycle(exprs)]
+#[tactic(auto, unfolding(expr_forms::specs::Window::window_behind))]
+pub fn window_behind(
+    alloc: Global,
+    cursor: &mut Cursor<'_>,
+    names: &NameTable,
+    levels: u32,
+    alone: bool,
+    first: Side,
+    count: u32,
+) -> Result<(Window, u32), Unread>
+    ensures { Reads ((windows.window_behind names.now (inner names.now levels) alone first count).reads
+        cursor.old) result cursor.new }
+{
+    cursor.mark(b':')?;
+    cursor.note(whole_fault(&first));
+    let (length, count) = length_part(alloc, cursor, names, levels, second_count(alone, count))?;
+    cursor.mark(b')')?;
+    let from = expr_of(first.what);
+    Ok((Window { from, length }, count))
+}
+
+/// Reads a window.
+#[cycle(exprs)]
+#[tactic(auto, unfolding(expr_forms::specs::Window::in_window))]
+pub fn in_window(
+    alloc: Global,
+    cursor: &mut Cursor<'_>,
+    names: &NameTable,
+    levels: u32,
+    alone: bool,
+    count: u32,
+) -> Result<(Window, u32), Unread>
+    ensures { Reads ((windows.in_window names.now (inner names.now levels) alone count).reads
+        cursor.old) result cursor.new }
+{
+    cursor.mark(b'(')?;
+    let (first, count) = expr(alloc, cursor, names, levels, count)?;
+    window_behind(alloc, cursor, names, levels, alone, first, count)
+}

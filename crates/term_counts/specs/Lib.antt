@@ -1,0 +1,2 @@
+-- What terms that were counted before change.
+pub mod Count
