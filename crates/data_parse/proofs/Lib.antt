@@ -1,0 +1,2 @@
+-- What a choice reads.
+pub mod ChoiceLemmas

@@ -1,0 +1,11 @@
+use Rattle.std.proofs.Common.{◌≡◌, length}
+use Rattle.grammar_forms.specs.Form.{loop, added}
+use Rattle.word_forms.specs.Constant.{begins_literal}
+use Rattle.data_forms.specs.Clause as clauses
+use Rattle.data_parse.proofs.clause.spans.Given as goal
+
+abbrev pub invariant-items : goal.invariant-items
+invariant-items l = clauses.spans.reads l.fn.cursor ≡ (loop begins_literal (added clauses.span) l.found).reads l.cursor
+
+abbrev pub decreases-items : goal.decreases-items
+decreases-items l = length l.cursor.rest

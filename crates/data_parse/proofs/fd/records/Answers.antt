@@ -1,0 +1,20 @@
+use Rattle.std.proofs.lemmas.Result.{err_from_is_err_and}
+use Rattle.grammar_forms.proofs.Loops.{item_goes_on, item_ends_err, item_is_done, shrinks}
+use Rattle.word_forms.specs.Constant.{is_digits}
+use Rattle.data_forms.proofs.EntryLaws as laws
+use Rattle.data_parse.proofs.fd.records.Goals as goal
+
+pub returns-in_err-entry-2 : goal.returns-in_err-entry-2
+returns-in_err-entry-2 c =
+    let p = err_from_is_err_and c.from_residual-in_err-entry-2.result c.from_residual-in_err-entry-2.ensures.1 in
+    rw (p.1, p.2) (item_ends_err is_digits laws.entry c.items.found c.in_err-entry-2.field-0.0 c.items.cursor c.entry-in-items.new.cursor _ c.items-test.ensures c.in_err-entry-2.ensures c.items.invariant)
+
+pub items-smaller : goal.items-smaller
+items-smaller c = shrinks laws.entry _ _ _ c.in_ok-entry-2.ensures
+
+pub items-preserved : goal.items-preserved
+items-preserved c =
+    rw c.in_ok-push-2.ensures.ok (item_goes_on is_digits laws.entry c.items.found _ c.items.cursor _ _ c.items-test.ensures c.in_ok-entry-2.ensures c.items.invariant)
+
+pub returns : goal.returns
+returns c = item_is_done is_digits laws.entry c.items.found c.items.cursor _ c.items-test.ensures c.items.invariant

@@ -1,0 +1,10 @@
+use Rattle.std.proofs.Common.{◌≡◌, length}
+use Rattle.grammar_forms.specs.Form.{loop}
+use Rattle.data_forms.specs.Environment as environments
+use Rattle.data_parse.proofs.file_control.select_clauses.Given as goal
+
+abbrev pub invariant-items : goal.invariant-items
+invariant-items g l = (environments.select_clauses (g.S.StatusReader.form l.reader)).reads l.fn.cursor ≡ (loop environments.begins_select_clause (environments.select_clause (g.S.StatusReader.form l.reader)) l.found).reads l.cursor
+
+abbrev pub decreases-items : goal.decreases-items
+decreases-items g l = length l.cursor.rest

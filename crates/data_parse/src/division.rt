@@ -1,0 +1,71 @@
+//! All that stands before the PROCEDURE DIVISION.
+
+ghost use Rattle.grammar_forms.specs.Reading.{Reads};
+ghost use Rattle.data_forms.specs.Data as datas;
+ghost use Rattle.data_forms.specs.Divisions as all;
+
+use crate::choice::{either, headed, header};
+use crate::fd::{files, storage};
+use crate::file_control::environment;
+use crate::status::StatusReader;
+use cob_base::{Items, Word};
+use data_forms::{DataDraft, Divisions};
+use grammar_forms::{Cursor, Unread};
+use std::alloc::Global;
+use word_forms::name;
+
+#[tactic(auto, unfolding(data_forms::specs::Data::data_division))]
+fn data_division(alloc: Global, cursor: &mut Cursor<'_>) -> Result<DataDraft, Unread>
+    ensures { Reads (datas.data_division.reads cursor.old) result cursor.new }
+{
+    header(cursor, b"DATA", b"DIVISION")?;
+    let fds = files(alloc, cursor)?;
+    let storage = storage(alloc, cursor)?;
+    Ok(DataDraft { fds, storage })
+}
+
+/// Takes the DATA DIVISION, where there is one.
+#[tactic(auto, unfolding(data_forms::specs::Data::data_part))]
+pub fn data_part(alloc: Global, cursor: &mut Cursor<'_>) -> Result<DataDraft, Unread>
+    ensures { Reads (datas.data_part.reads cursor.old) result cursor.new }
+{
+    if cursor.sees(b"DATA") {
+        data_division(alloc, cursor)
+    } else {
+        Ok(DataDraft {
+            fds: Items::new(alloc),
+            storage: Items::new(alloc),
+        })
+    }
+}
+
+#[tactic(auto, unfolding(data_forms::specs::Divisions::identification))]
+fn identification(cursor: &mut Cursor<'_>) -> Result<Word, Unread>
+    ensures { Reads (all.identification.reads cursor.old) result cursor.new }
+{
+    either(cursor, b"IDENTIFICATION", b"ID")?;
+    headed(cursor, b"DIVISION")?;
+    headed(cursor, b"PROGRAM-ID")?;
+    let (name, _) = name(cursor)?;
+    cursor.period()?;
+    Ok(name)
+}
+
+/// Takes all that stands before the PROCEDURE DIVISION.
+#[tactic(auto, unfolding(data_forms::specs::Divisions::divisions))]
+pub fn divisions<S: StatusReader>(
+    alloc: Global,
+    cursor: &mut Cursor<'_>,
+    reader: &S,
+) -> Result<Divisions, Unread>
+    ensures { Reads ((all.divisions (S.form reader.now)).reads cursor.old) result cursor.new }
+{
+    let name = identification(cursor)?;
+    let selects = environment(alloc, cursor, reader)?;
+    let data_part = data_part(alloc, cursor)?;
+    Ok(Divisions {
+        name,
+        selects,
+        data_part,
+    })
+}

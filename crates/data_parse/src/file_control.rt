@@ -1,0 +1,306 @@
+//! SELECT and the ENVIRONMENT DIVISION.
+
+ghost use Rattle.std.specs.Prelude.{◌≡◌};
+ghost use Rattle.cob_base.specs.Answers.{Makes};
+ghost use Rattle.grammar_forms.specs.Form as form;
+ghost use Rattle.grammar_forms.specs.Reading.{Reads};
+ghost use Rattle.data_forms.specs.Environment as environments;
+
+use crate::choice::{header, sees_either};
+use crate::status::StatusReader;
+use cob_base::{Items, NoMemory, Text};
+use data_forms::{SelectDraft, StatusDraft};
+use grammar_forms::{Cursor, Position, Unread};
+use std::alloc::Global;
+use word_forms::{name, sees_text, user_word};
+
+#[tactic(auto, unfolding(data_forms::specs::Environment::assign))]
+fn assign(alloc: Global, cursor: &mut Cursor<'_>) -> Result<(Text, Position), Unread>
+    ensures { Reads (environments.assign.reads cursor.old) result cursor.new }
+{
+    if sees_text(cursor) {
+        cursor.literal(alloc)
+    } else {
+        let (word, at) = user_word(cursor)?;
+        Ok((bytes_of(alloc, word.as_slice())?, at))
+    }
+}
+
+fn bytes_of(alloc: Global, bytes: &[u8]) -> Result<Text, NoMemory>
+    ensures { Makes bytes.now result }
+{
+    Ok(Text {
+        bytes: Vec::from_slice(alloc, bytes)?,
+    })
+}
+
+fn sees_organization(cursor: &Cursor<'_>) -> bool
+    ensures { result ≡ form.is_next environments.is_organization cursor.now }
+{
+    sees_either(cursor, b"ORGANIZATION", b"SEQUENTIAL")
+}
+
+#[tactic(auto, unfolding(data_forms::specs::Environment::organization))]
+fn organization(cursor: &mut Cursor<'_>) -> Result<Position, Unread>
+    ensures { Reads (environments.organization.reads cursor.old) result cursor.new }
+{
+    if cursor.sees(b"ORGANIZATION") {
+        cursor.key(b"ORGANIZATION")?;
+        cursor.maybe(b"IS");
+        cursor.key(b"SEQUENTIAL")
+    } else {
+        cursor.key(b"SEQUENTIAL")
+    }
+}
+
+#[tactic(auto, unfolding(data_forms::specs::Environment::access))]
+fn access(cursor: &mut Cursor<'_>) -> Result<Position, Unread>
+    ensures { Reads (environments.access.reads cursor.old) result cursor.new }
+{
+    cursor.key(b"ACCESS")?;
+    cursor.maybe(b"MODE");
+    cursor.maybe(b"IS");
+    cursor.key(b"SEQUENTIAL")
+}
+
+fn sees_status(cursor: &Cursor<'_>) -> bool
+    ensures { result ≡ form.is_next environments.is_status cursor.now }
+{
+    sees_either(cursor, b"FILE", b"STATUS")
+}
+
+#[tactic(auto, unfolding(data_forms::specs::Environment::file_status))]
+fn file_status(cursor: &mut Cursor<'_>) -> Result<Position, Unread>
+    ensures { Reads (environments.file_status.reads cursor.old) result cursor.new }
+{
+    let at = cursor.key(b"FILE")?;
+    cursor.key(b"STATUS")?;
+    Ok(at)
+}
+
+#[tactic(auto, unfolding(data_forms::specs::Environment::status_word))]
+fn status_word(cursor: &mut Cursor<'_>) -> Result<Position, Unread>
+    ensures { Reads (environments.status_word.reads cursor.old) result cursor.new }
+{
+    if cursor.sees(b"FILE") {
+        file_status(cursor)
+    } else {
+        cursor.key(b"STATUS")
+    }
+}
+
+#[tactic(auto, unfolding(data_forms::specs::Environment::status_clause))]
+fn status_clause<S: StatusReader>(
+    alloc: Global,
+    cursor: &mut Cursor<'_>,
+    reader: &S,
+) -> Result<StatusDraft, Unread>
+    ensures { Reads ((environments.status_clause (S.form reader.now)).reads cursor.old)
+        result cursor.new }
+{
+    let at = status_word(cursor)?;
+    cursor.maybe(b"IS");
+    let place = reader.status(alloc, cursor)?;
+    Ok(StatusDraft { at, place })
+}
+
+// SEQUENTIAL says nothing.
+#[tactic(auto, unfolding(data_forms::specs::Environment::storage_clause))]
+fn storage_clause(
+    cursor: &mut Cursor<'_>,
+    before: Items<StatusDraft>,
+) -> Result<Items<StatusDraft>, Unread>
+    ensures { Reads ((environments.storage_clause before).reads cursor.old) result cursor.new }
+{
+    if sees_organization(cursor) {
+        organization(cursor)?;
+        Ok(before)
+    } else {
+        access(cursor)?;
+        Ok(before)
+    }
+}
+
+#[tactic(auto, unfolding(data_forms::specs::Environment::select_clause))]
+fn select_clause<S: StatusReader>(
+    alloc: Global,
+    cursor: &mut Cursor<'_>,
+    reader: &S,
+    before: Items<StatusDraft>,
+) -> Result<Items<StatusDraft>, Unread>
+    ensures { Reads ((environments.select_clause (S.form reader.now) before).reads cursor.old)
+        result cursor.new }
+{
+    if sees_status(cursor) {
+        let mut all = before;
+        all.push(status_clause(alloc, cursor, reader)?)?;
+        Ok(all)
+    } else {
+        storage_clause(cursor, before)
+    }
+}
+
+#[tactic(auto, unfolding(data_forms::specs::Environment::begins_select_clause))]
+fn sees_select_clause(cursor: &Cursor<'_>) -> bool
+    ensures { result ≡ form.is_next environments.begins_select_clause cursor.now }
+{
+    sees_organization(cursor) || cursor.sees(b"ACCESS") || sees_status(cursor)
+}
+
+#[tactic(auto, unfolding(data_forms::specs::Environment::select_clauses))]
+fn select_clauses<S: StatusReader>(
+    alloc: Global,
+    cursor: &mut Cursor<'_>,
+    reader: &S,
+) -> Result<Items<StatusDraft>, Unread>
+    ensures { Reads ((environments.select_clauses (S.form reader.now)).reads cursor.old)
+        result cursor.new }
+{
+    let mut found = Items::new(alloc);
+    'items: while sees_select_clause(cursor) {
+        found = select_clause(alloc, cursor, reader, found)?;
+    }
+    Ok(found)
+}
+
+#[tactic(auto, unfolding(data_forms::specs::Environment::select))]
+fn select<S: StatusReader>(
+    alloc: Global,
+    cursor: &mut Cursor<'_>,
+    reader: &S,
+) -> Result<SelectDraft, Unread>
+    ensures { Reads ((environments.select (S.form reader.now)).reads cursor.old) result cursor.new }
+{
+    cursor.key(b"SELECT")?;
+    let (name, at) = name(cursor)?;
+    cursor.key(b"ASSIGN")?;
+    cursor.maybe(b"TO");
+    let (assign, _) = assign(alloc, cursor)?;
+    let statuses = select_clauses(alloc, cursor, reader)?;
+    cursor.period()?;
+    Ok(SelectDraft {
+        name,
+        at,
+        assign,
+        statuses,
+    })
+}
+
+#[tactic(auto, unfolding(data_forms::specs::Environment::computer_named))]
+fn computer_named(cursor: &mut Cursor<'_>, word: &[u8]) -> Result<(), Unread>
+    ensures { Reads ((environments.computer_named word.now).reads cursor.old) result cursor.new }
+{
+    cursor.key(word)?;
+    cursor.period()?;
+    user_word(cursor)?;
+    cursor.period()?;
+    Ok(())
+}
+
+#[tactic(auto, unfolding(data_forms::specs::Environment::computer))]
+fn computer(cursor: &mut Cursor<'_>, word: &[u8]) -> Result<(), Unread>
+    ensures { Reads ((environments.computer word.now).reads cursor.old) result cursor.new }
+{
+    if cursor.sees(word) {
+        computer_named(cursor, word)
+    } else {
+        Ok(())
+    }
+}
+
+#[tactic(auto, unfolding(data_forms::specs::Environment::configuration_section))]
+fn configuration_section(cursor: &mut Cursor<'_>) -> Result<(), Unread>
+    ensures { Reads (environments.configuration_section.reads cursor.old) result cursor.new }
+{
+    header(cursor, b"CONFIGURATION", b"SECTION")?;
+    computer(cursor, b"SOURCE-COMPUTER")?;
+    computer(cursor, b"OBJECT-COMPUTER")
+}
+
+#[tactic(auto, unfolding(data_forms::specs::Environment::configuration))]
+fn configuration(cursor: &mut Cursor<'_>) -> Result<(), Unread>
+    ensures { Reads (environments.configuration.reads cursor.old) result cursor.new }
+{
+    if cursor.sees(b"CONFIGURATION") {
+        configuration_section(cursor)
+    } else {
+        Ok(())
+    }
+}
+
+fn selects<S: StatusReader>(
+    alloc: Global,
+    cursor: &mut Cursor<'_>,
+    reader: &S,
+) -> Result<Items<SelectDraft>, Unread>
+    ensures { Reads ((environments.selects (S.form reader.now)).reads cursor.old)
+        result cursor.new }
+{
+    let mut found = Items::new(alloc);
+    'items: while cursor.sees(b"SELECT") {
+        found.push(select(alloc, cursor, reader)?)?;
+    }
+    Ok(found)
+}
+
+#[tactic(auto, unfolding(data_forms::specs::Environment::input_output_section))]
+fn input_output_section<S: StatusReader>(
+    alloc: Global,
+    cursor: &mut Cursor<'_>,
+    reader: &S,
+) -> Result<Items<SelectDraft>, Unread>
+    ensures { Reads ((environments.input_output_section (S.form reader.now)).reads cursor.old)
+        result cursor.new }
+{
+    header(cursor, b"INPUT-OUTPUT", b"SECTION")?;
+    cursor.key(b"FILE-CONTROL")?;
+    cursor.period()?;
+    selects(alloc, cursor, reader)
+}
+
+#[tactic(auto, unfolding(data_forms::specs::Environment::input_output))]
+fn input_output<S: StatusReader>(
+    alloc: Global,
+    cursor: &mut Cursor<'_>,
+    reader: &S,
+) -> Result<Items<SelectDraft>, Unread>
+    ensures { Reads ((environments.input_output (S.form reader.now)).reads cursor.old)
+        result cursor.new }
+{
+    if cursor.sees(b"INPUT-OUTPUT") {
+        input_output_section(alloc, cursor, reader)
+    } else {
+        Ok(Items::new(alloc))
+    }
+}
+
+#[tactic(auto, unfolding(data_forms::specs::Environment::environment_division))]
+fn environment_division<S: StatusReader>(
+    alloc: Global,
+    cursor: &mut Cursor<'_>,
+    reader: &S,
+) -> Result<Items<SelectDraft>, Unread>
+    ensures { Reads ((environments.environment_division (S.form reader.now)).reads cursor.old)
+        result cursor.new }
+{
+    header(cursor, b"ENVIRONMENT", b"DIVISION")?;
+    configuration(cursor)?;
+    input_output(alloc, cursor, reader)
+}
+
+/// Takes the ENVIRONMENT DIVISION, where there is one, and gives its SELECTs.
+#[tactic(auto, unfolding(data_forms::specs::Environment::environment))]
+pub fn environment<S: StatusReader>(
+    alloc: Global,
+    cursor: &mut Cursor<'_>,
+    reader: &S,
+) -> Result<Items<SelectDraft>, Unread>
+    ensures { Reads ((environments.environment (S.form reader.now)).reads cursor.old)
+        result cursor.new }
+{
+    if cursor.sees(b"ENVIRONMENT") {
+        environment_division(alloc, cursor, reader)
+    } else {
+        Ok(Items::new(alloc))
+    }
+}

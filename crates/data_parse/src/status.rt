@@ -1,0 +1,21 @@
+//! How a status item is referred to.
+
+ghost use Rattle.std.specs.Prelude.{true};
+ghost use Rattle.cob_tree.specs.declared.place.Place.{Place as PlaceOf};
+ghost use Rattle.grammar_forms.specs.Form.{Form};
+ghost use Rattle.grammar_forms.specs.Reading.{Reads};
+ghost use Rattle.grammar_forms.proofs.MakerLaws.{Law};
+
+use cob_tree::Place;
+use grammar_forms::{Cursor, Unread};
+use std::alloc::Global;
+
+/// A reader of references to status items, exact by a form of its own.
+pub trait StatusReader {
+    ghost form: { Self → Form PlaceOf };
+
+    fn status(&self, alloc: Global, cursor: &mut Cursor<'_>) -> Result<Place, Unread>
+        ensures { Reads ((form self.now).reads cursor.old) result cursor.new };
+
+    ghost lawful: { (it : Self) → Law true (form it) };
+}
