@@ -1,5 +1,5 @@
 -- Statements of the tree, by what was built of their parts.
-use Rattle.std.proofs.Common.{◌≡◌, ◌+◌, ◌<◌, ◌≤◌, ℕ, zero, suc, Bool, true, false, not, if◌then◌else◌, List, [], ◌∷◌, ◌++◌, map, length, Option, Some, None, slice_get, refl, ap, sym, ◌∙◌, subst, arith, IfOk, Result, Ok, Err, is_some, take, drop, get_or, add-one, ◌-◌}
+use Rattle.std.proofs.Common.{◌≡◌, ◌+◌, ◌<◌, ◌≤◌, ℕ, zero, suc, Bool, true, false, not, if◌then◌else◌, List, [], ◌∷◌, ◌++◌, map, length, Option, Some, None, slice_get, refl, ap, sym, ◌∙◌, subst, arith, IfOk, Result, is_some, take, drop, get_or, add-one, ◌-◌}
 use Rattle.std.specs.Prelude.{◌&&◌}
 use Rattle.std.proofs.lemmas.List.{map-append}
 use Rattle.std.proofs.lemmas.Option.{slice_get_read}
@@ -15,16 +15,16 @@ use Rattle.cob_tree.specs.declared.stmt.Stmt as tree
 use Rattle.cob_tree.specs.declared.stmt.When.{When, out-When}
 use Rattle.language.specs.Language.{Act, Picker, By, If, ByCell, Holds, Chooser, Evaluate, Read, Arith, Choose, Arms, done, given, missing, Stmts, none, also, Stmt, Program}
 use Rattle.language.specs.Language as language
-use Rattle.language.specs.Items.{Item, Do}
-use Rattle.language.specs.Control.{test_of, always, arith_act, arith_of, arith_stmt, Both, both_arms, arm_before, else_of, Branch, branches_before, tests_of, picker_by, evaluate_of, cell_chosen, count_from, stmts_of, seen, seen_when, seen_stmts}
+use Rattle.language.specs.Items.{Do}
+use Rattle.language.specs.Control.{test_of, always, arith_of, arith_stmt, Both, both_arms, arm_before, else_of, Branch, branches_before, tests_of, picker_by, evaluate_of, cell_chosen, count_from, stmts_of, seen, seen_when, seen_stmts}
 use Rattle.language.proofs.Rows.{seen_if_any, seen_when_is}
 use Rattle.lowering.specs.Told.{arm_count}
-use Rattle.flow_paths.specs.Step.{Point, at, some_given, first_is_barred}
+use Rattle.flow_paths.specs.Step.{at, some_given, first_is_barred}
 use Rattle.flow_places.specs.declared.table.Place.{Place}
 use Rattle.flow_places.specs.declared.table.Place.TheVariants.{Goes, Chooses}
 use Rattle.flow_numbers.specs.declared.build.Exits.{Exits}
 use Rattle.flow_numbers.specs.Kinds.{is_silent, never_first_of}
-use Rattle.flow_numbers.specs.Building.{Builds, BuildsChoice, BuildsBoth, two_ways, barring, branches_of, no_arms, seen_maybe, seen_branches}
+use Rattle.flow_numbers.specs.Building.{BuildsChoice, BuildsBoth, two_ways, barring, branches_of, no_arms, seen_maybe, seen_branches}
 use Rattle.flow_numbers.proofs.Growing.{Built, Branched, build-none, branches-none, branches-more, moved, build-goes, if-added, if-ok, take-at, take-all}
 use Rattle.flow_numbers.proofs.Steps.{build-act, build-choose}
 
@@ -258,7 +258,7 @@ module _ (files : List FileEntry) (count number last : ℕ) where
 
 -- lists of the tree
 
-drop-at : {A : Type 0} → (xs : List A) (index : ℕ) (x : A) → slice_get xs index ≡ Some x → drop index xs ≡ x ∷ drop (suc index) xs
+pub drop-at : {A : Type 0} → (xs : List A) (index : ℕ) (x : A) → slice_get xs index ≡ Some x → drop index xs ≡ x ∷ drop (suc index) xs
 drop-at [] index x e = absurd (let k : ⊥ = cc in k)
 drop-at (y ∷ ys) zero x e = (let k : y ≡ x = cc in ap (λ z. z ∷ ys) k)
 drop-at (y ∷ ys) (suc index) x e = drop-at ys index x e

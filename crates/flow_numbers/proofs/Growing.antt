@@ -1,7 +1,7 @@
 -- Places added, one after the other.
-use Rattle.std.proofs.Common.{◌≡◌, ◌==◌, ◌+◌, ◌-◌, ◌<◌, ◌≤◌, ℕ, zero, suc, Bool, true, false, if◌then◌else◌, List, [], ◌∷◌, ◌++◌, map, length, Option, Some, None, option_map, slice_get, refl, ap, sym, ◌∙◌, subst, ◌⊎◌, inl, inr, arith, eqb-true, eq-eqb, length-append, set, IfOk, Result, Ok, Err, take, drop, get_or, add-one}
+use Rattle.std.proofs.Common.{◌≡◌, ◌==◌, ◌+◌, ◌<◌, ◌≤◌, ℕ, zero, suc, Bool, true, false, if◌then◌else◌, List, [], ◌∷◌, ◌++◌, map, length, Option, Some, None, option_map, slice_get, refl, ap, sym, ◌∙◌, subst, ◌⊎◌, inl, inr, arith, eqb-true, eq-eqb, length-append, set, IfOk, Result, Ok, Err, take, get_or, add-one}
 use Rattle.std.proofs.lemmas.List.{map-append}
-use Rattle.std.proofs.lemmas.Option.{slice_get_read, slice_get-get_or}
+use Rattle.std.proofs.lemmas.Option.{slice_get-get_or}
 use Rattle.cob_tree.specs.declared.program.Range.{Range}
 use Rattle.language.specs.Language.{Chooser, Stmts, none, also, Stmt, Program}
 use Rattle.language.specs.Items.{Item, Do, before, past_sentence, from_loop}
@@ -12,7 +12,7 @@ use Rattle.flow_places.specs.declared.table.Place.{Place}
 use Rattle.flow_places.specs.declared.table.Place.TheVariants.{Goes, Chooses, Calls, Stops, Ends}
 use Rattle.flow_places.specs.Table.{Describes, AllBelow}
 use Rattle.flow_numbers.specs.declared.build.Exits.{Exits}
-use Rattle.flow_numbers.specs.Building.{part_of, Grown, HasParagraphs, IsAt, IsBehind, Builds, BuildsBranches, branch_points, after_at}
+use Rattle.flow_numbers.specs.Building.{part_of, Grown, HasParagraphs, IsAt, IsBehind, Builds, BuildsBranches, after_at}
 
 -- the points, with one more
 abbrev pub with_point : (ℕ → Point) → ℕ → Point → ℕ → Point
@@ -62,14 +62,15 @@ describes-more old new old_ranges new_ranges points later (Calls number after) n
 describes-more old new old_ranges new_ranges points later Stops now le ranges same d = d
 describes-more old new old_ranges new_ranges points later (Ends paragraph) now le ranges same d = d
 
-module _ (never_first : Chooser → Bool) (program : Program) where
-  pub grown-none : (old : List Place) (ranges : List Range) (points : ℕ → Point) → Grown never_first program old old ranges ranges points points
+module _ (never_first : Chooser → Bool) (program : Program) (home : ℕ) where
+  pub grown-none : (old : List Place) (ranges : List Range) (points : ℕ → Point) → Grown never_first program home old old ranges ranges points points
   grown-none old ranges points = record {
     longer = omega arith;
     kept = λ number lt. refl;
     ranges = λ number range e. e;
     same = λ number lt. refl;
     described = λ number le lt. absurd (omega arith);
+    owned = λ number le lt. absurd (omega arith);
   }
 
   split-at : (number most : ℕ) → (number < most) ⊎ (most ≤ number)
@@ -78,7 +79,7 @@ module _ (never_first : Chooser → Bool) (program : Program) where
   split-at (suc number) zero = inr (omega arith)
   split-at (suc number) (suc most) = elim (split-at number most) [ inl lt ↦ inl (omega arith) | inr le ↦ inr (omega arith) ]
 
-  pub grown-then : (old mid new : List Place) (r0 r1 r2 : List Range) (points via later : ℕ → Point) → Grown never_first program old mid r0 r1 points via → Grown never_first program mid new r1 r2 via later → Grown never_first program old new r0 r2 points later
+  pub grown-then : (old mid new : List Place) (r0 r1 r2 : List Range) (points via later : ℕ → Point) → Grown never_first program home old mid r0 r1 points via → Grown never_first program home mid new r1 r2 via later → Grown never_first program home old new r0 r2 points later
   grown-then old mid new r0 r1 r2 points via later first second = record {
     longer = omega (arith, first.longer, second.longer);
     kept = λ number lt. second.kept number (omega (arith, first.longer)) ∙ first.kept number lt;
@@ -95,12 +96,17 @@ module _ (never_first : Chooser → Bool) (program : Program) where
               )
           | inr outer ↦ second.described number outer lt
         ];
+    owned = λ number le lt.
+        elim (split-at number (length mid)) [
+          | inl inner ↦ ap (λ (p : Point). p.paragraph) (second.same number inner) ∙ first.owned number le inner
+          | inr outer ↦ second.owned number outer lt
+        ];
   }
 
   -- one place more
-  pub grown-add : (old : List Place) (r0 r1 : List Range) (points : ℕ → Point) (place : Place) (point : Point) → ((number : ℕ) (range : Range) → slice_get r0 number ≡ Some range → slice_get r1 number ≡ Some range) →
-      Describes (part_of old r1) points place (next never_first program point) → Grown never_first program old (old ++ place ∷ []) r0 r1 points (with_point points (length old) point)
-  grown-add old r0 r1 points place point ranges d =
+  pub grown-add : (old : List Place) (r0 r1 : List Range) (points : ℕ → Point) (place : Place) (point : Point) → point.paragraph ≡ home → ((number : ℕ) (range : Range) → slice_get r0 number ≡ Some range → slice_get r1 number ≡ Some range) →
+      Describes (part_of old r1) points place (next never_first program point) → Grown never_first program home old (old ++ place ∷ []) r0 r1 points (with_point points (length old) point)
+  grown-add old r0 r1 points place point inside ranges d =
       let new = old ++ place ∷ [] in
       let later = with_point points (length old) point in
       let long : length new ≡ length old + 1 = length-append old (place ∷ []) in
@@ -116,6 +122,9 @@ module _ (never_first : Chooser → Bool) (program : Program) where
               subst (λ (p : Point). Describes (part_of new r1) later place (next never_first program p)) (sym (ap (λ n. later n) here ∙ point-here points (length old) point))
                   (describes-more old new r1 r1 points later place (next never_first program point) (omega (arith, long)) (λ n r e. e) (λ n l. point-other points (length old) point n l) d),
             );
+        owned = λ number le lt.
+            let here : number ≡ length old = omega (arith, long) in
+            ap (λ (n : ℕ). (later n).paragraph) here ∙ ap (λ (p : Point). p.paragraph) (point-here points (length old) point) ∙ inside;
       }
 
 pub set-here : (places : List Place) (at : ℕ) (place : Place) → at < length places → slice_get (set places at place) at ≡ Some place
@@ -130,7 +139,7 @@ set-other (p ∷ places) zero (suc other) place ne = refl
 set-other (p ∷ places) (suc at) zero place ne = refl
 set-other (p ∷ places) (suc at) (suc other) place ne = set-other places at other place (λ e. ne (ap (λ (n : ℕ). suc n) e))
 
-module _ (never_first : Chooser → Bool) (program : Program) (count number : ℕ) (old new : List Place) (r0 r1 : List Range) (points later : ℕ → Point) (grown : Grown never_first program old new r0 r1 points later) where
+module _ (never_first : Chooser → Bool) (program : Program) (count number : ℕ) (old new : List Place) (r0 r1 : List Range) (points later : ℕ → Point) (grown : Grown never_first program number old new r0 r1 points later) where
   pub still-at : (place : ℕ) (point : Point) → IsAt old points place point → IsAt new later place point
   still-at place point is = (grown.same place is.1 ∙ is.0, omega (arith, is.1, grown.longer))
 
@@ -220,7 +229,7 @@ module _ (never_first : Chooser → Bool) (count number : ℕ) where
   Branched old new r0 r1 branches exits ways = BuildsBranches never_first count number old new r0 r1 branches exits ways
 
   pub build-none : (old : List Place) (ranges : List Range) (exits : Exits) → Built old old ranges ranges none exits exits.after
-  build-none old ranges exits = λ program points rest behind. (points, grown-none never_first program old ranges points, behind.after)
+  build-none old ranges exits = λ program points rest behind. (points, grown-none never_first program number old ranges points, behind.after)
 
   -- a statement in front of others
   pub build-also : (old mid new : List Place) (r0 r1 r2 : List Range) (stmt : Stmt) (more : Stmts) (exits : Exits) (later begin : ℕ) → Built old mid r0 r1 more exits later → Built mid new r1 r2 (also stmt none) (after_at exits later) begin →
@@ -229,7 +238,7 @@ module _ (never_first : Chooser → Bool) (count number : ℕ) where
       let b = behind_it program points rest behind in
       let still = still-behind never_first program count number old mid r0 r1 points b.0 b.1 rest exits behind in
       let f = first program b.0 (before more rest) (before-behind program count number mid b.0 more rest exits later still b.2) in
-      (f.0, grown-then never_first program old mid new r0 r1 r2 points b.0 f.0 b.1 f.1, f.2)
+      (f.0, grown-then never_first program number old mid new r0 r1 r2 points b.0 f.0 b.1 f.1, f.2)
 
   -- one statement that takes one place
   pub one-place : (old : List Place) (r0 r1 : List Range) (place : Place) (stmt : Stmt) (exits : Exits) → ((n : ℕ) (range : Range) → slice_get r0 n ≡ Some range → slice_get r1 n ≡ Some range) →
@@ -238,7 +247,7 @@ module _ (never_first : Chooser → Bool) (count number : ℕ) where
   one-place old r0 r1 place stmt exits kept describes = λ program points rest behind.
       let point = at number (Do stmt ∷ rest) in (
         with_point points (length old) point,
-        grown-add never_first program old r0 r1 points place point kept (describes program points rest behind),
+        grown-add never_first program number old r0 r1 points place point refl kept (describes program points rest behind),
         (point-here points (length old) point, omega (arith, length-append old (place ∷ []))),
       )
 
@@ -263,7 +272,7 @@ module _ (never_first : Chooser → Bool) (count number : ℕ) where
   -- branches
 
   pub branches-none : (old : List Place) (ranges : List Range) (exits : Exits) → Branched old old ranges ranges [] exits []
-  branches-none old ranges exits = λ program points rest behind. (points, grown-none never_first program old ranges points, refl, tt)
+  branches-none old ranges exits = λ program points rest behind. (points, grown-none never_first program number old ranges points, refl, tt)
 
   pub branches-more : (old mid new : List Place) (r0 r1 r2 : List Range) (branches : List Stmts) (stmts : Stmts) (exits : Exits) (begin : ℕ) (ways : List (Option ℕ)) → Branched old mid r0 r1 branches exits ways →
       Built mid new r1 r2 stmts exits begin → Branched old new r0 r2 (branches ++ stmts ∷ []) exits (ways ++ Some begin ∷ [])
@@ -272,7 +281,7 @@ module _ (never_first : Chooser → Bool) (count number : ℕ) where
       let b = builds program a.0 rest (still-behind never_first program count number old mid r0 r1 points a.0 a.1 rest exits behind) in
       let told = same-ways (length mid) a.0 b.0 ways a.3 b.1.same in (
         b.0,
-        grown-then never_first program old mid new r0 r1 r2 points a.0 b.0 a.1 b.1,
+        grown-then never_first program number old mid new r0 r1 r2 points a.0 b.0 a.1 b.1,
         map-append (λ (ss : Stmts). Some (at number (before ss rest))) branches (stmts ∷ []) ∙ ap (λ (ws : List (Option Point)). ws ++ Some (at number (before stmts rest)) ∷ []) (a.2 ∙ told)
             ∙ ap (λ (p : Point). map (λ (way : Option ℕ). option_map b.0 way) ways ++ Some p ∷ []) (sym b.2.0) ∙ sym (map-append (λ (way : Option ℕ). option_map b.0 way) ways (Some begin ∷ [])),
         below-append (length new) ways (Some begin ∷ []) (below-more (length mid) (length new) ways b.1.longer a.3) (b.2.1, tt),

@@ -1,10 +1,10 @@
 -- What loops add: the remainder is set aside first, and told once the body is there.
-use Rattle.std.proofs.Common.{◌≡◌, ◌==◌, ◌+◌, ◌<◌, ◌≤◌, ℕ, zero, suc, Bool, true, false, List, [], ◌∷◌, ◌++◌, map, length, Option, Some, None, option_map, slice_get, refl, ap, sym, ◌∙◌, subst, arith, eqb-true, eq-eqb, length-append, set}
+use Rattle.std.proofs.Common.{◌≡◌, ◌==◌, ◌+◌, ◌<◌, ℕ, Bool, true, false, List, [], ◌∷◌, ◌++◌, length, Option, Some, None, option_map, slice_get, refl, ap, sym, ◌∙◌, subst, arith, eqb-true, eq-eqb, length-append, set}
 use Rattle.std.proofs.Math.ListN.{length-set}
 use Rattle.cob_tree.specs.declared.program.Range.{Range}
-use Rattle.language.specs.Language.{Chooser, Control, Times, Until, Varying, Body, Nested, Performed, Loop, Perform, Choose, If, Holds, given, done, Stmts, none, also, Stmt, Program}
+use Rattle.language.specs.Language.{Chooser, Control, Times, Until, Varying, Body, Nested, Performed, Loop, Perform, Choose, If, Holds, given, done, Stmts, none, also, Program}
 use Rattle.language.specs.Control.{perform_of, loop_of, always}
-use Rattle.language.specs.Items.{Item, Do, Turn, Steps, Counted, Tests, StepsAfter, before, before_body, past_sentence, from_loop}
+use Rattle.language.specs.Items.{Item, Do, Turn, Steps, before, before_body, past_sentence}
 use Rattle.flow_paths.specs.Step.{Point, at, start, Next, next}
 use Rattle.flow_paths.specs.Step as lang
 use Rattle.flow_places.specs.declared.table.Place.{Place}
@@ -54,18 +54,19 @@ module _ (never_first : Chooser → Bool) (program : Program) (number : ℕ) whe
   IsFirst control body rest first =
       (next never_first program (at number (Do (Loop control body) ∷ rest)) ≡ lang.Ways (Some first ∷ []))
       × (next never_first program first ≡ lang.Ways (Some (at number rest) ∷ Some (at number (before_body body (Turn (remainder control) body ∷ rest))) ∷ []))
+      × (first.paragraph ≡ number)
 
   again-next : (control : Control) (body : Body) (rest : List Item) → kind_in control ≡ Again → (first : Point) × IsFirst control body rest first
   again-next (Times amount) body rest e = absurd (let k : ⊥ = cc in k)
   again-next (Until false test) body rest e = absurd (let k : ⊥ = cc in k)
   again-next (Until true test) body rest e = absurd (let k : ⊥ = cc in k)
-  again-next (Varying false set step test) body rest e = (at number (Turn (Steps false step test) body ∷ rest), (refl, refl))
+  again-next (Varying false set step test) body rest e = (at number (Turn (Steps false step test) body ∷ rest), (refl, refl, refl))
   again-next (Varying true set step test) body rest e = absurd (let k : ⊥ = cc in k)
 
 -- the remainder is told
 record Turned (never_first : Chooser → Bool) (program : Program) (number : ℕ) (old new : List Place) (r0 r1 : List Range) (points : ℕ → Point) (rest : List Item) (after turn begin : ℕ) (control : Control) (body : Body) : Type 0 where
   later : ℕ → Point
-  grown : Grown never_first program old new r0 r1 points later
+  grown : Grown never_first program number old new r0 r1 points later
   turn_at : IsAt new later turn (at number (Turn (remainder control) body ∷ rest))
   start_at : IsAt new later begin (at number (before_body body (Turn (remainder control) body ∷ rest)))
   after_at : IsAt new later after (at number rest)
@@ -136,6 +137,13 @@ module _ (never_first : Chooser → Bool) (count number : ℕ) where
                       describes-more mid new r1 r1 b.0 b.0 d.0 (next never_first program (b.0 n)) (omega (arith, size)) (λ m r h. h) (λ m l. refl) d.2,
                     )
               ]) refl;
+          owned = λ n le lt.
+              (elim (n == turn) as (λ z. (n == turn) ≡ z → (b.0 n).paragraph ≡ number) [
+                | true ↦ λ e. ap (λ (m : ℕ). (b.0 m).paragraph) (eqb-true n turn e) ∙ ap (λ (p : Point). p.paragraph) turn_is
+                | false ↦ λ e.
+                    let other : n ≡ turn → ⊥ = λ s. (let t : (n == turn) ≡ true = eq-eqb n turn s in let both : true ≡ false = sym t ∙ e in let k : ⊥ = cc in k) in
+                    b.1.owned n (omega (arith, long)) (omega (arith, size))
+              ]) refl;
         };
         turn_at = (turn_is, omega (arith, turn_in, size));
         start_at = (start_is, omega (arith, start_in, size));
@@ -143,15 +151,15 @@ module _ (never_first : Chooser → Bool) (count number : ℕ) where
       }
 
   -- the loop goes on to a place that is there
-  goes-on : (program : Program) (old new : List Place) (r0 r1 : List Range) (points later : ℕ → Point) (rest : List Item) (control : Control) (body : Body) (to : ℕ) (point : Point) → Grown never_first program old new r0 r1 points later → IsAt new later to point →
+  goes-on : (program : Program) (old new : List Place) (r0 r1 : List Range) (points later : ℕ → Point) (rest : List Item) (control : Control) (body : Body) (to : ℕ) (point : Point) → Grown never_first program number old new r0 r1 points later → IsAt new later to point →
       next never_first program (at number (Do (Loop control body) ∷ rest)) ≡ lang.Ways (Some point ∷ []) →
-      (last : ℕ → Point) × Grown never_first program old (new ++ Goes to ∷ []) r0 r1 points last × IsAt (new ++ Goes to ∷ []) last (length new) (at number (Do (Loop control body) ∷ rest))
+      (last : ℕ → Point) × Grown never_first program number old (new ++ Goes to ∷ []) r0 r1 points last × IsAt (new ++ Goes to ∷ []) last (length new) (at number (Do (Loop control body) ∷ rest))
   goes-on program old new r0 r1 points later rest control body to point grown is e =
       let loop = at number (Do (Loop control body) ∷ rest) in
       let last = with_point later (length new) loop in (
         last,
-        grown-then never_first program old new (new ++ Goes to ∷ []) r0 r1 r1 points later last grown
-            (grown-add never_first program new r1 r1 later (Goes to) loop (λ n r h. h) (e ∙ ap (λ (p : Point). lang.Ways (Some p ∷ [])) (sym is.0), is.1)),
+        grown-then never_first program number old new (new ++ Goes to ∷ []) r0 r1 r1 points later last grown
+            (grown-add never_first program number new r1 r1 later (Goes to) loop refl (λ n r h. h) (e ∙ ap (λ (p : Point). lang.Ways (Some p ∷ [])) (sym is.0), is.1)),
         (point-here later (length new) loop, omega (arith, length-append new (Goes to ∷ []))),
       )
 
@@ -163,12 +171,12 @@ module _ (never_first : Chooser → Bool) (count number : ℕ) where
       let t = turned old mid r0 r1 control body exits start built program points rest behind in
       let size : length (turned_at (length old) exits.after start mid) ≡ length mid = length-set mid (length old) (Chooses (two_ways false exits.after start)) in
       let g = goes-on program old (turned_at (length old) exits.after start mid) r0 r1 points t.later rest control body (length old) (at number (Turn (remainder control) body ∷ rest)) t.grown t.turn_at (before-next never_first program number control body rest is) in
-      (g.0, subst (λ ps. Grown never_first program old ps r0 r1 points g.0) (sym closed.1) g.1, subst (λ n. IsAt new g.0 n (at number (Do (Loop control body) ∷ rest))) (size ∙ sym closed.0) (subst (λ ps. IsAt ps g.0 (length (turned_at (length old) exits.after start mid)) (at number (Do (Loop control body) ∷ rest))) (sym closed.1) g.2))
+      (g.0, subst (λ ps. Grown never_first program number old ps r0 r1 points g.0) (sym closed.1) g.1, subst (λ n. IsAt new g.0 n (at number (Do (Loop control body) ∷ rest))) (size ∙ sym closed.0) (subst (λ ps. IsAt ps g.0 (length (turned_at (length old) exits.after start mid)) (at number (Do (Loop control body) ∷ rest))) (sym closed.1) g.2))
   closed-at old mid r0 r1 control body exits After start begin is built new closed = λ program points rest behind.
       let t = turned old mid r0 r1 control body exits start built program points rest behind in
       let size : length (turned_at (length old) exits.after start mid) ≡ length mid = length-set mid (length old) (Chooses (two_ways false exits.after start)) in
       let g = goes-on program old (turned_at (length old) exits.after start mid) r0 r1 points t.later rest control body start (at number (before_body body (Turn (remainder control) body ∷ rest))) t.grown t.start_at (after-next never_first program number control body rest is) in
-      (g.0, subst (λ ps. Grown never_first program old ps r0 r1 points g.0) (sym closed.1) g.1, subst (λ n. IsAt new g.0 n (at number (Do (Loop control body) ∷ rest))) (size ∙ sym closed.0) (subst (λ ps. IsAt ps g.0 (length (turned_at (length old) exits.after start mid)) (at number (Do (Loop control body) ∷ rest))) (sym closed.1) g.2))
+      (g.0, subst (λ ps. Grown never_first program number old ps r0 r1 points g.0) (sym closed.1) g.1, subst (λ n. IsAt new g.0 n (at number (Do (Loop control body) ∷ rest))) (size ∙ sym closed.0) (subst (λ ps. IsAt ps g.0 (length (turned_at (length old) exits.after start mid)) (at number (Do (Loop control body) ∷ rest))) (sym closed.1) g.2))
   closed-at old mid r0 r1 control body exits Again start begin is built new closed = λ program points rest behind.
       let t = turned old mid r0 r1 control body exits start built program points rest behind in
       let base = turned_at (length old) exits.after start mid in
@@ -178,15 +186,15 @@ module _ (never_first : Chooser → Bool) (count number : ℕ) where
       let more = base ++ place ∷ [] in
       let via = with_point t.later (length base) first.0 in
       let long : length more ≡ length base + 1 = length-append base (place ∷ []) in
-      let added = grown-then never_first program old base more r0 r1 r1 points t.later via t.grown
-      (grown-add never_first program base r1 r1 t.later place first.0 (λ n r h. h) (
+      let added = grown-then never_first program number old base more r0 r1 r1 points t.later via t.grown
+      (grown-add never_first program number base r1 r1 t.later place first.0 first.1.2 (λ n r h. h) (
         first.1.1 ∙ ap (λ (p : Point). lang.Ways (Some p ∷ Some (at number (before_body body (Turn (remainder control) body ∷ rest))) ∷ [])) (sym t.after_at.0) ∙ ap (λ (p : Point). lang.Ways (Some (t.later exits.after) ∷ Some p ∷ [])) (sym t.start_at.0),
         (t.after_at.1, (t.start_at.1, tt)),
       )) in
       let first_at : IsAt more via (length mid) first.0 = subst (λ n. IsAt more via n first.0) size (point-here t.later (length base) first.0, omega (arith, long)) in
       let g = goes-on program old more r0 r1 points via rest control body (length mid) first.0 added first_at first.1.0 in
       let at_end : length more ≡ begin = (let c = closed.0 in omega (arith, long, size, c)) in
-      (g.0, subst (λ ps. Grown never_first program old ps r0 r1 points g.0) (sym closed.1) g.1, subst (λ n. IsAt new g.0 n (at number (Do (Loop control body) ∷ rest))) at_end (subst (λ ps. IsAt ps g.0 (length more) (at number (Do (Loop control body) ∷ rest))) (sym closed.1) g.2))
+      (g.0, subst (λ ps. Grown never_first program number old ps r0 r1 points g.0) (sym closed.1) g.1, subst (λ n. IsAt new g.0 n (at number (Do (Loop control body) ∷ rest))) at_end (subst (λ ps. IsAt ps g.0 (length more) (at number (Do (Loop control body) ∷ rest))) (sym closed.1) g.2))
 
   pub loop-built : (c1 : ℕ) (old p1 mid new : List Place) (r0 ra r1 r2 : List Range) (control : Control) (body : Body) (exits : Exits) (kind : Kind) (turn start begin : ℕ) → kind_in control ≡ kind → turn ≡ length old → p1 ≡ old ++ Stops ∷ [] → ra ≡ r0 → c1 ≡ count →
       Built never_first c1 number p1 mid ra r1 (body_stmts body) (inside exits turn) start → IsClosed kind turn exits.after start begin mid new → r2 ≡ r1 → B old new r0 r2 (also (Loop control body) none) exits begin

@@ -1,5 +1,5 @@
 -- What single statements add.
-use Rattle.std.proofs.Common.{◌≡◌, ◌+◌, ◌<◌, ◌≤◌, ℕ, zero, suc, Bool, true, false, if◌then◌else◌, List, [], ◌∷◌, ◌++◌, map, length, Option, Some, None, option_map, slice_get, refl, ap, sym, ◌∙◌, subst, arith, length-append}
+use Rattle.std.proofs.Common.{◌≡◌, ◌+◌, ◌<◌, ℕ, suc, Bool, true, false, if◌then◌else◌, List, [], ◌∷◌, ◌++◌, map, length, Option, Some, None, option_map, slice_get, refl, ap, sym, ◌∙◌, arith, length-append}
 use Rattle.cob_tree.specs.declared.program.Range.{Range}
 use Rattle.language.specs.Language.{Act, Picker, By, If, ByCell, Chooser, Choose, Perform, Go, GoDepending, NextSentence, ExitParagraph, ExitSection, ExitPerform, StopRun, Arms, done, given, missing, Stmts, none, also, Stmt, Program}
 use Rattle.language.specs.Language as language
@@ -13,7 +13,7 @@ use Rattle.flow_places.specs.declared.table.Place.{Place}
 use Rattle.flow_places.specs.declared.table.Place.TheVariants.{Goes, Chooses, Calls, Stops}
 use Rattle.flow_places.specs.Table.{AllBelow}
 use Rattle.flow_numbers.specs.declared.build.Exits.{Exits}
-use Rattle.flow_numbers.specs.Building.{IsBehind, IsAt, HasParagraphs, branches_of, branch_points, barring}
+use Rattle.flow_numbers.specs.Building.{HasParagraphs, branches_of, branch_points, barring}
 use Rattle.flow_numbers.proofs.Growing.{Built, Branched, one-place, build-goes, with_point, point-here, grown-add, grown-then, below-append, below-more}
 
 -- the ways of a choice are where its branches begin
@@ -125,8 +125,8 @@ module _ (never_first : Chooser → Bool) (count number : ℕ) where
       let point = at number (Do (Choose picker arms) ∷ rest) in
       let place = Chooses (barring barred ways) in (
         with_point a.0 (length mid) point,
-        grown-then never_first program old mid (mid ++ place ∷ []) r0 r1 r1 points a.0 (with_point a.0 (length mid) point) a.1
-            (grown-add never_first program mid r1 r1 a.0 place point (λ n r e. e) (
+        grown-then never_first program number old mid (mid ++ place ∷ []) r0 r1 r1 points a.0 (with_point a.0 (length mid) point) a.1
+            (grown-add never_first program number mid r1 r1 a.0 place point refl (λ n r e. e) (
               ap (λ (ws : List (Option Point)). lang.Ways ws) (choice-ways never_first program number picker rest arms barred some is ∙ ap (without_first barred) a.2 ∙ barring-map barred a.0 ways),
               barring-below barred (length mid) ways a.3,
             )),

@@ -1,12 +1,12 @@
 -- How places are added for statements.
-use Rattle.std.specs.Prelude.{ℕ, suc, ◌≡◌, ◌<◌, ◌≤◌, ◌+◌, Bool, true, false, List, [], ◌∷◌, ◌++◌, map, length, Option, Some, None, option_map, slice_get, slice_set, ◌⊎◌, ◌&&◌, not, is_some}
+use Rattle.std.specs.Prelude.{ℕ, suc, ◌≡◌, ◌<◌, ◌≤◌, ◌+◌, Bool, true, false, List, [], ◌∷◌, ◌++◌, map, length, Option, Some, None, option_map, slice_get, slice_set, ◌&&◌, not, is_some}
 use Rattle.cob_tree.specs.declared.program.Range.{Range}
 use Rattle.cob_tree.specs.declared.stmt.Stmt as tree
 use Rattle.cob_tree.specs.declared.stmt.When.{When}
 use Rattle.language.specs.Control.{seen_stmts, seen_when}
-use Rattle.language.specs.Language.{Chooser, Stmts, none, Stmt, Arms, done, given, missing, Program, Control, Body}
-use Rattle.language.specs.Items.{Item, Do, Turn, before, past_sentence, from_loop}
-use Rattle.flow_paths.specs.Step.{Point, at, start, next, without_first}
+use Rattle.language.specs.Language.{Chooser, Stmts, none, Arms, done, given, missing, Paragraph, Program}
+use Rattle.language.specs.Items.{items_of, Item, before, past_sentence, from_loop}
+use Rattle.flow_paths.specs.Step.{Point, at, start, next}
 use Rattle.flow_places.specs.declared.table.Place.{Place}
 use Rattle.flow_places.specs.declared.table.Table.{Table}
 use Rattle.flow_places.specs.Table.{Describes, AllBelow}
@@ -15,13 +15,14 @@ use Rattle.flow_numbers.specs.declared.kind.Kind.{Kind}
 use Rattle.flow_numbers.specs.declared.kind.Kind.TheVariants.{Before, Again, After}
 use Rattle.flow_places.specs.declared.table.Place.TheVariants.{Goes, Chooses}
 
--- a table without its starts
+-- a table without its starts and owners
 abbrev pub part_of : List Place → List Range → Table
-part_of places ranges = record { places = places; starts = []; ranges = ranges }
+part_of places ranges = record { places = places; owners = []; starts = []; ranges = ranges }
 
--- places were added behind the old ones, and each of them says what control does at its point
-pub record Grown (never_first : Chooser → Bool) (program : Program) (old new : List Place)
-    (old_ranges new_ranges : List Range) (points later : ℕ → Point) : Type 0 where
+-- places of this paragraph were added behind the old ones, and each of them says what control does
+-- at its point
+pub record Grown (never_first : Chooser → Bool) (program : Program) (home : ℕ) (old new : List
+    Place) (old_ranges new_ranges : List Range) (points later : ℕ → Point) : Type 0 where
   pub longer : length old ≤ length new
   pub kept : (number : ℕ) → number < length old → slice_get new number ≡ slice_get old number
   pub ranges : (number : ℕ) (range : Range) → slice_get old_ranges number ≡ Some range →
@@ -30,6 +31,8 @@ pub record Grown (never_first : Chooser → Bool) (program : Program) (old new :
   pub described : (number : ℕ) → length old ≤ number → number < length new →
       (place : Place) × (slice_get new number ≡ Some place)
       × Describes (part_of new new_ranges) later place (next never_first program (later number))
+  pub owned : (number : ℕ) → length old ≤ number → number < length new →
+      (later number).paragraph ≡ home
 
 -- the first places are the starts of the paragraphs, and the next ones their ends
 pub record HasParagraphs (program : Program) (count : ℕ) (places : List Place)
@@ -58,7 +61,7 @@ abbrev pub Builds : (Chooser → Bool) → ℕ → ℕ → List Place → List P
 Builds never_first count number old new old_ranges new_ranges stmts exits begin =
     (program : Program) (points : ℕ → Point) (rest : List Item) →
     IsBehind program count number old points rest exits →
-    (later : ℕ → Point) × Grown never_first program old new old_ranges new_ranges points later
+    (later : ℕ → Point) × Grown never_first program number old new old_ranges new_ranges points later
     × IsAt new later begin (at number (before stmts rest))
 
 -- the statements of each arm, none of a missing one
@@ -77,7 +80,7 @@ abbrev pub BuildsBranches : (Chooser → Bool) → ℕ → ℕ → List Place �
 BuildsBranches never_first count number old new old_ranges new_ranges branches exits ways =
     (program : Program) (points : ℕ → Point) (rest : List Item) →
     IsBehind program count number old points rest exits →
-    (later : ℕ → Point) × Grown never_first program old new old_ranges new_ranges points later
+    (later : ℕ → Point) × Grown never_first program number old new old_ranges new_ranges points later
     × (branch_points number rest branches ≡ map (λ (way : Option ℕ). option_map later way) ways)
     × AllBelow (length new) ways
 
@@ -157,3 +160,12 @@ BuildsBoth never_first count number old new old_ranges new_ranges last first sec
     BuildsChoice never_first count number old new old_ranges new_ranges
     (seen_maybe last first ∷ seen_maybe last second
     ∷ []) (silent && not (is_some first)) exits begin)
+
+-- the rest of a paragraph, up to the place at its end
+abbrev pub BuildsRest : (Chooser → Bool) → ℕ → ℕ → List Place → List Place → List Range →
+    List Range → Paragraph → ℕ → Type 0
+BuildsRest never_first count number old new old_ranges new_ranges sentences begin =
+    (program : Program) (points : ℕ → Point) → HasParagraphs program count old points →
+    number < count →
+    (later : ℕ → Point) × Grown never_first program number old new old_ranges new_ranges points later
+    × IsAt new later begin (at number (items_of sentences))

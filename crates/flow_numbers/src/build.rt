@@ -13,6 +13,7 @@ use crate::kind::{Kind, is_silent, kind_of};
 use cob_base::{Items, NoMemory};
 use cob_tree::{Arms, Control, FileEntry, Range, Stmt, When};
 use flow_places::Place;
+use named_ranges::place_of;
 use std::alloc::Global;
 
 /// Places so far, and the ranges that they perform.
@@ -84,7 +85,8 @@ impl Builder {
         Ok(number as u32)
     }
 
-    /// The number of a range.
+    /// The number of a range: where ranges stand in their order it is found by halving, and any
+    /// other is added.
     pub fn range_number(&mut self, range: Range) -> Result<u32, NoMemory>
         ensures number { IfOk result (λ number. slice_get self.new.ranges.items number ≡ Some range) }
         ensures kept { (number : ℕ) (known : Range) → slice_get self.old.ranges.items number ≡ Some known → slice_get self.new.ranges.items number ≡ Some known }
@@ -92,13 +94,17 @@ impl Builder {
         ensures count { self.new.count ≡ self.old.count }
         ensures longer { length self.old.places.items ≤ length self.new.places.items }
     {
-        for (number, known) in self.ranges.iter().enumerate() {
-            if *known == range {
-                return match u32::try_from(number) {
-                    Ok(number) => Ok(number),
-                    Err(_) => Err(NoMemory),
-                };
+        let place = place_of(self.ranges.as_slice(), range);
+        match self.ranges.get(place) {
+            Some(known) => {
+                if *known == range {
+                    return match u32::try_from(place) {
+                        Ok(number) => Ok(number),
+                        Err(_) => Err(NoMemory),
+                    };
+                }
             }
+            None => {}
         }
         let number = self.ranges.len();
         if number >= u32::MAX as usize {

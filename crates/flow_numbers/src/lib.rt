@@ -7,6 +7,7 @@
 
 mod build;
 mod kind;
+mod paragraph;
 
 pub use build::{Builder, Exits, Here};
 pub use kind::{Kind, is_silent, kind_of};

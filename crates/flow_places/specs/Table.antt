@@ -37,6 +37,8 @@ pub record IsTable (never_first : Chooser → Bool) (program : Program) (table :
       × (slice_get table.starts paragraph ≡ Some place)
   pub places : (number : ℕ) (place : Place) → slice_get table.places number ≡ Some place →
       Describes table points place (next never_first program (points number))
+  pub owned : (number : ℕ) (place : Place) → slice_get table.places number ≡ Some place →
+      slice_get table.owners number ≡ Some (points number).paragraph
   pub entries : (number : ℕ) (range : Range) → slice_get table.ranges number ≡ Some range →
       is_paragraph program range.entry ≡ true
 
@@ -87,3 +89,6 @@ pub record IsTidy (table : Table) : Type 0 where
       IsTidyPlace table place
   pub starts : (paragraph place : ℕ) → slice_get table.starts paragraph ≡ Some place →
       place < length table.places
+  pub size : length table.owners ≡ length table.places
+  pub owners : (number owner : ℕ) → slice_get table.owners number ≡ Some owner →
+      owner < length table.starts

@@ -1,4 +1,4 @@
-use Rattle.std.proofs.Common.{◌≡◌, ◌≤◌, ◌<◌, ◌-◌, ◌+◌, ◌∙◌, ◌++◌, ◌∷◌, [], ℕ, Bool, false, List, Option, Some, None, map, take, drop, length, if◌then◌else◌, is_some, refl, ap, sym, subst, arith}
+use Rattle.std.proofs.Common.{◌≡◌, ◌+◌, ◌∙◌, ◌++◌, ◌∷◌, [], ℕ, false, List, Option, Some, None, take, drop, length, if◌then◌else◌, is_some, refl, ap, sym, subst, arith}
 use Rattle.cob_tree.specs.declared.stmt.Arms.{out-Arms}
 use Rattle.cob_tree.specs.declared.stmt.When.{out-When}
 use Rattle.language.specs.Language.{also, none, Stmts, Stmt, Choose, If, Holds, given, done, Loop, Nested, Go, GoDepending, Depending, NextSentence, StopRun, ExitParagraph, ExitSection, ExitPerform, Own}
@@ -6,11 +6,10 @@ use Rattle.language.specs.Language as language
 use Rattle.language.specs.Control.{control_in, loop_of, perform_of, always, move_of, arith_stmt, Both, both_arms, seen, seen_stmts}
 use Rattle.language.proofs.Rows.{seen_if_any, seen_both_is, seen_arith, seen_read, seen_if, seen_evaluate, seen_loop, seen_perform, seen_go, seen_go_depending, seen_next_sentence, seen_stop_run, seen_exit_paragraph, seen_exit_section, seen_exit_perform, seen_display, seen_move, seen_set_true, seen_opens, seen_closes, seen_write, seen_rewrite, seen_exit, seen_continue}
 use Rattle.cob_tree.specs.declared.stmt.Stmt.TheVariants as tree
-use Rattle.flow_places.specs.declared.table.Place.{Place}
-use Rattle.flow_places.specs.declared.table.Place.TheVariants.{Goes, Chooses, Stops}
+use Rattle.flow_places.specs.declared.table.Place.TheVariants.{Goes, Stops}
 use Rattle.flow_numbers.specs.declared.build.Exits.{Exits}
 use Rattle.flow_numbers.specs.Kinds.{never_first_of}
-use Rattle.flow_numbers.specs.Building.{Builds, BuildsBranches, BuildsChoice, BuildsBoth, IsClosed, after_at, inside, seen_branches, seen_maybe, two_ways}
+use Rattle.flow_numbers.specs.Building.{Builds, BuildsBranches, BuildsChoice, BuildsBoth, IsClosed, after_at, seen_branches, seen_maybe}
 use Rattle.flow_numbers.proofs.Growing.{build-none, build-also, branches-none, branches-more, if-added, if-ok}
 use Rattle.flow_numbers.proofs.Steps.{build-leave, build-stop, build-exit-loop}
 use Rattle.flow_numbers.proofs.Looping.{loop-built, loop-none, loop-some}

@@ -1,4 +1,4 @@
-use Rattle.std.proofs.Common.{◌≡◌, Bool, refl, subst}
+use Rattle.std.proofs.Common.{◌≡◌, Bool, subst}
 use Rattle.language.specs.Language.{Chooser, Control, also, none, Perform, Performed, Loop}
 use Rattle.flow_numbers.specs.declared.build.Exits.{Exits}
 use Rattle.flow_numbers.specs.Kinds.{kind_in}

@@ -1,6 +1,5 @@
 use Rattle.std.proofs.Common.{◌≡◌, ◌∙◌, ◌++◌, ◌∷◌, [], List, Bool, ℕ, Option, Some, map, get_or, ap, sym, subst, length}
 use Rattle.language.specs.Language.{Chooser, also, none, GoDepending}
-use Rattle.flow_places.specs.declared.table.Place.{Place}
 use Rattle.flow_places.specs.declared.table.Place.TheVariants.{Chooses}
 use Rattle.flow_places.specs.Table.{AllBelow}
 use Rattle.flow_numbers.specs.Building.{Builds}

@@ -1,8 +1,6 @@
-use Rattle.std.proofs.Common.{◌≡◌, ◌<◌, ◌+◌, ◌++◌, ◌∷◌, [], ℕ, List, Bool, Some, length, subst, sym, refl, arith}
-use Rattle.cob_tree.specs.declared.program.Range.{Range}
-use Rattle.language.specs.Language.{Chooser, also, none, Perform, Go, GoDepending, ExitParagraph, ExitSection}
-use Rattle.flow_places.specs.declared.table.Place.{Place}
-use Rattle.flow_places.specs.declared.table.Place.TheVariants.{Goes, Chooses, Calls}
+use Rattle.std.proofs.Common.{Bool}
+use Rattle.language.specs.Language.{Chooser, also, none, ExitSection}
+use Rattle.flow_places.specs.declared.table.Place.TheVariants.{Goes}
 use Rattle.flow_numbers.specs.Building.{Builds}
 use Rattle.flow_numbers.proofs.Growing.{if-added}
 use Rattle.flow_numbers.proofs.Steps.{build-exit-section}

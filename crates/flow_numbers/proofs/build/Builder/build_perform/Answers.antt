@@ -1,5 +1,5 @@
 use Rattle.std.proofs.Common.{Bool, subst, sym}
-use Rattle.language.specs.Language.{Chooser, Stmt, Performed, Loop, also, none, Perform}
+use Rattle.language.specs.Language.{Chooser, Stmt, also, none, Perform}
 use Rattle.language.specs.Control.{control_in, perform_of}
 use Rattle.flow_numbers.specs.Building.{Builds}
 use Rattle.flow_numbers.proofs.Growing.{if-ok}
