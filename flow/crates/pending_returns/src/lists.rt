@@ -1,0 +1,32 @@
+//! Flags as the list of those that are on.
+
+ghost use Rattle.std.specs.Prelude.{◌≡◌, ◌++◌, ◌∷◌, [], true, false, IfOk, OnOk};
+ghost use Rattle.pending_returns.specs.Tabled.{Lists};
+
+use cob_base::{Items, NoMemory};
+use std::alloc::Global;
+
+/// Adds a number where its flag is on.
+fn add_if(numbers: &mut Items<u32>, flag: bool, at: usize) -> Result<(), NoMemory>
+    ensures on { flag ≡ true → OnOk result (numbers.new ≡ numbers.old ++ at ∷ []) }
+    ensures off { flag ≡ false → numbers.new ≡ numbers.old }
+{
+    if !flag {
+        return Ok(());
+    }
+    match u32::try_from(at) {
+        Ok(number) => numbers.push(number),
+        Err(_) => Err(NoMemory),
+    }
+}
+
+/// The numbers of the flags that are on, rising.
+pub fn lists(alloc: Global, flags: &[bool]) -> Result<Items<u32>, NoMemory>
+    ensures { IfOk result (λ numbers. Lists flags.now numbers) }
+{
+    let mut numbers = Items::new(alloc);
+    for at in 0..flags.len() {
+        add_if(&mut numbers, flags[at], at)?;
+    }
+    Ok(numbers)
+}

@@ -1,0 +1,15 @@
+use Rattle.std.proofs.Common.{ap, sym, ◌∙◌, refl, Some}
+use Rattle.graph_rules.specs.Reduced.{join_graph}
+use Rattle.tree_rules.specs.Places.{label_at}
+use Rattle.branch_tree.specs.Graphs.{seen_graph}
+use Rattle.region_rewrite.proofs.StepRows.{inline_row, no_inline}
+use Rattle.region_rewrite.proofs.reducing.inline_step.Goals as goal
+
+pub returns-in-None : goal.returns-in-None
+returns-in-None c = (no_inline (seen_graph c.args.graph.now) c.in-None.ensures, refl)
+
+pub returns-in-Some : goal.returns-in-Some
+returns-in-Some c =
+    let g = seen_graph c.args.graph.now in
+    inline_row g (label_at g.nodes c.in-Some.at) c.in-Some.ensures.2
+    ∙ ap Some (sym (c.in_ok-join_graph.ensures ∙ ap join_graph c.in_ok-inline_at.ensures.ok))

@@ -1,0 +1,2 @@
+mod DigitWords
+mod WithinLemmas
