@@ -114,11 +114,11 @@ class_or shapes.Literal negated end left count = untested end left count
 class_or shapes.Enclosed negated end left count = untested end left count
 class_or shapes.Sum negated end left count = untested end left count
 
-pub test : (names : Names) {inner : Inner} → InnerLaw inner →
+pub one_test : (names : Names) {inner : Inner} → InnerLaw inner →
     (negated : Bool) (end : Option Bool) (left : Side) (before count : ℕ) →
-    Law false (tests.test names inner negated end left before count)
-unfolding tests.test
-test names I negated end left before count =
+    Law false (tests.one_test names inner negated end left before count)
+unfolding tests.one_test
+one_test names I negated end left before count =
     where_next (loose (relation names I negated left before count))
     (where_next (loose (sign_test negated left count))
     (class_or _ negated end left count))
@@ -128,21 +128,21 @@ pub not_test : (names : Names) {inner : Inner} → InnerLaw inner →
     Law true (tests.not_test names inner end left before count)
 unfolding tests.not_test
 not_test names I end left before count =
-    key (codes "NOT") >> test names I true end left before count
+    key (codes "NOT") >> one_test names I true end left before count
 
 pub behind_is : (names : Names) {inner : Inner} → InnerLaw inner →
     (left : Side) (before count : ℕ) → Law true (tests.behind_is names inner left before count)
 unfolding tests.behind_is
 behind_is names I left before count =
     key (codes "IS") >> where_next (loose (not_test names I None left before count))
-    (test names I false None left before count)
+    (one_test names I false None left before count)
 
 pub tested : (names : Names) {inner : Inner} → InnerLaw inner → (left : Side) (before count : ℕ) →
     Law false (tests.tested names inner left before count)
 unfolding tests.tested
 tested names I left before count =
     where_next (loose (behind_is names I left before count))
-    (where_next (loose (not_test names I (Some true) left before count)) (test names I false
+    (where_next (loose (not_test names I (Some true) left before count)) (one_test names I false
     (Some false) left before count))
 
 -- ---- prim

@@ -44,11 +44,11 @@ module _ (names : Names) {less more : Inner} (I : InnerDeepens less more) where
     same note
     same pure
 
-  test : (negated : Bool) (end : Option Bool) (left : Side) (before count : ℕ) →
-      Deepens (levels_of Parens) false (tests.test names less negated end left before count)
-      (tests.test names more negated end left before count)
-  unfolding tests.test
-  test negated end left before count =
+  one_test : (negated : Bool) (end : Option Bool) (left : Side) (before count : ℕ) →
+      Deepens (levels_of Parens) false (tests.one_test names less negated end left before count)
+      (tests.one_test names more negated end left before count)
+  unfolding tests.one_test
+  one_test negated end left before count =
       where_next (eased (relation negated left before count))
       (where_next (same (laws.loose (law.sign_test negated left count))) (same
       (law.class_or _ negated end left count)))
@@ -57,14 +57,14 @@ module _ (names : Names) {less more : Inner} (I : InnerDeepens less more) where
       Deepens (levels_of Parens) true (tests.not_test names less end left before count)
       (tests.not_test names more end left before count)
   unfolding tests.not_test
-  not_test end left before count = same (key (codes "NOT")) >> test true end left before count
+  not_test end left before count = same (key (codes "NOT")) >> one_test true end left before count
 
   behind_is : (left : Side) (before count : ℕ) →
       Deepens (levels_of Parens) true (tests.behind_is names less left before count)
       (tests.behind_is names more left before count)
   unfolding tests.behind_is
   behind_is left before count = same (key (codes "IS")) >> where_next (eased
-      (not_test None left before count)) (test false None left before count)
+      (not_test None left before count)) (one_test false None left before count)
 
   tested : (left : Side) (before count : ℕ) →
       Deepens (levels_of Parens) false (tests.tested names less left before count)
@@ -72,7 +72,7 @@ module _ (names : Names) {less more : Inner} (I : InnerDeepens less more) where
   unfolding tests.tested
   tested left before count =
       where_next (eased (behind_is left before count))
-      (where_next (eased (not_test (Some true) left before count)) (test false
+      (where_next (eased (not_test (Some true) left before count)) (one_test false
       (Some false) left before count))
 
   side_prim : (before : ℕ) (side : Side) (count : ℕ) →

@@ -77,24 +77,24 @@ class_or shapes.Ref negated end left count =
     where_next begins_class (class_test negated left count) (untested end left count)
 class_or _ negated end left count = untested end left count
 
-unfoldable pub test : Names → Inner → Bool → Option Bool → Side → ℕ → ℕ → Form Read
-test names inner negated end left before count =
+unfoldable pub one_test : Names → Inner → Bool → Option Bool → Side → ℕ → ℕ → Form Read
+one_test names inner negated end left before count =
     where_next (begins_rel_behind negated) (relation names inner negated left before count)
     (where_next begins_sign (sign_test negated left count)
     (class_or (shape_of left.what) negated end left count))
 
 unfoldable pub not_test : Names → Inner → Option Bool → Side → ℕ → ℕ → Form Read
 not_test names inner end left before count =
-    key (codes "NOT") >> test names inner true end left before count
+    key (codes "NOT") >> one_test names inner true end left before count
 
 unfoldable pub behind_is : Names → Inner → Side → ℕ → ℕ → Form Read
 behind_is names inner left before count = do
   key (codes "IS")
   where_next (is_key (codes "NOT")) (not_test names inner None left before count)
-      (test names inner false None left before count)
+      (one_test names inner false None left before count)
 
 unfoldable pub tested : Names → Inner → Side → ℕ → ℕ → Form Read
 tested names inner left before count =
     where_next (is_key (codes "IS")) (behind_is names inner left before count)
     (where_next (is_key (codes "NOT")) (not_test names inner (Some true) left before count)
-    (test names inner false (Some false) left before count))
+    (one_test names inner false (Some false) left before count))

@@ -162,17 +162,17 @@ module _ {Side Known : Type 0} {parts : Parts Side Known} (P : PartsAreLawful pa
   test_by None = test_cond >>= (λ cond. pure)
   test_by (Some known) = value_test known
 
-  pub test : (known : Option Known) → Law true (choice.test parts known)
-  unfolding choice.test choice.any_test
-  test known = where_next (key (codes "ANY") >> pure) (test_by known)
+  pub one_test : (known : Option Known) → Law true (choice.one_test parts known)
+  unfolding choice.one_test choice.any_test
+  one_test known = where_next (key (codes "ANY") >> pure) (test_by known)
 
   pub next_test : (known : Option Known) → Law true (choice.next_test parts known)
   unfolding choice.next_test
-  next_test known = key (codes "WHEN") >> test known
+  next_test known = key (codes "WHEN") >> one_test known
 
   pub all_tests : (known : Option Known) → Law true (choice.all_tests parts known)
   unfolding choice.all_tests
-  all_tests known = test known >>= (λ first. loop (λ front. added front (next_test known)))
+  all_tests known = one_test known >>= (λ first. loop (λ front. added front (next_test known)))
 
   pub first_tests : (known : Option Known) → Law true (choice.first_tests parts known)
   unfolding choice.first_tests

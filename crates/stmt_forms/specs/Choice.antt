@@ -133,12 +133,12 @@ unfoldable pub test_by : {Side Known : Type 0} → (parts : Parts Side Known) �
 test_by parts None = cond_test parts
 test_by parts (Some known) = value_test parts known
 
-unfoldable pub test : {Side Known : Type 0} → (parts : Parts Side Known) → Option Known → Form Test
-test parts known = where_next (is_key (codes "ANY")) any_test (test_by parts known)
+unfoldable pub one_test : {Side Known : Type 0} → (parts : Parts Side Known) → Option Known → Form Test
+one_test parts known = where_next (is_key (codes "ANY")) any_test (test_by parts known)
 
 unfoldable pub next_test : {Side Known : Type 0} → (parts : Parts Side Known) →
     Option Known → Form Test
-next_test parts known = key (codes "WHEN") >> test parts known
+next_test parts known = key (codes "WHEN") >> one_test parts known
 
 abbrev pub more_tests : {Side Known : Type 0} → (parts : Parts Side Known) →
     Option Known → List Test → Form (List Test)
@@ -148,7 +148,7 @@ more_tests parts known before = loop (is_key (codes "WHEN")) (added (next_test p
 unfoldable pub all_tests : {Side Known : Type 0} → (parts : Parts Side Known) → Option Known →
     Form (List Test)
 all_tests parts known = do
-  first ← test parts known
+  first ← one_test parts known
   more_tests parts known (first ∷ [])
 
 -- ---- EVALUATE

@@ -1,0 +1,15 @@
+//! Reads what stands of a statement before and between the statements that it holds, over any
+//! readers of operands, references, conditions and names (`Parts`).
+//!
+//! Each function reads exactly by the form of its name in `stmt_forms` (ISO 1989:1985, PROCEDURE
+//! DIVISION), which is said by `Reads`. None of them calls itself: the lists of statements that are
+//! held are read by a crate above.
+#![tactic(auto)]
+
+mod arms;
+mod choice;
+mod control;
+
+pub use arms::{Worked, arithmetic_work, end_word, end_work, first_phrase, not_phrase, read_head};
+pub use choice::{evaluate_head, first_tests, if_head, when_head};
+pub use control::{loop_end, perform_head};
