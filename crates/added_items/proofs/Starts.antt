@@ -59,7 +59,7 @@ item-puts tail entry area = by_case (sets_bytes entry)
     by_case true = record { same = whole.same; long = whole.long }
     by_case false = record { same = λ store below. refl; long = λ store. refl }
 
-started-long : (entries : List Entry) (areas : List Area) (store : Roots) → length (started_over entries areas store) ≡ length store
+pub started-long : (entries : List Entry) (areas : List Area) (store : Roots) → length (started_over entries areas store) ≡ length store
 started-long [] areas store = refl
 started-long (entry ∷ entries) [] store = refl
 started-long (entry ∷ entries) (area ∷ areas) store =
@@ -140,7 +140,7 @@ blank-apart : (sizes more : List ℕ) → blank (sizes ++ more) ≡ blank sizes 
 blank-apart [] more = refl
 blank-apart (size ∷ sizes) more = ap (λ l. spaces size ∷ l) (blank-apart sizes more)
 
-blank-long : (sizes : List ℕ) → length (blank sizes) ≡ length sizes
+pub blank-long : (sizes : List ℕ) → length (blank sizes) ≡ length sizes
 blank-long [] = refl
 blank-long (size ∷ sizes) = ap suc (blank-long sizes)
 

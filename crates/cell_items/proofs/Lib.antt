@@ -4,3 +4,9 @@ pub mod Cells
 pub mod Moves
 -- comparisons
 pub mod Tests
+-- SUBTRACT of a number
+pub mod Lowers
+-- EVALUATE
+pub mod Choices
+-- MOVE of an operand
+pub mod Takes

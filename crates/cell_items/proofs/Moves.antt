@@ -28,11 +28,11 @@ use Rattle.cell_items.proofs.Cells.{cell-found, bytes-long}
 
 -- ---- a whole number is kept as it is
 
-with-own-sign : (value : ℤ) → with_sign value (unsigned_abs value) ≡ value
+pub with-own-sign : (value : ℤ) → with_sign value (unsigned_abs value) ≡ value
 with-own-sign (pos n) = refl
 with-own-sign (negsuc n) = refl
 
-units-whole : (number : Dec) → number.scale ≡ 0 → whole_units number 0 false ≡ unsigned_abs number.value
+pub units-whole : (number : Dec) → number.scale ≡ 0 → whole_units number 0 false ≡ unsigned_abs number.value
 units-whole number whole = ap (λ s. unsigned_abs number.value * 10 ^ (0 - s) / 10 ^ (s - 0)) whole ∙ omega arith
 
 pub stored-whole : (number : Dec) (digits : ℕ) → number.scale ≡ 0 → unsigned_abs number.value < 10 ^ digits → (stored_of number digits 0 false).value ≡ number.value
@@ -59,7 +59,7 @@ get-long : (store : Roots) (root : ℕ) (bytes : List ℕ) → slice_get store r
 get-long store root bytes is = slice_get_within store root bytes is
 
 -- bytes in the place of as many
-put-whole : (store : Roots) (root size : ℕ) (old bytes : List ℕ) → slice_get store root ≡ Some old → length old ≡ size → length bytes ≡ size →
+pub put-whole : (store : Roots) (root size : ℕ) (old bytes : List ℕ) → slice_get store root ≡ Some old → length old ≡ size → length bytes ≡ size →
     put_at store (record { root = root; start = 0; length = size }) bytes ≡ slice_set store root bytes
 put-whole store root size old bytes is old-long long =
     ap (λ b. if nat_le (0 + size) (length b) then slice_set store root (replaced b 0 size bytes) else store) (ap (λ b. unwrap_or b []) is)

@@ -35,7 +35,7 @@ use Rattle.cell_items.specs.Cell.{cell_place, cell_operand, number_operand, oper
 use Rattle.cell_items.specs.Laws.{IsWhole, cell_relation}
 use Rattle.cell_items.proofs.Cells.{cell-found, cell-read, fits-of, read-whole}
 
-side_at : Memory → Operand-F Expr Operand Place Sub Window → Answer Side
+unfoldable pub side_at : Memory → Operand-F Expr Operand Place Sub Window → Answer Side
 side_at memory y = elim y [
   | Operand-F.Place place ↦ place_side memory place
   | Operand-F.Number number ↦ Ok (Literal number)
@@ -43,11 +43,11 @@ side_at memory y = elim y [
   | Operand-F.Figure figure ↦ Ok (figure_side figure)
 ]
 
-number-side : (memory : Memory) (number : Number) → operand_side memory (number_operand number) ≡ Ok (Literal number)
+pub number-side : (memory : Memory) (number : Number) → operand_side memory (number_operand number) ≡ Ok (Literal number)
 unfolding side_at
 number-side memory number = ap (side_at memory) (out-roll-Operand (Operand-F.Number number))
 
-cell-side : (memory : Memory) (item : ℕ) → operand_side memory (cell_operand item) ≡ place_side memory (cell_place item)
+pub cell-side : (memory : Memory) (item : ℕ) → operand_side memory (cell_operand item) ≡ place_side memory (cell_place item)
 unfolding side_at
 cell-side memory item = ap (side_at memory) (out-roll-Operand (Operand-F.Place (cell_place item)))
 
@@ -57,28 +57,28 @@ expr_side_at memory expr y = elim y [
   | _ ↦ and_then (expr_value expr memory) (λ value. and_then (valued value) (λ number. Ok (Amount number)))
 ]
 
-leaf-side : (memory : Memory) (operand : Operand) → expr_side memory (operand_expr operand) ≡ operand_side memory operand
+pub leaf-side : (memory : Memory) (operand : Operand) → expr_side memory (operand_expr operand) ≡ operand_side memory operand
 unfolding expr_side_at
 leaf-side memory operand = ap (expr_side_at memory (operand_expr operand)) (out-roll-Expr (Expr-F.Leaf operand))
 
 -- a whole number of at most 18 digits as a decimal number
-below-limit : (value : ℤ) (digits : ℕ) → digits ≤ 18 → unsigned_abs value < 10 ^ digits → FitsDigits value
+pub below-limit : (value : ℤ) (digits : ℕ) → digits ≤ 18 → unsigned_abs value < 10 ^ digits → FitsDigits value
 below-limit value digits few fits = let more = power_up_to digits 36 (omega (arith, few)) in omega (arith, fits, more)
 
-abbrev whole_of : (value : ℤ) → FitsDigits value → Dec
+abbrev pub whole_of : (value : ℤ) → FitsDigits value → Dec
 whole_of value fits = decimal_of value 0 fits (omega arith)
 
-number-is : (value : ℤ) (fits : FitsDigits value) → number_of (Some value) 0 ≡ Ok (whole_of value fits)
+pub number-is : (value : ℤ) (fits : FitsDigits value) → number_of (Some value) 0 ≡ Ok (whole_of value fits)
 number-is value fits = ap (there_or BadDigits) (decimal_yes value 0 fits (omega arith))
 
 module _ (areas : List Area) (item root digits : ℕ) (signed : Bool) (cell : IsCell areas item root digits signed) (store : Roots) (value : ℤ) (fits : Fits signed digits value) (holding : Holds store root digits signed value) where
-  abbrev memory : Memory
+  abbrev pub memory : Memory
   memory = memory_of areas store
 
-  abbrev side : Side
+  abbrev pub side : Side
   side = Item signed 0 Within (cell_bytes digits signed value)
 
-  cell-read-side : expr_side memory (operand_expr (cell_operand item)) ≡ Ok side
+  pub cell-read-side : expr_side memory (operand_expr (cell_operand item)) ≡ Ok side
   cell-read-side =
       leaf-side memory (cell_operand item) ∙ cell-side memory item
       ∙ ap (λ r. and_then r (λ (place : Reached). Ok (item_side place.form (spot_bytes store place.spot)))) (cell-found areas item root digits signed cell store)

@@ -7,4 +7,7 @@
 
 mod laws;
 
-pub use laws::{held_numbers_are_compared, moved_numbers_are_held};
+pub use laws::{
+    held_numbers_are_compared, held_numbers_are_lowered, held_numbers_choose,
+    moved_numbers_are_held, moved_values_are_held,
+};

@@ -15,11 +15,11 @@ behind-by : (digit : Bool) (now number : ℕ) (xs ys : List ℕ) → digits_afte
 behind-by true now number xs ys h = h
 behind-by false now number xs ys h = refl
 
-behind : (number : ℕ) (xs ys : List ℕ) → digits_after number (xs ++ ys) ≡ option_and_then (λ m. digits_after m ys) (digits_after number xs)
+pub behind : (number : ℕ) (xs ys : List ℕ) → digits_after number (xs ++ ys) ≡ option_and_then (λ m. digits_after m ys) (digits_after number xs)
 behind number [] ys = refl
 behind number (x ∷ xs) ys = behind-by (is_digit x) (number * 10 + (x - 48)) number xs ys (behind (number * 10 + (x - 48)) xs ys)
 
-digit-read : (number digit : ℕ) → digit < 10 → digits_after number ((48 + digit) ∷ []) ≡ Some (number * 10 + digit)
+pub digit-read : (number digit : ℕ) → digit < 10 → digits_after number ((48 + digit) ∷ []) ≡ Some (number * 10 + digit)
 digit-read number digit h =
     ap (λ b. if b then Some (number * 10 + ((48 + digit) - 48)) else None) (is_digit-of digit h)
     ∙ ap (λ d. Some (number * 10 + d)) (omega arith)

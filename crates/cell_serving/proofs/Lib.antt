@@ -1,0 +1,16 @@
+-- what is stored behind a program's own
+pub mod Tails
+-- one cell is given a value
+pub mod Changed
+-- numbers of items
+pub mod Numbers
+-- the words on cells
+pub mod Words
+-- all parts
+pub mod Serving
+-- GO TO DEPENDING
+pub mod Depending
+-- literals, and the entries of the items
+pub mod Entries
+-- operands and places that are worth whole numbers
+pub mod Amounts

@@ -1,0 +1,40 @@
+//! The law of the items that stand for cells.
+
+ghost use Rattle.cell_serving.specs.Amounts.{AmountsAreWhole, WholePlacesAreWhole};
+ghost use Rattle.cell_serving.specs.Choosing.{WrittenChoosersChooseAlike};
+ghost use Rattle.cell_serving.specs.Entries.{CellEntriesAreDeclared, WholeLiteralsAreWorth};
+ghost use Rattle.cell_serving.specs.Laws.{WrittenPartsServe};
+
+/// Parts that name a program's own items do the same in the written program, and the words on cells
+/// do there, by items, what they say.
+pub fn written_parts_serve()
+    ensures { WrittenPartsServe }
+{}
+
+/// The chooser that is written for one takes the same arm; for GO TO DEPENDING that is EVALUATE.
+pub fn written_choosers_choose_alike()
+    ensures { WrittenChoosersChooseAlike }
+{}
+
+/// A number of at most 18 digits, spelled as a literal, is worth that number.
+pub fn whole_literals_are_worth()
+    ensures { WholeLiteralsAreWorth }
+{}
+
+/// Entries `01 .. PIC 9(n) VALUE 0` behind a program's own are cells, and a run starts with zero in
+/// each.
+pub fn cell_entries_are_declared()
+    ensures { CellEntriesAreDeclared }
+{}
+
+/// An item without decimal places, of at most 18 digits, is a whole number whatever is stored, or
+/// can't be reached.
+pub fn whole_places_are_whole()
+    ensures { WholePlacesAreWhole }
+{}
+
+/// Such an item, a whole number and ZERO are worth a whole number of 18 digits at most, or can't be
+/// read.
+pub fn amounts_are_whole()
+    ensures { AmountsAreWhole }
+{}
