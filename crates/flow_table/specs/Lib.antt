@@ -1,0 +1,2 @@
+-- what is told of a program's places while they are numbered
+pub mod Numbering

@@ -1,0 +1,3 @@
+mod DigitWords
+mod WithinLemmas
+mod ScanLemmas

@@ -1,0 +1,2 @@
+-- Paragraphs and sections by name, as headers tell them.
+pub mod Procedures
