@@ -65,7 +65,7 @@ digits-bound (byte ∷ bytes) number found is = by_digit (digits-bound bytes (nu
         step : 10 * 10 ^ length bytes ≡ 10 ^ suc (length bytes)
         step = omega arith
 
-value-bound : (bytes : List ℕ) (digits found : ℕ) → length bytes ≤ digits → digits_value bytes ≡ Some found → found < 10 ^ digits
+pub value-bound : (bytes : List ℕ) (digits found : ℕ) → length bytes ≤ digits → digits_value bytes ≡ Some found → found < 10 ^ digits
 value-bound bytes digits found short is = by_length (nat_le (length bytes) 18) is
   where
     by_length : (t : Bool) → (if t then digits_after 0 bytes else None) ≡ Some found → found < 10 ^ digits
@@ -81,7 +81,7 @@ positive-of (Some n) number is = (n, refl, ap unsigned_abs (sym (inner is)))
     inner : Some (pos n) ≡ Some number → pos n ≡ number
     inner e = cc
 
-size-neg : (n : ℕ) → unsigned_abs (neg_ℤ (pos n)) ≡ n
+pub size-neg : (n : ℕ) → unsigned_abs (neg_ℤ (pos n)) ≡ n
 size-neg zero = refl
 size-neg (suc n) = refl
 

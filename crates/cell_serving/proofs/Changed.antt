@@ -14,7 +14,7 @@ use Rattle.cobol_meaning.specs.Acting.{Memory}
 use Rattle.cell_serving.specs.Table.{CellTable, AreCells, HoldsCell, Carries, left_of}
 use Rattle.cell_serving.proofs.Tails.{get-behind, set-behind, set-own, set-other}
 
-same-number : (m n : ℕ) → ((m == n) ≡ true) × (m ≡ n) ⊎ ((m == n) ≡ false) × (m ≢ n)
+pub same-number : (m n : ℕ) → ((m == n) ≡ true) × (m ≡ n) ⊎ ((m == n) ≡ false) × (m ≢ n)
 same-number m n = eqb_tells m n
 
 module _ (declared : Declared) (added : AddedItems) (table : CellTable) (are : AreCells declared added table) where

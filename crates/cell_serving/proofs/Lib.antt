@@ -14,3 +14,5 @@ pub mod Depending
 pub mod Entries
 -- operands and places that are worth whole numbers
 pub mod Amounts
+-- the tests of a table
+pub mod Tested

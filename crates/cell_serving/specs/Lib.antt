@@ -10,3 +10,5 @@ pub mod Choosing
 pub mod Entries
 -- operands and places that are worth whole numbers
 pub mod Amounts
+-- which parts may be written, as a test
+pub mod Tested

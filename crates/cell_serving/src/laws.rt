@@ -3,6 +3,7 @@
 ghost use Rattle.cell_serving.specs.Amounts.{AmountsAreWhole, WholePlacesAreWhole};
 ghost use Rattle.cell_serving.specs.Choosing.{WrittenChoosersChooseAlike};
 ghost use Rattle.cell_serving.specs.Entries.{CellEntriesAreDeclared, WholeLiteralsAreWorth};
+ghost use Rattle.cell_serving.specs.Tested.{TestedPartsAreOfKinds};
 ghost use Rattle.cell_serving.specs.Laws.{WrittenPartsServe};
 
 /// Parts that name a program's own items do the same in the written program, and the words on cells
@@ -37,4 +38,9 @@ pub fn whole_places_are_whole()
 /// read.
 pub fn amounts_are_whole()
     ensures { AmountsAreWhole }
+{}
+
+/// What passes the tests of a table of cells is of the kinds that serve.
+pub fn tested_parts_are_of_kinds()
+    ensures { TestedPartsAreOfKinds }
 {}

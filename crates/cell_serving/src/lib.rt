@@ -7,6 +7,7 @@
 mod laws;
 
 pub use laws::{
-    amounts_are_whole, cell_entries_are_declared, whole_literals_are_worth, whole_places_are_whole,
-    written_choosers_choose_alike, written_parts_serve,
+    amounts_are_whole, cell_entries_are_declared, tested_parts_are_of_kinds,
+    whole_literals_are_worth, whole_places_are_whole, written_choosers_choose_alike,
+    written_parts_serve,
 };
