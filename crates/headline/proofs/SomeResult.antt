@@ -1,14 +1,15 @@
 -- For any parts there is a structured result of the same behaviour.
-use Rattle.std.proofs.Common.{◌≡◌, ℕ, refl, true, List, ◌∷◌}
+use Rattle.std.proofs.Common.{◌≡◌, ℕ, suc, refl, true, List, ◌∷◌}
 use Rattle.language.specs.Language.{Act, Own, Set, Take, Lower, Test, Holds, Not, Is, Above, Picker, If, By, ByCell, Control, Times, Until, Varying, Stmt, Choose, Loop, Perform, Go, GoDepending, NextSentence, ExitParagraph, ExitSection, ExitPerform, StopRun, Stmts, none, also, Arms, done, given, missing, Body, Nested, Performed, Range, Main}
 use Rattle.language.specs.Language as language
-use Rattle.control.specs.Graph.{Tree, tree, End, Pick, Jump, Return, Stop, Dead, Trees, no_more, more}
+use Rattle.control.specs.Graph.{Tree, tree, End, Pick, Jump, Return, Stop, Dead, Trees, no_more, more, body_of}
 use Rattle.lowering.specs.WellFormed.{tree_count}
-use Rattle.graph_rules.specs.Families.{Has, MaySet}
-use Rattle.graph_rules.specs.Reduced.{family_of, kinds_of, size}
+use Rattle.graph_rules.specs.Families.{Added, Never, Flag, Count, State, Exit, Has, MaySet}
+use Rattle.graph_rules.specs.Reduced.{Graph, tree_in, family_of, kinds_of, size}
+use Rattle.closing.specs.Closes.{closed_graph}
 use Rattle.rendering.specs.Rendering.{Naming, Procedure, count_arms}
 use Rattle.rendering.specs.Procedures.{Writable, ActFits, TestFits, ControlFits}
-use Rattle.headline.specs.Chain.{lowered_graphs, procedures_of, PickerNames, StmtNames, StmtsName, ArmsName, BodyNames, EndNames, TreesName, TreeNames, CellsServed, PickerServed, StmtServed, StmtsServed, ArmsServed, BodyServed, EndServed, TreesServed, TreeServed, SomeResultBehaves}
+use Rattle.headline.specs.Chain.{lowered_graphs, procedures_of, PickerNames, StmtNames, StmtsName, ArmsName, BodyNames, EndNames, TreesName, TreeNames, KindServed, CellsServed, PickerServed, StmtServed, StmtsServed, ArmsServed, BodyServed, EndServed, TreesServed, TreeServed, SomeResultBehaves}
 use Rattle.rendering.proofs.Serviceable.{whole, names, whole-serves}
 use Rattle.headline.proofs.Chain.{headline-over-control}
 use Rattle.headline.proofs.graphs.LoweredStand.{closed-at, closed-graphs-stand}
@@ -27,8 +28,18 @@ every-kind = record {
   chooses = λ range cell arms. true;
 }
 
-pub every-cell : (range : Range) (nodes : ℕ) → CellsServed every-kind range nodes
-every-cell range nodes = record { sets = λ cell value le. refl; compares = λ cell value le. refl; aboves = λ cell. refl; chooses = λ cell arms le. refl }
+pub every-cell : (range : Range) (closed : Graph) (nodes : ℕ) → CellsServed every-kind range closed nodes
+every-cell range closed nodes = λ cell kind is. served cell kind
+  where
+    body : Stmts
+    body = body_of (tree_in closed.nodes closed.entry)
+
+    served : (cell : ℕ) (kind : Added) → KindServed every-kind range body (suc nodes) cell kind
+    served cell Never = refl
+    served cell Flag = (refl, refl, refl)
+    served cell Count = tt
+    served cell State = (refl, λ arms h le. (λ value few. refl, refl))
+    served cell Exit = (refl, λ arms h le. (λ value few. refl, refl))
 
 -- every part is served, where no choice is by a cell
 module _ (naming : Naming) (procedures : List Procedure) (range : Range) (R W : ℕ → Type 0) where
@@ -103,6 +114,6 @@ some-result-behaves = λ acting left first empty told program keep numbers added
     let naming = names acting left first every-kind empty in
     let same = headline-over-control acting left first result (λ memory. left memory.own) (λ world. record { own = first world; cells = λ range cell. 0 }) (λ memory other. memory ≡ other) naming every-kind
     told program keep numbers added others is_told source some fair plan
-    (closed-graphs-stand naming every-kind told program keep numbers added others (λ r. every-cell r (size (lowered_graphs told program keep numbers added r).nodes)) source some plan
-    (λ range here label. tree-served naming (procedures_of (Main ∷ others) graphs) range (Has (kinds_of graphs) range) (MaySet (kinds_of graphs) range) ((family_of graphs).node range label) (plan.names range here label))) (closed-performed (Main ∷ others) graphs (closed-at naming every-kind told program keep numbers added others (λ r. every-cell r (size (lowered_graphs told program keep numbers added r).nodes)) source some plan (λ range here label. tree-served naming (procedures_of (Main ∷ others) graphs) range (Has (kinds_of graphs) range) (MaySet (kinds_of graphs) range) ((family_of graphs).node range label) (plan.names range here label))) called) (whole-serves acting left first every-kind empty) in
+    (closed-graphs-stand naming every-kind told program keep numbers added others (λ r here. every-cell r (closed_graph (graphs r)) (size (graphs r).nodes)) source some plan
+    (λ range here label. tree-served naming (procedures_of (Main ∷ others) graphs) range (Has (kinds_of graphs) range) (MaySet (kinds_of graphs) range) ((family_of graphs).node range label) (plan.names range here label))) (closed-performed (Main ∷ others) graphs (closed-at naming every-kind told program keep numbers added others (λ r here. every-cell r (closed_graph (graphs r)) (size (graphs r).nodes)) source some plan (λ range here label. tree-served naming (procedures_of (Main ∷ others) graphs) range (Has (kinds_of graphs) range) (MaySet (kinds_of graphs) range) ((family_of graphs).node range label) (plan.names range here label))) called) (whole-serves acting left first every-kind empty) in
     (result, naming, refl, same.0, same.1)

@@ -6,48 +6,30 @@ use Rattle.control.specs.Graph.{Label, Tree, tree, End, Pick, Jump, Return, Stop
 use Rattle.lowering.specs.WellFormed.{tree_count}
 use Rattle.rendering.specs.Rendering.{Naming, Procedure, count_arms}
 use Rattle.rendering.specs.Procedures.{Writable, TestFits, StmtsStand, ArmsStand}
+use Rattle.graph_rules.specs.Families.{Added, Never, Flag, State, Exit}
 use Rattle.graph_rules.specs.Loops.{Keeper, Flagged, Endless, turned_test, tested_node}
 use Rattle.graph_rules.specs.Shapes.{followed, alone, Live, ToLabel, Back, end_at, Targets, NoTarget, Only, Several, both_targets, leaf_targets, arms_targets, last_stmts, arms_stmts, join_by, joined, join_end, joined_arms, inlined, inline_end, inlined_arms, other_targets, leaving, flat, flat_end, flat_arms}
-use Rattle.graph_rules.specs.Reduced.{Node, Graph, tree_in, count, with_tree, without, each_tree, join_graph, inline_graph, inlines, lowest, loops, Form, form_of, close_form, close_by, inline_step, loop_step, rule_step, stepped, size, reduced, shaped}
-use Rattle.closing.specs.Dispatches.{stated_end, stated_tree, stated_arms, number_in, length_of, set_to, exit_jump, bare, state_jump, node_arms, some_returns, return_if, labels_of}
-use Rattle.closing.specs.Dispatches as dispatches
+use Rattle.graph_rules.specs.Reduced.{Node, Graph, tree_in, kind_at, count, with_tree, without, each_tree, join_graph, inline_graph, inlines, lowest, loops, Form, form_of, close_form, close_by, inline_step, loop_step, rule_step, stepped, size, reduced, shaped}
+use Rattle.closing.specs.Dispatches.{Numbered, either, end_returns, tree_returns, trees_return, stated_end, stated_tree, stated_arms, number_in, length_of, set_to, exit_jump, bare, state_jump, node_arms, some_returns, return_if, labels_of}
 use Rattle.closing.specs.Targets.{targets_of, with_exits}
 use Rattle.closing.specs.Closes.{none_left_out, has_exits, exits_graph, exits_step, or_exits, any_step, reduced_by_all, dispatch_graph, dispatch_rest, closed_graph, IsClosed}
-use Rattle.headline.specs.Chain.{CellsServed}
-use Rattle.graph_rules.proofs.shapes.Reducing.{form-is}
-use Rattle.closing.proofs.closing.RulesStayClosed.{shaped-closed, any-step-closed}
-use Rattle.headline.proofs.graphs.Bounds.{number-most, labels-size, targets-most, bare-most, node-arms-count, step-fewer, by-all-fewer, shaped-fewer}
+use Rattle.headline.specs.Chain.{stmts_choose, KindServed}
+use Rattle.graph_rules.proofs.shapes.Reducing.{form-is, kind-next}
+use Rattle.closing.proofs.closing.RulesStayClosed.{join-closed, lowest-in, rule-step-closed, shaped-closed, any-step-closed}
+use Rattle.headline.proofs.graphs.ArmCounts.{last-several, joined-count, arms-count, inlined-count, flat-count, stated-count}
+use Rattle.headline.proofs.graphs.ChoicesKept.{picks-self, join-graph-chooses, put-chooses, dispatch-own}
+use Rattle.headline.proofs.graphs.CellsKept.{Leads, reduced-leads, by-all-leads, rest-leads}
+use Rattle.headline.proofs.graphs.Bounds.{number-most, labels-size, targets-most, bare-most, bare-least, bare-returns, node-arms-count, step-fewer, by-all-fewer, shaped-fewer}
 
 assoc : (a b c : Stmts) → followed (followed a b) c ≡ followed a (followed b c)
 assoc none b c = refl
 assoc (also stmt a) b c = ap (also stmt) (assoc a b c)
 
-pub last-several : (t : Targets) → both_targets t Several ≡ Several
-last-several NoTarget = refl
-last-several (Only live) = refl
-last-several Several = refl
+-- the number of arms behind a loop with several exits
+abbrev exit_arms : Label → Tree → ℕ
+exit_arms label t = tree_count (bare (targets_of label t) (tree_returns t))
 
-joined-count : (arms : Trees) → tree_count (joined_arms arms) ≡ tree_count arms
-joined-count no_more = refl
-joined-count (more first others) = ap suc (joined-count others)
-
-arms-count : (arms : Trees) → count_arms (arms_stmts arms) ≡ tree_count arms
-arms-count no_more = refl
-arms-count (more first others) = ap suc (arms-count others)
-
-inlined-count : (label : Label) (node : Tree) (arms : Trees) → tree_count (inlined_arms label node arms) ≡ tree_count arms
-inlined-count label node no_more = refl
-inlined-count label node (more first others) = ap suc (inlined-count label node others)
-
-flat-count : (keeper : Keeper) (cell : ℕ) (label : Label) (arms : Trees) → count_arms (flat_arms keeper cell label arms) ≡ tree_count arms
-flat-count keeper cell label no_more = refl
-flat-count keeper cell label (more first others) = ap suc (flat-count keeper cell label others)
-
-stated-count : (jump : Label → Stmts) (return : Stmts) (picker : Picker) (k : ℕ) (arms : Trees) → count_arms (stated_arms none_left_out jump return picker k arms) ≡ tree_count arms
-stated-count jump return picker k no_more = refl
-stated-count jump return picker k (more first others) = ap suc (stated-count jump return picker (suc k) others)
-
-module _ {most_nodes : ℕ} (naming : Naming) (kinds : Writable) (procedures : List Procedure) (range : Range) (all : CellsServed kinds range most_nodes) where
+module _ (naming : Naming) (kinds : Writable) (procedures : List Procedure) (range : Range) where
   abbrev Stands : Stmts → Type 0
   Stands stmts = StmtsStand naming kinds procedures range stmts
 
@@ -170,14 +152,14 @@ module _ {most_nodes : ℕ} (naming : Naming) (kinds : Writable) (procedures : L
 
   -- Loops.
 
-  set-stands : (cell value : ℕ) → value ≤ suc most_nodes → Stands (set_to cell value)
-  set-stands cell value le = (all.sets cell value le, inl tt)
+  set-stands : (cell value : ℕ) → kinds.sets range cell value ≡ true → Stands (set_to cell value)
+  set-stands cell value is = (is, inl tt)
 
-  leaving-stands : (keeper : Keeper) (cell : ℕ) → Stands (leaving keeper cell)
-  leaving-stands Flagged cell = set-stands cell 1 (omega arith)
-  leaving-stands Endless cell = tt
+  leaving-stands : (keeper : Keeper) (cell : ℕ) → (keeper ≡ Flagged → kinds.sets range cell 1 ≡ true) → Stands (leaving keeper cell)
+  leaving-stands Flagged cell sets = set-stands cell 1 (sets refl)
+  leaving-stands Endless cell sets = tt
 
-  module _ (keeper : Keeper) (cell : ℕ) (label : Label) where
+  module _ (keeper : Keeper) (cell : ℕ) (label : Label) (sets : keeper ≡ Flagged → kinds.sets range cell 1 ≡ true) where
     mutual
       flat-stands : (t : Tree) → TreeStands t → Stands (flat keeper cell label t)
       flat-stands (tree body end) = λ h. flat-end-stands body end h
@@ -186,9 +168,9 @@ module _ {most_nodes : ℕ} (naming : Naming) (kinds : Writable) (procedures : L
       flat-end-stands body (Pick picker arms) = λ h. h.0 (flat_arms keeper cell label arms) (flat-count keeper cell label arms) (flat-arms-stand arms h.1)
       flat-end-stands body (Jump to) = λ h. elim (to == label) as (λ b. Stands (followed body (if b then none else leaving keeper cell))) [
         | true ↦ followed-stands body none h tt
-        | false ↦ followed-stands body (leaving keeper cell) h (leaving-stands keeper cell)
+        | false ↦ followed-stands body (leaving keeper cell) h (leaving-stands keeper cell sets)
       ]
-      flat-end-stands body Return = λ h. followed-stands body (leaving keeper cell) h (leaving-stands keeper cell)
+      flat-end-stands body Return = λ h. followed-stands body (leaving keeper cell) h (leaving-stands keeper cell sets)
       flat-end-stands body Stop = λ h. followed-stands body (alone StopRun) h (tt, inl tt)
       flat-end-stands body Dead = λ h. followed-stands body none h tt
 
@@ -196,21 +178,29 @@ module _ {most_nodes : ℕ} (naming : Naming) (kinds : Writable) (procedures : L
       flat-arms-stand no_more = λ h. tt
       flat-arms-stand (more first others) = λ h. (flat-stands first h.0, flat-arms-stand others h.1)
 
-  module _ (jump : Label → Stmts) (return : Stmts) (jumps : (to : Label) → Stands (jump to)) (returns : Stands return) where
+  either-right : (a b : Bool) → b ≡ true → either a b ≡ true
+  either-right true b is = refl
+  either-right false b is = is
+
+  -- what stands for a return is needed only where there is one
+  module _ (jump : Label → Stmts) (return : Stmts) (jumps : (to : Label) → Stands (jump to)) where
     mutual
-      stated-stands : (t : Tree) → TreeStands t → Stands (stated_tree none_left_out jump return t)
-      stated-stands (tree body end) = λ h. stated-end-stands body end h
+      stated-stands : (t : Tree) → (tree_returns t ≡ true → Stands return) → TreeStands t → Stands (stated_tree none_left_out jump return t)
+      stated-stands (tree body end) = λ r h. stated-end-stands body end r h
 
-      stated-end-stands : (body : Stmts) (end : End) → EndStands body end → Stands (followed body (stated_end none_left_out jump return end))
-      stated-end-stands body (Pick picker arms) = λ h. h.0 (stated_arms none_left_out jump return picker 0 arms) (stated-count jump return picker 0 arms) (stated-arms-stand picker 0 arms h.1)
-      stated-end-stands body (Jump to) = λ h. followed-stands body (jump to) h (jumps to)
-      stated-end-stands body Return = λ h. followed-stands body return h returns
-      stated-end-stands body Stop = λ h. followed-stands body (alone StopRun) h (tt, inl tt)
-      stated-end-stands body Dead = λ h. followed-stands body none h tt
+      stated-end-stands : (body : Stmts) (end : End) → (end_returns end ≡ true → Stands return) → EndStands body end → Stands (followed body (stated_end none_left_out jump return end))
+      stated-end-stands body (Pick picker arms) = λ r h. h.0 (stated_arms none_left_out jump return picker 0 arms) (stated-count jump return picker 0 arms) (stated-arms-stand picker 0 arms r h.1)
+      stated-end-stands body (Jump to) = λ r h. followed-stands body (jump to) h (jumps to)
+      stated-end-stands body Return = λ r h. followed-stands body return h (r refl)
+      stated-end-stands body Stop = λ r h. followed-stands body (alone StopRun) h (tt, inl tt)
+      stated-end-stands body Dead = λ r h. followed-stands body none h tt
 
-      stated-arms-stand : (picker : Picker) (k : ℕ) (arms : Trees) → TreesStand arms → Arms-stand (stated_arms none_left_out jump return picker k arms)
-      stated-arms-stand picker k no_more = λ h. tt
-      stated-arms-stand picker k (more first others) = λ h. (stated-stands first h.0, stated-arms-stand picker (suc k) others h.1)
+      stated-arms-stand : (picker : Picker) (k : ℕ) (arms : Trees) → (trees_return arms ≡ true → Stands return) → TreesStand arms → Arms-stand (stated_arms none_left_out jump return picker k arms)
+      stated-arms-stand picker k no_more = λ r h. tt
+      stated-arms-stand picker k (more first others) = λ r h. (
+        stated-stands first (λ is. r (ap (λ b. either b (trees_return others)) is)) h.0,
+        stated-arms-stand picker (suc k) others (λ is. r (either-right (tree_returns first) (trees_return others) is)) h.1,
+      )
 
   -- a body before a live leaf
   live-stands : (body : Stmts) (live : Live) → Stands body → TreeStands (tree body (end_at live))
@@ -274,123 +264,176 @@ module _ {most_nodes : ℕ} (naming : Naming) (kinds : Writable) (procedures : L
   inline-graph-stands label graph h =
       each-stands (inlined label (tree_in graph.nodes label)) (inlined-stands label (tree_in graph.nodes label) (at-stands graph.nodes label h)) (without label graph.nodes) (without-stands label graph.nodes h)
 
-  close-form-stands : (label : Label) (live : Live) (graph : Graph) (form : Option Form) → form_of label live (tree_in graph.nodes label) ≡ form → GraphStands graph → GraphStands (close_form label live graph form)
-  close-form-stands label live graph (Some form) e h =
+  tested-form-stands : (label : Label) (live : Live) (graph : Graph) (form : Form) → form_of label live (tree_in graph.nodes label) ≡ Some form → GraphStands graph → GraphStands (close_form label live graph (Some form))
+  tested-form-stands label live graph form e h =
       let t = tree_in graph.nodes label in
       let k = tested-stands form.after form.turned form.test label form.body live (subst TreeStands (form-is label live t form e) (at-stands graph.nodes label h)) in
       let loop = alone (Loop (Until form.after (turned_test form.turned form.test)) (Nested form.body)) in
       with-stands label (tree loop (end_at live)) (live-stands loop live ((turned-fits form.turned form.test k.0, inl k.1), inl tt)) graph.nodes h
-  close-form-stands label live graph None e h =
-      let cell = count graph.added in
-      let body = flat Flagged cell label (tree_in graph.nodes label) in
-      let loop = also (Do (Set cell 0)) (also (Loop (Until false (Is cell 1)) (Nested body)) none) in
-      with-stands label (tree loop (end_at live))
-      (live-stands loop live (all.sets cell 0 (omega arith), inl ((all.compares cell 1 (omega arith), inl (flat-stands Flagged cell label (tree_in graph.nodes label) (at-stands graph.nodes label h))), inl tt))) graph.nodes h
 
-  close-by-stands : (label : Label) (graph : Graph) (targets : Targets) → GraphStands graph → GraphStands (close_by label graph targets)
-  close-by-stands label graph NoTarget h =
+  -- a loop with a flag
+  flag-stands : (label : Label) (live : Live) (graph : Graph) → let cell = count graph.added in (kinds.sets range cell 0 ≡ true) × (kinds.sets range cell 1 ≡ true) × (kinds.compares range cell 1 ≡ true) → GraphStands graph → GraphStands (close_form label live graph None)
+  flag-stands label live graph served h =
       let cell = count graph.added in
-      let body = flat Endless cell label (tree_in graph.nodes label) in
-      with-stands label (tree (also (Loop (Until false (Is cell 1)) (Nested body)) none) Dead)
-      ((all.compares cell 1 (omega arith), inl (flat-stands Endless cell label (tree_in graph.nodes label) (at-stands graph.nodes label h))), inl tt) graph.nodes h
-  close-by-stands label graph (Only live) h = close-form-stands label live graph (form_of label live (tree_in graph.nodes label)) refl h
-  close-by-stands label graph Several h = h
+      let t = tree_in graph.nodes label in
+      let loop = also (Do (Set cell 0)) (also (Loop (Until false (Is cell 1)) (Nested (flat Flagged cell label t))) none) in
+      with-stands label (tree loop (end_at live))
+      (live-stands loop live (served.0, inl ((served.2, inl (flat-stands Flagged cell label (λ e. served.1) t (at-stands graph.nodes label h))), inl tt))) graph.nodes h
+
+  endless-stands : (label : Label) (graph : Graph) → kinds.compares range (count graph.added) 1 ≡ true → GraphStands graph → GraphStands (close_by label graph NoTarget)
+  endless-stands label graph compares h =
+      let cell = count graph.added in
+      let t = tree_in graph.nodes label in
+      with-stands label (tree (also (Loop (Until false (Is cell 1)) (Nested (flat Endless cell label t))) none) Dead)
+      ((compares, inl (flat-stands Endless cell label (λ e. absurd (let x : Endless ≡ Flagged = e in cc)) t (at-stands graph.nodes label h))), inl tt) graph.nodes h
 
   bare-stands : (targets : List Label) (returns : Bool) → TreesStand (bare targets returns)
   bare-stands [] false = tt
   bare-stands [] true = (tt, tt)
   bare-stands (first ∷ others) returns = (tt, bare-stands others returns)
 
-  exit-jump-stands : (exit : ℕ) (label : Label) (targets : List Label) → length_of targets ≤ most_nodes → (to : Label) → Stands (exit_jump exit label targets to)
-  exit-jump-stands exit label targets few to =
+  -- 0 to this number may be moved to the cell
+  abbrev SetsTo : ℕ → ℕ → Type 0
+  SetsTo cell most = (value : ℕ) → value ≤ most → kinds.sets range cell value ≡ true
+
+  exit-jump-stands : (exit : ℕ) (label : Label) (targets : List Label) (arms : ℕ) → length_of targets ≤ arms → SetsTo exit arms → (to : Label) → Stands (exit_jump exit label targets to)
+  exit-jump-stands exit label targets arms few sets to =
       let n = number-most targets to in
       elim (to == label) as (λ b. Stands (if b then none else set_to exit (number_in targets to))) [
         | true ↦ tt
-        | false ↦ set-stands exit (number_in targets to) (omega (arith, n, few))
+        | false ↦ set-stands exit (number_in targets to) (sets (number_in targets to) (omega (arith, n, few)))
       ]
 
-  -- its jumps are to its nodes, of which there are so many at most
-  abbrev pub Kept : Graph → Type 0
-  Kept graph = IsClosed graph × (size graph.nodes ≤ most_nodes)
-
-  exits-stands : (label : Label) (graph : Graph) → Kept graph → GraphStands graph → GraphStands (exits_graph label graph)
-  exits-stands label graph k h =
+  exits-stands : (label : Label) (graph : Graph) → let exit = count graph.added in let arms = exit_arms label (tree_in graph.nodes label) in
+      kinds.aboves range exit ≡ true → SetsTo exit arms → kinds.chooses range exit arms ≡ true → GraphStands graph → GraphStands (exits_graph label graph)
+  exits-stands label graph above sets chooses h =
       let exit = count graph.added in
       let t = tree_in graph.nodes label in
       let targets = targets_of label t in
-      let few = k.1 in
-      let some = targets-most graph label k.0 in
-      let less : length_of targets ≤ most_nodes = omega (arith, some, few) in
-      let turn = stated-stands (exit_jump exit label targets) (set_to exit (suc (length_of targets))) (exit-jump-stands exit label targets less) (set-stands exit (suc (length_of targets)) (omega (arith, less))) t (at-stands graph.nodes label h) in
-      let bare_few = bare-most targets (dispatches.tree_returns t) in
+      let arms = exit_arms label t in
+      let few = bare-least targets (tree_returns t) in
+      let turn = stated-stands (exit_jump exit label targets) (set_to exit (suc (length_of targets))) (exit-jump-stands exit label targets arms few sets) t
+      (λ is. set-stands exit (suc (length_of targets)) (sets (suc (length_of targets)) (bare-returns targets (tree_returns t) is))) (at-stands graph.nodes label h) in
       with-stands label (with_exits none_left_out exit label t) (
-        (λ arms e s. (all.sets exit 0 (omega arith), inl ((all.aboves exit, inl turn), inr (exit, refl, (refl, all.chooses exit (count_arms arms) (omega (arith, e, bare_few, less)), s), tt)))),
-        bare-stands targets (dispatches.tree_returns t),
+        (λ news e s. (sets 0 (omega arith), inl ((above, inl turn), inr (exit, refl, (refl, subst (λ n. kinds.chooses range exit n ≡ true) (sym e) chooses, s), tt)))),
+        bare-stands targets (tree_returns t),
       ) graph.nodes h
 
-  node-arms-stand : (state : ℕ) (labels : List Label) → length_of labels ≤ most_nodes → (nodes : List Node) → AllStand nodes → Arms-stand (node_arms none_left_out state labels nodes)
-  node-arms-stand state labels few [] h = tt
-  node-arms-stand state labels few (node ∷ nodes) h = (
-    stated-stands (state_jump state labels) (set_to state 0) (λ to. (let n = number-most labels to in set-stands state (number_in labels to) (omega (arith, n, few)))) (set-stands state 0 (omega arith)) node.tree h.0,
-    node-arms-stand state labels few nodes h.1,
+  node-arms-stand : (state : ℕ) (labels : List Label) → SetsTo state (length_of labels) → (nodes : List Node) → AllStand nodes → Arms-stand (node_arms none_left_out state labels nodes)
+  node-arms-stand state labels sets [] h = tt
+  node-arms-stand state labels sets (node ∷ nodes) h = (
+    stated-stands (state_jump state labels) (set_to state 0) (λ to. set-stands state (number_in labels to) (sets (number_in labels to) (number-most labels to))) node.tree (λ is. set-stands state 0 (sets 0 (omega arith))) h.0,
+    node-arms-stand state labels sets nodes h.1,
   )
 
   return-stands : (body : Stmts) (returns : Bool) → Stands body → TreeStands (tree body (return_if returns))
   return-stands body true h = h
   return-stands body false h = h
 
-  dispatch-stands : (graph : Graph) → size graph.nodes ≤ most_nodes → GraphStands graph → GraphStands (dispatch_graph graph)
-  dispatch-stands graph few h =
+  dispatch-stands : (graph : Graph) → let state = count graph.added in kinds.compares range state 0 ≡ true → SetsTo state (size graph.nodes) → kinds.chooses range state (size graph.nodes) ≡ true → GraphStands graph → GraphStands (dispatch_graph graph)
+  dispatch-stands graph compares sets chooses h =
       let state = count graph.added in
       let labels = labels_of graph.nodes in
       let arms = node_arms none_left_out state labels graph.nodes in
       let first = number_in labels graph.entry in
-      let as_many = labels-size graph.nodes in
-      let less : length_of labels ≤ most_nodes = omega (arith, as_many, few) in
-      let n = number-most labels graph.entry in
-      let arms_are = node-arms-count state labels graph.nodes in (
+      let as_many = subst (SetsTo state) (sym (labels-size graph.nodes)) sets in
+      let choice = subst (λ n. kinds.chooses range state n ≡ true) (sym (node-arms-count state labels graph.nodes)) chooses in (
         return-stands (also (Do (Set state first)) (also (Loop (Until false (Is state 0)) (Nested (also (Choose (ByCell state) arms) none))) none)) (some_returns graph.nodes)
-            (all.sets state first (omega (arith, n, less)), inl ((all.compares state 0 (omega arith), inr (state, refl, (refl, all.chooses state (count_arms arms) (omega (arith, arms_are, few)), node-arms-stand state labels less graph.nodes h))), inl tt)),
+            (as_many first (number-most labels graph.entry), inl ((compares, inr (state, refl, (refl, choice, node-arms-stand state labels as_many graph.nodes h))), inl tt)),
         tt,
       )
 
   -- All rules in their order.
 
-  inline-step-stands : (graph : Graph) (found : Option Label) → GraphStands graph → GraphStands (stepped graph (inline_step graph found))
-  inline-step-stands graph None h = h
-  inline-step-stands graph (Some label) h = join-graph-stands (inline_graph label graph) (inline-graph-stands label graph h)
+  -- its jumps are to its nodes, of which there are so many at most
+  abbrev pub Kept : ℕ → Graph → Type 0
+  Kept nodes graph = IsClosed graph × (size graph.nodes ≤ nodes)
 
-  loop-step-stands : (graph : Graph) (found : Option Label) → GraphStands graph → GraphStands (stepped graph (loop_step graph found))
-  loop-step-stands graph None h = inline-step-stands graph (lowest (inlines graph) graph.nodes) h
-  loop-step-stands graph (Some label) h = close-by-stands label graph (other_targets label (tree_in graph.nodes label)) h
+  -- these cells and this body are of the closed graph
+  module _ (cells : List Added) (body : Stmts) (most_nodes : ℕ) (all : (cell : ℕ) (kind : Added) → kind_at cells cell ≡ Some kind → KindServed kinds range body (suc most_nodes) cell kind) where
+    abbrev pub Leading : Graph → Type 0
+    Leading graph = Leads cells body graph
 
-  exits-step-stands : (graph : Graph) (found : Option Label) → Kept graph → GraphStands graph → GraphStands (stepped graph (exits_step graph found))
-  exits-step-stands graph None k h = h
-  exits-step-stands graph (Some label) k h = join-graph-stands (exits_graph label graph) (exits-stands label graph k h)
+    form-stands : (label : Label) (live : Live) (graph : Graph) (form : Option Form) → form_of label live (tree_in graph.nodes label) ≡ form → Leading (close_form label live graph form) → GraphStands graph → GraphStands (close_form label live graph form)
+    form-stands label live graph (Some form) e leads h = tested-form-stands label live graph form e h
+    form-stands label live graph None e leads h = flag-stands label live graph (all (count graph.added) Flag (leads.0 (count graph.added) Flag (kind-next graph.added Flag))) h
 
-  or-exits-stands : (graph : Graph) (next : Option Graph) → Kept graph → GraphStands (stepped graph next) → GraphStands graph → GraphStands (stepped graph (or_exits graph next))
-  or-exits-stands graph None k s h = exits-step-stands graph (lowest (has_exits graph) graph.nodes) k h
-  or-exits-stands graph (Some next) k s h = s
+    close-by-stands : (label : Label) (graph : Graph) (targets : Targets) → Leading (close_by label graph targets) → GraphStands graph → GraphStands (close_by label graph targets)
+    close-by-stands label graph NoTarget leads h = endless-stands label graph (all (count graph.added) Never (leads.0 (count graph.added) Never (kind-next graph.added Never))) h
+    close-by-stands label graph (Only live) leads h = form-stands label live graph (form_of label live (tree_in graph.nodes label)) refl leads h
+    close-by-stands label graph Several leads h = h
 
-  reduced-stands : (most : ℕ) (graph : Graph) → GraphStands graph → GraphStands (reduced most graph)
-  reduced-stands zero graph h = h
-  reduced-stands (suc most) graph h = reduced-stands most (stepped graph (rule_step graph)) (loop-step-stands graph (lowest (loops graph) graph.nodes) h)
+    inline-step-stands : (graph : Graph) (found : Option Label) → GraphStands graph → GraphStands (stepped graph (inline_step graph found))
+    inline-step-stands graph None h = h
+    inline-step-stands graph (Some label) h = join-graph-stands (inline_graph label graph) (inline-graph-stands label graph h)
 
-  by-all-stands : (most : ℕ) (graph : Graph) → Kept graph → GraphStands graph → GraphStands (reduced_by_all most graph)
-  by-all-stands zero graph k h = h
-  by-all-stands (suc most) graph k h =
-      let few = k.1 in
-      let fewer = step-fewer graph in
-      by-all-stands most (stepped graph (any_step graph)) (any-step-closed graph k.0, omega (arith, few, fewer)) (or-exits-stands graph (rule_step graph) k (loop-step-stands graph (lowest (loops graph) graph.nodes) h) h)
+    loop-step-stands : (graph : Graph) (found : Option Label) → Leading (stepped graph (loop_step graph found)) → GraphStands graph → GraphStands (stepped graph (loop_step graph found))
+    loop-step-stands graph None leads h = inline-step-stands graph (lowest (inlines graph) graph.nodes) h
+    loop-step-stands graph (Some label) leads h = close-by-stands label graph (other_targets label (tree_in graph.nodes label)) leads h
 
-  rest-stands : (graph : Graph) → size graph.nodes ≤ most_nodes → GraphStands graph → GraphStands (dispatch_rest graph)
-  rest-stands graph few h = elim (is_above (size graph.nodes - 1)) as (λ b. GraphStands (if b then dispatch_graph graph else graph)) [ true ↦ dispatch-stands graph few h | false ↦ h ]
+    -- the new choice stands in the body
+    exit-chooses : (label : Label) (graph : Graph) → Numbered (labels_of graph.nodes) label → Leading (join_graph (exits_graph label graph)) → stmts_choose (count graph.added) (exit_arms label (tree_in graph.nodes label)) body ≡ true
+    exit-chooses label graph there leads =
+        let exit = count graph.added in
+        let t = tree_in graph.nodes label in
+        let arms = exit_arms label t in
+        leads.1 exit arms (join-graph-chooses exit arms (exits_graph label graph) (put-chooses exit arms label (with_exits none_left_out exit label t) (inr (inl (picks-self exit arms))) graph.nodes there))
 
-  pub closed-stands : (graph : Graph) → Kept graph → GraphStands graph → GraphStands (closed_graph graph)
-  closed-stands graph k h =
-      let most = 3 * size graph.nodes in
-      let few = k.1 in
-      let a = shaped-fewer graph in
-      let b = by-all-fewer most (shaped graph) in
-      rest-stands (reduced_by_all most (shaped graph)) (omega (arith, few, a, b))
-      (by-all-stands most (shaped graph) (shaped-closed graph k.0, omega (arith, few, a)) (reduced-stands most (join_graph graph) (join-graph-stands graph h)))
+    exits-step-stands : (graph : Graph) (found : Option Label) → lowest (has_exits graph) graph.nodes ≡ found → Kept most_nodes graph → Leading (stepped graph (exits_step graph found)) → GraphStands graph → GraphStands (stepped graph (exits_step graph found))
+    exits-step-stands graph None e k leads h = h
+    exits-step-stands graph (Some label) e k leads h =
+        let exit = count graph.added in
+        let t = tree_in graph.nodes label in
+        let served = all exit Exit (leads.0 exit Exit (kind-next graph.added Exit)) in
+        let targets = targets-most graph label k.0 in
+        let more_arms = bare-most (targets_of label t) (tree_returns t) in
+        let few = k.1 in
+        let choice = served.1 (exit_arms label t) (exit-chooses label graph (lowest-in (has_exits graph) graph.nodes label e) leads) (omega (arith, targets, more_arms, few)) in
+        join-graph-stands (exits_graph label graph) (exits-stands label graph served.0 choice.0 choice.1 h)
+
+    or-exits-stands : (graph : Graph) (next : Option Graph) → Kept most_nodes graph → (Leading (stepped graph next) → GraphStands (stepped graph next)) → Leading (stepped graph (or_exits graph next)) → GraphStands graph → GraphStands (stepped graph (or_exits graph next))
+    or-exits-stands graph None k s leads h = exits-step-stands graph (lowest (has_exits graph) graph.nodes) refl k leads h
+    or-exits-stands graph (Some next) k s leads h = s leads
+
+    reduced-stands : (most : ℕ) (graph : Graph) → IsClosed graph → Leading (reduced most graph) → GraphStands graph → GraphStands (reduced most graph)
+    reduced-stands zero graph closed leads h = h
+    reduced-stands (suc most) graph closed leads h =
+        let next = stepped graph (rule_step graph) in
+        let next_closed = rule-step-closed graph closed in
+        reduced-stands most next next_closed leads (loop-step-stands graph (lowest (loops graph) graph.nodes) (reduced-leads cells body most next next_closed leads) h)
+
+    by-all-stands : (most : ℕ) (graph : Graph) → Kept most_nodes graph → Leading (reduced_by_all most graph) → GraphStands graph → GraphStands (reduced_by_all most graph)
+    by-all-stands zero graph k leads h = h
+    by-all-stands (suc most) graph k leads h =
+        let few = k.1 in
+        let fewer = step-fewer graph in
+        let next = stepped graph (any_step graph) in
+        let next_closed = any-step-closed graph k.0 in
+        by-all-stands most next (next_closed, omega (arith, few, fewer)) leads
+        (or-exits-stands graph (rule_step graph) k (λ l. loop-step-stands graph (lowest (loops graph) graph.nodes) l h) (by-all-leads cells body most next next_closed leads) h)
+
+    rest-dispatched : (graph : Graph) → size graph.nodes ≤ most_nodes → Leading (dispatch_graph graph) → GraphStands graph → GraphStands (dispatch_graph graph)
+    rest-dispatched graph few leads h =
+        let state = count graph.added in
+        let n = size graph.nodes in
+        let served = all state State (leads.0 state State (kind-next graph.added State)) in
+        let choice = served.1 n (leads.1 state n (dispatch-own graph)) (omega (arith, few)) in
+        dispatch-stands graph served.0 choice.0 choice.1 h
+
+    rest-stands : (graph : Graph) → size graph.nodes ≤ most_nodes → Leading (dispatch_rest graph) → GraphStands graph → GraphStands (dispatch_rest graph)
+    rest-stands graph few leads h = elim (is_above (size graph.nodes - 1)) as (λ b. Leading (if b then dispatch_graph graph else graph) → GraphStands (if b then dispatch_graph graph else graph)) [
+      | true ↦ λ l. rest-dispatched graph few l h
+      | false ↦ λ l. h
+    ] leads
+
+    pub closed-stands : (graph : Graph) → Kept most_nodes graph → Leading (closed_graph graph) → GraphStands graph → GraphStands (closed_graph graph)
+    closed-stands graph k leads h =
+        let most = 3 * size graph.nodes in
+        let few = k.1 in
+        let a = shaped-fewer graph in
+        let b = by-all-fewer most (shaped graph) in
+        let shaped_closed = shaped-closed graph k.0 in
+        let last = rest-leads cells body (reduced_by_all most (shaped graph)) leads in
+        let middle = by-all-leads cells body most (shaped graph) shaped_closed last in
+        rest-stands (reduced_by_all most (shaped graph)) (omega (arith, few, a, b)) leads
+        (by-all-stands most (shaped graph) (shaped_closed, omega (arith, few, a)) last (reduced-stands most (join_graph graph) (join-closed graph k.0) middle (join-graph-stands graph h)))

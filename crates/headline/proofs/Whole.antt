@@ -4,6 +4,7 @@ use Rattle.language.specs.Language.{Main, Program}
 use Rattle.control.specs.Doing.{Celled}
 use Rattle.graph_rules.specs.Families.{Has, MaySet}
 use Rattle.graph_rules.specs.Reduced.{family_of, kinds_of, size}
+use Rattle.closing.specs.Closes.{closed_graph}
 use Rattle.headline.specs.Headline.{Plan, CanBeRestructured, graphs_by, procedures_by, Parts, WhatIsWrittenBehavesAlike, SomePartsAgree}
 use Rattle.headline.specs.Chain.{IsNumberedPlan}
 use Rattle.headline.specs.Numbering.{numbers_by, added_by}
@@ -54,7 +55,7 @@ some-parts {Memory} {Left} {World} = λ acting left first empty plan program can
       record {
         told = is_told;
         serves = whole-serves acting left first every-kind empty;
-        cells = λ range. every-cell range (size (graphs range).nodes);
+        cells = λ range here. every-cell range (closed_graph (graphs range)) (size (graphs range).nodes);
         stand = λ range here label. tree-served naming (procedures_by plan program) range (Has (kinds_of graphs) range) (MaySet (kinds_of graphs) range) ((family_of graphs).node range label) ((numbered plan program can).names range here label);
       },
     )

@@ -12,3 +12,9 @@ pub mod NamedCellsExample
 pub mod Bounds
 -- The counters of a range's kept loops are numbered apart, and listed.
 pub mod Numbering
+-- No rule changes how many arms a choice has.
+pub mod ArmCounts
+-- The rules lose no choice by a cell.
+pub mod ChoicesKept
+-- What a graph on the way has of cells and choices, the closed one has.
+pub mod CellsKept

@@ -1,6 +1,6 @@
 -- From a source to the written program, over what lowering, the rules and rendering give: the whole
 -- headline of this theory.
-use Rattle.std.specs.Prelude.{ℕ, suc, ◌⊎◌, ◌≡◌, ◌<◌, ◌≤◌, Bool, true, false, List, [], ◌∷◌, length, Some, slice_get}
+use Rattle.std.specs.Prelude.{ℕ, suc, ◌⊎◌, ◌≡◌, ◌<◌, ◌≤◌, ◌==◌, Bool, true, false, if◌then◌else◌, List, [], ◌∷◌, length, Some, slice_get}
 use Rattle.runs.specs.Machine.{meaning}
 use Rattle.language.specs.Language.{Picker, If, By, ByCell, Stmt, Do, Choose, Loop, Perform, Go, GoDepending, NextSentence, ExitParagraph, ExitSection, ExitPerform, StopRun, Stmts, none, also, Arms, done, given, missing, Body, Nested, Performed, Program, Range, Main, Part}
 use Rattle.control.specs.Doing.{Acting, Celled, alone}
@@ -20,8 +20,8 @@ use Rattle.lowering.specs.WellFormed.{tree_count, AreJustReached}
 use Rattle.lowering.specs.flow.Called.{IsCalled}
 use Rattle.graph_rules.specs.Fits as fits
 use Rattle.graph_rules.specs.Walked.{is_in, In}
-use Rattle.graph_rules.specs.Families.{Added, Has, MaySet}
-use Rattle.graph_rules.specs.Reduced.{Node, Graph, tree_in, size, Graphs, family_of, kinds_of}
+use Rattle.graph_rules.specs.Families.{Added, Never, Flag, Count, State, Exit, Has, MaySet}
+use Rattle.graph_rules.specs.Reduced.{Node, Graph, tree_in, kind_at, size, Graphs, family_of, kinds_of}
 use Rattle.closing.specs.Closes.{IsClosed, closed_graph}
 use Rattle.rendering.specs.Rendering.{Empty, Naming, Procedure, count_arms, rendered}
 use Rattle.rendering.specs.Procedures.{Writable, ActFits, TestFits, ControlFits, StmtsStand, stmts_call}
@@ -152,18 +152,71 @@ pub record IsNumberedPlan (told : Told) (program : Program) (keep : Range → La
   pub names : (range : Range) → In range (Main ∷ others) →
       NamesItsCells (lowered_graphs told program keep numbers added) range
 
--- The words of the rules on the cells of a range with so many nodes may be written: 0 to one more
--- than its nodes is moved to a
--- cell, which is compared with 0 or 1 or tested for being above zero, and chooses among at most so
--- many arms.
-pub record CellsServed (kinds : Writable) (range : Range) (nodes : ℕ) : Type 0 where
-  pub sets : (cell value : ℕ) → value ≤ suc nodes → kinds.sets range cell value ≡ true
-  pub compares : (cell value : ℕ) → value ≤ 1 → kinds.compares range cell value ≡ true
-  pub aboves : (cell : ℕ) → kinds.aboves range cell ≡ true
-  pub chooses : (cell arms : ℕ) → arms ≤ suc nodes → kinds.chooses range cell arms ≡ true
+-- A choice by the cell among so many arms stands in it.
+module _ (cell arms : ℕ) where
+  abbrev pub picks : Picker → ℕ → Bool
+  picks (If test) some = false
+  picks (By chooser) some = false
+  picks (ByCell by) some = if by == cell then some == arms else false
 
-abbrev pub EachCellServed : Writable → Graphs → Type 0
-EachCellServed kinds graphs = (range : Range) → CellsServed kinds range (size (graphs range).nodes)
+  abbrev mutual
+    pub stmt_chooses : Stmt → Bool
+    stmt_chooses (Do act) = false
+    stmt_chooses (Choose picker others) =
+        if picks picker (count_arms others) then true else arms_choose others
+    stmt_chooses (Loop control body) = body_chooses body
+    stmt_chooses (Perform entry exit) = false
+    stmt_chooses (Go to) = false
+    stmt_chooses (GoDepending to chooser) = false
+    stmt_chooses NextSentence = false
+    stmt_chooses ExitParagraph = false
+    stmt_chooses (ExitSection last) = false
+    stmt_chooses (ExitPerform cycle) = false
+    stmt_chooses StopRun = false
+
+    pub stmts_choose : Stmts → Bool
+    stmts_choose none = false
+    stmts_choose (also stmt stmts) = if stmt_chooses stmt then true else stmts_choose stmts
+
+    pub arms_choose : Arms → Bool
+    arms_choose done = false
+    arms_choose (given arm others) = if stmts_choose arm then true else arms_choose others
+    arms_choose (missing others) = arms_choose others
+
+    pub body_chooses : Body → Bool
+    body_chooses (Nested stmts) = stmts_choose stmts
+    body_chooses (Performed entry exit) = false
+
+-- where a choice by the cell stands in the body, its arms are so many at most, 0 to the number of
+-- its arms may be moved to the cell, and the cell may choose among them
+abbrev pub ChoicesServed : Writable → Range → (body : Stmts) → (most : ℕ) → (cell : ℕ) → Type 0
+ChoicesServed kinds range body most cell =
+    (arms : ℕ) → stmts_choose cell arms body ≡ true → arms ≤ most →
+    ((value : ℕ) → value ≤ arms → kinds.sets range cell value ≡ true)
+    × (kinds.chooses range cell arms ≡ true)
+
+-- what the rules write of an added cell may be written; of a count they write nothing
+abbrev pub KindServed : Writable → Range → (body : Stmts) → (most : ℕ) → (cell : ℕ) → Added →
+    Type 0
+KindServed kinds range body most cell Never = kinds.compares range cell 1 ≡ true
+KindServed kinds range body most cell Flag = (kinds.sets range cell 0 ≡ true)
+    × (kinds.sets range cell 1 ≡ true) × (kinds.compares range cell 1 ≡ true)
+KindServed kinds range body most cell Count = Unit {0}
+KindServed kinds range body most cell State =
+    (kinds.compares range cell 0 ≡ true) × ChoicesServed kinds range body most cell
+KindServed kinds range body most cell Exit =
+    (kinds.aboves range cell ≡ true) × ChoicesServed kinds range body most cell
+
+-- each added cell of a range that is closed to this graph, of so many nodes
+abbrev pub CellsServed : Writable → Range → Graph → (nodes : ℕ) → Type 0
+CellsServed kinds range closed nodes =
+    (cell : ℕ) (kind : Added) → kind_at closed.added cell ≡ Some kind →
+    KindServed kinds range (body_of (tree_in closed.nodes closed.entry)) (suc nodes) cell kind
+
+-- each of the ranges that are written
+abbrev pub EachCellServed : Writable → List Range → Graphs → Type 0
+EachCellServed kinds order graphs = (range : Range) → In range order →
+    CellsServed kinds range (closed_graph (graphs range)) (size (graphs range).nodes)
 
 -- The parts that stand in a tree may be written, whatever is performed, wherever a jump leads and
 -- whichever arms stand.
@@ -278,14 +331,16 @@ EachStands naming kinds procedures = (number : ℕ) (procedure : Procedure) →
     slice_get procedures number ≡ Some procedure →
     StmtsStand naming kinds procedures procedure.range procedure.body
 
--- where what stands in the lowered graphs may be written, and every word on a cell, the closed
+-- where what stands in the lowered graphs may be written, and what the rules write of each added
+-- cell, the closed
 -- graphs can be written
 abbrev pub ClosedGraphsStand : Type 0
 ClosedGraphsStand =
     (naming : Naming) (kinds : Writable) (told : Told) (program : Program)
     (keep : Range → Label → Bool) (numbers : Range → ℕ → ℕ) (added : Range → List Added)
     (others : List Range) →
-    EachCellServed kinds (lowered_graphs told program keep numbers added) → IsSource told program →
+    EachCellServed kinds (Main ∷ others) (lowered_graphs told program keep numbers added) →
+    IsSource told program →
     0 < length program.paragraphs → IsNumberedPlan told program keep numbers added others →
     GraphsServed naming kinds (Main ∷ others) (lowered_graphs told program keep numbers added) →
     EachStands naming kinds

@@ -71,9 +71,9 @@ pub record PartsAgree {Memory Other Left World : Type 0} (Carries : Celled Memor
   pub serves : Serves parts.acting parts.left parts.first parts.result parts.other_left
       parts.other_first Carries
       parts.naming parts.kinds
-  -- each word of the rules on a cell may be written, and each part that stands in the lowered
-  -- graphs
-  pub cells : EachCellServed parts.kinds (graphs_by plan program)
+  -- what the rules write of the cells that they add may be written, and each part that stands in the
+  -- lowered graphs
+  pub cells : EachCellServed parts.kinds (Main ∷ plan.others) (graphs_by plan program)
   pub stand : GraphsServed parts.naming parts.kinds (Main ∷ plan.others) (graphs_by plan program)
 
 -- the program that is written

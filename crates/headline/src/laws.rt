@@ -15,7 +15,7 @@ pub fn the_headline_over_control<Memory, Other, Left, World, C: Carrying<Memory,
     ensures { TheHeadline C.carries Left World }
 {}
 
-/// Where what stands in the lowered graphs may be written, and every word of the rules on a cell, so may what closing
+/// Where what stands in the lowered graphs may be written, and what the rules write of each added cell, so may what closing
 /// leaves: each choice by a cell stands where the cell isn't zero.
 pub fn closed_graphs_stand()
     ensures { ClosedGraphsStand }

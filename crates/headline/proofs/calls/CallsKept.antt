@@ -18,7 +18,7 @@ use Rattle.graph_rules.proofs.shapes.Reducing.{form-is}
 use Rattle.closing.proofs.closing.Closes.{are-nodes}
 use Rattle.closing.proofs.closing.RulesStayClosed.{join-closed, lowest-is, rule-step-closed, shaped-closed, any-step-closed}
 use Rattle.closing.proofs.closing.ClosedEnding.{closed-ends}
-use Rattle.headline.proofs.StandKept.{last-several}
+use Rattle.headline.proofs.graphs.ArmCounts.{last-several}
 
 module _ (range : Range) where
   abbrev Calls : Stmts → Type 0

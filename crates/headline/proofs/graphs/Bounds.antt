@@ -98,6 +98,15 @@ bare-most [] false = omega arith
 bare-most [] true = omega arith
 bare-most (first ∷ others) returns = let k = bare-most others returns in omega (arith, k)
 
+pub bare-least : (targets : List Label) (returns : Bool) → length_of targets ≤ tree_count (bare targets returns)
+bare-least [] returns = omega arith
+bare-least (first ∷ others) returns = let k = bare-least others returns in omega (arith, k)
+
+pub bare-returns : (targets : List Label) (returns : Bool) → returns ≡ true → suc (length_of targets) ≤ tree_count (bare targets returns)
+bare-returns [] false is = absurd (let e : false ≡ true = is in cc)
+bare-returns [] true is = omega arith
+bare-returns (first ∷ others) returns is = let k = bare-returns others returns is in omega (arith, k)
+
 pub node-arms-count : (state : ℕ) (labels : List Label) (nodes : List Node) → count_arms (node_arms none_left_out state labels nodes) ≡ size nodes
 node-arms-count state labels [] = refl
 node-arms-count state labels (node ∷ nodes) = ap suc (node-arms-count state labels nodes)

@@ -9,18 +9,19 @@ use Rattle.lowering.specs.WellFormed.{tree_count}
 use Rattle.graph_rules.specs.Fits.{StmtFits, StmtsFit, ArmsFit, BodyFits, TreeFits, EndFits, TreesFit}
 use Rattle.graph_rules.specs.Walked.{is_in, In}
 use Rattle.graph_rules.specs.Families.{Added, Has, MaySet}
-use Rattle.graph_rules.specs.Reduced.{Node, Graphs, tree_in, family_of, kinds_of}
+use Rattle.graph_rules.specs.Reduced.{Node, Graphs, tree_in, size, family_of, kinds_of}
 use Rattle.graph_rules.specs.Shapes.{alone}
 use Rattle.closing.specs.Dispatches.{Numbered, labels_of, AreNodes}
 use Rattle.closing.specs.Closes.{IsClosed, closed_graph}
 use Rattle.rendering.specs.Rendering.{Empty, Naming, Procedure, place_of, count_arms, standing}
 use Rattle.rendering.specs.Procedures.{Writable, PickerFits, StandsLater, StmtStands, StmtsStand, ArmsStand, BodyStands}
-use Rattle.headline.specs.Chain.{lowered_graphs, procedures_of, IsNumberedPlan, CellsServed, EachCellServed, EachStands, ClosedGraphsStand, PickerServed, StmtServed, StmtsServed, ArmsServed, BodyServed, EndServed, TreesServed, TreeServed, GraphsServed}
+use Rattle.headline.specs.Chain.{lowered_graphs, procedures_of, IsNumberedPlan, EachCellServed, EachStands, ClosedGraphsStand, PickerServed, StmtServed, StmtsServed, ArmsServed, BodyServed, EndServed, TreesServed, TreeServed, GraphsServed}
 use Rattle.graph_rules.proofs.walks.Orders.{place, Behind, ordered-fits}
 use Rattle.closing.proofs.closing.Closes.{are-nodes}
 use Rattle.headline.proofs.graphs.LoweredGraphs.{graphs-closed}
 use Rattle.headline.proofs.graphs.LaterCalls.{plan-fits}
 use Rattle.headline.proofs.Chain.{at-procedure, entry-last}
+use Rattle.headline.proofs.graphs.ChoicesKept.{closed-chooses}
 use Rattle.headline.proofs.StandKept.{TreeStands, EndStands, TreesStand, AllStand, followed-stands, at-stands, closed-stands}
 
 module _ (graphs : Graphs) where
@@ -40,7 +41,7 @@ module _ (graphs : Graphs) where
       let e = same-place ranges r in let f = same-place ranges to in
       (subst (λ n. n < place_of (procedures_of ranges graphs) to) (sym e) (subst (λ n. place ranges r < n) (sym f) h.1), subst (λ n. n < length (procedures_of ranges graphs)) (sym f) (below ranges to h.0))
 
-module _ {nodes : ℕ} (naming : Naming) (kinds : Writable) (procedures : List Procedure) (range : Range) (all : CellsServed kinds range nodes) (C : Range → Type 0) (R W : ℕ → Type 0)
+module _ (naming : Naming) (kinds : Writable) (procedures : List Procedure) (range : Range) (C : Range → Type 0) (R W : ℕ → Type 0)
     (stands_later : (entry exit : ℕ) → C (Part entry exit) → StandsLater naming kinds procedures range (Part entry exit)) where
   standing-length : (empty : ℕ → Empty) (k : ℕ) (arms : Arms) → length (standing empty k arms) ≡ count_arms arms
   standing-length empty k done = refl
@@ -80,9 +81,9 @@ module _ {nodes : ℕ} (naming : Naming) (kinds : Writable) (procedures : List P
     body-stands-so (Performed entry exit) = λ k n. stands_later entry exit k
 
   mutual
-    end-stands : (body : Stmts) (end : End) → StmtsFit C R W body → StmtsServed naming kinds procedures range body → EndFits C R W end → EndServed naming kinds procedures range end → EndStands naming kinds procedures range all body end
+    end-stands : (body : Stmts) (end : End) → StmtsFit C R W body → StmtsServed naming kinds procedures range body → EndFits C R W end → EndServed naming kinds procedures range end → EndStands naming kinds procedures range body end
     end-stands body (Pick picker arms) = λ f m k n. (
-      λ news e s. followed-stands naming kinds procedures range all body (alone (Choose picker news)) (stmts-stand body f m) ((picker-stands picker news (tree_count arms) e n.0, s), inl tt),
+      λ news e s. followed-stands naming kinds procedures range body (alone (Choose picker news)) (stmts-stand body f m) ((picker-stands picker news (tree_count arms) e n.0, s), inl tt),
       trees-stand arms k.1 n.1,
     )
     end-stands body (Jump to) = λ f m k n. stmts-stand body f m
@@ -90,19 +91,19 @@ module _ {nodes : ℕ} (naming : Naming) (kinds : Writable) (procedures : List P
     end-stands body Stop = λ f m k n. stmts-stand body f m
     end-stands body Dead = λ f m k n. stmts-stand body f m
 
-    trees-stand : (arms : Trees) → TreesFit C R W arms → TreesServed naming kinds procedures range arms → TreesStand naming kinds procedures range all arms
+    trees-stand : (arms : Trees) → TreesFit C R W arms → TreesServed naming kinds procedures range arms → TreesStand naming kinds procedures range arms
     trees-stand no_more = λ k n. tt
     trees-stand (more (tree body end) others) = λ k n. (end-stands body end k.0.0 n.0 k.0.1 n.1, trees-stand others k.1 n.2)
 
-  tree-stands : (t : Tree) → TreeFits C R W t → TreeServed naming kinds procedures range t → TreeStands naming kinds procedures range all t
+  tree-stands : (t : Tree) → TreeFits C R W t → TreeServed naming kinds procedures range t → TreeStands naming kinds procedures range t
   tree-stands (tree body end) k n = end-stands body end k.0 n.0 k.1 n.1
 
-  all-stand : (family : Family) (P : Label → Type 0) (nodes : List Node) → AreNodes family range P nodes → ((label : Label) → TreeStands naming kinds procedures range all (family.node range label)) → AllStand naming kinds procedures range all nodes
+  all-stand : (family : Family) (P : Label → Type 0) (nodes : List Node) → AreNodes family range P nodes → ((label : Label) → TreeStands naming kinds procedures range (family.node range label)) → AllStand naming kinds procedures range nodes
   all-stand family P [] are stand = tt
-  all-stand family P (node ∷ nodes) are stand = (subst (TreeStands naming kinds procedures range all) are.0 (stand node.label), all-stand family P nodes are.2 stand)
+  all-stand family P (node ∷ nodes) are stand = (subst (TreeStands naming kinds procedures range) are.0 (stand node.label), all-stand family P nodes are.2 stand)
 
   -- before a last end stands the body alone
-  body-stands : (t : Tree) → IsLast (end_of t) → TreeStands naming kinds procedures range all t → StmtsStand naming kinds procedures range (body_of t)
+  body-stands : (t : Tree) → IsLast (end_of t) → TreeStands naming kinds procedures range t → StmtsStand naming kinds procedures range (body_of t)
   body-stands (tree body (Pick picker arms)) last h = absurd last
   body-stands (tree body (Jump to)) last h = absurd last
   body-stands (tree body Return) last h = h
@@ -110,7 +111,7 @@ module _ {nodes : ℕ} (naming : Naming) (kinds : Writable) (procedures : List P
   body-stands (tree body Dead) last h = h
 
 module _ (naming : Naming) (kinds : Writable) (told : Told) (program : Program) (keep : Range → Label → Bool) (numbers : Range → ℕ → ℕ) (added : Range → List Added) (others : List Range)
-    (all : EachCellServed kinds (lowered_graphs told program keep numbers added)) (source : IsSource told program) (some : 0 < length program.paragraphs) (plan : IsNumberedPlan told program keep numbers added others)
+    (all : EachCellServed kinds (Main ∷ others) (lowered_graphs told program keep numbers added)) (source : IsSource told program) (some : 0 < length program.paragraphs) (plan : IsNumberedPlan told program keep numbers added others)
     (served : GraphsServed naming kinds (Main ∷ others) (lowered_graphs told program keep numbers added)) where
   abbrev graphs : Graphs
   graphs = lowered_graphs told program keep numbers added
@@ -135,24 +136,26 @@ module _ (naming : Naming) (kinds : Writable) (told : Told) (program : Program) 
     behind-later : (entry exit : ℕ) → Behind order r (Part entry exit) → StandsLater naming kinds procedures r (Part entry exit)
     behind-later entry exit b = later graphs order r (Part entry exit) b
 
-    node-stands : (label : Label) → TreeStands naming kinds procedures r (all r) ((family_of graphs).node r label)
+    node-stands : (label : Label) → TreeStands naming kinds procedures r ((family_of graphs).node r label)
     node-stands label =
-        tree-stands naming kinds procedures r (all r) (Behind order r) R W behind-later ((family_of graphs).node r label)
+        tree-stands naming kinds procedures r (Behind order r) R W behind-later ((family_of graphs).node r label)
         (ordered-fits (family_of graphs) (Has (kinds_of graphs)) (MaySet (kinds_of graphs)) order (plan-fits told program keep numbers added others source some plan) r here label) (served r here label)
 
-    graph-stands : AllStand naming kinds procedures r (all r) (graphs r).nodes
+    graph-stands : AllStand naming kinds procedures r (graphs r).nodes
     graph-stands =
         let closed = closed-at r here in
         let labels = labels_of (graphs r).nodes in
-        all-stand naming kinds procedures r (all r) (Behind order r) R W behind-later (family_of graphs) (Numbered labels) (graphs r).nodes
+        all-stand naming kinds procedures r (Behind order r) R W behind-later (family_of graphs) (Numbered labels) (graphs r).nodes
         (are-nodes (family_of graphs) r labels (graphs r).nodes closed.rising (λ l t e n. e) closed.jumps) node-stands
 
     entry-stands : StmtsStand naming kinds procedures r (body_of (tree_in (closed_graph (graphs r)).nodes (closed_graph (graphs r)).entry))
     entry-stands =
-        let whole = closed-stands naming kinds procedures r (all r) (graphs r) (closed-at r here, omega arith) graph-stands in
-        let t = tree_in (closed_graph (graphs r)).nodes (closed_graph (graphs r)).entry in
-        body-stands naming kinds procedures r (all r) (Behind order r) R W behind-later t (entry-last graphs (graphs r) (closed-at r here))
-        (at-stands naming kinds procedures r (all r) (closed_graph (graphs r)).nodes (closed_graph (graphs r)).entry whole)
+        let closed = closed_graph (graphs r) in
+        let t = tree_in closed.nodes closed.entry in
+        let whole = closed-stands naming kinds procedures r closed.added (body_of t) (size (graphs r).nodes) (all r here) (graphs r) (closed-at r here, omega arith)
+        (λ cell kind is. is, λ cell arms h. closed-chooses cell arms (graphs r) (closed-at r here) h) graph-stands in
+        body-stands naming kinds procedures r (Behind order r) R W behind-later t (entry-last graphs (graphs r) (closed-at r here))
+        (at-stands naming kinds procedures r (closed_graph (graphs r)).nodes (closed_graph (graphs r)).entry whole)
 
   each-stands : EachStands naming kinds procedures
   each-stands number procedure is =
