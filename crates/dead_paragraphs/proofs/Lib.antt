@@ -1,0 +1,2 @@
+-- flags that are off
+mod Missing

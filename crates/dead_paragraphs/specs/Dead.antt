@@ -1,0 +1,13 @@
+-- Paragraphs that are dropped.
+use Rattle.std.specs.Prelude.{ℕ, ◌<◌, ◌↔◌, Bool, List, length}
+use Rattle.language.specs.Language.{Chooser, Program}
+use Rattle.flow_paths.specs.Flow.{IsReached}
+use Rattle.flow_levels.specs.Reaching.{Holds}
+use Rattle.pending_returns.specs.Summary.{Rises}
+
+-- the paragraphs to which no free flow path comes, rising
+pub record AreDropped (never_first : Chooser → Bool) (program : Program) (numbers : List ℕ)
+    : Type 0 where
+  pub rises : Rises numbers
+  pub dropped : (paragraph : ℕ) → Holds numbers paragraph ↔ ((paragraph < length program.paragraphs)
+      × (IsReached never_first program paragraph → ⊥))

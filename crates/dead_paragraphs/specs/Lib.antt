@@ -1,0 +1,2 @@
+-- paragraphs that are dropped
+pub mod Dead

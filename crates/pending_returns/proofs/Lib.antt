@@ -1,0 +1,18 @@
+-- what stands where in a list
+mod Getting
+-- flags as lists
+mod Flags
+-- the levels of a table, and where calls lead
+mod Leveling
+-- facts by new numbers
+mod Kept
+-- the paragraphs to which levels come
+mod Passed
+-- the ranges that some flow path performs, by levels
+mod Performed
+-- a table's summary is the program's
+mod Meaning
+-- the same with the lists as they are lent
+mod Summing
+-- the limit, and the summary of a program
+mod Limits

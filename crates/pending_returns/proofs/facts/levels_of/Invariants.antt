@@ -1,0 +1,5 @@
+use Rattle.pending_returns.proofs.Leveling.{LevelsUpTo}
+use Rattle.pending_returns.proofs.facts.levels_of.Given as goal
+
+abbrev pub invariant-loop-at : goal.invariant-loop-at
+invariant-loop-at l = LevelsUpTo l.table l.returns l.at l.levels

@@ -1,0 +1,78 @@
+//! What the level of each range does.
+
+ghost use Rattle.std.specs.Prelude.{◌≡◌, ◌≤◌, length, IfOk};
+ghost use Rattle.flow_places.specs.Table.{IsTidy};
+ghost use Rattle.pending_returns.specs.Tabled.{TellsLevel, TellsLevels};
+
+use crate::listing::lists;
+use cob_base::{Items, NoMemory};
+use cob_tree::Range;
+use flow_levels::{calls_of, ends_of, reached};
+use flow_places::Table;
+use std::alloc::Global;
+
+/// What a range's level does.
+#[derive(Debug, Drop)]
+pub struct RangeFacts {
+    pub range: Range,
+    /// Whether it comes to its return.
+    pub returns: bool,
+    /// The ranges that it performs, by their numbers, rising.
+    pub calls: Items<u32>,
+    /// The paragraphs whose end it passes without returning, rising.
+    pub ends: Items<u32>,
+}
+
+/// What the ranges that some flow path performs do, main first and the others by entry and exit; and
+/// of each paragraph whether some flow path comes to it.
+#[derive(Debug, Drop)]
+pub struct Summary {
+    pub ranges: Items<RangeFacts>,
+    pub reached: Items<bool>,
+}
+
+/// What a range's level does, where these ranges return.
+pub fn level_of(
+    alloc: Global,
+    table: &Table,
+    returns: &[bool],
+    range: Range,
+    back: bool,
+) -> Result<RangeFacts, NoMemory>
+    requires tidy { IsTidy table.now }
+    requires known { length table.now.ranges ≤ length returns.now }
+    ensures range { IfOk result (λ facts. facts.range ≡ range) }
+    ensures returns { IfOk result (λ facts. facts.returns ≡ back) }
+    ensures tells { IfOk result (λ facts. TellsLevel table.now returns.now range facts.calls facts.ends) }
+{
+    let places = reached(alloc, table, returns, range)?;
+    let calls = calls_of(alloc, table, places.as_slice())?;
+    let ends = ends_of(alloc, table, range, places.as_slice())?;
+    let called = lists(alloc, calls.as_slice())?;
+    let ended = lists(alloc, ends.as_slice())?;
+    Ok(RangeFacts {
+        range,
+        returns: back,
+        calls: called,
+        ends: ended,
+    })
+}
+
+/// What the level of each range of the table does, where these return.
+pub fn levels_of(
+    alloc: Global,
+    table: &Table,
+    returns: &[bool],
+) -> Result<Items<RangeFacts>, NoMemory>
+    requires tidy { IsTidy table.now }
+    requires known { length returns.now ≡ length table.now.ranges }
+    ensures { IfOk result (λ levels. TellsLevels table.now returns.now levels) }
+{
+    let mut levels = Items::new(alloc);
+    for at in 0..returns.len() {
+        let range = table.ranges.as_slice()[at];
+        let facts = level_of(alloc, table, returns, range, returns[at])?;
+        levels.push(facts)?;
+    }
+    Ok(levels)
+}

@@ -1,0 +1,19 @@
+//! What a program's ranges perform, whether they return, and whose ends they pass, whatever the data.
+//!
+//! `summarise` gives it of the ranges that some flow path performs. `specs/Summary.antt` says what
+//! a summary tells, by flow paths; `specs/Tabled.antt` the same of a table of the program's places.
+#![tactic(auto)]
+
+mod calling;
+mod facts;
+mod keeping;
+mod listing;
+mod passing;
+mod summary;
+
+pub use calling::{led_to, visit_calls};
+pub use facts::{RangeFacts, Summary, level_of, levels_of};
+pub use keeping::{kept_facts, ranks_of, renumbered};
+pub use listing::{lists, number_of};
+pub use passing::{mark_owners, marked_owners};
+pub use summary::{RANGES, limit_of, summarise};

@@ -1,0 +1,45 @@
+//! The paragraphs that levels come to.
+
+ghost use Rattle.std.specs.Prelude.{◌≡◌, ◌≤◌, length, IfOk};
+ghost use Rattle.flow_places.specs.Table.{IsTidy};
+ghost use Rattle.flow_levels.specs.Reaching.{AllPlaces};
+ghost use Rattle.pending_returns.specs.Tabled.{AllBelow, MarksOwners, MarksLevels, OwnersBelow};
+
+use cob_base::NoMemory;
+use flow_levels::reached;
+use flow_places::Table;
+use std::alloc::Global;
+
+/// Puts a flag on the paragraph of each of these places.
+pub fn mark_owners(flags: &mut Vec<bool>, owners: &[u32], places: &[u32])
+    requires places { AllPlaces (length owners.now) places.now }
+    requires owners { OwnersBelow (length flags.old.items) owners.now }
+    ensures marks { MarksOwners owners.now places.now flags.old.items flags.new.items }
+    ensures size { length flags.new.items ≡ length flags.old.items }
+{
+    for place in places {
+        flags[owners[*place as usize] as usize] = true;
+    }
+}
+
+/// A flag for each paragraph to which one of these ranges' levels comes.
+pub fn marked_owners(
+    alloc: Global,
+    table: &Table,
+    returns: &[bool],
+    kept: &[u32],
+) -> Result<Vec<bool>, NoMemory>
+    requires tidy { IsTidy table.now }
+    requires known { length table.now.ranges ≤ length returns.now }
+    requires below { AllBelow (length table.now.ranges) kept.now }
+    ensures marks { IfOk result (λ flags. MarksLevels table.now returns.now kept.now flags.items) }
+    ensures size { IfOk result (λ flags. length flags.items ≡ length table.now.starts) }
+{
+    let mut flags = vec![in alloc; false; table.starts.len()]?;
+    for at in 0..kept.len() {
+        let range = table.ranges.as_slice()[kept[at] as usize];
+        let places = reached(alloc, table, returns, range)?;
+        mark_owners(&mut flags, table.owners.as_slice(), places.as_slice());
+    }
+    Ok(flags)
+}

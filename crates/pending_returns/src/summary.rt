@@ -1,0 +1,73 @@
+//! The summary of a program.
+
+ghost use Rattle.std.specs.Prelude.{◌≡◌, ◌<◌, Some, length, slice_get, IfOk, MatchResult};
+ghost use Rattle.language.specs.Control.{control_of};
+ghost use Rattle.flow_paths.specs.Flow.{main_range};
+ghost use Rattle.flow_numbers.specs.Kinds.{never_first_of};
+ghost use Rattle.flow_places.specs.Table.{IsTidy};
+ghost use Rattle.pending_returns.specs.Summary.{IsSummary, IsLimit, IsWithin, IsPast};
+ghost use Rattle.pending_returns.specs.Tabled.{RangesRise, SummarisesTable};
+
+use crate::calling::led_to;
+use crate::facts::{Summary, levels_of};
+use crate::keeping::{kept_facts, ranks_of};
+use crate::listing::lists;
+use crate::passing::marked_owners;
+use cob_base::{Items, Limit, LimitKind, NoMemory};
+use cob_tree::{Program, SplitFault};
+use flow_levels::settle;
+use flow_places::Table;
+use flow_table::table_of;
+use named_ranges::ranges_of;
+use std::alloc::Global;
+
+/// The most distinct ranges that the PERFORM statements of a program name, main included.
+pub const RANGES: usize = 5_000;
+
+/// The summary of a program that has these places.
+pub fn summary_of(alloc: Global, table: &Table) -> Result<Summary, NoMemory>
+    requires tidy { IsTidy table.now }
+    requires main { slice_get table.now.ranges 0 ≡ Some main_range }
+    requires rising { RangesRise table.now.ranges }
+    ensures { IfOk result (λ summary. SummarisesTable table.now summary) }
+{
+    let returns = settle(alloc, table)?;
+    let levels = levels_of(alloc, table, returns.as_slice())?;
+    let led = led_to(alloc, levels.as_slice())?;
+    let kept = lists(alloc, led.as_slice())?;
+    let ranks = ranks_of(alloc, kept.as_slice(), levels.len())?;
+    let ranges = kept_facts(alloc, levels.as_slice(), kept.as_slice(), ranks.as_slice())?;
+    let flags = marked_owners(alloc, table, returns.as_slice(), kept.as_slice())?;
+    Ok(Summary {
+        ranges,
+        reached: Items::from_vec(flags),
+    })
+}
+
+/// Past the limit by so many ranges.
+pub fn limit_of(counted: usize) -> SplitFault
+    ensures { IsLimit counted result }
+{
+    SplitFault::Limit(Limit {
+        kind: LimitKind::Ranges,
+        of_result: false,
+        counted: counted as u64,
+        limit: RANGES as u64,
+    })
+}
+
+/// The summary of a program of at least one paragraph. Limit exactly where its PERFORM statements
+/// name more than `RANGES` distinct ranges, main included.
+pub fn summarise(alloc: Global, program: &Program) -> Result<Summary, SplitFault>
+    requires { 0 < length program.now.paragraphs }
+    ensures summary { IfOk result (λ summary. IsSummary (never_first_of program.now.files) (control_of program.now) summary) }
+    ensures limit { MatchResult result (λ summary. IsWithin program.now) (λ fault. IsPast program.now fault) }
+{
+    let ranges = ranges_of(alloc, program)?;
+    if ranges.len() > RANGES {
+        return Err(limit_of(ranges.len()));
+    }
+    let table = table_of(alloc, program, ranges)?;
+    let summary = summary_of(alloc, &table)?;
+    Ok(summary)
+}
