@@ -13,7 +13,8 @@ use Rattle.graph_rules.specs.Reduced.{Node, Graph, tree_in, kind_at, count, with
 use Rattle.closing.specs.Dispatches.{Numbered, either, end_returns, tree_returns, trees_return, stated_end, stated_tree, stated_arms, number_in, length_of, set_to, exit_jump, bare, state_jump, node_arms, some_returns, return_if, labels_of}
 use Rattle.closing.specs.Targets.{targets_of, with_exits}
 use Rattle.closing.specs.Closes.{none_left_out, has_exits, exits_graph, exits_step, or_exits, any_step, reduced_by_all, dispatch_graph, dispatch_rest, closed_graph, IsClosed}
-use Rattle.headline.specs.Chain.{stmts_choose, KindServed}
+use Rattle.headline.specs.Chain.{stmts_arms, KindServed}
+use Rattle.headline.proofs.graphs.Choosing.{stmts_choose}
 use Rattle.graph_rules.proofs.shapes.Reducing.{form-is, kind-next}
 use Rattle.closing.proofs.closing.RulesStayClosed.{join-closed, lowest-in, rule-step-closed, shaped-closed, any-step-closed}
 use Rattle.headline.proofs.graphs.ArmCounts.{last-several, joined-count, arms-count, inlined-count, flat-count, stated-count}
@@ -350,7 +351,8 @@ module _ (naming : Naming) (kinds : Writable) (procedures : List Procedure) (ran
   Kept nodes graph = IsClosed graph × (size graph.nodes ≤ nodes)
 
   -- these cells and this body are of the closed graph
-  module _ (cells : List Added) (body : Stmts) (most_nodes : ℕ) (all : (cell : ℕ) (kind : Added) → kind_at cells cell ≡ Some kind → KindServed kinds range body (suc most_nodes) cell kind) where
+  module _ (cells : List Added) (body : Stmts) (most_nodes : ℕ) (all : (cell : ℕ) (kind : Added) → kind_at cells cell ≡ Some kind → KindServed kinds range body (suc most_nodes) cell kind)
+      (first_is : (cell arms : ℕ) → stmts_choose cell arms body ≡ true → stmts_arms cell body ≡ Some arms) where
     abbrev pub Leading : Graph → Type 0
     Leading graph = Leads cells body graph
 
@@ -388,7 +390,7 @@ module _ (naming : Naming) (kinds : Writable) (procedures : List Procedure) (ran
         let targets = targets-most graph label k.0 in
         let more_arms = bare-most (targets_of label t) (tree_returns t) in
         let few = k.1 in
-        let choice = served.1 (exit_arms label t) (exit-chooses label graph (lowest-in (has_exits graph) graph.nodes label e) leads) (omega (arith, targets, more_arms, few)) in
+        let choice = served.1 (exit_arms label t) (first_is exit (exit_arms label t) (exit-chooses label graph (lowest-in (has_exits graph) graph.nodes label e) leads)) (omega (arith, targets, more_arms, few)) in
         join-graph-stands (exits_graph label graph) (exits-stands label graph served.0 choice.0 choice.1 h)
 
     or-exits-stands : (graph : Graph) (next : Option Graph) → Kept most_nodes graph → (Leading (stepped graph next) → GraphStands (stepped graph next)) → Leading (stepped graph (or_exits graph next)) → GraphStands graph → GraphStands (stepped graph (or_exits graph next))
@@ -417,7 +419,7 @@ module _ (naming : Naming) (kinds : Writable) (procedures : List Procedure) (ran
         let state = count graph.added in
         let n = size graph.nodes in
         let served = all state State (leads.0 state State (kind-next graph.added State)) in
-        let choice = served.1 n (leads.1 state n (dispatch-own graph)) (omega (arith, few)) in
+        let choice = served.1 n (first_is state n (leads.1 state n (dispatch-own graph))) (omega (arith, few)) in
         dispatch-stands graph served.0 choice.0 choice.1 h
 
     rest-stands : (graph : Graph) → size graph.nodes ≤ most_nodes → Leading (dispatch_rest graph) → GraphStands graph → GraphStands (dispatch_rest graph)

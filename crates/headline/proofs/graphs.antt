@@ -18,3 +18,9 @@ pub mod ArmCounts
 pub mod ChoicesKept
 -- What a graph on the way has of cells and choices, the closed one has.
 pub mod CellsKept
+-- A choice by a cell stands in statements, and how many arms the first one has.
+pub mod Choosing
+-- What is so of each choice by a cell.
+pub mod OneCount
+-- All choices of a closed graph by one cell have equally many arms.
+pub mod OneCountKept

@@ -1,6 +1,6 @@
 -- From a source to the written program, over what lowering, the rules and rendering give: the whole
 -- headline of this theory.
-use Rattle.std.specs.Prelude.{ℕ, suc, ◌⊎◌, ◌≡◌, ◌<◌, ◌≤◌, ◌==◌, Bool, true, false, if◌then◌else◌, List, [], ◌∷◌, length, Some, slice_get}
+use Rattle.std.specs.Prelude.{ℕ, suc, ◌⊎◌, ◌≡◌, ◌<◌, ◌≤◌, ◌==◌, Bool, true, false, if◌then◌else◌, List, [], ◌∷◌, length, Option, Some, None, slice_get}
 use Rattle.runs.specs.Machine.{meaning}
 use Rattle.language.specs.Language.{Picker, If, By, ByCell, Stmt, Do, Choose, Loop, Perform, Go, GoDepending, NextSentence, ExitParagraph, ExitSection, ExitPerform, StopRun, Stmts, none, also, Arms, done, given, missing, Body, Nested, Performed, Program, Range, Main, Part}
 use Rattle.control.specs.Doing.{Acting, Celled, alone}
@@ -152,46 +152,49 @@ pub record IsNumberedPlan (told : Told) (program : Program) (keep : Range → La
   pub names : (range : Range) → In range (Main ∷ others) →
       NamesItsCells (lowered_graphs told program keep numbers added) range
 
--- A choice by the cell among so many arms stands in it.
-module _ (cell arms : ℕ) where
-  abbrev pub picks : Picker → ℕ → Bool
-  picks (If test) some = false
-  picks (By chooser) some = false
-  picks (ByCell by) some = if by == cell then some == arms else false
+abbrev pub or_first : Option ℕ → Option ℕ → Option ℕ
+or_first (Some arms) others = Some arms
+or_first None others = others
+
+-- How many arms the first choice by the cell has that stands there.
+module _ (cell : ℕ) where
+  abbrev pub picker_arms : Picker → ℕ → Option ℕ
+  picker_arms (If test) arms = None
+  picker_arms (By chooser) arms = None
+  picker_arms (ByCell by) arms = if by == cell then Some arms else None
 
   abbrev mutual
-    pub stmt_chooses : Stmt → Bool
-    stmt_chooses (Do act) = false
-    stmt_chooses (Choose picker others) =
-        if picks picker (count_arms others) then true else arms_choose others
-    stmt_chooses (Loop control body) = body_chooses body
-    stmt_chooses (Perform entry exit) = false
-    stmt_chooses (Go to) = false
-    stmt_chooses (GoDepending to chooser) = false
-    stmt_chooses NextSentence = false
-    stmt_chooses ExitParagraph = false
-    stmt_chooses (ExitSection last) = false
-    stmt_chooses (ExitPerform cycle) = false
-    stmt_chooses StopRun = false
+    pub stmt_arms : Stmt → Option ℕ
+    stmt_arms (Do act) = None
+    stmt_arms (Choose picker arms) = or_first (picker_arms picker (count_arms arms)) (arms_arms arms)
+    stmt_arms (Loop control body) = body_arms body
+    stmt_arms (Perform entry exit) = None
+    stmt_arms (Go to) = None
+    stmt_arms (GoDepending to chooser) = None
+    stmt_arms NextSentence = None
+    stmt_arms ExitParagraph = None
+    stmt_arms (ExitSection last) = None
+    stmt_arms (ExitPerform cycle) = None
+    stmt_arms StopRun = None
 
-    pub stmts_choose : Stmts → Bool
-    stmts_choose none = false
-    stmts_choose (also stmt stmts) = if stmt_chooses stmt then true else stmts_choose stmts
+    pub stmts_arms : Stmts → Option ℕ
+    stmts_arms none = None
+    stmts_arms (also stmt stmts) = or_first (stmt_arms stmt) (stmts_arms stmts)
 
-    pub arms_choose : Arms → Bool
-    arms_choose done = false
-    arms_choose (given arm others) = if stmts_choose arm then true else arms_choose others
-    arms_choose (missing others) = arms_choose others
+    pub arms_arms : Arms → Option ℕ
+    arms_arms done = None
+    arms_arms (given arm others) = or_first (stmts_arms arm) (arms_arms others)
+    arms_arms (missing others) = arms_arms others
 
-    pub body_chooses : Body → Bool
-    body_chooses (Nested stmts) = stmts_choose stmts
-    body_chooses (Performed entry exit) = false
+    pub body_arms : Body → Option ℕ
+    body_arms (Nested stmts) = stmts_arms stmts
+    body_arms (Performed entry exit) = None
 
--- where a choice by the cell stands in the body, its arms are so many at most, 0 to the number of
--- its arms may be moved to the cell, and the cell may choose among them
-abbrev pub ChoicesServed : Writable → Range → (body : Stmts) → (most : ℕ) → (cell : ℕ) → Type 0
-ChoicesServed kinds range body most cell =
-    (arms : ℕ) → stmts_choose cell arms body ≡ true → arms ≤ most →
+-- where a choice by the cell stands in the body, of so many arms, which are so many at most, it may
+-- choose among them, and 0 to the number of its arms may be moved to the cell
+abbrev pub ChoiceServed : Writable → Range → (body : Stmts) → (most : ℕ) → (cell : ℕ) → Type 0
+ChoiceServed kinds range body most cell =
+    (arms : ℕ) → stmts_arms cell body ≡ Some arms → arms ≤ most →
     ((value : ℕ) → value ≤ arms → kinds.sets range cell value ≡ true)
     × (kinds.chooses range cell arms ≡ true)
 
@@ -203,9 +206,9 @@ KindServed kinds range body most cell Flag = (kinds.sets range cell 0 ≡ true)
     × (kinds.sets range cell 1 ≡ true) × (kinds.compares range cell 1 ≡ true)
 KindServed kinds range body most cell Count = Unit {0}
 KindServed kinds range body most cell State =
-    (kinds.compares range cell 0 ≡ true) × ChoicesServed kinds range body most cell
+    (kinds.compares range cell 0 ≡ true) × ChoiceServed kinds range body most cell
 KindServed kinds range body most cell Exit =
-    (kinds.aboves range cell ≡ true) × ChoicesServed kinds range body most cell
+    (kinds.aboves range cell ≡ true) × ChoiceServed kinds range body most cell
 
 -- each added cell of a range that is closed to this graph, of so many nodes
 abbrev pub CellsServed : Writable → Range → Graph → (nodes : ℕ) → Type 0
@@ -332,8 +335,7 @@ EachStands naming kinds procedures = (number : ℕ) (procedure : Procedure) →
     StmtsStand naming kinds procedures procedure.range procedure.body
 
 -- where what stands in the lowered graphs may be written, and what the rules write of each added
--- cell, the closed
--- graphs can be written
+-- cell, the closed graphs can be written
 abbrev pub ClosedGraphsStand : Type 0
 ClosedGraphsStand =
     (naming : Naming) (kinds : Writable) (told : Told) (program : Program)

@@ -7,7 +7,7 @@ use Rattle.graph_rules.specs.Families.{Added, Never, Flag, State, Exit}
 use Rattle.graph_rules.specs.Shapes.{Live, Targets, NoTarget, Only, Several, other_targets}
 use Rattle.graph_rules.specs.Reduced.{Graph, tree_in, kind_at, inlines, lowest, loops, Form, form_of, close_form, close_by, inline_step, loop_step, rule_step, stepped, size, reduced}
 use Rattle.closing.specs.Closes.{has_exits, exits_step, or_exits, any_step, reduced_by_all, dispatch_graph, dispatch_rest, IsClosed}
-use Rattle.headline.specs.Chain.{stmts_choose}
+use Rattle.headline.proofs.graphs.Choosing.{stmts_choose}
 use Rattle.graph_rules.proofs.shapes.Reducing.{kind-before}
 use Rattle.headline.proofs.graphs.ChoicesKept.{NodesChoose, reduced-chooses, by-all-chooses, rest-chooses}
 

@@ -13,7 +13,7 @@ use Rattle.closing.specs.Dispatches.{stated_end, stated_tree, stated_arms, lengt
 use Rattle.closing.specs.Targets.{targets_of, with_exits}
 use Rattle.closing.specs.Closes.{none_left_out, has_exits, exits_graph, exits_step, or_exits, any_step, reduced_by_all, dispatch_graph, dispatch_rest, closed_graph, IsClosed}
 use Rattle.closing.specs.Laws.{PlainEnd}
-use Rattle.headline.specs.Chain.{picks, stmt_chooses, stmts_choose, arms_choose}
+use Rattle.headline.proofs.graphs.Choosing.{picks, stmt_chooses, stmts_choose, arms_choose}
 use Rattle.control.proofs.Ranges.{eq-self}
 use Rattle.graph_rules.proofs.shapes.Reducing.{form-is}
 use Rattle.closing.proofs.gathering.Targets.{numbered-cases}

@@ -15,13 +15,15 @@ use Rattle.closing.specs.Dispatches.{Numbered, labels_of, AreNodes}
 use Rattle.closing.specs.Closes.{IsClosed, closed_graph}
 use Rattle.rendering.specs.Rendering.{Empty, Naming, Procedure, place_of, count_arms, standing}
 use Rattle.rendering.specs.Procedures.{Writable, PickerFits, StandsLater, StmtStands, StmtsStand, ArmsStand, BodyStands}
-use Rattle.headline.specs.Chain.{lowered_graphs, procedures_of, IsNumberedPlan, EachCellServed, EachStands, ClosedGraphsStand, PickerServed, StmtServed, StmtsServed, ArmsServed, BodyServed, EndServed, TreesServed, TreeServed, GraphsServed}
+use Rattle.headline.specs.Chain.{lowered_graphs, procedures_of, IsNumberedPlan, EachCellServed, EachStands, ClosedGraphsStand, TreeNames, PickerServed, StmtServed, StmtsServed, ArmsServed, BodyServed, EndServed, TreesServed, TreeServed, GraphsServed}
 use Rattle.graph_rules.proofs.walks.Orders.{place, Behind, ordered-fits}
 use Rattle.closing.proofs.closing.Closes.{are-nodes}
 use Rattle.headline.proofs.graphs.LoweredGraphs.{graphs-closed}
 use Rattle.headline.proofs.graphs.LaterCalls.{plan-fits}
 use Rattle.headline.proofs.Chain.{at-procedure, entry-last}
 use Rattle.headline.proofs.graphs.ChoicesKept.{closed-chooses}
+use Rattle.headline.proofs.graphs.OneCount.{TreeEach, NodesEach, tree-none}
+use Rattle.headline.proofs.graphs.OneCountKept.{first-of-closed}
 use Rattle.headline.proofs.StandKept.{TreeStands, EndStands, TreesStand, AllStand, followed-stands, at-stands, closed-stands}
 
 module _ (graphs : Graphs) where
@@ -110,6 +112,11 @@ module _ (naming : Naming) (kinds : Writable) (procedures : List Procedure) (ran
   body-stands (tree body Stop) last h = h
   body-stands (tree body Dead) last h = h
 
+module _ (Q : ℕ → ℕ → Type 0) (R W : ℕ → Type 0) (family : Family) (range : Range) (P : Label → Type 0) where
+  none-of : (nodes : List Node) → AreNodes family range P nodes → ((label : Label) → TreeNames R W (family.node range label)) → NodesEach Q nodes
+  none-of [] are names = tt
+  none-of (node ∷ nodes) are names = (subst (TreeEach Q) are.0 (tree-none Q R W (family.node range node.label) (names node.label)), none-of nodes are.2 names)
+
 module _ (naming : Naming) (kinds : Writable) (told : Told) (program : Program) (keep : Range → Label → Bool) (numbers : Range → ℕ → ℕ) (added : Range → List Added) (others : List Range)
     (all : EachCellServed kinds (Main ∷ others) (lowered_graphs told program keep numbers added)) (source : IsSource told program) (some : 0 < length program.paragraphs) (plan : IsNumberedPlan told program keep numbers added others)
     (served : GraphsServed naming kinds (Main ∷ others) (lowered_graphs told program keep numbers added)) where
@@ -141,6 +148,13 @@ module _ (naming : Naming) (kinds : Writable) (told : Told) (program : Program) 
         tree-stands naming kinds procedures r (Behind order r) R W behind-later ((family_of graphs).node r label)
         (ordered-fits (family_of graphs) (Has (kinds_of graphs)) (MaySet (kinds_of graphs)) order (plan-fits told program keep numbers added others source some plan) r here label) (served r here label)
 
+    -- no choice by a cell stands in the lowered nodes
+    none-choose : NodesEach (λ c n. ⊥) (graphs r).nodes
+    none-choose =
+        let labels = labels_of (graphs r).nodes in
+        none-of (λ c n. ⊥) R W (family_of graphs) r (Numbered labels) (graphs r).nodes
+        (are-nodes (family_of graphs) r labels (graphs r).nodes (closed-at r here).rising (λ l t e n. e) (closed-at r here).jumps) (plan.names r here)
+
     graph-stands : AllStand naming kinds procedures r (graphs r).nodes
     graph-stands =
         let closed = closed-at r here in
@@ -152,7 +166,7 @@ module _ (naming : Naming) (kinds : Writable) (told : Told) (program : Program) 
     entry-stands =
         let closed = closed_graph (graphs r) in
         let t = tree_in closed.nodes closed.entry in
-        let whole = closed-stands naming kinds procedures r closed.added (body_of t) (size (graphs r).nodes) (all r here) (graphs r) (closed-at r here, omega arith)
+        let whole = closed-stands naming kinds procedures r closed.added (body_of t) (size (graphs r).nodes) (all r here) (first-of-closed (graphs r) none-choose) (graphs r) (closed-at r here, omega arith)
         (λ cell kind is. is, λ cell arms h. closed-chooses cell arms (graphs r) (closed-at r here) h) graph-stands in
         body-stands naming kinds procedures r (Behind order r) R W behind-later t (entry-last graphs (graphs r) (closed-at r here))
         (at-stands naming kinds procedures r (closed_graph (graphs r)).nodes (closed_graph (graphs r)).entry whole)
