@@ -1,0 +1,13 @@
+use Rattle.std.specs.Prelude.{drop}
+use Rattle.grammar_forms.proofs.Reader.{reader}
+use Rattle.procedure_names.specs.Procedures.{procedures_of}
+use Rattle.stmt_forms.proofs.HoldingLaws as holding
+use Rattle.stmt_forms.proofs.ParagraphLaws as paragraphs
+use Rattle.statement_grammar.proofs.PartLaws.{parts}
+use Rattle.statement_grammar.proofs.laws.grammar_is_read.Goals as goal
+
+pub returns : goal.returns
+returns c = record {
+  stmts = λ names entries table levels scope. reader (holding.stmts (parts names entries table) levels scope).lawful;
+  division = λ names entries tokens from. reader (paragraphs.division (parts names entries (procedures_of (drop from tokens) from))).lawful;
+}

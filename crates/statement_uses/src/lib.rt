@@ -1,0 +1,16 @@
+//! Uses of operands in statements, and names of files, records and procedures: each function does
+//! what the definition of its name in `statement_grammar` says.
+//!
+//! `part` judges uses and makes what stands in the tree, `kind` tells what an entry holds, `name`
+//! reads names, `procedure` looks procedures up. Hold the definitions, not this crate, against ISO
+//! 1989:1985.
+#![tactic(auto)]
+
+mod kind;
+mod name;
+mod part;
+mod procedure;
+
+pub use name::{at_user_word, file, header_name, record_name};
+pub use part::{entry_of, into_fault, known_of, move_fault, operand_of, place_of, subject_fault};
+pub use procedure::procedure_of;
