@@ -1,0 +1,12 @@
+use Rattle.std.proofs.Common.{[], take, drop}
+use Rattle.language.specs.Control.{control_of}
+use Rattle.flow_numbers.specs.Kinds.{never_first_of}
+use Rattle.flow_paths.specs.Accepted.{lemma_ranges}
+use Rattle.overlap_trail.specs.Checking.{HopsFrom, exits_of}
+use Rattle.overlap_trail.proofs.checking.hops_lead.Given as goal
+
+abbrev pub invariant-loop-number : goal.invariant-loop-number
+invariant-loop-number l = record {
+  onward : HopsFrom (never_first_of l.program.files) (control_of l.program) (lemma_ranges l.lemmas) l.fault [] l.hops → HopsFrom (never_first_of l.program.files) (control_of l.program) (lemma_ranges l.lemmas) l.fault (exits_of (take l.number l.hops)) (drop l.number l.hops);
+  back : HopsFrom (never_first_of l.program.files) (control_of l.program) (lemma_ranges l.lemmas) l.fault (exits_of (take l.number l.hops)) (drop l.number l.hops) → HopsFrom (never_first_of l.program.files) (control_of l.program) (lemma_ranges l.lemmas) l.fault [] l.hops;
+}

@@ -1,0 +1,11 @@
+use Rattle.std.proofs.Common.{[], take, drop}
+use Rattle.language.specs.Control.{control_of}
+use Rattle.flow_numbers.specs.Kinds.{never_first_of}
+use Rattle.flow_paths.specs.Accepted.{LemmasHold, lemma_ranges}
+use Rattle.overlap_trail.proofs.checking.lemmas_hold.Given as goal
+
+abbrev pub invariant-loop-number : goal.invariant-loop-number
+invariant-loop-number l = record {
+  onward : LemmasHold (never_first_of l.program.files) (control_of l.program) [] l.lemmas → LemmasHold (never_first_of l.program.files) (control_of l.program) (lemma_ranges (take l.number l.lemmas)) (drop l.number l.lemmas);
+  back : LemmasHold (never_first_of l.program.files) (control_of l.program) (lemma_ranges (take l.number l.lemmas)) (drop l.number l.lemmas) → LemmasHold (never_first_of l.program.files) (control_of l.program) [] l.lemmas;
+}

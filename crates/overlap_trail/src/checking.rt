@@ -1,0 +1,145 @@
+//! Whether a trail is accepted.
+
+ghost use Rattle.std.specs.Prelude.{List, [], ◌≡◌, ◌↔◌, ◌+◌, ◌<◌, length, drop, IsTrue};
+ghost use Rattle.language.specs.Control.{control_of};
+ghost use Rattle.flow_paths.specs.Flow.{main_range};
+ghost use Rattle.flow_paths.specs.Accepted.{LeadsTo, LemmasHold, IsAccepted, lemma_ranges};
+ghost use Rattle.flow_paths.specs.declared.trail.Hop.{Hop};
+ghost use Rattle.flow_numbers.specs.Kinds.{never_first_of};
+ghost use Rattle.overlap_trail.specs.Checking.{aim_of, exits_of, aim_behind, HopsFrom, IsFirstMain};
+
+use crate::judge::Goal;
+use crate::leg::{Leg, one_leg};
+use cob_tree::{Program, Range};
+use flow_paths::{FlowFault, Hop, Lemma, Move, Trail};
+
+/// Whether the moves lead from the range's entry to where they are to lead.
+pub fn leads(
+    program: &Program,
+    lemmas: &[Lemma],
+    range: Range,
+    moves: &[Move],
+    goal: Goal,
+    hops: &[Hop],
+) -> bool
+    ensures { IsTrue result ↔ LeadsTo (never_first_of program.now.files) (control_of program.now)
+        (lemma_ranges lemmas.now) range (aim_of goal hops.now) moves.now }
+{
+    let count = program.paragraphs.len();
+    if range.entry as usize >= count {
+        return false;
+    }
+    let mut paragraph = range.entry as usize;
+    let mut taken = 0;
+    let mut quiet = 0;
+    'legs: loop {
+        match one_leg(program, lemmas, range, moves, goal, hops, paragraph, taken) {
+            Leg::There => return true,
+            Leg::Nowhere => return false,
+            Leg::On {
+                paragraph: next,
+                taken: now,
+            } => {
+                if now > taken {
+                    paragraph = next;
+                    taken = now;
+                    quiet = 0;
+                } else if quiet < count {
+                    paragraph = next;
+                    quiet += 1;
+                } else {
+                    return false;
+                }
+            }
+        }
+    }
+}
+
+/// Whether each lemma leads to its return, over the ranges of earlier ones alone.
+pub fn lemmas_hold(program: &Program, lemmas: &[Lemma]) -> bool
+    ensures { IsTrue result ↔ LemmasHold (never_first_of program.now.files) (control_of program.now) [] lemmas.now }
+{
+    for (number, lemma) in lemmas.iter().enumerate() {
+        let earlier = &lemmas[..number];
+        if !leads(
+            program,
+            earlier,
+            lemma.range,
+            lemma.moves.as_slice(),
+            Goal::Return,
+            &[],
+        ) {
+            return false;
+        }
+    }
+    true
+}
+
+/// Where the moves of a hop are to lead to.
+pub fn goal_of(fault: FlowFault, hops: &[Hop], number: usize) -> Goal
+    requires { number < length hops.now }
+    ensures { (front : List Hop) → aim_of result front
+        ≡ aim_behind fault (exits_of front) (drop (number + 1) hops.now) }
+{
+    match hops.get(number + 1) {
+        Some(later) => Goal::Enter(later.range),
+        None => Goal::Fault(fault),
+    }
+}
+
+/// Whether the hops lead from one to the next, and the last one to the fault.
+pub fn hops_lead(program: &Program, lemmas: &[Lemma], fault: FlowFault, hops: &[Hop]) -> bool
+    ensures { IsTrue result ↔ HopsFrom (never_first_of program.now.files) (control_of program.now)
+        (lemma_ranges lemmas.now) fault [] hops.now }
+{
+    for (number, hop) in hops.iter().enumerate() {
+        let goal = goal_of(fault, hops, number);
+        let front = &hops[..number + 1];
+        if !leads(
+            program,
+            lemmas,
+            hop.range,
+            hop.moves.as_slice(),
+            goal,
+            front,
+        ) {
+            return false;
+        }
+    }
+    true
+}
+
+/// Whether a range is main.
+pub fn is_main(range: Range) -> bool
+    ensures { IsTrue result ↔ (range ≡ main_range) }
+{
+    match range.exit {
+        Some(_) => false,
+        None => range.entry == 0,
+    }
+}
+
+/// Whether the hops begin in main.
+pub fn begins_in_main(hops: &[Hop]) -> bool
+    ensures { IsTrue result ↔ IsFirstMain hops.now }
+{
+    match hops.first() {
+        Some(hop) => is_main(hop.range),
+        None => false,
+    }
+}
+
+/// Whether a trail is accepted.
+pub fn check(program: &Program, trail: &Trail) -> bool
+    ensures { IsTrue result ↔ IsAccepted (never_first_of program.now.files) (control_of program.now) trail.now }
+{
+    let lemmas = trail.lemmas.as_slice();
+    let hops = trail.hops.as_slice();
+    if !begins_in_main(hops) {
+        return false;
+    }
+    if !lemmas_hold(program, lemmas) {
+        return false;
+    }
+    hops_lead(program, lemmas, trail.fault, hops)
+}

@@ -1,0 +1,190 @@
+//! From the start of one paragraph to the start of the next.
+
+ghost use Rattle.std.specs.Prelude.{ℕ, [], suc, map, ◌≡◌, ◌≤◌, ◌<◌, length, drop};
+ghost use Rattle.language.specs.Control.{control_of, section_last, seen_sentence};
+ghost use Rattle.flow_paths.specs.Step.{at, start};
+ghost use Rattle.flow_paths.specs.Accepted.{walk};
+ghost use Rattle.overlap_trail.specs.Following.{known_of, Known, sought_of};
+ghost use Rattle.overlap_trail.specs.Checking.{aim_of, FollowsSentences, IsLeg, IsOnFrom, IsCallLeg, IsTakenOut};
+
+use crate::follow::Way;
+use crate::judge::{Goal, ends_at, meets_call, meets_end};
+use crate::through::follow_stmts;
+use cob_tree::{FileEntry, Paragraph, Program, Range, Sentence};
+use flow_paths::{Hop, Lemma, Move};
+
+/// What comes of following moves through a paragraph, with the number of moves that are taken then.
+#[derive(Debug, Clone, Copy)]
+pub enum Out {
+    /// The paragraph's end.
+    ToEnd(usize),
+    /// The end of the section's last paragraph.
+    ToSectionEnd(usize),
+    /// The start of a paragraph.
+    ToStart(u32, usize),
+    /// A PERFORM, and no move over it.
+    Met { entry: u32, exit: u32, taken: usize },
+    /// The moves don't lead on.
+    Lost,
+}
+
+/// What following a paragraph comes to.
+#[derive(Debug, Clone, Copy)]
+pub enum Leg {
+    /// What was to be come to.
+    There,
+    /// Never to it.
+    Nowhere,
+    /// The start of a paragraph, with this many moves taken.
+    On { paragraph: usize, taken: usize },
+}
+
+/// The last paragraph of the section of this one.
+pub fn section_last(paragraphs: &[Paragraph], number: usize) -> usize
+    requires { number < length paragraphs.now }
+    ensures { result ≡ section_last number (drop (suc number) paragraphs.now) }
+{
+    let mut last = number;
+    for next in number + 1..paragraphs.len() {
+        if paragraphs[next].section.is_some() {
+            return last;
+        }
+        last = next;
+    }
+    last
+}
+
+/// Through the sentences of a paragraph.
+pub fn follow_sentences(
+    files: &[FileEntry],
+    lemmas: &[Lemma],
+    moves: &[Move],
+    taken: usize,
+    sentences: &[Sentence],
+) -> Out
+    requires { taken ≤ length moves.now }
+    ensures follows { (last : ℕ) → FollowsSentences (known_of files.now lemmas.now) moves.now last taken
+        (map (seen_sentence last) sentences.now) result }
+    ensures taken { IsTakenOut taken (length moves.now) result }
+{
+    let mut now = taken;
+    for sentence in sentences {
+        match follow_stmts(files, lemmas, moves, now, &sentence.stmts) {
+            Way::Through(behind) => now = behind,
+            Way::Left(behind) => now = behind,
+            Way::To(to, behind) => return Out::ToStart(to, behind),
+            Way::Ended(behind) => return Out::ToEnd(behind),
+            Way::Broken(behind) => return Out::ToEnd(behind),
+            Way::Cycled(behind) => return Out::ToEnd(behind),
+            Way::SectionEnded(behind) => return Out::ToSectionEnd(behind),
+            Way::Met {
+                entry,
+                exit,
+                taken: behind,
+            } => {
+                return Out::Met {
+                    entry,
+                    exit,
+                    taken: behind,
+                };
+            }
+            Way::Lost => return Out::Lost,
+        }
+    }
+    Out::ToEnd(now)
+}
+
+/// What the end of a paragraph comes to.
+pub fn end_leg(
+    program: &Program,
+    range: Range,
+    moves: &[Move],
+    goal: Goal,
+    hops: &[Hop],
+    paragraph: usize,
+    taken: usize,
+) -> Leg
+    requires { taken ≤ length moves.now }
+    ensures leg { (known : Known) → IsLeg known (sought_of (control_of program.now) range (aim_of goal hops.now)) moves.now
+        (walk (at paragraph []) (drop taken moves.now)) taken result }
+    ensures within { IsOnFrom paragraph (length program.now.paragraphs) result }
+{
+    if meets_end(goal, hops, range, paragraph, moves, taken) {
+        return Leg::There;
+    }
+    if ends_at(range.exit, paragraph) {
+        return Leg::Nowhere;
+    }
+    let behind = program.paragraphs.len().saturating_sub(paragraph);
+    if behind > 1 {
+        Leg::On {
+            paragraph: paragraph + 1,
+            taken,
+        }
+    } else {
+        Leg::Nowhere
+    }
+}
+
+/// What a PERFORM that no move steps over comes to.
+pub fn call_leg(
+    moves: &[Move],
+    goal: Goal,
+    hops: &[Hop],
+    range: Range,
+    entry: u32,
+    exit: u32,
+    taken: usize,
+) -> Leg
+    requires { taken ≤ length moves.now }
+    ensures leg { IsCallLeg range (aim_of goal hops.now) moves.now entry exit taken result }
+    ensures within { (paragraph count : ℕ) → IsOnFrom paragraph count result }
+{
+    if meets_call(goal, hops, range, entry, exit, moves, taken) {
+        Leg::There
+    } else {
+        Leg::Nowhere
+    }
+}
+
+/// What a paragraph, from its start, comes to.
+pub fn one_leg(
+    program: &Program,
+    lemmas: &[Lemma],
+    range: Range,
+    moves: &[Move],
+    goal: Goal,
+    hops: &[Hop],
+    paragraph: usize,
+    taken: usize,
+) -> Leg
+    requires { taken ≤ length moves.now }
+    ensures leg { IsLeg (known_of program.now.files lemmas.now)
+        (sought_of (control_of program.now) range (aim_of goal hops.now)) moves.now
+        (walk (start (control_of program.now) paragraph) (drop taken moves.now)) taken result }
+    ensures within { IsOnFrom paragraph (length program.now.paragraphs) result }
+{
+    let files = program.files.as_slice();
+    let paragraphs = program.paragraphs.as_slice();
+    if paragraph >= paragraphs.len() {
+        return end_leg(program, range, moves, goal, hops, paragraph, taken);
+    }
+    let sentences = paragraphs[paragraph].sentences.as_slice();
+    match follow_sentences(files, lemmas, moves, taken, sentences) {
+        Out::ToEnd(now) => end_leg(program, range, moves, goal, hops, paragraph, now),
+        Out::ToSectionEnd(now) => {
+            let last = section_last(paragraphs, paragraph);
+            end_leg(program, range, moves, goal, hops, last, now)
+        }
+        Out::ToStart(to, now) => Leg::On {
+            paragraph: to as usize,
+            taken: now,
+        },
+        Out::Met {
+            entry,
+            exit,
+            taken: now,
+        } => call_leg(moves, goal, hops, range, entry, exit, now),
+        Out::Lost => Leg::Nowhere,
+    }
+}
