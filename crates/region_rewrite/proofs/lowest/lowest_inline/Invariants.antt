@@ -1,0 +1,9 @@
+use Rattle.std.proofs.Common.{◌≡◌, drop}
+use Rattle.graph_rules.specs.Reduced.{lowest, inlines}
+use Rattle.branch_tree.specs.Graphs.{seen_graph, seen_nodes}
+use Rattle.region_rewrite.proofs.lowest.lowest_inline.Given as goal
+
+abbrev pub invariant-loop-at : goal.invariant-loop-at
+invariant-loop-at l =
+    lowest (inlines (seen_graph l.graph)) (drop l.at (seen_nodes l.graph.nodes.items))
+    ≡ lowest (inlines (seen_graph l.graph)) (seen_nodes l.graph.nodes.items)

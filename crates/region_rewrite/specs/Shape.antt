@@ -1,0 +1,39 @@
+-- What becomes of a graph of which one node is left.
+use Rattle.std.specs.Prelude.{ℕ, ◌≡◌, ◌<◌, ◌≤◌, true, List, [], ◌∷◌, map, Result, Ok, Err}
+use Rattle.cob_base.specs.declared.limit.Limit.{Limit}
+use Rattle.cob_base.specs.declared.limit.LimitKind.TheVariants.{Nesting}
+use Rattle.cob_tree.specs.declared.fault.SplitFault.{SplitFault}
+use Rattle.cob_tree.specs.declared.fault.SplitFault.TheVariants as fault
+use Rattle.language.specs.Language.{none}
+use Rattle.control.specs.Graph.{Tree, tree, Dead, body_of}
+use Rattle.graph_rules.specs.Reduced.{Node, Graph}
+use Rattle.branch_tree.specs.Graphs.{seen_added}
+use Rattle.branch_tree.specs.Trees.{seen_body, seen_end}
+use Rattle.tree_nesting.specs.Nesting.{nesting}
+use Rattle.region_rewrite.specs.declared.shaping.Shaped.{Shaped}
+
+-- the most levels of statements in a result, one in the other
+abbrev pub max_nesting : ℕ
+max_nesting = 500
+
+abbrev pub nesting_passed : Limit
+nesting_passed =
+    record { kind = Nesting; of_result = true; counted = 501; limit = max_nesting }
+
+-- the tree of the first node
+abbrev pub first_tree : List Node → Tree
+first_tree [] = tree none Dead
+first_tree (node ∷ nodes) = node.tree
+
+-- how deep the result nests
+abbrev pub result_nesting : Graph → ℕ
+result_nesting graph = nesting (body_of (first_tree graph.nodes))
+
+-- the node's tree and the added items; the limit is passed exactly where the result nests deeper
+abbrev pub Shapes : Result Shaped SplitFault → Graph → Type 0
+Shapes (Ok shaped) graph =
+    (first_tree graph.nodes ≡ tree (seen_body shaped.body.items) (seen_end shaped.end))
+    × (graph.added ≡ map seen_added shaped.added.items) × (result_nesting graph ≤ max_nesting)
+Shapes (Err (fault.Limit limit)) graph =
+    (max_nesting < result_nesting graph) × (limit ≡ nesting_passed)
+Shapes (Err fault.NoMemory) graph = Unit {0}

@@ -1,0 +1,76 @@
+//! A graph as one body.
+
+ghost use Rattle.std.specs.Prelude.{◌≡◌, length, IfOk};
+ghost use Rattle.closing.specs.Closes.{IsClosed, closed_graph};
+ghost use Rattle.closing.specs.Laws.{PlainEnd};
+ghost use Rattle.branch_tree.specs.Graphs.{seen_graph};
+ghost use Rattle.branch_tree.specs.Trees.{seen_end};
+ghost use Rattle.region_rewrite.specs.Shape.{Shapes, nesting_passed};
+
+use crate::ordering::close;
+use branch_tree::{Added, End, Graph, Node, Piece, Tree};
+use cob_base::{Limit, LimitKind};
+use cob_tree::SplitFault;
+use std::alloc::Global;
+use tree_nesting::body_nesting;
+
+/// What a graph becomes: a body, an end behind which nothing comes, and the added items in the order in
+/// which they were made.
+#[derive(Drop)]
+pub struct Shaped {
+    pub body: Vec<Piece>,
+    pub end: End,
+    pub added: Vec<Added>,
+}
+
+/// The most levels of statements in a result, one in the other.
+const MAX_NESTING: u32 = 500;
+
+fn nesting_passed() -> Limit
+    ensures { result ≡ nesting_passed }
+{
+    Limit {
+        kind: LimitKind::Nesting,
+        of_result: true,
+        counted: MAX_NESTING as u64 + 1,
+        limit: MAX_NESTING as u64,
+    }
+}
+
+/// What the one node of a graph holds, where it isn't nested too deep.
+fn one_node(graph: Graph) -> Result<Shaped, SplitFault>
+    requires { length graph.nodes.items ≡ 1 }
+    ensures { Shapes result (seen_graph graph) }
+{
+    let Graph {
+        entry: _,
+        nodes,
+        added,
+    } = graph;
+    let mut nodes = nodes;
+    match nodes.pop() {
+        None => unreachable!(),
+        Some(node) => {
+            let Node { label: _, tree } = node;
+            let Tree { body, end } = tree;
+            if body_nesting(body.as_slice()) > MAX_NESTING {
+                return Err(SplitFault::Limit(nesting_passed()));
+            }
+            Ok(Shaped { body, end, added })
+        }
+    }
+}
+
+/// Shapes a graph by all rules in their order. The limit is passed exactly where the result nests
+/// deeper than 500 levels; a graph with 2^32 - 2 nodes, or as many added items, is out of memory.
+pub fn shape(alloc: Global, graph: Graph) -> Result<Shaped, SplitFault>
+    requires { IsClosed (seen_graph graph) }
+    ensures shaped { Shapes result (closed_graph (seen_graph graph)) }
+    ensures end { IfOk result (λ shaped. PlainEnd (seen_end shaped.end)) }
+{
+    let mut graph = graph;
+    match close(alloc, &mut graph) {
+        Ok(()) => one_node(graph),
+        Err(_) => Err(SplitFault::NoMemory),
+    }
+}
