@@ -4,3 +4,5 @@ pub mod Skips
 pub mod Gives
 -- programs that name their own items and paragraphs
 pub mod Sources
+-- no choice is without an arm
+pub mod SomeArm

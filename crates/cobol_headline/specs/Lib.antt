@@ -1,0 +1,2 @@
+-- the headline for COBOL programs
+pub mod Alike
