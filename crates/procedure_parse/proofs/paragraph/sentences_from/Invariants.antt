@@ -1,0 +1,12 @@
+use Rattle.stmt_forms.specs.Verb.{begins_stmt}
+use Rattle.std.proofs.Common.{◌≡◌, length}
+use Rattle.grammar_forms.specs.Form.{loop, added}
+use Rattle.stmt_forms.specs.Paragraph as forms
+use Rattle.procedure_parse.proofs.paragraph.sentences_from.Given as goal
+
+abbrev pub invariant-items : goal.invariant-items
+invariant-items g l =
+    (forms.sentences_from (g.P.Parts.parts l.parts) l.fn.scope l.fn.found).reads l.fn.cursor ≡ (loop begins_stmt (added (forms.sentence (g.P.Parts.parts l.parts) l.scope)) l.found).reads l.cursor
+
+abbrev pub decreases-items : goal.decreases-items
+decreases-items g l = length l.cursor.rest

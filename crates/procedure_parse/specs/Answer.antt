@@ -1,0 +1,75 @@
+-- What is answered for the tokens of a division. The other definitions are the forms of
+-- `stmt_forms`.
+use Rattle.std.specs.Prelude.{◌≡◌, ℕ, false, List, [], Option, Some, None, Result, Ok, Err}
+use Rattle.cob_base.specs.declared.limit.Limit.{Limit}
+use Rattle.cob_base.specs.declared.limit.LimitKind.{LimitKind}
+use Rattle.cob_base.specs.declared.limit.LimitKind.TheVariants as limits
+use Rattle.cob_tree.specs.declared.fault.NameFault.{NameFault}
+use Rattle.cob_tree.specs.declared.fault.NameFault.TheVariants as names
+use Rattle.cob_tree.specs.declared.fault.ParseFault.{ParseFault}
+use Rattle.cob_tree.specs.declared.fault.ParseFault.TheVariants as faults
+use Rattle.cobol_lex.specs.declared.token.Token.{Token}
+use Rattle.grammar_forms.specs.declared.note.Note.{Note}
+use Rattle.grammar_forms.specs.declared.note.NameKind.{NameKind}
+use Rattle.grammar_forms.specs.declared.note.NameKind.TheVariants as kinds
+use Rattle.grammar_forms.specs.declared.why.Why.{Why}
+use Rattle.grammar_forms.specs.declared.why.Why.TheVariants as whys
+use Rattle.grammar_forms.specs.Form.{Form, Input}
+use Rattle.grammar_forms.specs.Reading.{Stops, start_at, fault_line}
+
+-- terms, parentheses and nested statements have one limit, which is passed by one
+abbrev pub passed : LimitKind → Limit
+passed kind = record { kind = kind; of_result = false; counted = 501; limit = 500 }
+
+abbrev pub stop_fault : Why → (line : ℕ) → ParseFault
+stop_fault whys.Syntax line = faults.Syntax line
+stop_fault whys.Terms line = faults.Limit (passed limits.Terms)
+stop_fault whys.Parens line = faults.Limit (passed limits.Parens)
+stop_fault whys.Nesting line = faults.Limit (passed limits.Nesting)
+
+abbrev pub name_fault : NameKind → (line : ℕ) → NameFault
+name_fault kinds.Duplicate line = names.Duplicate line
+name_fault kinds.Unknown line = names.Unknown line
+name_fault kinds.Ambiguous line = names.Ambiguous line
+name_fault kinds.Level line = names.Level line
+name_fault kinds.Picture line = names.Picture line
+name_fault kinds.Redefines line = names.Redefines line
+name_fault kinds.Value line = names.Value line
+name_fault kinds.Usage line = names.Usage line
+
+-- a fault of the divisions before comes first, and else that which was noted
+abbrev pub first_fault : (earlier : Option NameFault) → Option Note → Option NameFault
+first_fault (Some earlier) noted = Some earlier
+first_fault None (Some noted) = Some (name_fault noted.kind noted.position.line)
+first_fault None None = None
+
+-- All the tokens from there on together spell the value, and this is the first name fault in them.
+abbrev pub Spelled : {A : Type 0} → Form A → List Token → (from : ℕ) → A → Option Note → Type 0
+Spelled form tokens from value noted =
+    (behind : Input) × form.spells (start_at from tokens) value behind × (behind.rest ≡ [])
+    × (behind.fault ≡ noted)
+
+-- what is spelled is answered, or the first name fault, unless memory ran out
+abbrev pub Gives : {A : Type 0} → (earlier : Option NameFault) → Result A ParseFault →
+    (spelled : A) → Option Note → Type 0
+Gives earlier (Ok found) spelled noted = (found ≡ spelled) × (first_fault earlier noted ≡ None)
+Gives earlier (Err (faults.Name fault)) spelled noted = first_fault earlier noted ≡ Some fault
+Gives earlier (Err (faults.Syntax line)) spelled noted = ⊥
+Gives earlier (Err (faults.Limit limit)) spelled noted = ⊥
+Gives earlier (Err faults.NoMemory) spelled noted = Unit {0}
+
+-- the tokens from there on stop being the form where and why the fault says
+abbrev pub IsStop : {A : Type 0} → Form A → List Token → (from : ℕ) → ParseFault → Type 0
+IsStop form tokens from fault =
+    (why : Why) × (rest : List Token) × Stops form (start_at from tokens) why rest
+    × (fault ≡ stop_fault why (fault_line tokens rest))
+
+-- A name fault is answered only where all the tokens are the form.
+abbrev pub IsFault : {A : Type 0} → Form A → List Token → (from : ℕ) →
+    (earlier : Option NameFault) → ParseFault → Type 0
+IsFault {A = A} form tokens from earlier (faults.Name fault) =
+    (spelled : A) × (noted : Option Note) × Spelled form tokens from spelled noted
+    × (first_fault earlier noted ≡ Some fault)
+IsFault form tokens from earlier (faults.Syntax line) = IsStop form tokens from (faults.Syntax line)
+IsFault form tokens from earlier (faults.Limit limit) = IsStop form tokens from (faults.Limit limit)
+IsFault form tokens from earlier faults.NoMemory = Unit {0}

@@ -1,0 +1,2 @@
+-- What is answered for a division.
+pub mod Answer

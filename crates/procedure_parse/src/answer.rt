@@ -1,0 +1,97 @@
+//! The whole division, with the first fault.
+
+ghost use Rattle.std.specs.Prelude.{◌≡◌, ◌≤◌, List, None, Option, IfErr, IfOk, length};
+ghost use Rattle.cob_tree.specs.declared.program.Paragraph.{Paragraph};
+ghost use Rattle.grammar_forms.specs.declared.note.Note.{Note};
+ghost use Rattle.stmt_forms.specs.Paragraph.{division as form};
+ghost use Rattle.procedure_parse.specs.Answer as answers;
+
+use crate::paragraph::division;
+use act_parse::Parts;
+use cob_base::{Items, Limit, LimitKind};
+use cob_tree::{NameFault, Paragraph, ParseFault};
+use cobol_lex::Token;
+use grammar_forms::{Cursor, NameKind, Note, Unread, Why};
+use std::alloc::Global;
+
+fn passed(kind: LimitKind) -> Limit
+    ensures { result ≡ answers.passed kind }
+{
+    Limit {
+        kind,
+        of_result: false,
+        counted: 501,
+        limit: 500,
+    }
+}
+
+fn stop_fault(why: Why, line: u32) -> ParseFault
+    ensures { result ≡ answers.stop_fault why line }
+{
+    match why {
+        Why::Syntax => ParseFault::Syntax(line),
+        Why::Terms => ParseFault::Limit(passed(LimitKind::Terms)),
+        Why::Parens => ParseFault::Limit(passed(LimitKind::Parens)),
+        Why::Nesting => ParseFault::Limit(passed(LimitKind::Nesting)),
+    }
+}
+
+fn name_fault(kind: NameKind, line: u32) -> NameFault
+    ensures { result ≡ answers.name_fault kind line }
+{
+    match kind {
+        NameKind::Duplicate => NameFault::Duplicate(line),
+        NameKind::Unknown => NameFault::Unknown(line),
+        NameKind::Ambiguous => NameFault::Ambiguous(line),
+        NameKind::Level => NameFault::Level(line),
+        NameKind::Picture => NameFault::Picture(line),
+        NameKind::Redefines => NameFault::Redefines(line),
+        NameKind::Value => NameFault::Value(line),
+        NameKind::Usage => NameFault::Usage(line),
+    }
+}
+
+fn first_fault(earlier: Option<NameFault>, noted: Option<Note>) -> Option<NameFault>
+    ensures { result ≡ answers.first_fault earlier noted }
+{
+    match earlier {
+        Some(earlier) => Some(earlier),
+        None => match noted {
+            Some(noted) => Some(name_fault(noted.kind, noted.position.line)),
+            None => None,
+        },
+    }
+}
+
+/// The paragraphs that all the tokens behind so many of them spell, which are those behind the header
+/// of the division.
+///
+/// Where they spell none, the fault tells why and the line of the first token up to which they begin
+/// no division, or of the last token where more are needed. A name fault, which is the one of the
+/// divisions before or else the first here, is answered only where the whole syntax has none.
+pub fn read_division<P: Parts>(
+    parts: &P,
+    alloc: Global,
+    tokens: &[Token],
+    from: usize,
+    earlier: Option<NameFault>,
+) -> Result<Items<Paragraph>, ParseFault>
+    requires { from ≤ length tokens.now }
+    ensures found { IfOk result (λ found.
+        answers.Spelled (form (P.parts parts.now)) tokens.now from found None) }
+    ensures only { (found : List Paragraph) (noted : Option Note) →
+        answers.Spelled (form (P.parts parts.now)) tokens.now from found noted →
+        answers.Gives earlier result found noted }
+    ensures fault { IfErr result
+        (λ fault. answers.IsFault (form (P.parts parts.now)) tokens.now from earlier fault) }
+{
+    let mut cursor = Cursor::from_index(tokens, from);
+    match division(parts, alloc, &mut cursor) {
+        Ok(found) => match first_fault(earlier, cursor.fault()) {
+            None => Ok(found),
+            Some(fault) => Err(ParseFault::Name(fault)),
+        },
+        Err(Unread::Stop(why)) => Err(stop_fault(why, cursor.fault_line(tokens))),
+        Err(Unread::NoMemory) => Err(ParseFault::NoMemory),
+    }
+}

@@ -1,0 +1,748 @@
+//! Statements that hold others, and lists of statements.
+
+ghost use Rattle.std.specs.Prelude.{◌≡◌};
+ghost use Rattle.cob_base.specs.Answers.{Makes};
+ghost use Rattle.grammar_forms.specs.Reading.{Reads};
+ghost use Rattle.stmt_forms.specs.Arms as arms;
+ghost use Rattle.stmt_forms.specs.Choice as choice;
+ghost use Rattle.stmt_forms.specs.Loop as loops;
+ghost use Rattle.stmt_forms.specs.Stmt as all;
+
+use act_parse::{Parts, at_arithmetic, at_choice, at_simple, at_stmt, simple_stmts};
+use cob_base::{Items, NoMemory};
+use cob_tree::{Arms, Cond, Control, Place, Stmt, Subject, Test, When};
+use grammar_forms::{Cursor, Unread, Why};
+use head_parse::{
+    arithmetic_work, end_word, end_work, evaluate_head, first_phrase, first_tests, if_head,
+    loop_end, not_phrase, perform_head, read_head, when_head,
+};
+use std::alloc::Global;
+use stmt_forms::{NotPhrase, PerformHead, Phrase, ReadHead, Scope, Whens};
+
+/// READ without arms, and NEXT SENTENCE behind it.
+fn read_and_next(mut found: Items<Stmt>, file: u32) -> Result<Items<Stmt>, NoMemory>
+    ensures { Makes (arms.read_and_next found file) result }
+{
+    let arms = Arms {
+        first: None,
+        second: None,
+    };
+    let into = None;
+    found.push(Stmt::Read { file, into, arms })?;
+    found.push(Stmt::NextSentence)?;
+    Ok(found)
+}
+
+/// The statements that a statement holds.
+#[cycle(stmt)]
+fn held<P: Parts>(
+    parts: &P,
+    alloc: Global,
+    cursor: &mut Cursor<'_>,
+    scope: Scope,
+    levels: u32,
+) -> Result<(Items<Stmt>, bool), Unread>
+    ensures { Reads ((all.held (P.parts parts.now) levels scope).reads cursor.old)
+        result cursor.new }
+{
+    if levels == 0 {
+        return Err(Unread::Stop(Why::Nesting));
+    }
+    stmts_with(parts, alloc, cursor, scope, levels - 1)
+}
+
+#[cycle(stmt)]
+#[tactic(auto, unfolding(stmt_forms::specs::Arms::held_arm))]
+fn held_arm<P: Parts>(
+    parts: &P,
+    alloc: Global,
+    cursor: &mut Cursor<'_>,
+    scope: Scope,
+    levels: u32,
+) -> Result<(Option<Items<Stmt>>, bool), Unread>
+    ensures { Reads ((arms.held_arm (all.level (P.parts parts.now) levels) scope).reads cursor.old)
+        result cursor.new }
+{
+    let (found, not_read) = held(parts, alloc, cursor, scope, levels)?;
+    Ok((Some(found), not_read))
+}
+
+#[cycle(stmt)]
+#[tactic(auto, unfolding(stmt_forms::specs::Arms::first_arm))]
+fn first_arm<P: Parts>(
+    parts: &P,
+    alloc: Global,
+    cursor: &mut Cursor<'_>,
+    scope: Scope,
+    levels: u32,
+    present: bool,
+) -> Result<(Option<Items<Stmt>>, bool), Unread>
+    ensures { Reads
+        ((arms.first_arm (all.level (P.parts parts.now) levels) scope present).reads cursor.old)
+        result cursor.new }
+{
+    if present {
+        held_arm(parts, alloc, cursor, scope, levels)
+    } else {
+        Ok((None, false))
+    }
+}
+
+#[cycle(stmt)]
+#[tactic(auto, unfolding(stmt_forms::specs::Arms::second_arm))]
+fn second_arm<P: Parts>(
+    parts: &P,
+    alloc: Global,
+    cursor: &mut Cursor<'_>,
+    scope: Scope,
+    levels: u32,
+    following: NotPhrase,
+) -> Result<(Option<Items<Stmt>>, bool), Unread>
+    ensures { Reads
+        ((arms.second_arm (all.level (P.parts parts.now) levels) scope following).reads cursor.old)
+        result cursor.new }
+{
+    match following {
+        NotPhrase::Missing => Ok((None, false)),
+        NotPhrase::Own => held_arm(parts, alloc, cursor, scope, levels),
+        NotPhrase::Foreign => Ok((None, true)),
+    }
+}
+
+#[cycle(stmt)]
+#[tactic(auto, unfolding(stmt_forms::specs::Arms::second_behind))]
+fn second_behind<P: Parts>(
+    parts: &P,
+    alloc: Global,
+    cursor: &mut Cursor<'_>,
+    scope: Scope,
+    levels: u32,
+    phrase: Phrase,
+    first: (Option<Items<Stmt>>, bool),
+) -> Result<(Arms, bool), Unread>
+    ensures { Reads
+        ((arms.second_behind phrase
+        (all.level (P.parts parts.now) levels) scope first).reads cursor.old)
+        result cursor.new }
+{
+    let (first, not_read) = first;
+    let following = not_phrase(cursor, phrase, levels, first.is_some(), not_read)?;
+    let (second, not_read) = second_arm(parts, alloc, cursor, scope, levels, following)?;
+    Ok((Arms { first, second }, not_read))
+}
+
+#[cycle(stmt)]
+#[tactic(auto, unfolding(stmt_forms::specs::Arms::arms))]
+fn arms<P: Parts>(
+    parts: &P,
+    alloc: Global,
+    cursor: &mut Cursor<'_>,
+    scope: Scope,
+    levels: u32,
+    phrase: Phrase,
+) -> Result<(Arms, bool), Unread>
+    ensures { Reads
+        ((arms.arms phrase (all.level (P.parts parts.now) levels) scope).reads cursor.old)
+        result cursor.new }
+{
+    let present = first_phrase(cursor, phrase, levels)?;
+    let first = first_arm(parts, alloc, cursor, scope, levels, present)?;
+    second_behind(parts, alloc, cursor, scope, levels, phrase, first)
+}
+
+#[cycle(stmt)]
+#[tactic(auto, unfolding(stmt_forms::specs::Arms::arithmetic_stmt))]
+fn arithmetic_stmt<P: Parts>(
+    parts: &P,
+    alloc: Global,
+    cursor: &mut Cursor<'_>,
+    scope: Scope,
+    levels: u32,
+) -> Result<(Stmt, bool), Unread>
+    ensures { Reads
+        ((arms.arithmetic_stmt (P.parts parts.now)
+        (all.level (P.parts parts.now) levels) scope).reads cursor.old)
+        result cursor.new }
+{
+    let (verb, (calc, into)) = arithmetic_work(parts, alloc, cursor)?;
+    let (arms, not_read) = arms(parts, alloc, cursor, scope, levels, Phrase::Size)?;
+    end_work(cursor, verb, not_read)?;
+    Ok((Stmt::Arith { calc, into, arms }, not_read))
+}
+
+#[cycle(stmt)]
+#[tactic(auto, unfolding(stmt_forms::specs::Arms::read_arms))]
+fn read_arms<P: Parts>(
+    parts: &P,
+    alloc: Global,
+    cursor: &mut Cursor<'_>,
+    scope: Scope,
+    levels: u32,
+    mut found: Items<Stmt>,
+    file: u32,
+    into: Option<Place>,
+) -> Result<(Items<Stmt>, bool), Unread>
+    ensures { Reads
+        ((arms.read_arms
+        (all.level (P.parts parts.now) levels) scope found file into).reads cursor.old)
+        result cursor.new }
+{
+    let (arms, not_read) = arms(parts, alloc, cursor, scope, levels, Phrase::End)?;
+    end_word(cursor, b"END-READ", not_read)?;
+    found.push(Stmt::Read { file, into, arms })?;
+    Ok((found, not_read))
+}
+
+#[cycle(stmt)]
+#[tactic(auto, unfolding(stmt_forms::specs::Arms::read_by))]
+fn read_by<P: Parts>(
+    parts: &P,
+    alloc: Global,
+    cursor: &mut Cursor<'_>,
+    scope: Scope,
+    levels: u32,
+    found: Items<Stmt>,
+    head: ReadHead,
+) -> Result<(Items<Stmt>, bool), Unread>
+    ensures { Reads
+        ((arms.read_by (all.level (P.parts parts.now) levels) scope found head).reads cursor.old)
+        result cursor.new }
+{
+    match head {
+        ReadHead::WithSentence(file) => {
+            let found = read_and_next(found, file)?;
+            Ok((found, false))
+        }
+        ReadHead::Open { file, into } => read_arms(
+            parts, alloc, cursor, scope, levels, found, file, into,
+        ),
+    }
+}
+
+#[cycle(stmt)]
+#[tactic(auto, unfolding(stmt_forms::specs::Arms::read_stmt))]
+fn read_stmt<P: Parts>(
+    parts: &P,
+    alloc: Global,
+    cursor: &mut Cursor<'_>,
+    scope: Scope,
+    levels: u32,
+    found: Items<Stmt>,
+) -> Result<(Items<Stmt>, bool), Unread>
+    ensures { Reads
+        ((arms.read_stmt (P.parts parts.now)
+        (all.level (P.parts parts.now) levels) scope found).reads cursor.old)
+        result cursor.new }
+{
+    let head = read_head(parts, alloc, cursor)?;
+    read_by(parts, alloc, cursor, scope, levels, found, head)
+}
+
+#[cycle(stmt)]
+#[tactic(auto, unfolding(stmt_forms::specs::Choice::else_part))]
+fn else_part<P: Parts>(
+    parts: &P,
+    alloc: Global,
+    cursor: &mut Cursor<'_>,
+    scope: Scope,
+    levels: u32,
+) -> Result<(Items<Stmt>, bool), Unread>
+    ensures { Reads
+        ((choice.else_part (all.level (P.parts parts.now) levels) scope).reads cursor.old)
+        result cursor.new }
+{
+    if cursor.sees(b"ELSE") {
+        cursor.key(b"ELSE")?;
+        held(parts, alloc, cursor, scope, levels)
+    } else {
+        Ok((Items::new(alloc), false))
+    }
+}
+
+#[cycle(stmt)]
+#[tactic(auto, unfolding(stmt_forms::specs::Choice::if_ended))]
+fn if_ended<P: Parts>(
+    parts: &P,
+    alloc: Global,
+    cursor: &mut Cursor<'_>,
+    scope: Scope,
+    levels: u32,
+    cond: Cond,
+    yes: Items<Stmt>,
+) -> Result<(Stmt, bool), Unread>
+    ensures { Reads
+        ((choice.if_ended (all.level (P.parts parts.now) levels) scope cond yes).reads cursor.old)
+        result cursor.new }
+{
+    let (no, not_read) = else_part(parts, alloc, cursor, scope, levels)?;
+    end_word(cursor, b"END-IF", not_read)?;
+    Ok((Stmt::If { cond, yes, no }, not_read))
+}
+
+#[cycle(stmt)]
+#[tactic(auto, unfolding(stmt_forms::specs::Choice::if_behind))]
+fn if_behind<P: Parts>(
+    parts: &P,
+    alloc: Global,
+    cursor: &mut Cursor<'_>,
+    scope: Scope,
+    levels: u32,
+    cond: Cond,
+    first: (Items<Stmt>, bool),
+) -> Result<(Stmt, bool), Unread>
+    ensures { Reads
+        ((choice.if_behind
+        (all.level (P.parts parts.now) levels) scope cond first).reads cursor.old)
+        result cursor.new }
+{
+    let (yes, not_read) = first;
+    if not_read {
+        let no = Items::new(alloc);
+        Ok((Stmt::If { cond, yes, no }, true))
+    } else {
+        if_ended(parts, alloc, cursor, scope, levels, cond, yes)
+    }
+}
+
+#[cycle(stmt)]
+#[tactic(auto, unfolding(stmt_forms::specs::Choice::if_stmt))]
+fn if_stmt<P: Parts>(
+    parts: &P,
+    alloc: Global,
+    cursor: &mut Cursor<'_>,
+    scope: Scope,
+    levels: u32,
+) -> Result<(Stmt, bool), Unread>
+    ensures { Reads
+        ((choice.if_stmt (P.parts parts.now)
+        (all.level (P.parts parts.now) levels) scope).reads cursor.old)
+        result cursor.new }
+{
+    let cond = if_head(parts, alloc, cursor, levels)?;
+    let first = held(parts, alloc, cursor, scope, levels)?;
+    if_behind(parts, alloc, cursor, scope, levels, cond, first)
+}
+
+#[cycle(stmt)]
+#[tactic(auto, unfolding(stmt_forms::specs::Choice::when_held))]
+fn when_held<P: Parts>(
+    parts: &P,
+    alloc: Global,
+    cursor: &mut Cursor<'_>,
+    scope: Scope,
+    levels: u32,
+    mut whens: Items<When>,
+    tests: Items<Test>,
+) -> Result<Whens, Unread>
+    ensures { Reads
+        ((choice.when_held
+        (all.level (P.parts parts.now) levels) scope whens tests).reads cursor.old)
+        result cursor.new }
+{
+    let (stmts, not_read) = held(parts, alloc, cursor, scope, levels)?;
+    whens.push(When { tests, stmts })?;
+    Ok(Whens {
+        whens,
+        other: false,
+        not_read,
+    })
+}
+
+#[cycle(stmt)]
+#[tactic(auto, unfolding(stmt_forms::specs::Choice::whens_by))]
+fn whens_by<P: Parts>(
+    parts: &P,
+    alloc: Global,
+    cursor: &mut Cursor<'_>,
+    scope: Scope,
+    levels: u32,
+    whens: Items<When>,
+    head: Option<Items<Test>>,
+) -> Result<Whens, Unread>
+    ensures { Reads
+        ((choice.whens_by (all.level (P.parts parts.now) levels) scope whens head).reads cursor.old)
+        result cursor.new }
+{
+    match head {
+        None => Ok(Whens {
+            whens,
+            other: true,
+            not_read: false,
+        }),
+        Some(tests) => when_held(parts, alloc, cursor, scope, levels, whens, tests),
+    }
+}
+
+#[cycle(stmt)]
+#[tactic(auto, unfolding(stmt_forms::specs::Choice::when_next))]
+fn when_next<P: Parts>(
+    parts: &P,
+    alloc: Global,
+    cursor: &mut Cursor<'_>,
+    scope: Scope,
+    levels: u32,
+    known: &Option<P::Known>,
+    whens: Items<When>,
+) -> Result<Whens, Unread>
+    ensures { Reads
+        ((choice.when_next (P.parts parts.now)
+        (all.level (P.parts parts.now) levels) scope known.now whens).reads cursor.old)
+        result cursor.new }
+{
+    let head = when_head(parts, alloc, cursor, known)?;
+    whens_by(parts, alloc, cursor, scope, levels, whens, head)
+}
+
+#[cycle(stmt)]
+#[tactic(auto, unfolding(stmt_forms::specs::Choice::whens_turn))]
+fn whens_turn<P: Parts>(
+    parts: &P,
+    alloc: Global,
+    cursor: &mut Cursor<'_>,
+    scope: Scope,
+    levels: u32,
+    known: &Option<P::Known>,
+    state: Whens,
+) -> Result<Whens, Unread>
+    ensures { Reads
+        ((choice.whens_turn (P.parts parts.now)
+        (all.level (P.parts parts.now) levels) scope known.now state).reads cursor.old)
+        result cursor.new }
+{
+    if state.other || state.not_read {
+        Err(Unread::Stop(Why::Syntax))
+    } else {
+        when_next(parts, alloc, cursor, scope, levels, known, state.whens)
+    }
+}
+
+#[cycle(stmt)]
+fn whens_from<P: Parts>(
+    parts: &P,
+    alloc: Global,
+    cursor: &mut Cursor<'_>,
+    scope: Scope,
+    levels: u32,
+    known: &Option<P::Known>,
+    mut state: Whens,
+) -> Result<Whens, Unread>
+    ensures { Reads
+        ((choice.whens_from (P.parts parts.now)
+        (all.level (P.parts parts.now) levels) scope known.now state).reads cursor.old)
+        result cursor.new }
+{
+    'whens: while cursor.sees(b"WHEN") {
+        state = whens_turn(parts, alloc, cursor, scope, levels, known, state)?;
+    }
+    Ok(state)
+}
+
+#[cycle(stmt)]
+#[tactic(auto, unfolding(stmt_forms::specs::Choice::whens))]
+fn whens<P: Parts>(
+    parts: &P,
+    alloc: Global,
+    cursor: &mut Cursor<'_>,
+    scope: Scope,
+    levels: u32,
+    known: &Option<P::Known>,
+) -> Result<Whens, Unread>
+    ensures { Reads
+        ((choice.whens (P.parts parts.now)
+        (all.level (P.parts parts.now) levels) scope known.now).reads cursor.old)
+        result cursor.new }
+{
+    let tests = first_tests(parts, alloc, cursor, known)?;
+    let first = when_held(
+        parts,
+        alloc,
+        cursor,
+        scope,
+        levels,
+        Items::new(alloc),
+        tests,
+    )?;
+    whens_from(parts, alloc, cursor, scope, levels, known, first)
+}
+
+#[cycle(stmt)]
+#[tactic(auto, unfolding(stmt_forms::specs::Choice::other_part))]
+fn other_part<P: Parts>(
+    parts: &P,
+    alloc: Global,
+    cursor: &mut Cursor<'_>,
+    scope: Scope,
+    levels: u32,
+    state: &Whens,
+) -> Result<(Option<Items<Stmt>>, bool), Unread>
+    ensures { Reads
+        ((choice.other_part
+        (all.level (P.parts parts.now) levels) scope state.now).reads cursor.old)
+        result cursor.new }
+{
+    if state.other {
+        held_arm(parts, alloc, cursor, scope, levels)
+    } else {
+        Ok((None, state.not_read))
+    }
+}
+
+#[cycle(stmt)]
+#[tactic(auto, unfolding(stmt_forms::specs::Choice::evaluated))]
+fn evaluated<P: Parts>(
+    parts: &P,
+    alloc: Global,
+    cursor: &mut Cursor<'_>,
+    scope: Scope,
+    levels: u32,
+    subject: Subject,
+    state: Whens,
+) -> Result<(Stmt, bool), Unread>
+    ensures { Reads
+        ((choice.evaluated
+        (all.level (P.parts parts.now) levels) scope subject state).reads cursor.old)
+        result cursor.new }
+{
+    let (other, not_read) = other_part(parts, alloc, cursor, scope, levels, &state)?;
+    end_word(cursor, b"END-EVALUATE", not_read)?;
+    let whens = state.whens;
+    let stmt = Stmt::Evaluate {
+        subject,
+        whens,
+        other,
+    };
+    Ok((stmt, not_read))
+}
+
+#[cycle(stmt)]
+#[tactic(auto, unfolding(stmt_forms::specs::Choice::evaluate_stmt))]
+fn evaluate_stmt<P: Parts>(
+    parts: &P,
+    alloc: Global,
+    cursor: &mut Cursor<'_>,
+    scope: Scope,
+    levels: u32,
+) -> Result<(Stmt, bool), Unread>
+    ensures { Reads
+        ((choice.evaluate_stmt (P.parts parts.now)
+        (all.level (P.parts parts.now) levels) scope).reads cursor.old)
+        result cursor.new }
+{
+    let (subject, known) = evaluate_head(parts, alloc, cursor, levels)?;
+    let state = whens(parts, alloc, cursor, scope, levels, &known)?;
+    evaluated(parts, alloc, cursor, scope, levels, subject, state)
+}
+
+#[cycle(stmt)]
+#[tactic(auto, unfolding(stmt_forms::specs::Choice::choice_stmt))]
+fn choice_stmt<P: Parts>(
+    parts: &P,
+    alloc: Global,
+    cursor: &mut Cursor<'_>,
+    scope: Scope,
+    levels: u32,
+) -> Result<(Stmt, bool), Unread>
+    ensures { Reads
+        ((choice.choice_stmt (P.parts parts.now)
+        (all.level (P.parts parts.now) levels) scope).reads cursor.old)
+        result cursor.new }
+{
+    if cursor.sees(b"IF") {
+        if_stmt(parts, alloc, cursor, scope, levels)
+    } else {
+        evaluate_stmt(parts, alloc, cursor, scope, levels)
+    }
+}
+
+#[cycle(stmt)]
+#[tactic(auto, unfolding(stmt_forms::specs::Loop::loop_body))]
+fn loop_body<P: Parts>(
+    parts: &P,
+    alloc: Global,
+    cursor: &mut Cursor<'_>,
+    scope: Scope,
+    levels: u32,
+    control: Control,
+) -> Result<(Stmt, bool), Unread>
+    ensures { Reads
+        ((loops.loop_body (all.level (P.parts parts.now) levels) scope control).reads cursor.old)
+        result cursor.new }
+{
+    let scope = Scope {
+        in_loop: true,
+        in_section: scope.in_section,
+    };
+    let body = held(parts, alloc, cursor, scope, levels)?;
+    loop_end(cursor, control, body)
+}
+
+#[cycle(stmt)]
+#[tactic(auto, unfolding(stmt_forms::specs::Loop::perform_by))]
+fn perform_by<P: Parts>(
+    parts: &P,
+    alloc: Global,
+    cursor: &mut Cursor<'_>,
+    scope: Scope,
+    levels: u32,
+    head: PerformHead,
+) -> Result<(Stmt, bool), Unread>
+    ensures { Reads
+        ((loops.perform_by (all.level (P.parts parts.now) levels) scope head).reads cursor.old)
+        result cursor.new }
+{
+    match head {
+        PerformHead::Whole(stmt, not_read) => Ok((stmt, not_read)),
+        PerformHead::Inline(control) => loop_body(parts, alloc, cursor, scope, levels, control),
+    }
+}
+
+#[cycle(stmt)]
+#[tactic(auto, unfolding(stmt_forms::specs::Loop::perform_stmt))]
+fn perform_stmt<P: Parts>(
+    parts: &P,
+    alloc: Global,
+    cursor: &mut Cursor<'_>,
+    scope: Scope,
+    levels: u32,
+) -> Result<(Stmt, bool), Unread>
+    ensures { Reads
+        ((loops.perform_stmt (P.parts parts.now)
+        (all.level (P.parts parts.now) levels) scope).reads cursor.old)
+        result cursor.new }
+{
+    let head = perform_head(parts, alloc, cursor, levels)?;
+    perform_by(parts, alloc, cursor, scope, levels, head)
+}
+
+#[cycle(stmt)]
+#[tactic(auto, unfolding(stmt_forms::specs::Stmt::holding_stmt))]
+fn holding_stmt<P: Parts>(
+    parts: &P,
+    alloc: Global,
+    cursor: &mut Cursor<'_>,
+    scope: Scope,
+    levels: u32,
+) -> Result<(Stmt, bool), Unread>
+    ensures { Reads
+        ((all.holding_stmt (P.parts parts.now)
+        (all.level (P.parts parts.now) levels) scope).reads cursor.old)
+        result cursor.new }
+{
+    if at_arithmetic(cursor) {
+        arithmetic_stmt(parts, alloc, cursor, scope, levels)
+    } else if at_choice(cursor) {
+        choice_stmt(parts, alloc, cursor, scope, levels)
+    } else {
+        perform_stmt(parts, alloc, cursor, scope, levels)
+    }
+}
+
+#[cycle(stmt)]
+#[tactic(auto, unfolding(stmt_forms::specs::Stmt::held_stmts))]
+fn held_stmts<P: Parts>(
+    parts: &P,
+    alloc: Global,
+    cursor: &mut Cursor<'_>,
+    scope: Scope,
+    levels: u32,
+    mut found: Items<Stmt>,
+) -> Result<(Items<Stmt>, bool), Unread>
+    ensures { Reads
+        ((all.held_stmts (P.parts parts.now)
+        (all.level (P.parts parts.now) levels) scope found).reads cursor.old)
+        result cursor.new }
+{
+    if cursor.sees(b"READ") {
+        read_stmt(parts, alloc, cursor, scope, levels, found)
+    } else {
+        let (stmt, not_read) = holding_stmt(parts, alloc, cursor, scope, levels)?;
+        found.push(stmt)?;
+        Ok((found, not_read))
+    }
+}
+
+#[cycle(stmt)]
+#[tactic(auto, unfolding(stmt_forms::specs::Stmt::stmt))]
+fn stmt<P: Parts>(
+    parts: &P,
+    alloc: Global,
+    cursor: &mut Cursor<'_>,
+    scope: Scope,
+    levels: u32,
+    found: Items<Stmt>,
+) -> Result<(Items<Stmt>, bool), Unread>
+    ensures { Reads
+        ((all.stmt (P.parts parts.now)
+        (all.level (P.parts parts.now) levels) scope found).reads cursor.old)
+        result cursor.new }
+{
+    if at_simple(cursor) {
+        let found = simple_stmts(parts, alloc, cursor, scope, found)?;
+        Ok((found, false))
+    } else {
+        held_stmts(parts, alloc, cursor, scope, levels, found)
+    }
+}
+
+#[cycle(stmt)]
+#[tactic(auto, unfolding(stmt_forms::specs::Stmt::stmts_turn))]
+fn stmts_turn<P: Parts>(
+    parts: &P,
+    alloc: Global,
+    cursor: &mut Cursor<'_>,
+    scope: Scope,
+    levels: u32,
+    found: (Items<Stmt>, bool),
+) -> Result<(Items<Stmt>, bool), Unread>
+    ensures { Reads
+        ((all.stmts_turn (P.parts parts.now)
+        (all.level (P.parts parts.now) levels) scope found).reads cursor.old)
+        result cursor.new }
+{
+    let (stmts, not_read) = found;
+    if not_read {
+        Err(Unread::Stop(Why::Syntax))
+    } else {
+        stmt(parts, alloc, cursor, scope, levels, stmts)
+    }
+}
+
+/// As many statements as there are, behind those that were found.
+#[cycle(stmt)]
+pub fn stmts_from<P: Parts>(
+    parts: &P,
+    alloc: Global,
+    cursor: &mut Cursor<'_>,
+    scope: Scope,
+    levels: u32,
+    mut found: (Items<Stmt>, bool),
+) -> Result<(Items<Stmt>, bool), Unread>
+    ensures { Reads
+        ((all.stmts_from (P.parts parts.now)
+        (all.level (P.parts parts.now) levels) scope found).reads cursor.old)
+        result cursor.new }
+{
+    'stmts: while at_stmt(cursor) {
+        found = stmts_turn(parts, alloc, cursor, scope, levels, found)?;
+    }
+    Ok(found)
+}
+
+/// Statements, one or more.
+#[cycle(stmt)]
+#[tactic(auto, unfolding(stmt_forms::specs::Stmt::stmts_with))]
+pub fn stmts_with<P: Parts>(
+    parts: &P,
+    alloc: Global,
+    cursor: &mut Cursor<'_>,
+    scope: Scope,
+    levels: u32,
+) -> Result<(Items<Stmt>, bool), Unread>
+    ensures { Reads
+        ((all.stmts_with (P.parts parts.now)
+        (all.level (P.parts parts.now) levels) scope).reads cursor.old)
+        result cursor.new }
+{
+    let first = stmt(parts, alloc, cursor, scope, levels, Items::new(alloc))?;
+    stmts_from(parts, alloc, cursor, scope, levels, first)
+}

@@ -1,0 +1,418 @@
+//! Sentences, paragraphs and sections, and the whole division.
+
+ghost use Rattle.std.specs.Prelude.{◌≡◌};
+ghost use Rattle.cob_base.specs.Answers.{Makes};
+ghost use Rattle.grammar_forms.specs.Form as form;
+ghost use Rattle.grammar_forms.specs.Reading.{Reads};
+ghost use Rattle.stmt_forms.specs.Paragraph as forms;
+
+use crate::held::{stmts_from, stmts_with};
+use act_parse::{Parts, at_procedure, at_stmt, exit_behind};
+use cob_base::{Items, NoMemory, Word};
+use cob_tree::{Paragraph, Sentence, Stmt};
+use grammar_forms::{Cursor, Position, Unread, Why};
+use std::alloc::Global;
+use stmt_forms::{Outline, Scope};
+
+/// How deep statements may nest.
+const MAX_NESTING: u32 = 500;
+
+#[tactic(auto, unfolding(stmt_forms::specs::Paragraph::sentence_closed))]
+fn sentence_closed(cursor: &mut Cursor<'_>, stmts: Items<Stmt>) -> Result<Sentence, Unread>
+    ensures { Reads ((forms.sentence_closed stmts).reads cursor.old) result cursor.new }
+{
+    cursor.period()?;
+    Ok(Sentence { stmts })
+}
+
+#[tactic(auto, unfolding(stmt_forms::specs::Paragraph::sentence_end))]
+fn sentence_end(cursor: &mut Cursor<'_>, found: (Items<Stmt>, bool)) -> Result<Sentence, Unread>
+    ensures { Reads ((forms.sentence_end found).reads cursor.old) result cursor.new }
+{
+    let (stmts, not_read) = found;
+    if not_read {
+        Err(Unread::Stop(Why::Syntax))
+    } else {
+        sentence_closed(cursor, stmts)
+    }
+}
+
+#[tactic(auto, unfolding(stmt_forms::specs::Paragraph::sentence))]
+fn sentence<P: Parts>(
+    parts: &P,
+    alloc: Global,
+    cursor: &mut Cursor<'_>,
+    scope: Scope,
+) -> Result<Sentence, Unread>
+    ensures { Reads ((forms.sentence (P.parts parts.now) scope).reads cursor.old)
+        result cursor.new }
+{
+    let found = stmts_with(parts, alloc, cursor, scope, MAX_NESTING)?;
+    sentence_end(cursor, found)
+}
+
+fn sentences_from<P: Parts>(
+    parts: &P,
+    alloc: Global,
+    cursor: &mut Cursor<'_>,
+    scope: Scope,
+    mut found: Items<Sentence>,
+) -> Result<Items<Sentence>, Unread>
+    ensures { Reads ((forms.sentences_from (P.parts parts.now) scope found).reads cursor.old)
+        result cursor.new }
+{
+    'items: while at_stmt(cursor) {
+        found.push(sentence(parts, alloc, cursor, scope)?)?;
+    }
+    Ok(found)
+}
+
+fn at_exit_word(cursor: &Cursor<'_>) -> bool
+    ensures { result ≡ form.is_next forms.begins_exit_word cursor.now }
+{
+    cursor.sees(b"PARAGRAPH") || (cursor.sees(b"SECTION") || cursor.sees(b"PERFORM"))
+}
+
+#[tactic(auto, unfolding(stmt_forms::specs::Paragraph::exit_alone))]
+fn exit_alone(alloc: Global, cursor: &mut Cursor<'_>) -> Result<Items<Sentence>, Unread>
+    ensures { Reads (forms.exit_alone.reads cursor.old) result cursor.new }
+{
+    cursor.period()?;
+    let mut stmts = Items::new(alloc);
+    stmts.push(Stmt::Exit)?;
+    let mut found = Items::new(alloc);
+    found.push(Sentence { stmts })?;
+    Ok(found)
+}
+
+#[tactic(auto, unfolding(stmt_forms::specs::Paragraph::exit_sentence))]
+fn exit_sentence<P: Parts>(
+    parts: &P,
+    alloc: Global,
+    cursor: &mut Cursor<'_>,
+    scope: Scope,
+    position: Position,
+) -> Result<Sentence, Unread>
+    ensures { Reads ((forms.exit_sentence (P.parts parts.now) scope position).reads cursor.old)
+        result cursor.new }
+{
+    let first = exit_behind(cursor, scope, position)?;
+    let mut stmts = Items::new(alloc);
+    stmts.push(first)?;
+    let found = stmts_from(parts, alloc, cursor, scope, MAX_NESTING, (stmts, false))?;
+    sentence_end(cursor, found)
+}
+
+#[tactic(auto, unfolding(stmt_forms::specs::Paragraph::exit_sentences))]
+fn exit_sentences<P: Parts>(
+    parts: &P,
+    alloc: Global,
+    cursor: &mut Cursor<'_>,
+    scope: Scope,
+    position: Position,
+) -> Result<Items<Sentence>, Unread>
+    ensures { Reads ((forms.exit_sentences (P.parts parts.now) scope position).reads cursor.old)
+        result cursor.new }
+{
+    let first = exit_sentence(parts, alloc, cursor, scope, position)?;
+    let mut found = Items::new(alloc);
+    found.push(first)?;
+    sentences_from(parts, alloc, cursor, scope, found)
+}
+
+#[tactic(auto, unfolding(stmt_forms::specs::Paragraph::sentences_by_exit))]
+fn sentences_by_exit<P: Parts>(
+    parts: &P,
+    alloc: Global,
+    cursor: &mut Cursor<'_>,
+    scope: Scope,
+) -> Result<Items<Sentence>, Unread>
+    ensures { Reads ((forms.sentences_by_exit (P.parts parts.now) scope).reads cursor.old)
+        result cursor.new }
+{
+    let position = cursor.key(b"EXIT")?;
+    if at_exit_word(cursor) {
+        exit_sentences(parts, alloc, cursor, scope, position)
+    } else {
+        exit_alone(alloc, cursor)
+    }
+}
+
+#[tactic(auto, unfolding(stmt_forms::specs::Paragraph::sentences))]
+fn sentences<P: Parts>(
+    parts: &P,
+    alloc: Global,
+    cursor: &mut Cursor<'_>,
+    scope: Scope,
+) -> Result<Items<Sentence>, Unread>
+    ensures { Reads ((forms.sentences (P.parts parts.now) scope).reads cursor.old)
+        result cursor.new }
+{
+    if cursor.sees(b"EXIT") {
+        sentences_by_exit(parts, alloc, cursor, scope)
+    } else {
+        sentences_from(parts, alloc, cursor, scope, Items::new(alloc))
+    }
+}
+
+/// With an empty paragraph for a section that has none.
+fn with_pending(
+    alloc: Global,
+    pending: Option<Word>,
+    mut done: Items<Paragraph>,
+) -> Result<Items<Paragraph>, NoMemory>
+    ensures { Makes (forms.with_pending pending done) result }
+{
+    match pending {
+        None => Ok(done),
+        Some(section) => {
+            done.push(Paragraph {
+                name: None,
+                section: Some(section),
+                sentences: Items::new(alloc),
+            })?;
+            Ok(done)
+        }
+    }
+}
+
+fn scope_of(in_section: bool) -> Scope
+    ensures { result ≡ forms.scope_of in_section }
+{
+    Scope {
+        in_loop: false,
+        in_section,
+    }
+}
+
+#[tactic(auto, unfolding(stmt_forms::specs::Paragraph::section_start))]
+fn section_start<P: Parts>(
+    parts: &P,
+    alloc: Global,
+    cursor: &mut Cursor<'_>,
+    name: Word,
+    mut done: Items<Paragraph>,
+) -> Result<Outline, Unread>
+    ensures { Reads ((forms.section_start (P.parts parts.now) name done).reads cursor.old)
+        result cursor.new }
+{
+    let sentences = sentences(parts, alloc, cursor, scope_of(true))?;
+    done.push(Paragraph {
+        name: None,
+        section: Some(name),
+        sentences,
+    })?;
+    Ok(Outline {
+        done,
+        pending: None,
+        in_section: true,
+    })
+}
+
+#[tactic(auto, unfolding(stmt_forms::specs::Paragraph::section))]
+fn section<P: Parts>(
+    parts: &P,
+    alloc: Global,
+    cursor: &mut Cursor<'_>,
+    name: Word,
+    state: Outline,
+) -> Result<Outline, Unread>
+    ensures { Reads ((forms.section (P.parts parts.now) name state).reads cursor.old)
+        result cursor.new }
+{
+    cursor.key(b"SECTION")?;
+    cursor.period()?;
+    let done = with_pending(alloc, state.pending, state.done)?;
+    if at_stmt(cursor) {
+        section_start(parts, alloc, cursor, name, done)
+    } else {
+        Ok(Outline {
+            done,
+            pending: Some(name),
+            in_section: true,
+        })
+    }
+}
+
+#[tactic(auto, unfolding(stmt_forms::specs::Paragraph::paragraph))]
+fn paragraph<P: Parts>(
+    parts: &P,
+    alloc: Global,
+    cursor: &mut Cursor<'_>,
+    name: Word,
+    state: Outline,
+) -> Result<Outline, Unread>
+    ensures { Reads ((forms.paragraph (P.parts parts.now) name state).reads cursor.old)
+        result cursor.new }
+{
+    cursor.period()?;
+    let Outline {
+        mut done,
+        pending,
+        in_section,
+    } = state;
+    let sentences = sentences(parts, alloc, cursor, scope_of(in_section))?;
+    done.push(Paragraph {
+        name: Some(name),
+        section: pending,
+        sentences,
+    })?;
+    Ok(Outline {
+        done,
+        pending: None,
+        in_section,
+    })
+}
+
+#[tactic(auto, unfolding(stmt_forms::specs::Paragraph::headed))]
+fn headed<P: Parts>(
+    parts: &P,
+    alloc: Global,
+    cursor: &mut Cursor<'_>,
+    state: Outline,
+) -> Result<Outline, Unread>
+    ensures { Reads ((forms.headed (P.parts parts.now) state).reads cursor.old) result cursor.new }
+{
+    let (name, position) = parts.header_name(cursor)?;
+    cursor.note(parts.again_fault(&name, position));
+    if cursor.sees(b"SECTION") {
+        section(parts, alloc, cursor, name, state)
+    } else {
+        paragraph(parts, alloc, cursor, name, state)
+    }
+}
+
+fn headed_from<P: Parts>(
+    parts: &P,
+    alloc: Global,
+    cursor: &mut Cursor<'_>,
+    mut state: Outline,
+) -> Result<Outline, Unread>
+    ensures { Reads ((forms.headed_from (P.parts parts.now) state).reads cursor.old)
+        result cursor.new }
+{
+    'headers: while at_procedure(parts, cursor) {
+        state = headed(parts, alloc, cursor, state)?;
+    }
+    Ok(state)
+}
+
+#[tactic(auto, unfolding(stmt_forms::specs::Paragraph::unnamed_start))]
+fn unnamed_start<P: Parts>(
+    parts: &P,
+    alloc: Global,
+    cursor: &mut Cursor<'_>,
+) -> Result<Outline, Unread>
+    ensures { Reads ((forms.unnamed_start (P.parts parts.now)).reads cursor.old) result cursor.new }
+{
+    let sentences = sentences(parts, alloc, cursor, scope_of(false))?;
+    let mut done = Items::new(alloc);
+    done.push(Paragraph {
+        name: None,
+        section: None,
+        sentences,
+    })?;
+    Ok(Outline {
+        done,
+        pending: None,
+        in_section: false,
+    })
+}
+
+#[tactic(auto, unfolding(stmt_forms::specs::Paragraph::start))]
+fn start<P: Parts>(parts: &P, alloc: Global, cursor: &mut Cursor<'_>) -> Result<Outline, Unread>
+    ensures { Reads ((forms.start (P.parts parts.now)).reads cursor.old) result cursor.new }
+{
+    if at_stmt(cursor) {
+        unnamed_start(parts, alloc, cursor)
+    } else {
+        Ok(Outline {
+            done: Items::new(alloc),
+            pending: None,
+            in_section: false,
+        })
+    }
+}
+
+fn at_least_one(alloc: Global, mut done: Items<Paragraph>) -> Result<Items<Paragraph>, NoMemory>
+    ensures { Makes (forms.at_least_one done) result }
+{
+    if done.as_slice().is_empty() {
+        done.push(Paragraph {
+            name: None,
+            section: None,
+            sentences: Items::new(alloc),
+        })?;
+    }
+    Ok(done)
+}
+
+fn all_of(alloc: Global, state: Outline) -> Result<Items<Paragraph>, NoMemory>
+    ensures { Makes (forms.all_of state) result }
+{
+    let done = with_pending(alloc, state.pending, state.done)?;
+    at_least_one(alloc, done)
+}
+
+#[tactic(auto, unfolding(stmt_forms::specs::Paragraph::paragraphs))]
+fn paragraphs<P: Parts>(
+    parts: &P,
+    alloc: Global,
+    cursor: &mut Cursor<'_>,
+) -> Result<Items<Paragraph>, Unread>
+    ensures { Reads ((forms.paragraphs (P.parts parts.now)).reads cursor.old) result cursor.new }
+{
+    let first = start(parts, alloc, cursor)?;
+    let state = headed_from(parts, alloc, cursor, first)?;
+    let found = all_of(alloc, state)?;
+    Ok(found)
+}
+
+#[tactic(auto, unfolding(stmt_forms::specs::Paragraph::program_name))]
+fn program_name<P: Parts>(parts: &P, cursor: &mut Cursor<'_>) -> Result<(), Unread>
+    ensures { Reads ((forms.program_name (P.parts parts.now)).reads cursor.old) result cursor.new }
+{
+    if parts.at_name(cursor) {
+        cursor.word()?;
+        Ok(())
+    } else {
+        Err(Unread::Stop(Why::Syntax))
+    }
+}
+
+#[tactic(auto, unfolding(stmt_forms::specs::Paragraph::end_program))]
+fn end_program<P: Parts>(parts: &P, cursor: &mut Cursor<'_>) -> Result<(), Unread>
+    ensures { Reads ((forms.end_program (P.parts parts.now)).reads cursor.old) result cursor.new }
+{
+    cursor.key(b"END")?;
+    cursor.key(b"PROGRAM")?;
+    program_name(parts, cursor)?;
+    cursor.period()?;
+    Ok(())
+}
+
+#[tactic(auto, unfolding(stmt_forms::specs::Paragraph::end_part))]
+fn end_part<P: Parts>(parts: &P, cursor: &mut Cursor<'_>) -> Result<(), Unread>
+    ensures { Reads ((forms.end_part (P.parts parts.now)).reads cursor.old) result cursor.new }
+{
+    if cursor.sees(b"END") {
+        end_program(parts, cursor)
+    } else {
+        Ok(())
+    }
+}
+
+/// The whole division behind its header, up to the last token.
+#[tactic(auto, unfolding(stmt_forms::specs::Paragraph::division))]
+pub fn division<P: Parts>(
+    parts: &P,
+    alloc: Global,
+    cursor: &mut Cursor<'_>,
+) -> Result<Items<Paragraph>, Unread>
+    ensures { Reads ((forms.division (P.parts parts.now)).reads cursor.old) result cursor.new }
+{
+    let found = paragraphs(parts, alloc, cursor)?;
+    end_part(parts, cursor)?;
+    cursor.ended()?;
+    Ok(found)
+}
