@@ -21,8 +21,8 @@ use Rattle.expr_forms.proofs.ExpressionLaws as law
 use Rattle.expr_forms.proofs.ExpressionLaws.{InnerLaw, tally}
 use Rattle.cond_forms.specs.declared.part.Joined.{Joined}
 use Rattle.cond_forms.specs.declared.part.Part.{Part}
-use Rattle.cond_forms.specs.declared.test.Prim.{Prim}
-use Rattle.cond_forms.specs.declared.test.Prim.TheVariants as prims
+use Rattle.cond_forms.specs.declared.test.Primary.{Primary}
+use Rattle.cond_forms.specs.declared.test.Primary.TheVariants as prims
 use Rattle.cond_forms.specs.declared.test.Read.{Read}
 use Rattle.cond_forms.specs.declared.test.Setting.{Setting}
 use Rattle.cond_forms.specs.Token as tokens
@@ -155,7 +155,7 @@ side_prim names I before side count =
     law.sum names I side count >>= (λ left. tested names I left.0 before left.1)
 
 pub prim_behind : (names : Names) {inner : Inner} → InnerLaw inner →
-    (before : ℕ) (prim : Prim) (count : ℕ) →
+    (before : ℕ) (prim : Primary) (count : ℕ) →
     Law false (primaries.prim_behind names inner before prim count)
 unfolding primaries.prim_behind
 prim_behind names I before (prims.Test cond setting) count = pure
@@ -244,7 +244,7 @@ pub alone_part : (negated : Bool) (setting : Option Setting) (side : Side) (coun
 unfolding alones.alone_part
 alone_part negated setting side count not_read = part_by_shape _ negated setting side count not_read
 
-pub part_by : (negated : Bool) (setting : Option Setting) (prim : Prim) (count : ℕ)
+pub part_by : (negated : Bool) (setting : Option Setting) (prim : Primary) (count : ℕ)
     (not_read : Bool) → Law false (alones.part_by negated setting prim count not_read)
 unfolding alones.part_by
 part_by negated setting (prims.Test cond after) count not_read = pure
@@ -350,7 +350,7 @@ module _ (names : Names) {inner : Inner} (I : InnerLaw inner) {content : ℕ →
   unfolding conditions.alone_content
   alone_content side count not_read = alone_part false None side count not_read >>= content_from
 
-  pub content_by : (position : Position) (prim : Prim) (count : ℕ) (not_read : Bool) →
+  pub content_by : (position : Position) (prim : Primary) (count : ℕ) (not_read : Bool) →
       Law true (conditions.content_by names inner content position prim count not_read)
   unfolding conditions.content_by
   content_by position (prims.Alone side) count false = where_next (close_side position side count)

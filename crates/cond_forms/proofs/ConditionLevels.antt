@@ -21,8 +21,8 @@ use Rattle.expr_forms.proofs.ExpressionLevels as level
 use Rattle.expr_forms.proofs.ExpressionLevels.{InnerDeepens, eased, one_more}
 use Rattle.cond_forms.specs.declared.part.Joined.{Joined}
 use Rattle.cond_forms.specs.declared.part.Part.{Part}
-use Rattle.cond_forms.specs.declared.test.Prim.{Prim}
-use Rattle.cond_forms.specs.declared.test.Prim.TheVariants as prims
+use Rattle.cond_forms.specs.declared.test.Primary.{Primary}
+use Rattle.cond_forms.specs.declared.test.Primary.TheVariants as prims
 use Rattle.cond_forms.specs.declared.test.Read.{Read}
 use Rattle.cond_forms.specs.declared.test.Setting.{Setting}
 use Rattle.cond_forms.specs.Test as tests
@@ -82,7 +82,7 @@ module _ (names : Names) {less more : Inner} (I : InnerDeepens less more) where
   side_prim before side count = level.sum names I side count >>=
       (λ left. tested left.0 before left.1)
 
-  prim_behind : (before : ℕ) (prim : Prim) (count : ℕ) →
+  prim_behind : (before : ℕ) (prim : Primary) (count : ℕ) →
       Deepens (levels_of Parens) false (primaries.prim_behind names less before prim count)
       (primaries.prim_behind names more before prim count)
   unfolding primaries.prim_behind
@@ -206,7 +206,7 @@ module _ (names : Names) {less more : Inner} (I : InnerDeepens less more) where
     alone_content side count not_read = same
         (law.alone_part false None side count not_read) >>= content_from
 
-    content_by : (position : Position) (prim : Prim) (count : ℕ) (not_read : Bool) →
+    content_by : (position : Position) (prim : Primary) (count : ℕ) (not_read : Bool) →
         Deepens (levels_of Parens) true
         (conditions.content_by names less c position prim count not_read)
         (conditions.content_by names more d position prim count not_read)

@@ -14,8 +14,8 @@ use Rattle.expr_forms.specs.Side.{shape_of}
 use Rattle.expr_forms.specs.Limit.{tally}
 use Rattle.cond_forms.specs.declared.part.Part.{Part}
 use Rattle.cond_forms.specs.declared.test.Setting.{Setting}
-use Rattle.cond_forms.specs.declared.test.Prim.{Prim}
-use Rattle.cond_forms.specs.declared.test.Prim.TheVariants as prims
+use Rattle.cond_forms.specs.declared.test.Primary.{Primary}
+use Rattle.cond_forms.specs.declared.test.Primary.TheVariants as prims
 use Rattle.cond_forms.specs.declared.test.Read.{Read}
 use Rattle.cond_forms.specs.Test.{relation_of}
 
@@ -82,7 +82,7 @@ unfoldable pub alone_part : Bool → Option Setting → Side → ℕ → Bool �
 alone_part negated setting side count not_read =
     part_by_shape (shape_of side.what) negated setting side count not_read
 
-unfoldable pub part_by : Bool → Option Setting → Prim → ℕ → Bool → Form Part
+unfoldable pub part_by : Bool → Option Setting → Primary → ℕ → Bool → Form Part
 part_by negated setting (prims.Test cond after) count not_read =
     pure (part_of (with_not negated cond) after count not_read)
 part_by negated setting (prims.Alone side) count not_read =

@@ -14,8 +14,8 @@ use Rattle.expr_forms.specs.Limit.{Inner, max_parens}
 use Rattle.expr_forms.specs.Levels.{inner}
 use Rattle.cond_forms.specs.declared.part.Joined.{Joined}
 use Rattle.cond_forms.specs.declared.part.Part.{Part}
-use Rattle.cond_forms.specs.declared.test.Prim.{Prim}
-use Rattle.cond_forms.specs.declared.test.Prim.TheVariants as prims
+use Rattle.cond_forms.specs.declared.test.Primary.{Primary}
+use Rattle.cond_forms.specs.declared.test.Primary.TheVariants as prims
 use Rattle.cond_forms.specs.declared.test.Read.{Read}
 use Rattle.cond_forms.specs.declared.test.Setting.{Setting}
 use Rattle.cond_forms.specs.Token.{joins}
@@ -101,7 +101,7 @@ alone_content names inner content side count not_read =
     alone_part false None side count not_read >>= content_from names inner content
 
 -- an expression alone stays one; what else follows makes it a condition
-unfoldable pub content_by : Names → Inner → (ℕ → Form Read) → Position → Prim → ℕ → Bool → Form Read
+unfoldable pub content_by : Names → Inner → (ℕ → Form Read) → Position → Primary → ℕ → Bool → Form Read
 content_by names inner content position (prims.Alone side) count false =
     where_next (is_mark right_parenthesis) (close_side position side count)
     (alone_content names inner content side count false)

@@ -9,8 +9,8 @@ use Rattle.expr_forms.specs.declared.side.Side.{Side}
 use Rattle.expr_forms.specs.Limit.{Inner}
 use Rattle.expr_forms.specs.Expression.{unary, sum}
 use Rattle.expr_forms.specs.Levels.{inner}
-use Rattle.cond_forms.specs.declared.test.Prim.{Prim}
-use Rattle.cond_forms.specs.declared.test.Prim.TheVariants as prims
+use Rattle.cond_forms.specs.declared.test.Primary.{Primary}
+use Rattle.cond_forms.specs.declared.test.Primary.TheVariants as prims
 use Rattle.cond_forms.specs.declared.test.Read.{Read}
 use Rattle.cond_forms.specs.Test.{read_test, tested}
 
@@ -20,7 +20,7 @@ side_prim names inner before side count = do
   tested names inner left.0 before left.1
 
 -- behind the parentheses it is decided what stood in them
-unfoldable pub prim_behind : Names → Inner → ℕ → Prim → ℕ → Form Read
+unfoldable pub prim_behind : Names → Inner → ℕ → Primary → ℕ → Form Read
 prim_behind names inner before (prims.Test cond setting) count = pure (read_test cond None count)
 prim_behind names inner before (prims.Alone side) count = side_prim names inner before side count
 

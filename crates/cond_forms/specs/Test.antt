@@ -19,7 +19,7 @@ use Rattle.expr_forms.specs.Limit.{Inner}
 use Rattle.expr_forms.specs.Expression.{expr}
 use Rattle.expr_forms.specs.Levels.{inner}
 use Rattle.cond_forms.specs.declared.test.Setting.{Setting}
-use Rattle.cond_forms.specs.declared.test.Prim.TheVariants as prims
+use Rattle.cond_forms.specs.declared.test.Primary.TheVariants as prims
 use Rattle.cond_forms.specs.declared.test.Read.{Read}
 use Rattle.cond_forms.specs.Token.{begins_rel_behind, sign_of, begins_sign, class_of, begins_class}
 use Rattle.cond_forms.specs.Relation.{rel}

@@ -13,4 +13,4 @@ mod test;
 
 pub use laws::{conditions_are_read, levels_only_add};
 pub use part::{Joined, Part};
-pub use test::{Prim, Read, Setting};
+pub use test::{Primary, Read, Setting};

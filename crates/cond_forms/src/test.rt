@@ -13,7 +13,7 @@ pub struct Setting {
 
 /// A condition without NOT, AND and OR, or an expression that no test follows.
 #[derive(Debug, Drop)]
-pub enum Prim {
+pub enum Primary {
     Test(Cond, Option<Setting>),
     Alone(Side),
 }
@@ -22,7 +22,7 @@ pub enum Prim {
 /// isn't its own.
 #[derive(Debug, Drop)]
 pub struct Read {
-    pub prim: Prim,
+    pub prim: Primary,
     pub count: u32,
     pub not_read: bool,
 }
