@@ -62,7 +62,8 @@ fn one_node(graph: Graph) -> Result<Shaped, SplitFault>
 }
 
 /// Shapes a graph by all rules in their order. The limit is passed exactly where the result nests
-/// deeper than 500 levels; a graph with 2^32 - 2 nodes, or as many added items, is out of memory.
+/// deeper than 500 levels. A graph with 2^32 - 1 nodes or added items is out of memory, and so is one
+/// of which 2^32 - 2 nodes come to the dispatch.
 pub fn shape(alloc: Global, graph: Graph) -> Result<Shaped, SplitFault>
     requires { IsClosed (seen_graph graph) }
     ensures shaped { Shapes result (closed_graph (seen_graph graph)) }
