@@ -1,0 +1,22 @@
+-- The form of a whole program is lawful.
+use Rattle.std.proofs.Common.{true}
+use Rattle.std.specs.Prelude.{codes}
+use Rattle.grammar_forms.proofs.MakerLaws.{Law, pure, key, period, ◌>>=◌, ◌>>◌}
+use Rattle.data_forms.proofs.DivisionLaws.{divisions}
+use Rattle.stmt_forms.proofs.ParagraphLaws.{division}
+use Rattle.statement_grammar.proofs.PartLaws.{parts}
+use Rattle.cobol_read.specs.declared.program.Declarations.{Declarations}
+use Rattle.cobol_read.specs.Program as forms
+use Rattle.cobol_read.specs.StatusLaws.{status}
+
+header : Law true forms.header
+unfolding forms.header
+header = key (codes "PROCEDURE") >> (key (codes "DIVISION") >> (period >> pure))
+
+pub program : (known : Declarations) → Law true (forms.program known)
+unfolding forms.program
+program known = do
+  found ← divisions (status known.names known.entries)
+  header
+  paragraphs ← division (parts known.names known.entries known.procedures)
+  pure

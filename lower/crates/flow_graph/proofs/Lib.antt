@@ -1,0 +1,6 @@
+-- the sizes of what is seen
+pub mod SizeLemmas
+-- places
+pub mod LayoutLemmas
+-- continuations
+pub mod LeafLemmas
