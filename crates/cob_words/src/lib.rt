@@ -7,8 +7,6 @@
 
 mod lists;
 mod table;
-#[cfg(test)]
-mod tests;
 
 pub use lists::{left_out, reserved};
 pub use table::WordTable;

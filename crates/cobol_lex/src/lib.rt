@@ -15,8 +15,6 @@ mod lexeme;
 mod literal;
 mod number;
 mod picture;
-#[cfg(test)]
-mod tests;
 mod token;
 mod word;
 

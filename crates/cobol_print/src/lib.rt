@@ -13,8 +13,6 @@ mod laws;
 mod layout;
 mod spacing;
 mod spelling;
-#[cfg(test)]
-mod tests;
 
 ghost use Rattle.std.specs.Prelude.{◌≤◌, All};
 ghost use Rattle.cob_base.specs.Answers.{Makes};

@@ -8,8 +8,6 @@
 mod fault;
 mod reading;
 mod symbols;
-#[cfg(test)]
-mod tests;
 
 ghost use Rattle.std.specs.Prelude.{◌≡◌, ◌<◌, ◌^◌, length};
 ghost use Rattle.picture_data.specs.Reading as readings;

@@ -13,8 +13,6 @@ mod group;
 pub mod laws;
 mod main_paragraph;
 mod parts;
-#[cfg(test)]
-mod tests;
 
 use crate::group::push_groups;
 use crate::main_paragraph::main_of;

@@ -14,8 +14,6 @@ mod joining;
 mod laws;
 mod line;
 mod placed;
-#[cfg(test)]
-mod tests;
 
 ghost use Rattle.std.specs.Prelude.{◌≡◌, ◌<◌, ◌^◌, length};
 ghost use Rattle.cob_base.specs.Answers.{Answers};

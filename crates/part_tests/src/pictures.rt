@@ -1,6 +1,6 @@
 //! Pictures and what they are read to.
 
-use crate::{PictureFault, read_picture};
+use picture_data::{PictureFault, read_picture};
 use cob_tree::Picture;
 use std::test::Fail;
 

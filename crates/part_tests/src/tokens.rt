@@ -1,6 +1,6 @@
 //! Texts and their tokens, by the rules of the tokens.
 
-use super::*;
+use cobol_lex::{Token, TokenKind, tokens};
 use cob_base::{Copied, Text};
 use ref_format::Placed;
 use std::alloc::Global;

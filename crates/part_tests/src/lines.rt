@@ -1,6 +1,6 @@
 //! Sources in the reference format and their texts, worked by hand.
 
-use crate::{FormatFault, Placed, unfold};
+use ref_format::{FormatFault, Placed, unfold};
 use cob_base::Items;
 use std::alloc::Global;
 use std::test::Fail;

@@ -1,6 +1,6 @@
 //! Words by number, and the ends of the lists.
 
-use crate::{WordTable, left_out, reserved};
+use cob_words::{WordTable, left_out, reserved};
 use cob_base::Word;
 use std::test::Fail;
 

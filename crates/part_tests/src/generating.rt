@@ -4,7 +4,7 @@
 
 ghost use Rattle.std.specs.Prelude.{◌≤◌};
 
-use crate::generate;
+use program_gen::generate;
 use cob_base::{Boxed, Copied, Items, NoMemory, Text, Word};
 use cob_tree::{
     Arms, Calc, ClassKind, Cond, Control, Entry, Expr, Figure, FileEntry, How, Number, Op, Opening,

@@ -1,0 +1,22 @@
+//! Tests of the crates that read, print and generate, and of numbers: what no clause says.
+//!
+//! They stand here, over the crates as these are, since a crate with tests of its own is proved
+//! twice. A module names the part that it tests.
+#![tactic(auto)]
+
+#[cfg(test)]
+mod generating;
+#[cfg(test)]
+mod lines;
+#[cfg(test)]
+mod numbers;
+#[cfg(test)]
+mod orders;
+#[cfg(test)]
+mod pictures;
+#[cfg(test)]
+mod printing;
+#[cfg(test)]
+mod tokens;
+#[cfg(test)]
+mod words;
