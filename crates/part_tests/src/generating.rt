@@ -4,13 +4,13 @@
 
 ghost use Rattle.std.specs.Prelude.{◌≤◌};
 
-use program_gen::generate;
 use cob_base::{Boxed, Copied, Items, NoMemory, Text, Word};
 use cob_tree::{
     Arms, Calc, ClassKind, Cond, Control, Entry, Expr, Figure, FileEntry, How, Number, Op, Opening,
     Operand, Paragraph, Picture, Place, Program, Rel, Sentence, Sign, SignKind, Span, Stmt, Sub,
     Subject, Target, Test, When, Window,
 };
+use program_gen::generate;
 use std::alloc::Global;
 use std::test::Fail;
 

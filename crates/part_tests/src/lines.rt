@@ -1,7 +1,7 @@
 //! Sources in the reference format and their texts, worked by hand.
 
-use ref_format::{FormatFault, Placed, unfold};
 use cob_base::Items;
+use ref_format::{FormatFault, Placed, unfold};
 use std::alloc::Global;
 use std::test::Fail;
 

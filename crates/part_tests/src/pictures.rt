@@ -1,7 +1,7 @@
 //! Pictures and what they are read to.
 
-use picture_data::{PictureFault, read_picture};
 use cob_tree::Picture;
+use picture_data::{PictureFault, read_picture};
 use std::test::Fail;
 
 #[test]

@@ -1,7 +1,7 @@
 //! Texts and their tokens, by the rules of the tokens.
 
-use cobol_lex::{Token, TokenKind, tokens};
 use cob_base::{Copied, Text};
+use cobol_lex::{Token, TokenKind, tokens};
 use ref_format::Placed;
 use std::alloc::Global;
 use std::process::Abort;

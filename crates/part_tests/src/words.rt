@@ -1,7 +1,7 @@
 //! Words by number, and the ends of the lists.
 
-use cob_words::{WordTable, left_out, reserved};
 use cob_base::Word;
+use cob_words::{WordTable, left_out, reserved};
 use std::test::Fail;
 
 fn word(text: &[u8]) -> Result<Word, Fail> {
