@@ -1,0 +1,20 @@
+//! What conditions are read with that needs no expression: relation signs and the words of tests,
+//! what a side without a test is, and what AND and OR join.
+//!
+//! Each function reads or makes exactly what the definition of its name in `cond_forms` says
+//! (ISO 1989:1985, conditional expressions).
+#![tactic(auto)]
+
+mod alone;
+mod joined;
+mod limit;
+mod relation;
+mod test;
+mod token;
+
+pub use alone::{alone_part, part_by, part_of, with_rel};
+pub use joined::{and_joined, close_cond, close_side, joined_whole, or_joined};
+pub use limit::tally;
+pub use relation::rel;
+pub use test::{class_or, read_test, relation_of, sign_test};
+pub use token::{at_join, at_plain_rel, at_rel, at_rel_behind, at_sign};

@@ -1,0 +1,20 @@
+//! What is counted while a condition is read.
+
+ghost use Rattle.grammar_forms.specs.Reading.{Reads};
+ghost use Rattle.expr_forms.specs.Limit as limits;
+
+use grammar_forms::{Cursor, Unread, Why};
+use std::alloc::Global;
+
+/// How many terms one condition or expression may have.
+const MAX_TERMS: u32 = 500;
+
+/// So many more terms, unless they pass the limit at the next token.
+pub fn tally(cursor: &Cursor<'_>, count: u32, more: u32) -> Result<u32, Unread>
+    ensures { Reads ((limits.tally count more).reads cursor.now) result cursor.now }
+{
+    match count.checked_add(more) {
+        Some(sum) if sum <= MAX_TERMS => Ok(sum),
+        _ => Err(Unread::Stop(Why::Terms)),
+    }
+}
