@@ -1,0 +1,16 @@
+//! Reads conditions from the left, abbreviated ones too.
+//!
+//! Each function reads exactly by the form of its name in `cond_forms` (ISO 1989:1985, conditional
+//! expressions), by `Reads`: what it takes, what it gives, and where and why it stops. Statements
+//! call `whole_cond`.
+//!
+//! Trees are let go by calls of `drop`, so a call that may stop while one is held has a `match` and
+//! no `?`: docs/PROOF_COSTS.md says why.
+#![tactic(auto)]
+
+mod condition;
+mod neg;
+mod primary;
+mod test;
+
+pub use condition::{cond, whole_cond};

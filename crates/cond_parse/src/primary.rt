@@ -1,0 +1,70 @@
+//! Conditions without NOT, AND and OR.
+
+ghost use Rattle.grammar_forms.specs.Reading.{Reads};
+ghost use Rattle.expr_forms.specs.Levels.{inner};
+ghost use Rattle.cond_forms.specs.Primary as primaries;
+
+use crate::test::tested;
+use cond_forms::{Primary, Read};
+use cond_tests::read_test;
+use data_names::NameTable;
+use expr_forms::Side;
+use expr_parse::{sum, unary};
+use grammar_forms::{Cursor, Unread};
+use std::alloc::Global;
+
+#[tactic(auto, unfolding(cond_forms::specs::Primary::side_prim))]
+fn side_prim(
+    alloc: Global,
+    cursor: &mut Cursor<'_>,
+    names: &NameTable,
+    levels: u32,
+    before: u32,
+    side: Side,
+    count: u32,
+) -> Result<Read, Unread>
+    ensures { Reads ((primaries.side_prim names.now (inner names.now levels) before side
+        count).reads cursor.old) result cursor.new }
+{
+    let (left, count) = sum(alloc, cursor, names, levels, side, count)?;
+    tested(alloc, cursor, names, levels, left, before, count)
+}
+
+/// Behind parentheses it is decided what stood in them.
+#[tactic(auto, unfolding(cond_forms::specs::Primary::prim_behind))]
+pub fn prim_behind(
+    alloc: Global,
+    cursor: &mut Cursor<'_>,
+    names: &NameTable,
+    levels: u32,
+    before: u32,
+    prim: Primary,
+    count: u32,
+) -> Result<Read, Unread>
+    ensures { Reads ((primaries.prim_behind names.now (inner names.now levels) before prim
+        count).reads cursor.old) result cursor.new }
+{
+    match prim {
+        Primary::Test(cond, setting) => {
+            drop(setting);
+            Ok(read_test(cond, None, count))
+        }
+        Primary::Alone(side) => side_prim(alloc, cursor, names, levels, before, side, count),
+    }
+}
+
+/// Reads a side and its test.
+#[tactic(auto, unfolding(cond_forms::specs::Primary::expr_prim))]
+pub fn expr_prim(
+    alloc: Global,
+    cursor: &mut Cursor<'_>,
+    names: &NameTable,
+    levels: u32,
+    count: u32,
+) -> Result<Read, Unread>
+    ensures { Reads ((primaries.expr_prim names.now (inner names.now levels) count).reads
+        cursor.old) result cursor.new }
+{
+    let (first, now) = unary(alloc, cursor, names, levels, count)?;
+    side_prim(alloc, cursor, names, levels, count, first, now)
+}

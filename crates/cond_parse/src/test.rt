@@ -1,0 +1,196 @@
+//! Tests behind a side.
+
+ghost use Rattle.std.specs.Prelude.{Some};
+ghost use Rattle.cob_base.specs.Answers.{Makes};
+ghost use Rattle.grammar_forms.specs.Reading.{Reads};
+ghost use Rattle.expr_forms.specs.Levels.{inner};
+ghost use Rattle.cond_forms.specs.Test as tests;
+
+use cob_base::{Copied, NoMemory};
+use cob_tree::Rel;
+use cond_forms::{Read, Setting};
+use cond_tests::{at_rel_behind, at_sign, class_or, read_test, rel, relation_of, sign_test};
+use data_names::NameTable;
+use expr_forms::Side;
+use expr_parse::expr;
+use expr_sides::{relation_fault, shape_of, value_fault};
+use grammar_forms::{Cursor, Unread};
+use std::alloc::Global;
+
+/// The relation of two sides, with what abbreviations behind it stand for.
+fn relation_read(
+    alloc: Global,
+    left: Side,
+    sign: Rel,
+    right: Side,
+    terms: u32,
+    count: u32,
+) -> Result<Read, NoMemory>
+    ensures { Makes (tests.read_test (tests.relation_of left sign right) (Some
+        (tests.setting_of left sign terms)) count) result }
+{
+    match left.copy(alloc) {
+        Ok(copy) => {
+            let setting = Setting {
+                left: copy,
+                rel: sign,
+                terms,
+            };
+            Ok(read_test(relation_of(left, sign, right), Some(setting), count))
+        }
+        Err(fault) => {
+            drop(left);
+            drop(right);
+            Err(fault)
+        }
+    }
+}
+
+/// The relation that begins with this left side, before which so many terms stand.
+#[tactic(auto, unfolding(cond_forms::specs::Test::relation))]
+fn relation(
+    alloc: Global,
+    cursor: &mut Cursor<'_>,
+    names: &NameTable,
+    levels: u32,
+    negated: bool,
+    left: Side,
+    before: u32,
+    count: u32,
+) -> Result<Read, Unread>
+    ensures { Reads ((tests.relation names.now (inner names.now levels) negated left before
+        count).reads cursor.old) result cursor.new }
+{
+    let sign = match rel(cursor, negated) {
+        Ok(sign) => sign,
+        Err(stop) => {
+            drop(left);
+            return Err(stop);
+        }
+    };
+    let (right, now) = match expr(alloc, cursor, names, levels, count) {
+        Ok(found) => found,
+        Err(stop) => {
+            drop(left);
+            return Err(stop);
+        }
+    };
+    cursor.note(value_fault(&left));
+    cursor.note(value_fault(&right));
+    cursor.note(relation_fault(&left, &right));
+    let terms = count.saturating_sub(before);
+    Ok(relation_read(alloc, left, sign, right, terms, now)?)
+}
+
+#[tactic(auto, unfolding(cond_forms::specs::Test::one_test))]
+fn one_test(
+    alloc: Global,
+    cursor: &mut Cursor<'_>,
+    names: &NameTable,
+    levels: u32,
+    negated: bool,
+    end: Option<bool>,
+    left: Side,
+    before: u32,
+    count: u32,
+) -> Result<Read, Unread>
+    ensures { Reads ((tests.one_test names.now (inner names.now levels) negated end left before
+        count).reads cursor.old) result cursor.new }
+{
+    if at_rel_behind(cursor, negated) {
+        return relation(alloc, cursor, names, levels, negated, left, before, count);
+    }
+    if at_sign(cursor) {
+        return sign_test(cursor, negated, left, count);
+    }
+    class_or(cursor, shape_of(&left), negated, end, left, count)
+}
+
+#[tactic(auto, unfolding(cond_forms::specs::Test::not_test))]
+fn not_test(
+    alloc: Global,
+    cursor: &mut Cursor<'_>,
+    names: &NameTable,
+    levels: u32,
+    end: Option<bool>,
+    left: Side,
+    before: u32,
+    count: u32,
+) -> Result<Read, Unread>
+    ensures { Reads ((tests.not_test names.now (inner names.now levels) end left before
+        count).reads cursor.old) result cursor.new }
+{
+    if let Err(stop) = cursor.key(b"NOT") {
+        drop(left);
+        return Err(stop);
+    }
+    one_test(alloc, cursor, names, levels, true, end, left, before, count)
+}
+
+#[tactic(auto, unfolding(cond_forms::specs::Test::behind_is))]
+fn behind_is(
+    alloc: Global,
+    cursor: &mut Cursor<'_>,
+    names: &NameTable,
+    levels: u32,
+    left: Side,
+    before: u32,
+    count: u32,
+) -> Result<Read, Unread>
+    ensures { Reads ((tests.behind_is names.now (inner names.now levels) left before count).reads
+        cursor.old) result cursor.new }
+{
+    if let Err(stop) = cursor.key(b"IS") {
+        drop(left);
+        return Err(stop);
+    }
+    if cursor.sees(b"NOT") {
+        not_test(alloc, cursor, names, levels, None, left, before, count)
+    } else {
+        one_test(
+            alloc, cursor, names, levels, false, None, left, before, count,
+        )
+    }
+}
+
+/// The test of this left side, where one follows.
+#[tactic(auto, unfolding(cond_forms::specs::Test::tested))]
+pub fn tested(
+    alloc: Global,
+    cursor: &mut Cursor<'_>,
+    names: &NameTable,
+    levels: u32,
+    left: Side,
+    before: u32,
+    count: u32,
+) -> Result<Read, Unread>
+    ensures { Reads ((tests.tested names.now (inner names.now levels) left before count).reads
+        cursor.old) result cursor.new }
+{
+    if cursor.sees(b"IS") {
+        behind_is(alloc, cursor, names, levels, left, before, count)
+    } else if cursor.sees(b"NOT") {
+        not_test(
+            alloc,
+            cursor,
+            names,
+            levels,
+            Some(true),
+            left,
+            before,
+            count,
+        )
+    } else {
+        one_test(
+            alloc,
+            cursor,
+            names,
+            levels,
+            false,
+            Some(false),
+            left,
+            before,
+            count,
+        )
+    }
+}

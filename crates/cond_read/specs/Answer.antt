@@ -1,0 +1,89 @@
+-- What is answered for a condition or an expression that begins at a place in a list of tokens.
+use Rattle.std.specs.Prelude.{◌≡◌, ℕ, ◌-◌, Bool, true, false, ◌⊎◌, List, Option, Some, None, Result, Ok, Err}
+use Rattle.cob_base.specs.declared.limit.Limit.{Limit}
+use Rattle.cob_base.specs.declared.limit.LimitKind.{LimitKind}
+use Rattle.cob_base.specs.declared.limit.LimitKind.TheVariants as limits
+use Rattle.cob_tree.specs.declared.cond.Cond.{Cond}
+use Rattle.cob_tree.specs.declared.fault.NameFault.{NameFault}
+use Rattle.cob_tree.specs.declared.fault.NameFault.TheVariants as names_of_faults
+use Rattle.cob_tree.specs.declared.fault.ParseFault.{ParseFault}
+use Rattle.cob_tree.specs.declared.fault.ParseFault.TheVariants as faults
+use Rattle.cobol_lex.specs.declared.token.Token.{Token}
+use Rattle.grammar_forms.specs.declared.note.Note.{Note}
+use Rattle.grammar_forms.specs.declared.note.NameKind.{NameKind}
+use Rattle.grammar_forms.specs.declared.note.NameKind.TheVariants as kinds
+use Rattle.grammar_forms.specs.declared.why.Why.{Why}
+use Rattle.grammar_forms.specs.declared.why.Why.TheVariants as whys
+use Rattle.grammar_forms.specs.Form.{Form, Input}
+use Rattle.grammar_forms.specs.Reading.{Stops, start_at, fault_line}
+use Rattle.expr_forms.specs.declared.side.Side.{Side}
+use Rattle.expr_forms.specs.Side.{expr_of}
+use Rattle.cond_read.specs.declared.answer.CondPart.{CondPart}
+use Rattle.cond_read.specs.declared.answer.ExprPart.{ExprPart}
+
+-- ---- faults
+
+-- terms, parentheses and nested statements have one limit, which is passed by one
+abbrev pub passed : LimitKind → Limit
+passed kind = record { kind = kind; of_result = false; counted = 501; limit = 500 }
+
+abbrev pub stop_fault : Why → (line : ℕ) → ParseFault
+stop_fault whys.Syntax line = faults.Syntax line
+stop_fault whys.Terms line = faults.Limit (passed limits.Terms)
+stop_fault whys.Parens line = faults.Limit (passed limits.Parens)
+stop_fault whys.Nesting line = faults.Limit (passed limits.Nesting)
+
+abbrev pub name_fault : NameKind → (line : ℕ) → NameFault
+name_fault kinds.Duplicate line = names_of_faults.Duplicate line
+name_fault kinds.Unknown line = names_of_faults.Unknown line
+name_fault kinds.Ambiguous line = names_of_faults.Ambiguous line
+name_fault kinds.Level line = names_of_faults.Level line
+name_fault kinds.Picture line = names_of_faults.Picture line
+name_fault kinds.Redefines line = names_of_faults.Redefines line
+name_fault kinds.Value line = names_of_faults.Value line
+name_fault kinds.Usage line = names_of_faults.Usage line
+
+abbrev pub noted_fault : Option Note → Option NameFault
+noted_fault None = None
+noted_fault (Some note) = Some (name_fault note.kind note.position.line)
+
+-- memory ran out, or the tokens from there on stop being the form where and why the fault says
+abbrev pub IsFault : {A : Type 0} → Form A → List Token → (from : ℕ) → ParseFault → Type 0
+IsFault form tokens from fault =
+    (fault ≡ faults.NoMemory)
+    ⊎ ((why : Why) × (rest : List Token) × Stops form (start_at from tokens) why rest
+    × (fault ≡ stop_fault why (fault_line tokens rest)))
+
+-- ---- parts
+
+-- a NOT that was read and isn't the condition's own stands behind it
+abbrev pub unread : Bool → ℕ
+unread true = 1
+unread false = 0
+
+abbrev pub IsCond : CondPart → Cond × Bool → Input → Type 0
+IsCond found part behind =
+    (found.cond ≡ part.0) × (found.next ≡ behind.taken - unread part.1)
+    × (found.fault ≡ noted_fault behind.fault)
+
+abbrev pub IsExpr : ExprPart → Side → Input → Type 0
+IsExpr found side behind =
+    (found.expr ≡ expr_of side.what) × (found.next ≡ behind.taken)
+    × (found.fault ≡ noted_fault behind.fault)
+
+-- the tokens from there on spell it, up to `next`
+abbrev pub Spelled : {A Found : Type 0} → Form A → List Token → (from : ℕ) →
+    (Found → A → Input → Type 0) → Found → Type 0
+Spelled {A = A} form tokens from Is found =
+    (a : A) × (behind : Input) × form.spells (start_at from tokens) a behind × Is found a behind
+
+-- what is spelled is answered, unless memory ran out
+abbrev pub Gives : {A Found : Type 0} → (Found → A → Input → Type 0) →
+    Result Found ParseFault → A → Input → Type 0
+Gives Is (Ok found) a behind = Is found a behind
+Gives Is (Err fault) a behind = fault ≡ faults.NoMemory
+
+-- the one answer where the tokens stop being the form, unless memory ran out
+abbrev pub Refuses : {Found : Type 0} → Result Found ParseFault → (cause : ParseFault) → Type 0
+Refuses (Ok found) cause = ⊥
+Refuses (Err fault) cause = (fault ≡ faults.NoMemory) ⊎ (fault ≡ cause)

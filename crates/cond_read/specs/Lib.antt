@@ -1,0 +1,2 @@
+-- What is answered for tokens from a place on.
+pub mod Answer

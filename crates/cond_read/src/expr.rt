@@ -1,0 +1,52 @@
+//! Expressions.
+
+ghost use Rattle.std.specs.Prelude.{◌≤◌, IfErr, IfOk, List, length};
+ghost use Rattle.grammar_forms.specs.Form.{Input};
+ghost use Rattle.cobol_lex.specs.declared.token.Token.{Token};
+ghost use Rattle.grammar_forms.specs.declared.why.Why.{Why};
+ghost use Rattle.grammar_forms.specs.Reading.{Stops, fault_line, start_at};
+ghost use Rattle.expr_forms.specs.declared.side.Side.{Side};
+ghost use Rattle.expr_forms.specs.Levels.{whole_expr};
+ghost use Rattle.cond_read.specs.Answer.{Gives, IsExpr, IsFault, Refuses, Spelled, stop_fault};
+
+use crate::answer::{ExprPart, noted_fault, stop_fault};
+use cob_tree::ParseFault;
+use cobol_lex::Token;
+use data_names::NameTable;
+use expr_parse::whole_expr;
+use expr_sides::expr_of;
+use grammar_forms::{Cursor, Unread};
+use std::alloc::Global;
+
+/// The expression that these tokens spell behind so many of them.
+pub fn parse_expr(
+    alloc: Global,
+    tokens: &[Token],
+    from: usize,
+    names: &NameTable,
+) -> Result<ExprPart, ParseFault>
+    requires { from ≤ length tokens.now }
+    ensures found { IfOk result (Spelled (whole_expr names.now) tokens.now from IsExpr) }
+    ensures only { (side : Side) (behind : Input) →
+        (whole_expr names.now).spells (start_at from tokens.now) side behind →
+        Gives IsExpr result side behind }
+    ensures fault { IfErr result (IsFault (whole_expr names.now) tokens.now from) }
+    ensures stops { (why : Why) (rest : List Token) →
+        Stops (whole_expr names.now) (start_at from tokens.now) why rest →
+        Refuses result (stop_fault why (fault_line tokens.now rest)) }
+{
+    let mut cursor = Cursor::from_index(tokens, from);
+    match whole_expr(alloc, &mut cursor, names) {
+        Ok(side) => {
+            let next = cursor.index();
+            let fault = noted_fault(cursor.fault());
+            Ok(ExprPart {
+                expr: expr_of(side.what),
+                next,
+                fault,
+            })
+        }
+        Err(Unread::Stop(why)) => Err(stop_fault(why, cursor.fault_line(tokens))),
+        Err(Unread::NoMemory) => Err(ParseFault::NoMemory),
+    }
+}
