@@ -1,0 +1,1 @@
+-- Its definitions are those of `statement_grammar`; it has none of its own.
