@@ -89,7 +89,10 @@ pub fn read_division<P: Parts>(
     match division(parts, alloc, &mut cursor) {
         Ok(found) => match first_fault(earlier, cursor.fault()) {
             None => Ok(found),
-            Some(fault) => Err(ParseFault::Name(fault)),
+            Some(fault) => {
+                drop(found);
+                Err(ParseFault::Name(fault))
+            }
         },
         Err(Unread::Stop(why)) => Err(stop_fault(why, cursor.fault_line(tokens))),
         Err(Unread::NoMemory) => Err(ParseFault::NoMemory),

@@ -8,19 +8,20 @@ ghost use Rattle.stmt_forms.specs.Choice as choice;
 ghost use Rattle.stmt_forms.specs.Loop as loops;
 ghost use Rattle.stmt_forms.specs.Stmt as all;
 
+use crate::ended::{ended, pushed, work_ended};
 use act_parse::{Parts, at_arithmetic, at_choice, at_simple, at_stmt, simple_stmts};
 use cob_base::{Items, NoMemory};
 use cob_tree::{Arms, Cond, Control, Place, Stmt, Subject, Test, When};
 use grammar_forms::{Cursor, Unread, Why};
 use head_parse::{
-    arithmetic_work, end_word, end_work, evaluate_head, first_phrase, first_tests, if_head,
-    loop_end, not_phrase, perform_head, read_head, when_head,
+    arithmetic_work, evaluate_head, first_phrase, first_tests, if_head, loop_end, not_phrase,
+    perform_head, read_head, when_head,
 };
 use std::alloc::Global;
 use stmt_forms::{NotPhrase, PerformHead, Phrase, ReadHead, Scope, Whens};
 
 /// READ without arms, and NEXT SENTENCE behind it.
-fn read_and_next(mut found: Items<Stmt>, file: u32) -> Result<Items<Stmt>, NoMemory>
+fn read_and_next(found: Items<Stmt>, file: u32) -> Result<Items<Stmt>, NoMemory>
     ensures { Makes (arms.read_and_next found file) result }
 {
     let arms = Arms {
@@ -28,9 +29,8 @@ fn read_and_next(mut found: Items<Stmt>, file: u32) -> Result<Items<Stmt>, NoMem
         second: None,
     };
     let into = None;
-    found.push(Stmt::Read { file, into, arms })?;
-    found.push(Stmt::NextSentence)?;
-    Ok(found)
+    let found = pushed(found, Stmt::Read { file, into, arms })?;
+    pushed(found, Stmt::NextSentence)
 }
 
 /// The statements that a statement holds.
@@ -126,9 +126,19 @@ fn second_behind<P: Parts>(
         result cursor.new }
 {
     let (first, not_read) = first;
-    let following = not_phrase(cursor, phrase, levels, first.is_some(), not_read)?;
-    let (second, not_read) = second_arm(parts, alloc, cursor, scope, levels, following)?;
-    Ok((Arms { first, second }, not_read))
+    match not_phrase(cursor, phrase, levels, first.is_some(), not_read) {
+        Ok(following) => match second_arm(parts, alloc, cursor, scope, levels, following) {
+            Ok((second, not_read)) => Ok((Arms { first, second }, not_read)),
+            Err(stop) => {
+                drop(first);
+                Err(stop)
+            }
+        },
+        Err(stop) => {
+            drop(first);
+            Err(stop)
+        }
+    }
 }
 
 #[cycle(stmt)]
@@ -165,9 +175,16 @@ fn arithmetic_stmt<P: Parts>(
         result cursor.new }
 {
     let (verb, (calc, into)) = arithmetic_work(parts, alloc, cursor)?;
-    let (arms, not_read) = arms(parts, alloc, cursor, scope, levels, Phrase::Size)?;
-    end_work(cursor, verb, not_read)?;
-    Ok((Stmt::Arith { calc, into, arms }, not_read))
+    match arms(parts, alloc, cursor, scope, levels, Phrase::Size) {
+        Ok((arms, not_read)) => {
+            work_ended(cursor, verb, Stmt::Arith { calc, into, arms }, not_read)
+        }
+        Err(stop) => {
+            drop(calc);
+            drop(into);
+            Err(stop)
+        }
+    }
 }
 
 #[cycle(stmt)]
@@ -178,7 +195,7 @@ fn read_arms<P: Parts>(
     cursor: &mut Cursor<'_>,
     scope: Scope,
     levels: u32,
-    mut found: Items<Stmt>,
+    found: Items<Stmt>,
     file: u32,
     into: Option<Place>,
 ) -> Result<(Items<Stmt>, bool), Unread>
@@ -187,10 +204,17 @@ fn read_arms<P: Parts>(
         (all.level (P.parts parts.now) levels) scope found file into).reads cursor.old)
         result cursor.new }
 {
-    let (arms, not_read) = arms(parts, alloc, cursor, scope, levels, Phrase::End)?;
-    end_word(cursor, b"END-READ", not_read)?;
-    found.push(Stmt::Read { file, into, arms })?;
-    Ok((found, not_read))
+    match arms(parts, alloc, cursor, scope, levels, Phrase::End) {
+        Ok((arms, not_read)) => {
+            let found = pushed(found, Stmt::Read { file, into, arms })?;
+            ended(cursor, b"END-READ", found, not_read)
+        }
+        Err(stop) => {
+            drop(found);
+            drop(into);
+            Err(stop)
+        }
+    }
 }
 
 #[cycle(stmt)]
@@ -234,8 +258,13 @@ fn read_stmt<P: Parts>(
         (all.level (P.parts parts.now) levels) scope found).reads cursor.old)
         result cursor.new }
 {
-    let head = read_head(parts, alloc, cursor)?;
-    read_by(parts, alloc, cursor, scope, levels, found, head)
+    match read_head(parts, alloc, cursor) {
+        Ok(head) => read_by(parts, alloc, cursor, scope, levels, found, head),
+        Err(stop) => {
+            drop(found);
+            Err(stop)
+        }
+    }
 }
 
 #[cycle(stmt)]
@@ -274,9 +303,14 @@ fn if_ended<P: Parts>(
         ((choice.if_ended (all.level (P.parts parts.now) levels) scope cond yes).reads cursor.old)
         result cursor.new }
 {
-    let (no, not_read) = else_part(parts, alloc, cursor, scope, levels)?;
-    end_word(cursor, b"END-IF", not_read)?;
-    Ok((Stmt::If { cond, yes, no }, not_read))
+    match else_part(parts, alloc, cursor, scope, levels) {
+        Ok((no, not_read)) => ended(cursor, b"END-IF", Stmt::If { cond, yes, no }, not_read),
+        Err(stop) => {
+            drop(cond);
+            drop(yes);
+            Err(stop)
+        }
+    }
 }
 
 #[cycle(stmt)]
@@ -319,8 +353,13 @@ fn if_stmt<P: Parts>(
         result cursor.new }
 {
     let cond = if_head(parts, alloc, cursor, levels)?;
-    let first = held(parts, alloc, cursor, scope, levels)?;
-    if_behind(parts, alloc, cursor, scope, levels, cond, first)
+    match held(parts, alloc, cursor, scope, levels) {
+        Ok(first) => if_behind(parts, alloc, cursor, scope, levels, cond, first),
+        Err(stop) => {
+            drop(cond);
+            Err(stop)
+        }
+    }
 }
 
 #[cycle(stmt)]
@@ -331,7 +370,7 @@ fn when_held<P: Parts>(
     cursor: &mut Cursor<'_>,
     scope: Scope,
     levels: u32,
-    mut whens: Items<When>,
+    whens: Items<When>,
     tests: Items<Test>,
 ) -> Result<Whens, Unread>
     ensures { Reads
@@ -339,13 +378,18 @@ fn when_held<P: Parts>(
         (all.level (P.parts parts.now) levels) scope whens tests).reads cursor.old)
         result cursor.new }
 {
-    let (stmts, not_read) = held(parts, alloc, cursor, scope, levels)?;
-    whens.push(When { tests, stmts })?;
-    Ok(Whens {
-        whens,
-        other: false,
-        not_read,
-    })
+    match held(parts, alloc, cursor, scope, levels) {
+        Ok((stmts, not_read)) => Ok(Whens {
+            whens: pushed(whens, When { tests, stmts })?,
+            other: false,
+            not_read,
+        }),
+        Err(stop) => {
+            drop(whens);
+            drop(tests);
+            Err(stop)
+        }
+    }
 }
 
 #[cycle(stmt)]
@@ -409,10 +453,16 @@ fn whens_turn<P: Parts>(
         (all.level (P.parts parts.now) levels) scope known.now state).reads cursor.old)
         result cursor.new }
 {
-    if state.other || state.not_read {
+    let Whens {
+        whens,
+        other,
+        not_read,
+    } = state;
+    if other || not_read {
+        drop(whens);
         Err(Unread::Stop(Why::Syntax))
     } else {
-        when_next(parts, alloc, cursor, scope, levels, known, state.whens)
+        when_next(parts, alloc, cursor, scope, levels, known, whens)
     }
 }
 
@@ -503,15 +553,22 @@ fn evaluated<P: Parts>(
         (all.level (P.parts parts.now) levels) scope subject state).reads cursor.old)
         result cursor.new }
 {
-    let (other, not_read) = other_part(parts, alloc, cursor, scope, levels, &state)?;
-    end_word(cursor, b"END-EVALUATE", not_read)?;
-    let whens = state.whens;
-    let stmt = Stmt::Evaluate {
-        subject,
-        whens,
-        other,
-    };
-    Ok((stmt, not_read))
+    match other_part(parts, alloc, cursor, scope, levels, &state) {
+        Ok((other, not_read)) => {
+            let Whens { whens, .. } = state;
+            let stmt = Stmt::Evaluate {
+                subject,
+                whens,
+                other,
+            };
+            ended(cursor, b"END-EVALUATE", stmt, not_read)
+        }
+        Err(stop) => {
+            drop(subject);
+            drop(state);
+            Err(stop)
+        }
+    }
 }
 
 #[cycle(stmt)]
@@ -529,8 +586,17 @@ fn evaluate_stmt<P: Parts>(
         result cursor.new }
 {
     let (subject, known) = evaluate_head(parts, alloc, cursor, levels)?;
-    let state = whens(parts, alloc, cursor, scope, levels, &known)?;
-    evaluated(parts, alloc, cursor, scope, levels, subject, state)
+    match whens(parts, alloc, cursor, scope, levels, &known) {
+        Ok(state) => {
+            drop(known);
+            evaluated(parts, alloc, cursor, scope, levels, subject, state)
+        }
+        Err(stop) => {
+            drop(subject);
+            drop(known);
+            Err(stop)
+        }
+    }
 }
 
 #[cycle(stmt)]
@@ -572,8 +638,13 @@ fn loop_body<P: Parts>(
         in_loop: true,
         in_section: scope.in_section,
     };
-    let body = held(parts, alloc, cursor, scope, levels)?;
-    loop_end(cursor, control, body)
+    match held(parts, alloc, cursor, scope, levels) {
+        Ok(body) => loop_end(cursor, control, body),
+        Err(stop) => {
+            drop(control);
+            Err(stop)
+        }
+    }
 }
 
 #[cycle(stmt)]
@@ -645,7 +716,7 @@ fn held_stmts<P: Parts>(
     cursor: &mut Cursor<'_>,
     scope: Scope,
     levels: u32,
-    mut found: Items<Stmt>,
+    found: Items<Stmt>,
 ) -> Result<(Items<Stmt>, bool), Unread>
     ensures { Reads
         ((all.held_stmts (P.parts parts.now)
@@ -655,9 +726,13 @@ fn held_stmts<P: Parts>(
     if cursor.sees(b"READ") {
         read_stmt(parts, alloc, cursor, scope, levels, found)
     } else {
-        let (stmt, not_read) = holding_stmt(parts, alloc, cursor, scope, levels)?;
-        found.push(stmt)?;
-        Ok((found, not_read))
+        match holding_stmt(parts, alloc, cursor, scope, levels) {
+            Ok((stmt, not_read)) => Ok((pushed(found, stmt)?, not_read)),
+            Err(stop) => {
+                drop(found);
+                Err(stop)
+            }
+        }
     }
 }
 
@@ -701,6 +776,7 @@ fn stmts_turn<P: Parts>(
 {
     let (stmts, not_read) = found;
     if not_read {
+        drop(stmts);
         Err(Unread::Stop(Why::Syntax))
     } else {
         stmt(parts, alloc, cursor, scope, levels, stmts)

@@ -7,6 +7,7 @@
 #![tactic(auto)]
 
 mod answer;
+mod ended;
 mod held;
 mod paragraph;
 

@@ -5,7 +5,9 @@ ghost use Rattle.cob_base.specs.Answers.{Makes};
 ghost use Rattle.grammar_forms.specs.Form as form;
 ghost use Rattle.grammar_forms.specs.Reading.{Reads};
 ghost use Rattle.stmt_forms.specs.Paragraph as forms;
+ghost use Rattle.procedure_parse.specs.Step as steps;
 
+use crate::ended::pushed;
 use crate::held::{stmts_from, stmts_with};
 use act_parse::{Parts, at_procedure, at_stmt, exit_behind};
 use cob_base::{Items, NoMemory, Word};
@@ -21,8 +23,13 @@ const MAX_NESTING: u32 = 500;
 fn sentence_closed(cursor: &mut Cursor<'_>, stmts: Items<Stmt>) -> Result<Sentence, Unread>
     ensures { Reads ((forms.sentence_closed stmts).reads cursor.old) result cursor.new }
 {
-    cursor.period()?;
-    Ok(Sentence { stmts })
+    match cursor.period() {
+        Ok(_) => Ok(Sentence { stmts }),
+        Err(stop) => {
+            drop(stmts);
+            Err(stop)
+        }
+    }
 }
 
 #[tactic(auto, unfolding(stmt_forms::specs::Paragraph::sentence_end))]
@@ -31,6 +38,7 @@ fn sentence_end(cursor: &mut Cursor<'_>, found: (Items<Stmt>, bool)) -> Result<S
 {
     let (stmts, not_read) = found;
     if not_read {
+        drop(stmts);
         Err(Unread::Stop(Why::Syntax))
     } else {
         sentence_closed(cursor, stmts)
@@ -51,6 +59,26 @@ fn sentence<P: Parts>(
     sentence_end(cursor, found)
 }
 
+/// One more sentence.
+fn sentence_behind<P: Parts>(
+    parts: &P,
+    alloc: Global,
+    cursor: &mut Cursor<'_>,
+    scope: Scope,
+    found: Items<Sentence>,
+) -> Result<Items<Sentence>, Unread>
+    ensures { Reads ((form.added (forms.sentence (P.parts parts.now) scope) found).reads cursor.old)
+        result cursor.new }
+{
+    match sentence(parts, alloc, cursor, scope) {
+        Ok(next) => Ok(pushed(found, next)?),
+        Err(stop) => {
+            drop(found);
+            Err(stop)
+        }
+    }
+}
+
 fn sentences_from<P: Parts>(
     parts: &P,
     alloc: Global,
@@ -62,7 +90,7 @@ fn sentences_from<P: Parts>(
         result cursor.new }
 {
     'items: while at_stmt(cursor) {
-        found.push(sentence(parts, alloc, cursor, scope)?)?;
+        found = sentence_behind(parts, alloc, cursor, scope, found)?;
     }
     Ok(found)
 }
@@ -78,11 +106,8 @@ fn exit_alone(alloc: Global, cursor: &mut Cursor<'_>) -> Result<Items<Sentence>,
     ensures { Reads (forms.exit_alone.reads cursor.old) result cursor.new }
 {
     cursor.period()?;
-    let mut stmts = Items::new(alloc);
-    stmts.push(Stmt::Exit)?;
-    let mut found = Items::new(alloc);
-    found.push(Sentence { stmts })?;
-    Ok(found)
+    let stmts = pushed(Items::new(alloc), Stmt::Exit)?;
+    Ok(pushed(Items::new(alloc), Sentence { stmts })?)
 }
 
 #[tactic(auto, unfolding(stmt_forms::specs::Paragraph::exit_sentence))]
@@ -97,8 +122,7 @@ fn exit_sentence<P: Parts>(
         result cursor.new }
 {
     let first = exit_behind(cursor, scope, position)?;
-    let mut stmts = Items::new(alloc);
-    stmts.push(first)?;
+    let stmts = pushed(Items::new(alloc), first)?;
     let found = stmts_from(parts, alloc, cursor, scope, MAX_NESTING, (stmts, false))?;
     sentence_end(cursor, found)
 }
@@ -115,8 +139,7 @@ fn exit_sentences<P: Parts>(
         result cursor.new }
 {
     let first = exit_sentence(parts, alloc, cursor, scope, position)?;
-    let mut found = Items::new(alloc);
-    found.push(first)?;
+    let found = pushed(Items::new(alloc), first)?;
     sentences_from(parts, alloc, cursor, scope, found)
 }
 
@@ -159,19 +182,19 @@ fn sentences<P: Parts>(
 fn with_pending(
     alloc: Global,
     pending: Option<Word>,
-    mut done: Items<Paragraph>,
+    done: Items<Paragraph>,
 ) -> Result<Items<Paragraph>, NoMemory>
     ensures { Makes (forms.with_pending pending done) result }
 {
     match pending {
         None => Ok(done),
         Some(section) => {
-            done.push(Paragraph {
+            let empty = Paragraph {
                 name: None,
                 section: Some(section),
                 sentences: Items::new(alloc),
-            })?;
-            Ok(done)
+            };
+            pushed(done, empty)
         }
     }
 }
@@ -191,22 +214,95 @@ fn section_start<P: Parts>(
     alloc: Global,
     cursor: &mut Cursor<'_>,
     name: Word,
-    mut done: Items<Paragraph>,
+    done: Items<Paragraph>,
 ) -> Result<Outline, Unread>
     ensures { Reads ((forms.section_start (P.parts parts.now) name done).reads cursor.old)
         result cursor.new }
 {
-    let sentences = sentences(parts, alloc, cursor, scope_of(true))?;
-    done.push(Paragraph {
-        name: None,
-        section: Some(name),
-        sentences,
-    })?;
-    Ok(Outline {
-        done,
-        pending: None,
-        in_section: true,
-    })
+    match sentences(parts, alloc, cursor, scope_of(true)) {
+        Ok(sentences) => {
+            let first = Paragraph {
+                name: None,
+                section: Some(name),
+                sentences,
+            };
+            Ok(Outline {
+                done: pushed(done, first)?,
+                pending: None,
+                in_section: true,
+            })
+        }
+        Err(stop) => {
+            drop(name);
+            drop(done);
+            Err(stop)
+        }
+    }
+}
+
+/// A section behind its header.
+fn section_behind<P: Parts>(
+    parts: &P,
+    alloc: Global,
+    cursor: &mut Cursor<'_>,
+    name: Word,
+    done: Items<Paragraph>,
+) -> Result<Outline, Unread>
+    ensures { Reads ((steps.section_behind (P.parts parts.now) name done).reads cursor.old)
+        result cursor.new }
+{
+    if at_stmt(cursor) {
+        section_start(parts, alloc, cursor, name, done)
+    } else {
+        Ok(Outline {
+            done,
+            pending: Some(name),
+            in_section: true,
+        })
+    }
+}
+
+/// A section, once the one before it is complete.
+fn section_begun<P: Parts>(
+    parts: &P,
+    alloc: Global,
+    cursor: &mut Cursor<'_>,
+    name: Word,
+    state: Outline,
+) -> Result<Outline, Unread>
+    ensures { Reads ((steps.section_behind (P.parts parts.now) name
+        (forms.with_pending state.pending state.done)).reads cursor.old)
+        result cursor.new }
+{
+    let Outline { done, pending, .. } = state;
+    match with_pending(alloc, pending, done) {
+        Ok(done) => section_behind(parts, alloc, cursor, name, done),
+        Err(fault) => {
+            drop(name);
+            Err(Unread::from(fault))
+        }
+    }
+}
+
+/// The period of a section's header, and the section.
+fn section_closed<P: Parts>(
+    parts: &P,
+    alloc: Global,
+    cursor: &mut Cursor<'_>,
+    name: Word,
+    state: Outline,
+) -> Result<Outline, Unread>
+    ensures { Reads ((steps.section_closed (P.parts parts.now) name state).reads cursor.old)
+        result cursor.new }
+{
+    match cursor.period() {
+        Ok(_) => section_begun(parts, alloc, cursor, name, state),
+        Err(stop) => {
+            drop(name);
+            drop(state);
+            Err(stop)
+        }
+    }
 }
 
 #[tactic(auto, unfolding(stmt_forms::specs::Paragraph::section))]
@@ -220,17 +316,51 @@ fn section<P: Parts>(
     ensures { Reads ((forms.section (P.parts parts.now) name state).reads cursor.old)
         result cursor.new }
 {
-    cursor.key(b"SECTION")?;
-    cursor.period()?;
-    let done = with_pending(alloc, state.pending, state.done)?;
-    if at_stmt(cursor) {
-        section_start(parts, alloc, cursor, name, done)
-    } else {
-        Ok(Outline {
-            done,
-            pending: Some(name),
-            in_section: true,
-        })
+    match cursor.key(b"SECTION") {
+        Ok(_) => section_closed(parts, alloc, cursor, name, state),
+        Err(stop) => {
+            drop(name);
+            drop(state);
+            Err(stop)
+        }
+    }
+}
+
+/// A paragraph behind its header.
+fn paragraph_behind<P: Parts>(
+    parts: &P,
+    alloc: Global,
+    cursor: &mut Cursor<'_>,
+    name: Word,
+    state: Outline,
+) -> Result<Outline, Unread>
+    ensures { Reads ((steps.paragraph_behind (P.parts parts.now) name state).reads cursor.old)
+        result cursor.new }
+{
+    let Outline {
+        done,
+        pending,
+        in_section,
+    } = state;
+    match sentences(parts, alloc, cursor, scope_of(in_section)) {
+        Ok(sentences) => {
+            let next = Paragraph {
+                name: Some(name),
+                section: pending,
+                sentences,
+            };
+            Ok(Outline {
+                done: pushed(done, next)?,
+                pending: None,
+                in_section,
+            })
+        }
+        Err(stop) => {
+            drop(name);
+            drop(pending);
+            drop(done);
+            Err(stop)
+        }
     }
 }
 
@@ -245,23 +375,14 @@ fn paragraph<P: Parts>(
     ensures { Reads ((forms.paragraph (P.parts parts.now) name state).reads cursor.old)
         result cursor.new }
 {
-    cursor.period()?;
-    let Outline {
-        mut done,
-        pending,
-        in_section,
-    } = state;
-    let sentences = sentences(parts, alloc, cursor, scope_of(in_section))?;
-    done.push(Paragraph {
-        name: Some(name),
-        section: pending,
-        sentences,
-    })?;
-    Ok(Outline {
-        done,
-        pending: None,
-        in_section,
-    })
+    match cursor.period() {
+        Ok(_) => paragraph_behind(parts, alloc, cursor, name, state),
+        Err(stop) => {
+            drop(name);
+            drop(state);
+            Err(stop)
+        }
+    }
 }
 
 #[tactic(auto, unfolding(stmt_forms::specs::Paragraph::headed))]
@@ -273,12 +394,19 @@ fn headed<P: Parts>(
 ) -> Result<Outline, Unread>
     ensures { Reads ((forms.headed (P.parts parts.now) state).reads cursor.old) result cursor.new }
 {
-    let (name, position) = parts.header_name(cursor)?;
-    cursor.note(parts.again_fault(&name, position));
-    if cursor.sees(b"SECTION") {
-        section(parts, alloc, cursor, name, state)
-    } else {
-        paragraph(parts, alloc, cursor, name, state)
+    match parts.header_name(cursor) {
+        Ok((name, position)) => {
+            cursor.note(parts.again_fault(&name, position));
+            if cursor.sees(b"SECTION") {
+                section(parts, alloc, cursor, name, state)
+            } else {
+                paragraph(parts, alloc, cursor, name, state)
+            }
+        }
+        Err(stop) => {
+            drop(state);
+            Err(stop)
+        }
     }
 }
 
@@ -306,14 +434,13 @@ fn unnamed_start<P: Parts>(
     ensures { Reads ((forms.unnamed_start (P.parts parts.now)).reads cursor.old) result cursor.new }
 {
     let sentences = sentences(parts, alloc, cursor, scope_of(false))?;
-    let mut done = Items::new(alloc);
-    done.push(Paragraph {
+    let first = Paragraph {
         name: None,
         section: None,
         sentences,
-    })?;
+    };
     Ok(Outline {
-        done,
+        done: pushed(Items::new(alloc), first)?,
         pending: None,
         in_section: false,
     })
@@ -334,23 +461,26 @@ fn start<P: Parts>(parts: &P, alloc: Global, cursor: &mut Cursor<'_>) -> Result<
     }
 }
 
-fn at_least_one(alloc: Global, mut done: Items<Paragraph>) -> Result<Items<Paragraph>, NoMemory>
+fn at_least_one(alloc: Global, done: Items<Paragraph>) -> Result<Items<Paragraph>, NoMemory>
     ensures { Makes (forms.at_least_one done) result }
 {
     if done.as_slice().is_empty() {
-        done.push(Paragraph {
+        let empty = Paragraph {
             name: None,
             section: None,
             sentences: Items::new(alloc),
-        })?;
+        };
+        pushed(done, empty)
+    } else {
+        Ok(done)
     }
-    Ok(done)
 }
 
 fn all_of(alloc: Global, state: Outline) -> Result<Items<Paragraph>, NoMemory>
     ensures { Makes (forms.all_of state) result }
 {
-    let done = with_pending(alloc, state.pending, state.done)?;
+    let Outline { done, pending, .. } = state;
+    let done = with_pending(alloc, pending, done)?;
     at_least_one(alloc, done)
 }
 
@@ -402,6 +532,23 @@ fn end_part<P: Parts>(parts: &P, cursor: &mut Cursor<'_>) -> Result<(), Unread>
     }
 }
 
+/// What was found, where no token is left.
+fn division_ended(
+    cursor: &mut Cursor<'_>,
+    found: Items<Paragraph>,
+) -> Result<Items<Paragraph>, Unread>
+    ensures { Reads ((steps.division_ended found).reads cursor.old)
+        result cursor.new }
+{
+    match cursor.ended() {
+        Ok(_) => Ok(found),
+        Err(stop) => {
+            drop(found);
+            Err(stop)
+        }
+    }
+}
+
 /// The whole division behind its header, up to the last token.
 #[tactic(auto, unfolding(stmt_forms::specs::Paragraph::division))]
 pub fn division<P: Parts>(
@@ -412,7 +559,11 @@ pub fn division<P: Parts>(
     ensures { Reads ((forms.division (P.parts parts.now)).reads cursor.old) result cursor.new }
 {
     let found = paragraphs(parts, alloc, cursor)?;
-    end_part(parts, cursor)?;
-    cursor.ended()?;
-    Ok(found)
+    match end_part(parts, cursor) {
+        Ok(()) => division_ended(cursor, found),
+        Err(stop) => {
+            drop(found);
+            Err(stop)
+        }
+    }
 }
