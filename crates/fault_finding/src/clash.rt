@@ -1,0 +1,86 @@
+//! A pending range, and a level below it that faults on its end.
+
+ghost use Rattle.std.specs.Prelude.{◌≡◌, ◌<◌, Some, length, slice_get, IfOk, MatchOption};
+ghost use Rattle.language.specs.Control.{control_of};
+ghost use Rattle.flow_paths.specs.Flow.{IsFaulty};
+ghost use Rattle.flow_numbers.specs.Kinds.{never_first_of};
+ghost use Rattle.pending_returns.specs.Summary.{IsSummary};
+ghost use Rattle.pending_returns.specs.Tabled.{CallsBelow};
+ghost use Rattle.fault_finding.specs.Clashing.{IsClash, HasClash, NoneBelow, NoClash};
+
+use crate::fault::fault_if;
+use crate::leading::led_from;
+use cob_base::NoMemory;
+use cob_tree::Program;
+use flow_paths::FlowFault;
+use pending_returns::{RangeFacts, Summary, number_of};
+use std::alloc::Global;
+
+/// A range, one to which calls lead from it, and what the level of that one does to its end.
+#[derive(Debug, Clone, Copy)]
+pub struct Clash {
+    pub base: u32,
+    pub last: u32,
+    pub fault: FlowFault,
+}
+
+/// A level that faults on the end of this range, to which calls lead from it.
+pub fn clash_below(
+    alloc: Global,
+    levels: &[RangeFacts],
+    base: u32,
+    end: u32,
+) -> Result<Option<Clash>, NoMemory>
+    requires base { base < length levels.now }
+    requires known { CallsBelow (length levels.now) levels.now }
+    ensures { IfOk result (λ found. MatchOption found (NoneBelow levels.now base end)
+        (λ clash. IsClash levels.now base end clash)) }
+{
+    let flags = led_from(alloc, levels, base)?;
+    for number in 0..levels.len() {
+        match fault_if(levels, flags[number], &levels[number], end) {
+            Some(fault) => {
+                let last = number_of(number)?;
+                return Ok(Some(Clash { base, last, fault }));
+            }
+            None => {}
+        }
+    }
+    Ok(None)
+}
+
+/// A level that faults on the end of a range, to which calls lead from that one.
+pub fn clash_of(alloc: Global, levels: &[RangeFacts]) -> Result<Option<Clash>, NoMemory>
+    requires known { CallsBelow (length levels.now) levels.now }
+    ensures { IfOk result (λ found. MatchOption found (NoClash levels.now)
+        (λ clash. HasClash levels.now clash)) }
+{
+    for number in 0..levels.len() {
+        let base = number_of(number)?;
+        let facts = &levels[number];
+        match facts.range.exit {
+            Some(end) => match clash_below(alloc, levels, base, end)? {
+                Some(clash) => return Ok(Some(clash)),
+                None => {}
+            },
+            None => {}
+        }
+    }
+    Ok(None)
+}
+
+/// A clash in a program that has this summary: exactly where the program is faulty.
+pub fn clash_in(
+    alloc: Global,
+    program: &Program,
+    summary: &Summary,
+) -> Result<Option<Clash>, NoMemory>
+    requires { IsSummary (never_first_of program.now.files) (control_of program.now) summary.now }
+    ensures faulty { IfOk result (λ found. MatchOption found
+        (IsFaulty (never_first_of program.now.files) (control_of program.now) → ⊥)
+        (λ clash. IsFaulty (never_first_of program.now.files) (control_of program.now))) }
+    ensures clash { IfOk result (λ found. MatchOption found (NoClash summary.now.ranges)
+        (λ clash. HasClash summary.now.ranges clash)) }
+{
+    clash_of(alloc, summary.ranges.as_slice())
+}

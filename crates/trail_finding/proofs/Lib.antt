@@ -1,0 +1,2 @@
+-- whether a range stands in a list, and none twice
+mod Standing

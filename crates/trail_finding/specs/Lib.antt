@@ -1,0 +1,2 @@
+-- what is found
+pub mod Finding
