@@ -25,12 +25,16 @@ jumps_inside count (Go t) others to p h e = let same : t ≡ to = cc in omega (a
 jumps_inside count StopRun others to p h e = absurd (cc)
 jumps_inside count other others to p h e = h e
 
+stmts_inside : (count : ℕ) (stmts others : List Stmt) (to : ℕ) → All (IsPlainStmt count) stmts → (leaving others ≡ Jumps to → to < count) → leaving (stmts ++ others) ≡ Jumps to → to < count
+stmts_inside count [] others to p more e = more e
+stmts_inside count (stmt ∷ stmts) others to p more e =
+    jumps_inside count stmt (stmts ++ others) to (All-head (IsPlainStmt count) stmt stmts p) (stmts_inside count stmts others to (All-tail (IsPlainStmt count) stmt stmts p) more) e
+
 sentences_inside : (count : ℕ) (sentences : List Sentence) (to : ℕ) → All (IsPlainSentence count) sentences → leaving (stmts_in sentences) ≡ Jumps to → to < count
 sentences_inside count [] to p e = absurd (cc)
 sentences_inside count (sentence ∷ sentences) to p e =
-    let h = All-head (IsPlainSentence count) sentence sentences p in
-    let more = sentences_inside count sentences to (All-tail (IsPlainSentence count) sentence sentences p) in
-    jumps_inside count h.0 (stmts_in sentences) to h.2 more (ap (λ s. leaving (s ++ stmts_in sentences)) (sym h.1) ∙ e)
+    stmts_inside count sentence.stmts (stmts_in sentences) to (All-head (IsPlainSentence count) sentence sentences p)
+    (sentences_inside count sentences to (All-tail (IsPlainSentence count) sentence sentences p)) e
 
 paragraph_inside : (count to : ℕ) (found : Option Paragraph) → ((paragraph : Paragraph) → found ≡ Some paragraph → IsPlainParagraph count paragraph) → leaving (stmts_unless_absent found) ≡ Jumps to → to < count
 paragraph_inside count to None p e = absurd (cc)

@@ -1,5 +1,5 @@
 -- Where control never comes back, it comes to its end within as many paragraphs as there are.
-use Rattle.std.proofs.Common.{◌≡◌, ℕ, zero, suc, ◌+◌, ◌-◌, ◌<◌, ◌≤◌, List, [], ◌∷◌, ◌++◌, length, Bool, true, false, Option, Some, None, unwrap_or, refl, ap, sym, ◌∙◌, subst, arith}
+use Rattle.std.proofs.Common.{◌≡◌, ℕ, zero, suc, ◌+◌, ◌-◌, ◌<◌, ◌≤◌, List, [], ◌∷◌, ◌++◌, length, Bool, true, false, Option, Some, None, unwrap_or, refl, ap, sym, ◌∙◌, arith}
 use Rattle.std.specs.Prelude.{All, slice_get, nat_lt, if◌then◌else◌}
 use Rattle.std.specs.List.{flat_map}
 use Rattle.std.proofs.lemmas.List.Elements.{All-head, All-tail}
@@ -27,13 +27,17 @@ stmt-below count (Go to) stmts plain h = plain
 stmt-below count StopRun stmts plain h = tt
 stmt-below count other stmts plain h = h
 
+stmts-below : (count : ℕ) (stmts others : List Stmt) → All (IsPlainStmt count) stmts → JumpsBelow count (leaving others) → JumpsBelow count (leaving (stmts ++ others))
+stmts-below count [] others plain h = h
+stmts-below count (stmt ∷ stmts) others plain h =
+    stmt-below count stmt (stmts ++ others) (All-head (IsPlainStmt count) stmt stmts plain) (stmts-below count stmts others (All-tail (IsPlainStmt count) stmt stmts plain) h)
+
 sentences-below : (count : ℕ) (sentences : List Sentence) → All (IsPlainSentence count) sentences → JumpsBelow count (leaving (flat_map (λ sentence. sentence.stmts) sentences))
 sentences-below count [] plain = tt
 sentences-below count (sentence ∷ sentences) plain =
-    let first = All-head (IsPlainSentence count) sentence sentences plain in
     let others = flat_map (λ (s : Sentence). s.stmts) sentences in
-    subst (λ stmts. JumpsBelow count (leaving (stmts ++ others))) (sym first.1)
-    (stmt-below count first.0 others first.2 (sentences-below count sentences (All-tail (IsPlainSentence count) sentence sentences plain)))
+    stmts-below count sentence.stmts others (All-head (IsPlainSentence count) sentence sentences plain)
+    (sentences-below count sentences (All-tail (IsPlainSentence count) sentence sentences plain))
 
 paragraph-below : (count : ℕ) (paragraphs : List Paragraph) (number : ℕ) → All (IsPlainParagraph count) paragraphs → JumpsBelow count (leaving (stmts_unless_absent (slice_get paragraphs number)))
 paragraph-below count [] number plain = tt

@@ -7,7 +7,7 @@ use Rattle.cob_tree.specs.declared.stmt.Stmt.TheVariants.{Display, Go, StopRun}
 use Rattle.cob_tree.specs.declared.program.Paragraph.{Paragraph}
 use Rattle.cob_tree.specs.declared.program.Program.{Program}
 use Rattle.cob_tree.specs.Structured.{stmts_of, IsNoJump, Performs, IsProcedure, IsStructured}
-use Rattle.restructure_core.specs.Plain.{IsPlainName, IsPlainParagraph, IsPlain}
+use Rattle.restructure_core.specs.Plain.{IsPlainParagraph, IsPlain}
 use Rattle.restructure_core.specs.Control.{stmts_at, next_of}
 use Rattle.restructure_core.specs.Rendered.{displays, displays_from, first_name, rendered}
 
@@ -40,13 +40,9 @@ jumpless (other ∷ stmts) h = absurd h
 performs-nothing : (to : ℕ) (stmt : Stmt) → Performs to stmt → ⊥
 performs-nothing to stmt h = h
 
-name-some : (name : Option (List ℕ)) → IsPlainName name → IsSome name
-name-some None h = absurd h
-name-some (Some name) h = refl
-
 first-named : (count : ℕ) (paragraphs : List Paragraph) → 0 < length paragraphs → All (IsPlainParagraph count) paragraphs → IsSome (first_name (slice_get paragraphs 0))
 first-named count [] some plain = absurd (omega arith)
-first-named count (first ∷ others) some plain = name-some first.name (All-head (IsPlainParagraph count) first others plain).named
+first-named count (first ∷ others) some plain = (All-head (IsPlainParagraph count) first others plain).named
 
 one-procedure : (only : Paragraph) → IsSome only.name → only.section ≡ None → length only.sentences ≡ 1 → All IsNoJump (stmts_of only) → All IsProcedure (only ∷ [])
 one-procedure only named free one jumpless =

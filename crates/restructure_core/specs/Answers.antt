@@ -1,63 +1,72 @@
 -- What each answer says of the bytes.
-use Rattle.std.specs.Prelude.{ℕ, ◌≡◌, ◌+◌, ◌<◌, ◌≤◌, ◌⊎◌, false, List, length, Result, Err}
-use Rattle.cob_base.specs.declared.limit.Limit.{Limit}
-use Rattle.cob_base.specs.declared.limit.LimitKind.TheVariants.{Source}
+use Rattle.std.specs.Prelude.{ℕ, ◌≡◌, ◌≢◌, ◌⊎◌, List, Result, Ok, Err}
 use Rattle.cob_tree.specs.declared.program.Program.{Program}
 use Rattle.cob_tree.specs.Structured.{IsStructured}
 use Rattle.meanings.specs.Same.{SameBehaviour}
+use Rattle.cobol_read.specs.declared.refusal.ReadRefusal.{ReadRefusal}
+use Rattle.cobol_read.specs.declared.refusal.ReadRefusal.TheVariants as read
+use Rattle.cobol_read.specs.Reading as reading
+use Rattle.cobol_read.specs.Reading.{Reads}
+use Rattle.cobol_print.specs.Program.{printed}
+use Rattle.restructure_core.specs.declared.fault.Later.{Later}
 use Rattle.restructure_core.specs.declared.fault.Later.TheVariants.{Form, Loop}
 use Rattle.restructure_core.specs.declared.fault.Refused.{Refused}
 use Rattle.restructure_core.specs.declared.fault.Refused.TheVariants as refused
-use Rattle.restructure_core.specs.Printed.{printed}
-use Rattle.restructure_core.specs.Plain.{Reads}
+use Rattle.restructure_core.specs.Plain.{IsPlain}
 use Rattle.restructure_core.specs.Control.{ComesBack}
+use Rattle.restructure_core.specs.Refusals.{of_read_refusal}
 use Rattle.restructure_core.specs.Rendered.{rendered}
+use Rattle.restructure_core.specs.Laws.{IsStraight}
 
--- how many bytes a source may have
-abbrev pub source_limit : ℕ
-source_limit = 4194304
+-- the bytes aren't read, for a cause that has this refusal
+pub record IsUnread (bytes : List ℕ) (refusal : Refused) : Type 0 where
+  pub why : ReadRefusal
+  pub some : why ≢ read.NoMemory
+  pub cause : reading.HasCause bytes why
+  pub is : refusal ≡ of_read_refusal why
 
--- counted is the limit and one more, however long the source is
-abbrev pub past_source : Limit
-past_source = record { kind = Source; of_result = false; counted = source_limit + 1; limit = source_limit }
+-- why a program isn't restructured yet: it isn't plain, or comes to a paragraph a second time
+abbrev pub IsLater : Program → Later → Type 0
+IsLater program Form = IsPlain program → ⊥
+IsLater program Loop = IsPlain program × ComesBack program
 
-abbrev pub IsTooLong : List ℕ → Type 0
-IsTooLong bytes = source_limit < length bytes
-
--- within the limit, and no plain program has these bytes
-pub record IsNotPlain (bytes : List ℕ) : Type 0 where
-  pub within : length bytes ≤ source_limit
-  pub none : (program : Program) → Reads bytes program → ⊥
-
--- within the limit, and the plain program that has these bytes comes to a paragraph a second time
-pub record IsLooping (bytes : List ℕ) : Type 0 where
-  pub within : length bytes ≤ source_limit
+-- the bytes are a program that isn't restructured yet
+pub record IsNotYet (bytes : List ℕ) (why : Later) : Type 0 where
   pub program : Program
   pub reads : Reads bytes program
-  pub back : ComesBack program
+  pub cause : IsLater program why
 
--- within the limit, and the plain program that has these bytes comes to no paragraph a second time
+-- the bytes are a plain program that comes to no paragraph a second time
 pub record IsStraightSource (bytes : List ℕ) : Type 0 where
-  pub within : length bytes ≤ source_limit
   pub program : Program
   pub reads : Reads bytes program
-  pub onward : ComesBack program → ⊥
+  pub straight : IsStraight program
 
--- the text is that of the rendered program, which is structured and behaves as the plain one that has these bytes
+-- the text is that of the rendered program, which is structured and behaves as the plain program
+-- that the bytes are
 pub record IsRestructured (bytes text : List ℕ) : Type 0 where
-  pub within : length bytes ≤ source_limit
-  pub program : Program
-  pub reads : Reads bytes program
-  pub onward : ComesBack program → ⊥
+  pub source : IsStraightSource bytes
+  pub written : text ≡ printed (rendered source.program)
+  pub structured : IsStructured (rendered source.program)
+  pub same : SameBehaviour source.program (rendered source.program)
+
+-- the text of a straight program
+pub record IsTextOf (program : Program) (text : List ℕ) : Type 0 where
+  pub straight : IsStraight program
   pub written : text ≡ printed (rendered program)
-  pub structured : IsStructured (rendered program)
-  pub same : SameBehaviour program (rendered program)
+
+-- what is answered of a program
+abbrev pub IsAnswerTo : Program → Result (List ℕ) Refused → Type 0
+IsAnswerTo program (Ok text) = IsTextOf program text
+IsAnswerTo program (Err (refused.NotYet why)) = IsLater program why
+IsAnswerTo program (Err refused.NoMemory) = Unit {0}
+IsAnswerTo program (Err _) = ⊥
 
 -- the cause of each refusal; want of memory may come at any place
 abbrev pub HasCause : List ℕ → Refused → Type 0
-HasCause bytes (refused.NotYet Form) = IsNotPlain bytes
-HasCause bytes (refused.NotYet Loop) = IsLooping bytes
-HasCause bytes (refused.Limit limit) = IsTooLong bytes × (limit ≡ past_source)
+HasCause bytes (refused.NotSubset why) = IsUnread bytes (refused.NotSubset why)
+HasCause bytes (refused.NotYet why) = IsNotYet bytes why
+HasCause bytes (refused.Limit limit) = IsUnread bytes (refused.Limit limit)
 HasCause bytes refused.NoMemory = Unit {0}
 
 -- this refusal, unless memory is wanted

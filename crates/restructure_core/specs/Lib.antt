@@ -1,9 +1,6 @@
-pub mod Printed
 pub mod Plain
 pub mod Control
 pub mod Rendered
-pub mod Answers
-pub mod Draft
-pub mod Laws
-pub mod Reading
 pub mod Refusals
+pub mod Laws
+pub mod Answers

@@ -1,15 +1,17 @@
 -- The refusal that a part's fault becomes.
-use Rattle.restructure_core.specs.declared.fault.PlainFault.{PlainFault}
-use Rattle.restructure_core.specs.declared.fault.PlainFault.TheVariants as read
+use Rattle.cobol_read.specs.declared.refusal.ReadRefusal.{ReadRefusal}
+use Rattle.cobol_read.specs.declared.refusal.ReadRefusal.TheVariants as read
 use Rattle.restructure_core.specs.declared.fault.FollowFault.{FollowFault}
 use Rattle.restructure_core.specs.declared.fault.FollowFault.TheVariants as follow
-use Rattle.restructure_core.specs.declared.fault.Later.TheVariants.{Form, Loop}
+use Rattle.restructure_core.specs.declared.fault.Later.TheVariants.{Loop}
 use Rattle.restructure_core.specs.declared.fault.Refused.{Refused}
-use Rattle.restructure_core.specs.declared.fault.Refused.TheVariants.{NotYet, NoMemory}
+use Rattle.restructure_core.specs.declared.fault.Refused.TheVariants.{NotSubset, NotYet, Limit, NoMemory}
 
-abbrev pub of_plain_fault : PlainFault → Refused
-of_plain_fault read.NotPlain = NotYet Form
-of_plain_fault read.NoMemory = NoMemory
+-- a limit and want of memory have refusals of their own
+abbrev pub of_read_refusal : ReadRefusal → Refused
+of_read_refusal (read.Limit limit) = Limit limit
+of_read_refusal read.NoMemory = NoMemory
+of_read_refusal other = NotSubset other
 
 abbrev pub of_follow_fault : FollowFault → Refused
 of_follow_fault follow.ComesBack = NotYet Loop

@@ -1,6 +1,7 @@
 //! Why a source isn't restructured.
 
 use cob_base::{Limit, NoMemory};
+use cobol_read::ReadRefusal;
 use thiserror::Error;
 
 /// What isn't restructured yet.
@@ -13,8 +14,11 @@ pub enum Later {
 }
 
 /// Why a source was refused.
-#[derive(Clone, Copy, Debug, PartialEq, Eq, Error)]
+#[derive(Debug, Drop, Error)]
 pub enum Refused {
+    /// The bytes are no program; never for a limit or want of memory, which have their own.
+    #[error("{0}")]
+    NotSubset(ReadRefusal),
     #[error("not yet: {0:?}")]
     NotYet(Later),
     #[error("past a limit: {0:?}")]
@@ -34,16 +38,17 @@ impl From<NoMemory> for Refused {
     }
 }
 
-impl From<PlainFault> for Refused {
+impl From<ReadRefusal> for Refused {
     ghost use Rattle.std.specs.Prelude.{◌≡◌};
-    ghost use Rattle.restructure_core.specs.Refusals.{of_plain_fault};
+    ghost use Rattle.restructure_core.specs.Refusals.{of_read_refusal};
 
-    ghost from_gives = { λ fault e. e ≡ of_plain_fault fault };
+    ghost from_gives = { λ refusal e. e ≡ of_read_refusal refusal };
 
-    fn from(fault: PlainFault) -> Refused {
-        match fault {
-            PlainFault::NotPlain => Refused::NotYet(Later::Form),
-            PlainFault::NoMemory => Refused::NoMemory,
+    fn from(refusal: ReadRefusal) -> Refused {
+        match refusal {
+            ReadRefusal::Limit(limit) => Refused::Limit(limit),
+            ReadRefusal::NoMemory => Refused::NoMemory,
+            other => Refused::NotSubset(other),
         }
     }
 }
@@ -59,26 +64,6 @@ impl From<FollowFault> for Refused {
             FollowFault::ComesBack => Refused::NotYet(Later::Loop),
             FollowFault::NoMemory => Refused::NoMemory,
         }
-    }
-}
-
-/// Why no plain program was read.
-#[derive(Clone, Copy, Debug, PartialEq, Eq, Error)]
-pub enum PlainFault {
-    #[error("no plain program has these bytes")]
-    NotPlain,
-    #[error("out of memory")]
-    NoMemory,
-}
-
-impl From<NoMemory> for PlainFault {
-    ghost use Rattle.std.specs.Prelude.{◌≡◌};
-    ghost use Rattle.restructure_core.specs.declared.fault.PlainFault.TheVariants.{NoMemory as Memory};
-
-    ghost from_gives = { λ _ e. e ≡ Memory };
-
-    fn from(_: NoMemory) -> PlainFault {
-        PlainFault::NoMemory
     }
 }
 

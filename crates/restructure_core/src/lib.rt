@@ -1,15 +1,17 @@
 //! Bytes of a source to bytes of the result.
+//!
+//! `restructure` reads a source, follows control through its program, and prints what was rendered
+//! of it. Programs of the plain form alone are restructured so far (`specs/Plain`); hold
+//! `specs/Answers` against what each answer tells. That what is rendered is structured and behaves
+//! as the source is the law `rendering_keeps_behaviour`.
 #![tactic(auto)]
 
-mod draft;
 mod fault;
 mod follow;
 mod law;
 mod pipeline;
-mod print;
-mod read;
-mod resolve;
+mod plain;
 
 pub use fault::{Later, Refused};
-pub use law::{bytes_read_to_one_program, rendering_keeps_behaviour};
-pub use pipeline::{Done, SOURCE_LIMIT, restructure};
+pub use law::rendering_keeps_behaviour;
+pub use pipeline::{Done, restructure};

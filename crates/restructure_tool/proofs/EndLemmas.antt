@@ -1,13 +1,16 @@
 -- How the parts of a call make its end.
-use Rattle.std.proofs.Common.{◌≡◌, ℕ, ◌+◌, ◌≤◌, List, [], length, take, Option, Some, None, Ok, Err, refl, ap, sym, ◌∙◌, subst, arith, inl, inr}
+use Rattle.std.proofs.Common.{◌≡◌, ℕ, ◌+◌, ◌≤◌, List, [], length, take, Option, Some, None, Ok, Err, refl, ap, sym, ◌∙◌, subst, arith, ◌<◌, inl, inr}
 use Rattle.std.specs.Prelude.{min}
 use Rattle.std.proofs.lemmas.List.{take_all, length-take}
 use Rattle.cob_base.specs.Source.{SourceCall}
 use Rattle.cob_base.specs.Sink.{SinkCall}
-use Rattle.restructure_core.specs.declared.fault.Later.TheVariants.{Form, Loop}
 use Rattle.restructure_core.specs.declared.fault.Refused.{Refused}
 use Rattle.restructure_core.specs.declared.fault.Refused.TheVariants as refused
-use Rattle.restructure_core.specs.Answers.{source_limit, IsTooLong, IsNotPlain, IsLooping, IsRestructured, HasCause}
+use Rattle.cobol_read.specs.declared.refusal.ReadRefusal.TheVariants as rd
+use Rattle.cobol_read.specs.Limit.{source_limit, past_source}
+use Rattle.restructure_core.specs.Refusals.{of_read_refusal}
+use Rattle.restructure_core.specs.Answers.{IsUnread, IsNotYet, IsRestructured, HasCause}
+use Rattle.restructure_tool.proofs.LengthLemmas.{short-read, short-either}
 use Rattle.restructure_tool.specs.declared.ask.Ask.{Ask}
 use Rattle.restructure_tool.specs.declared.ask.Ask.TheVariants.{Restructure}
 use Rattle.restructure_tool.specs.declared.refusal.Refusal.{Refusal}
@@ -30,7 +33,7 @@ whole-read bytes text is short =
     is ∙ take_all (source_limit + 1) bytes (omega (arith, taken, short))
 
 -- a text past the limit is of bytes past the limit
-long-read : (bytes text : List ℕ) → text ≡ take (source_limit + 1) bytes → IsTooLong text → IsTooLong bytes
+long-read : (bytes text : List ℕ) → text ≡ take (source_limit + 1) bytes → source_limit < length text → source_limit < length bytes
 long-read bytes text is long =
     let taken : length text ≡ min (source_limit + 1) (length bytes) = ap length is ∙ length-take (source_limit + 1) bytes in
     omega (arith, taken, long)
@@ -44,15 +47,27 @@ module _ (source : SourceCall) (text : List ℕ) (read : IsRead source text) whe
   answered answer due = record { bytes = read.bytes; told = read.told; due = due; left = read.left }
 
   pub gives-text : (result : List ℕ) → IsRestructured text result → IsAnswered (Some Restructure) source (Ok result)
-  gives-text result h = answered (Ok result) (short (λ b. IsRestructured b result) h.within h)
+  gives-text result h = answered (Ok result) (short (λ b. IsRestructured b result) (short-read text h.source.program h.source.reads) h)
 
   within : IsReadWithin (source_limit + 1) source
   within = record { count = source_limit + 1; within = omega arith; left = read.left }
 
+  -- a text that isn't read is of bytes that aren't
+  unread : (why : Refused) → IsUnread text why → IsUnread read.bytes why
+  unread why h = elim (short-either text h.why h.some h.cause) [
+    | inl few ↦ short (λ b. IsUnread b why) few h
+    | inr long ↦ record {
+      why = rd.Limit past_source;
+      some = λ e. cc;
+      cause = (long-read read.bytes text read.front long.1, refl);
+      is = h.is ∙ ap of_read_refusal long.0;
+    }
+  ]
+
   gives-refused : (why : Refused) → HasCause text why → Gives (Some Restructure) source (Err (of_refused why))
-  gives-refused (refused.NotYet Form) h = answered (Err (refusal.Refused (refused.NotYet Form))) ((λ e. cc), short IsNotPlain h.within h)
-  gives-refused (refused.NotYet Loop) h = answered (Err (refusal.Refused (refused.NotYet Loop))) ((λ e. cc), short IsLooping h.within h)
-  gives-refused (refused.Limit limit) h = answered (Err (refusal.Refused (refused.Limit limit))) ((λ e. cc), (long-read read.bytes text read.front h.0, h.1))
+  gives-refused (refused.NotSubset why) h = answered (Err (refusal.Refused (refused.NotSubset why))) ((λ e. cc), unread (refused.NotSubset why) h)
+  gives-refused (refused.NotYet why) h = answered (Err (refusal.Refused (refused.NotYet why))) ((λ e. cc), short (λ b. IsNotYet b why) (short-read text h.program h.reads) h)
+  gives-refused (refused.Limit limit) h = answered (Err (refusal.Refused (refused.Limit limit))) ((λ e. cc), unread (refused.Limit limit) h)
   gives-refused refused.NoMemory h = within
 
   pub gives-made : (why : Refused) (r : Refusal) → r ≡ of_refused why → HasCause text why → Gives (Some Restructure) source (Err r)
@@ -75,6 +90,7 @@ never-starved (Some Restructure) bytes h = h.0 refl
 
 noted-ends : (ask : Option Ask) (source : SourceCall) (out notes : SinkCall) (r : Refusal) → Gives ask source (Err r) → Keeps out → Takes (line_of r) notes → Ends ask source out notes (status_of r)
 noted-ends ask source out notes refusal.Usage h kept noted = record { refusal = refusal.Usage; answered = h; status = refl; kept = kept; noted = noted }
+noted-ends ask source out notes (refusal.Refused (refused.NotSubset why)) h kept noted = record { refusal = refusal.Refused (refused.NotSubset why); answered = h; status = refl; kept = kept; noted = noted }
 noted-ends ask source out notes (refusal.Refused (refused.NotYet what)) h kept noted = record { refusal = refusal.Refused (refused.NotYet what); answered = h; status = refl; kept = kept; noted = noted }
 noted-ends ask source out notes (refusal.Refused (refused.Limit limit)) h kept noted = record { refusal = refusal.Refused (refused.Limit limit); answered = h; status = refl; kept = kept; noted = noted }
 noted-ends ask source out notes (refusal.Refused refused.NoMemory) h kept noted = absurd (never-starved ask h.bytes h.due)

@@ -7,15 +7,19 @@ use Rattle.std.proofs.lemmas.Option.{none-some}
 use Rattle.std.proofs.Math.ListN.{drop_of_length-le}
 use Rattle.cob_base.specs.Source.{SourceCall}
 use Rattle.cob_base.specs.Sink.{SinkCall}
+use Rattle.cob_tree.specs.declared.program.Program.{Program}
+use Rattle.cobol_read.specs.Limit.{source_limit}
+use Rattle.cobol_read.specs.Reading.{Reads}
+use Rattle.cobol_read.proofs.OneWay.{one_way}
+use Rattle.cobol_print.specs.Program.{printed}
 use Rattle.restructure_core.specs.declared.fault.Later.TheVariants.{Form, Loop}
 use Rattle.restructure_core.specs.declared.fault.Refused.{Refused}
 use Rattle.restructure_core.specs.declared.fault.Refused.TheVariants as refused
-use Rattle.restructure_core.specs.Control.{ComesBack}
-use Rattle.restructure_core.specs.Printed.{printed}
-use Rattle.restructure_core.specs.Rendered.{rendered}
-use Rattle.restructure_core.specs.Answers.{source_limit, IsTooLong, IsLooping, IsStraightSource, IsRestructured, HasCause}
+use Rattle.restructure_core.specs.declared.fault.Later.{Later}
 use Rattle.restructure_core.specs.Laws.{IsStraight}
-use Rattle.restructure_core.proofs.Drafting.{reads-one}
+use Rattle.restructure_core.specs.Rendered.{rendered}
+use Rattle.restructure_core.specs.Refusals.{of_read_refusal}
+use Rattle.restructure_core.specs.Answers.{IsUnread, IsLater, IsRestructured, HasCause}
 use Rattle.restructure_core.proofs.Structured.{rendering-structured}
 use Rattle.restructure_core.proofs.Alike.{rendering-same}
 use Rattle.restructure_tool.specs.declared.ask.Ask.{Ask}
@@ -34,36 +38,57 @@ use Rattle.restructure_tool.specs.Laws.{statuses_of, RestructureIsOneWord, OneAn
 
 -- the causes of refusals exclude each other, and exclude a text
 
-straight-of : (bytes text : List ℕ) → IsRestructured bytes text → IsStraightSource bytes
-straight-of bytes text h = record { within = h.within; program = h.program; reads = h.reads; onward = h.onward }
+read-unread : (bytes : List ℕ) (program : Program) (refusal : Refused) → Reads bytes program → IsUnread bytes refusal → ⊥
+read-unread bytes program refusal reads unread = one_way.refused bytes program unread.why reads unread.some unread.cause
 
-long-short : (bytes : List ℕ) → IsTooLong bytes → length bytes ≤ source_limit → ⊥
-long-short bytes h within = absurd (omega (arith, h, within))
+-- what a cause tells of the program that was read
+abbrev IsCauseIn : Program → Refused → Type 0
+IsCauseIn program refusal = (why : Later) × (refusal ≡ refused.NotYet why) × IsLater program why
 
-looping-straight : (bytes : List ℕ) → IsLooping bytes → IsStraightSource bytes → ⊥
-looping-straight bytes h g = g.onward (subst ComesBack (reads-one bytes h.program g.program h.reads g.reads) h.back)
+abbrev HasCauseRead : List ℕ → Refused → Type 0
+HasCauseRead bytes refusal = (program : Program) × Reads bytes program × IsCauseIn program refusal
+
+cause-either : (bytes : List ℕ) (why : Refused) → (why ≡ refused.NoMemory → ⊥) → HasCause bytes why → IsUnread bytes why ⊎ HasCauseRead bytes why
+cause-either bytes (refused.NotSubset why) some h = inl h
+cause-either bytes (refused.NotYet why) some h = inr (h.program, h.reads, (why, refl, h.cause))
+cause-either bytes (refused.Limit limit) some h = inl h
+cause-either bytes refused.NoMemory some h = absurd (some refl)
+
+straight-later : (program : Program) (why : Later) → IsStraight program → IsLater program why → ⊥
+straight-later program Form straight h = h straight.plain
+straight-later program Loop straight h = straight.onward h.1
 
 text-refused : (bytes text : List ℕ) (why : Refused) → IsRestructured bytes text → (why ≡ refused.NoMemory → ⊥) → HasCause bytes why → ⊥
-text-refused bytes text (refused.NotYet Form) h some g = g.none h.program h.reads
-text-refused bytes text (refused.NotYet Loop) h some g = looping-straight bytes g (straight-of bytes text h)
-text-refused bytes text (refused.Limit limit) h some g = long-short bytes g.0 h.within
-text-refused bytes text refused.NoMemory h some g = some refl
+text-refused bytes text why h some g =
+    elim (cause-either bytes why some g) [
+      | inl unread ↦ read-unread bytes h.source.program why h.source.reads unread
+      | inr cause ↦
+          straight-later h.source.program cause.2.0 h.source.straight
+          (subst (λ p. IsLater p cause.2.0) (one_way.program bytes cause.0 h.source.program cause.1 h.source.reads) cause.2.2)
+    ]
 
 texts-same : (bytes one other : List ℕ) → IsRestructured bytes one → IsRestructured bytes other → one ≡ other
-texts-same bytes one other h g = h.written ∙ ap (λ p. printed (rendered p)) (reads-one bytes h.program g.program h.reads g.reads) ∙ sym g.written
+texts-same bytes one other h g =
+    h.written ∙ ap (λ p. printed (rendered p)) (one_way.program bytes h.source.program g.source.program h.source.reads g.source.reads) ∙ sym g.written
+
+later-same : (program : Program) (one other : Later) → IsLater program one → IsLater program other → one ≡ other
+later-same program Form Form h g = refl
+later-same program Form Loop h g = absurd (h g.0)
+later-same program Loop Form h g = absurd (g h.0)
+later-same program Loop Loop h g = refl
+
+causes-in : (program : Program) (one other : Refused) → IsCauseIn program one → IsCauseIn program other → one ≡ other
+causes-in program one other h g = h.1 ∙ ap refused.NotYet (later-same program h.0 g.0 h.2 g.2) ∙ sym g.1
+
+either-same : (bytes : List ℕ) (one other : Refused) → IsUnread bytes one ⊎ HasCauseRead bytes one → IsUnread bytes other ⊎ HasCauseRead bytes other → one ≡ other
+either-same bytes one other (inl h) (inl g) = h.is ∙ ap of_read_refusal (one_way.cause bytes h.why g.why h.some g.some h.cause g.cause) ∙ sym g.is
+either-same bytes one other (inl h) (inr g) = absurd (read-unread bytes g.0 one g.1 h)
+either-same bytes one other (inr h) (inl g) = absurd (read-unread bytes h.0 other h.1 g)
+either-same bytes one other (inr h) (inr g) =
+    causes-in g.0 one other (subst (λ p. IsCauseIn p one) (one_way.program bytes h.0 g.0 h.1 g.1) h.2) g.2
 
 causes-same : (bytes : List ℕ) (one other : Refused) → (one ≡ refused.NoMemory → ⊥) → (other ≡ refused.NoMemory → ⊥) → HasCause bytes one → HasCause bytes other → one ≡ other
-causes-same bytes (refused.NotYet Form) (refused.NotYet Form) some more h g = refl
-causes-same bytes (refused.NotYet Form) (refused.NotYet Loop) some more h g = absurd (h.none g.program g.reads)
-causes-same bytes (refused.NotYet Form) (refused.Limit limit) some more h g = absurd (long-short bytes g.0 h.within)
-causes-same bytes (refused.NotYet Loop) (refused.NotYet Form) some more h g = absurd (g.none h.program h.reads)
-causes-same bytes (refused.NotYet Loop) (refused.NotYet Loop) some more h g = refl
-causes-same bytes (refused.NotYet Loop) (refused.Limit limit) some more h g = absurd (long-short bytes g.0 h.within)
-causes-same bytes (refused.Limit limit) (refused.NotYet Form) some more h g = absurd (long-short bytes h.0 g.within)
-causes-same bytes (refused.Limit limit) (refused.NotYet Loop) some more h g = absurd (long-short bytes h.0 g.within)
-causes-same bytes (refused.Limit limit) (refused.Limit other) some more h g = ap refused.Limit (h.1 ∙ sym g.1)
-causes-same bytes one refused.NoMemory some more h g = absurd (more refl)
-causes-same bytes refused.NoMemory other some more h g = absurd (some refl)
+causes-same bytes one other some more h g = either-same bytes one other (cause-either bytes one some h) (cause-either bytes other more g)
 
 unasked-is : (answer : Answer) → IsUnasked answer → answer ≡ Err refusal.Usage
 unasked-is (Ok text) h = absurd h
@@ -99,19 +124,15 @@ one-answer None bytes one other h g = unasked-is one h ∙ sym (unasked-is other
 one-answer (Some Restructure) bytes one other h g = answer-same bytes one other (either bytes one h) (either bytes other g)
 
 pub straight-text : StraightSourceHasText
-straight-text bytes h =
-    let straight : IsStraight h.program = record { plain = h.reads.plain; onward = h.onward } in (
-      printed (rendered h.program),
-      record {
-        within = h.within;
-        program = h.program;
-        reads = h.reads;
-        onward = h.onward;
-        written = refl;
-        structured = rendering-structured h.program h.reads.plain;
-        same = rendering-same h.program straight;
-      },
-    )
+straight-text bytes h = (
+  printed (rendered h.program),
+  record {
+    source = h;
+    written = refl;
+    structured = rendering-structured h.program h.straight.plain;
+    same = rendering-same h.program h.straight;
+  },
+)
 
 -- What is due comes.
 

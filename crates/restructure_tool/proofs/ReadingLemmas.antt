@@ -6,7 +6,7 @@ use Rattle.std.proofs.Math.ListN.{drop_of_length-le}
 use Rattle.std.proofs.Math.Seq.{take-append_seam, drop-append_seam, drop-append-add}
 use Rattle.cob_base.specs.Source.{Takes, SourceCall}
 use Rattle.cob_base.specs.declared.source.Took.TheVariants as took
-use Rattle.restructure_core.specs.Answers.{source_limit}
+use Rattle.cobol_read.specs.Limit.{source_limit}
 use Rattle.restructure_tool.specs.Reading.{IsRead, IsReadWithin}
 
 -- all that was left, or the front of it up to the first byte past the limit

@@ -1,7 +1,7 @@
 -- What the words ask.
 use Rattle.std.specs.Prelude.{ℕ, ◌+◌, if◌then◌else◌, List, [], ◌∷◌, Option, Some, None, codes}
 use Rattle.std.specs.Str.{bytes_eq}
-use Rattle.restructure_core.specs.Answers.{source_limit}
+use Rattle.cobol_read.specs.Limit.{source_limit}
 use Rattle.restructure_tool.specs.declared.ask.Ask.{Ask}
 use Rattle.restructure_tool.specs.declared.ask.Ask.TheVariants.{Restructure}
 

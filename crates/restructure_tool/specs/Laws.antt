@@ -2,7 +2,8 @@
 use Rattle.std.specs.Prelude.{ℕ, ◌≡◌, ◌≤◌, ◌↔◌, List, [], ◌∷◌, length, Option, Some, None, Ok, Err, codes}
 use Rattle.cob_base.specs.Source.{SourceCall}
 use Rattle.cob_base.specs.Sink.{SinkCall}
-use Rattle.restructure_core.specs.Answers.{source_limit, IsStraightSource}
+use Rattle.cobol_read.specs.Limit.{source_limit}
+use Rattle.restructure_core.specs.Answers.{IsStraightSource}
 use Rattle.restructure_tool.specs.declared.ask.Ask.{Ask}
 use Rattle.restructure_tool.specs.declared.ask.Ask.TheVariants.{Restructure}
 use Rattle.restructure_tool.specs.declared.status.Status.{Status}

@@ -3,6 +3,8 @@
 pub mod Ask
 -- how a call ended, and why an ask isn't done
 pub mod Status
+-- the kinds of what isn't in the subset
+pub mod Kind
 pub mod Refusal
 -- what is due to an ask, whatever the outside does
 pub mod Answer

@@ -2,7 +2,7 @@
 use Rattle.std.specs.Prelude.{ℕ, ◌≡◌, ◌+◌, ◌<◌, ◌≤◌, List, take, drop, Option, Some, None}
 use Rattle.cob_base.specs.Faults.{Rose}
 use Rattle.cob_base.specs.Source.{SourceCall}
-use Rattle.restructure_core.specs.Answers.{source_limit}
+use Rattle.cobol_read.specs.Limit.{source_limit}
 
 -- these are the bytes, where they are told
 abbrev pub Tells : Option (List ℕ) → List ℕ → Type 0

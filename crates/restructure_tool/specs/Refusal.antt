@@ -6,6 +6,8 @@ use Rattle.restructure_core.specs.declared.fault.Later.{Later}
 use Rattle.restructure_core.specs.declared.fault.Later.TheVariants as later
 use Rattle.restructure_core.specs.declared.fault.Refused.{Refused}
 use Rattle.restructure_core.specs.declared.fault.Refused.TheVariants as refused
+use Rattle.cobol_read.specs.declared.refusal.ReadRefusal.{ReadRefusal}
+use Rattle.restructure_tool.specs.Kind.{kind_at}
 use Rattle.restructure_tool.specs.declared.status.Status.{Status}
 use Rattle.restructure_tool.specs.declared.status.Status.TheVariants as status
 use Rattle.restructure_tool.specs.declared.refusal.Refusal.{Refusal}
@@ -13,11 +15,13 @@ use Rattle.restructure_tool.specs.declared.refusal.Refusal.TheVariants as refusa
 
 -- the refusal that a refused source becomes
 abbrev pub of_refused : Refused → Refusal
+of_refused (refused.NotSubset why) = refusal.Refused (refused.NotSubset why)
 of_refused (refused.NotYet what) = refusal.Refused (refused.NotYet what)
 of_refused (refused.Limit limit) = refusal.Refused (refused.Limit limit)
 of_refused refused.NoMemory = refusal.NoMemory
 
 abbrev pub refused_status : Refused → Status
+refused_status (refused.NotSubset why) = status.NotSubset
 refused_status (refused.NotYet what) = status.NotSubset
 refused_status (refused.Limit limit) = status.Limit
 refused_status refused.NoMemory = status.NoMemory
@@ -33,7 +37,11 @@ abbrev pub later_text : Later → List ℕ
 later_text later.Form = codes "NOT YET FORM"
 later_text later.Loop = codes "NOT YET LOOP"
 
+abbrev pub not_subset_text : ReadRefusal → List ℕ
+not_subset_text why = codes "NOT SUBSET " ++ kind_at why
+
 abbrev pub refused_text : Refused → List ℕ
+refused_text (refused.NotSubset why) = not_subset_text why
 refused_text (refused.NotYet what) = later_text what
 refused_text (refused.Limit limit) = limit_text limit
 refused_text refused.NoMemory = codes "NO MEMORY"

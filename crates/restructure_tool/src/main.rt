@@ -14,6 +14,7 @@ ghost use Rattle.restructure_tool.specs.Tool.{Ends};
 
 mod answer;
 mod ask;
+mod kind;
 mod laws;
 mod program;
 mod reading;
@@ -35,8 +36,8 @@ use writing::{note, write_text};
 /// Does what the words ask: with the one word `restructure` the source is read to its end, and the
 /// result is written to `out`. Where that isn't done, `notes` gets a line that says why.
 ///
-/// The order of the refusals is that of their causes: words, a fault of the source, the limit on
-/// the source, the form, a loop. Both sinks have room before the first byte of the result is
+/// The order of the refusals is that of their causes: words, a fault of the source, those of
+/// reading, the form, a loop. Both sinks have room before the first byte of the result is
 /// written. A failure of `notes` changes no status; want of room in it makes the status NoMemory.
 pub fn tool<S: Source, K: Sink, N: Sink>(
     alloc: Global,

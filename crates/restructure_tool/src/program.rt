@@ -21,12 +21,12 @@ use std::{env, io};
 const HELP: &str = "\
 usage: restructure_tool restructure < SOURCE > RESULT
 
-Reads a COBOL program of the plain form from standard input and writes a
-structured program that behaves the same to standard output. Where it can't,
-standard output stays empty, and standard error has a line that says why.
+Reads a COBOL-85 program from standard input and writes a structured program
+that behaves the same to standard output. Where it can't, standard output stays
+empty, and standard error has a line that says why.
 
-Exit statuses: 0 done, 1 USAGE, 2 NOT YET FORM or NOT YET LOOP, 4 LIMIT,
-5 READ FAULT, 6 WRITE FAULT, 10 NO MEMORY.
+Exit statuses: 0 done, 1 USAGE, 2 NOT SUBSET, NOT YET FORM or NOT YET LOOP,
+4 LIMIT, 5 READ FAULT, 6 WRITE FAULT, 10 NO MEMORY.
 ";
 
 const VERSION: &str = "restructure_tool 0.1.0\n";

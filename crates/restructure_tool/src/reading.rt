@@ -3,12 +3,12 @@
 ghost use Rattle.std.specs.Prelude.{◌≡◌, ◌+◌, ◌⊎◌, Err, IsErr, IfOk, IfErr};
 ghost use Rattle.cob_base.specs.Faults.{Rose};
 ghost use Rattle.cob_base.specs.Source.{source_call};
-ghost use Rattle.restructure_core.specs.Answers.{source_limit};
+ghost use Rattle.cobol_read.specs.Limit.{source_limit};
 ghost use Rattle.restructure_tool.specs.Reading.{IsRead, IsReadWithin};
 
 use crate::refusal::Refusal;
 use cob_base::{Source, Text, Took};
-use restructure_core::SOURCE_LIMIT;
+use cobol_read::SOURCE_LIMIT;
 use std::alloc::Global;
 
 /// The bytes of a source, to its end, or to the first byte past the limit on it.

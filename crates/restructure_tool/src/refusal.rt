@@ -2,16 +2,19 @@
 
 ghost use Rattle.std.specs.Prelude.{◌≡◌};
 ghost use Rattle.cob_base.specs.Answers.{Makes};
-ghost use Rattle.restructure_tool.specs.Refusal.{status_of, line_of};
+ghost use Rattle.cob_base.specs.Limit as limits;
+ghost use Rattle.restructure_tool.specs.Refusal as refusals;
+ghost use Rattle.restructure_tool.specs.Refusal.{status_of, line_of, refusal_text};
 
+use crate::kind::kind_at;
 use crate::status::Status;
-use cob_base::{NoMemory, Text};
+use cob_base::{Limit, NoMemory, Text};
+use cobol_read::ReadRefusal;
 use restructure_core::{Later, Refused};
 use std::alloc::Global;
-use std::fmt;
 
 /// Why an ask isn't done.
-#[derive(Clone, Copy, Debug, PartialEq, Eq)]
+#[derive(Debug, Drop)]
 pub enum Refusal {
     /// The words are no ask.
     Usage,
@@ -43,8 +46,8 @@ impl From<Refused> for Refusal {
         ensures { result ≡ of_refused refused }
     {
         match refused {
-            Refused::NotYet(_) | Refused::Limit(_) => Refusal::Refused(refused),
             Refused::NoMemory => Refusal::NoMemory,
+            other => Refusal::Refused(other),
         }
     }
 }
@@ -55,11 +58,10 @@ impl Refusal {
     {
         match self {
             Refusal::Usage => Status::Usage,
-            Refusal::Refused(Refused::NotYet(_)) => Status::NotSubset,
-            Refusal::Refused(Refused::Limit(_)) => Status::Limit,
+            Refusal::Refused(refused) => refused_status(refused),
             Refusal::ReadFault => Status::ReadFault,
             Refusal::WriteFault => Status::WriteFault,
-            Refusal::Refused(Refused::NoMemory) | Refusal::NoMemory => Status::NoMemory,
+            Refusal::NoMemory => Status::NoMemory,
         }
     }
 
@@ -67,28 +69,69 @@ impl Refusal {
     pub fn line(&self, alloc: Global) -> Result<Text, NoMemory>
         ensures { Makes (line_of self.now) result }
     {
-        let line = format!(in alloc; "{self}\n")?;
-        Ok(Text {
-            bytes: line.into_bytes(),
-        })
+        let mut line = self.text(alloc)?;
+        line.add(b"\n")?;
+        Ok(line)
+    }
+
+    fn text(&self, alloc: Global) -> Result<Text, NoMemory>
+        ensures { Makes (refusal_text self.now) result }
+    {
+        match self {
+            Refusal::Usage => told(alloc, b"USAGE"),
+            Refusal::Refused(refused) => refused_text(alloc, refused),
+            Refusal::ReadFault => told(alloc, b"READ FAULT"),
+            Refusal::WriteFault => told(alloc, b"WRITE FAULT"),
+            Refusal::NoMemory => told(alloc, b"NO MEMORY"),
+        }
     }
 }
 
-impl fmt::Display for Refusal {
-    ghost use Rattle.std.specs.Prelude.{Some};
-    ghost use Rattle.restructure_tool.specs.Refusal.{refusal_text};
-
-    ghost output = { λ refusal. Some (refusal_text refusal) };
-
-    fn fmt<W: fmt::Write>(&self, f: &mut fmt::Formatter<W>) -> fmt::Result {
-        match self {
-            Refusal::Usage => f.write_str("USAGE"),
-            Refusal::Refused(Refused::NotYet(Later::Form)) => f.write_str("NOT YET FORM"),
-            Refusal::Refused(Refused::NotYet(Later::Loop)) => f.write_str("NOT YET LOOP"),
-            Refusal::Refused(Refused::Limit(limit)) => write!(f, "{limit}"),
-            Refusal::ReadFault => f.write_str("READ FAULT"),
-            Refusal::WriteFault => f.write_str("WRITE FAULT"),
-            Refusal::Refused(Refused::NoMemory) | Refusal::NoMemory => f.write_str("NO MEMORY"),
-        }
+fn refused_status(refused: &Refused) -> Status
+    ensures { result ≡ refusals.refused_status refused.now }
+{
+    match refused {
+        Refused::NotSubset(_) => Status::NotSubset,
+        Refused::NotYet(_) => Status::NotSubset,
+        Refused::Limit(_) => Status::Limit,
+        Refused::NoMemory => Status::NoMemory,
     }
+}
+
+fn refused_text(alloc: Global, refused: &Refused) -> Result<Text, NoMemory>
+    ensures { Makes (refusals.refused_text refused.now) result }
+{
+    match refused {
+        Refused::NotSubset(why) => not_subset_text(alloc, why),
+        Refused::NotYet(Later::Form) => told(alloc, b"NOT YET FORM"),
+        Refused::NotYet(Later::Loop) => told(alloc, b"NOT YET LOOP"),
+        Refused::Limit(limit) => limit_text(alloc, limit),
+        Refused::NoMemory => told(alloc, b"NO MEMORY"),
+    }
+}
+
+fn not_subset_text(alloc: Global, why: &ReadRefusal) -> Result<Text, NoMemory>
+    ensures { Makes (refusals.not_subset_text why.now) result }
+{
+    let kind = kind_at(alloc, why)?;
+    let mut text = told(alloc, b"NOT SUBSET ")?;
+    text.add(kind.as_slice())?;
+    Ok(text)
+}
+
+fn limit_text(alloc: Global, limit: &Limit) -> Result<Text, NoMemory>
+    ensures { Makes (limits.limit_text limit.now) result }
+{
+    let text = format!(in alloc; "{limit}")?;
+    Ok(Text {
+        bytes: text.into_bytes(),
+    })
+}
+
+fn told(alloc: Global, bytes: &[u8]) -> Result<Text, NoMemory>
+    ensures { Makes bytes.now result }
+{
+    let mut text = Text::new(alloc);
+    text.add(bytes)?;
+    Ok(text)
 }

@@ -38,11 +38,37 @@ const ENDLESS: &str = "       IDENTIFICATION DIVISION.
            GO TO A.
 ";
 
-const UNENDED: &str = "       IDENTIFICATION DIVISION.
+const UNENDED: &str = "       identification division.
+       Program-Id. T.
+      * a comment, and then no line feed
+       PROCEDURE DIVISION. A. DISPLAY 'I''S' STOP RUN.";
+
+const UNENDED_RESULT: &str = "       IDENTIFICATION DIVISION.
        PROGRAM-ID. T.
        PROCEDURE DIVISION.
        A.
-           STOP RUN.";
+           DISPLAY \"I'S\"
+           STOP RUN.
+";
+
+const PERFORMING: &str = "       IDENTIFICATION DIVISION.
+       PROGRAM-ID. T.
+       PROCEDURE DIVISION.
+       A.
+           PERFORM A.
+";
+
+/// What stands before the data of a program in `KINDS`.
+const HEAD: &str = "       IDENTIFICATION DIVISION.
+       PROGRAM-ID. T.
+       DATA DIVISION.
+       WORKING-STORAGE SECTION.
+       ";
+
+/// What stands before its statements.
+const PROCEDURES: &str = "       PROCEDURE DIVISION.
+       A.
+           ";
 
 /// Which call is made.
 #[derive(Clone, Copy, PartialEq, Eq)]
@@ -165,7 +191,7 @@ fn check(rt: &impl Abort, alloc: Global, case: &Case) -> Result<(), AllocError> 
 fn each_answer_comes_with_its_line(rt: HostRuntime) -> Result<(), Fail> {
     let alloc = rt.alloc();
     let usage = "USAGE\n";
-    let form = "NOT YET FORM\n";
+    let empty = "NOT SUBSET SYNTAX LINE 1\n";
     let cases = [
         Case { ..PLAIN },
         Case { piece: 1, ..PLAIN },
@@ -216,14 +242,19 @@ fn each_answer_comes_with_its_line(rt: HostRuntime) -> Result<(), Fail> {
             source: "",
             status: Status::NotSubset,
             out: "",
-            notes: form,
+            notes: empty,
             ..PLAIN
         },
         Case {
             source: UNENDED,
+            out: UNENDED_RESULT,
+            ..PLAIN
+        },
+        Case {
+            source: PERFORMING,
             status: Status::NotSubset,
             out: "",
-            notes: form,
+            notes: "NOT YET FORM\n",
             ..PLAIN
         },
         Case {
@@ -323,6 +354,88 @@ fn a_source_of_one_byte_a_call_gives_the_same(rt: HostRuntime) -> Result<(), Fai
     Ok(())
 }
 
+/// The data and the statements of a program, and the line that refuses it.
+const KINDS: [(&str, &str, &str); 17] = [
+    ("03 N PIC 9.", "STOP RUN.", "NOT SUBSET LEVEL LINE 5\n"),
+    ("01 N PIC 9Q.", "STOP RUN.", "NOT SUBSET PICTURE LINE 5\n"),
+    (
+        "01 G. 02 N PIC 9. 02 M REDEFINES N PIC 99.",
+        "STOP RUN.",
+        "NOT SUBSET REDEFINES LINE 5\n",
+    ),
+    (
+        "01 N PIC 9 VALUE 12.",
+        "STOP RUN.",
+        "NOT SUBSET VALUE LINE 5\n",
+    ),
+    ("01 N PIC X.", "ADD 1 TO N.", "NOT SUBSET USAGE LINE 8\n"),
+    ("01 N PIC 9.", "ADD 1 TO M.", "NOT SUBSET UNKNOWN LINE 8\n"),
+    (
+        "01 G. 02 N PIC 9. 01 H. 02 N PIC 9.",
+        "ADD 1 TO N.",
+        "NOT SUBSET AMBIGUOUS LINE 8\n",
+    ),
+    (
+        "01 N PIC 9.",
+        "STOP RUN. A.",
+        "NOT SUBSET DUPLICATE LINE 8\n",
+    ),
+    (
+        "01 N PIC 9.",
+        "COMPUTE N = N ** 2.",
+        "NOT SUBSET LEFT-OUT ** LINE 8\n",
+    ),
+    (
+        "01 N PIC 9.",
+        "ALTER A TO PROCEED TO B.",
+        "NOT SUBSET LEFT-OUT ALTER LINE 8\n",
+    ),
+    ("01 N PIC 9.", "DISPLAY N GO.", "NOT SUBSET SYNTAX LINE 8\n"),
+    (
+        "01 N PIC 9.",
+        "DISPLAY 1234567890123456789.",
+        "NOT SUBSET TOO-MANY-DIGITS LINE 8\n",
+    ),
+    (
+        "01 N PIC 9.",
+        "DISPLAY 1.2.3.",
+        "NOT SUBSET BAD-NUMBER LINE 8\n",
+    ),
+    ("01 N PIC 9.", "DISPLAY N-.", "NOT SUBSET BAD-WORD LINE 8\n"),
+    (
+        "01 N PIC 9.",
+        "DISPLAY \"N.",
+        "NOT SUBSET OPEN-LITERAL LINE 8\n",
+    ),
+    (
+        "01 N PIC 9.",
+        "DISPLAY \u{1}.",
+        "NOT SUBSET BAD-BYTE LINE 8\n",
+    ),
+    (
+        "01 N PIC 9.",
+        "STOP RUN.\n      X",
+        "NOT SUBSET BAD-INDICATOR LINE 9\n",
+    ),
+];
+
+#[test]
+fn each_kind_has_its_line(rt: HostRuntime) -> Result<(), Fail> {
+    let alloc = rt.alloc();
+    for (data, statements, line) in &KINDS {
+        let source = format!(in alloc; "{HEAD}{data}\n{PROCEDURES}{statements}\n")?;
+        let mut source = StdSource::new(source.as_bytes());
+        let mut out = sink(alloc, 4096, 0)?;
+        let mut notes = sink(alloc, 4096, 0)?;
+        let words = words(alloc, &["restructure"])?;
+        let status = tool(alloc, words.as_slice(), &mut source, &mut out, &mut notes);
+        assert_eq!(rt; status, Status::NotSubset);
+        assert_eq!(rt; out.held.len(), 0);
+        assert_eq!(rt; notes.held.as_slice(), line.as_bytes());
+    }
+    Ok(())
+}
+
 /// A plain program of so many paragraphs, each of which shows its number, and its result.
 fn numbered(alloc: Global, count: u32) -> Result<(Text, Text), AllocError> {
     let headers = "       IDENTIFICATION DIVISION.
@@ -334,7 +447,9 @@ fn numbered(alloc: Global, count: u32) -> Result<(Text, Text), AllocError> {
     result.extend_from_slice(b"       P0.\n")?;
     for number in 0..count {
         let name = format!(in alloc; "       P{number}.\n")?;
-        let shown = format!(in alloc; "           DISPLAY \"SHOWN BY THE PARAGRAPH {number}\"")?;
+        let shown = format!(in alloc;
+            "           DISPLAY \"THIS IS SHOWN BY THE PARAGRAPH {number}\""
+        )?;
         source.extend_from_slice(name.as_bytes())?;
         source.extend_from_slice(shown.as_bytes())?;
         source.extend_from_slice(b".\n")?;
@@ -347,10 +462,10 @@ fn numbered(alloc: Global, count: u32) -> Result<(Text, Text), AllocError> {
 }
 
 #[test]
-fn a_source_of_400_kilobytes_is_restructured(rt: HostRuntime) -> Result<(), Fail> {
+fn a_source_of_300_kilobytes_is_restructured(rt: HostRuntime) -> Result<(), Fail> {
     let alloc = rt.alloc();
-    let (text, result) = numbered(alloc, 6500)?;
-    assert!(rt; text.len() > 400_000);
+    let (text, result) = numbered(alloc, 4999)?;
+    assert!(rt; text.len() > 300_000);
     let mut source = MemSource {
         bytes: text,
         at: 0,

@@ -1,5 +1,5 @@
 use Rattle.std.proofs.Common.{◌+◌, ◌-◌, ◌≡◌, length}
-use Rattle.restructure_core.specs.Answers.{source_limit}
+use Rattle.cobol_read.specs.Limit.{source_limit}
 use Rattle.restructure_tool.proofs.ReadingLemmas.{ReadSoFar}
 use Rattle.restructure_tool.proofs.reading.read_source.Given as goal
 

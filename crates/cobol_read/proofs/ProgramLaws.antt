@@ -1,0 +1,25 @@
+-- The form of a whole program is lawful.
+use Rattle.std.proofs.Common.{true}
+use Rattle.std.specs.Prelude.{codes}
+use Rattle.grammar_forms.proofs.MakerLaws.{Law, pure, key, period, ◌>>=◌, ◌>>◌}
+use Rattle.data_forms.proofs.DivisionLaws.{divisions}
+use Rattle.stmt_forms.proofs.ParagraphLaws.{division}
+use Rattle.statement_grammar.proofs.PartLaws.{parts}
+use Rattle.cobol_read.specs.declared.program.Declarations.{Declarations}
+use Rattle.cobol_read.specs.Program as forms
+use Rattle.cobol_read.specs.StatusLaws.{status}
+
+header : Law true forms.header
+unfolding forms.header
+header = key (codes "PROCEDURE") >> (key (codes "DIVISION") >> (period >> pure))
+
+procedure_division : (known : Declarations) → Law true (forms.procedure_division known)
+unfolding forms.procedure_division
+procedure_division known = header >> division (parts known.names known.entries known.procedures)
+
+pub program : (known : Declarations) → Law true (forms.program known)
+unfolding forms.program
+program known = do
+  before ← divisions (status known.names known.entries)
+  found ← procedure_division known
+  pure

@@ -1,0 +1,107 @@
+-- What a source is read to: the first refusal, in the order of these steps, or the program.
+use Rattle.std.specs.Prelude.{ℕ, nat_le, false, List, length, Option, Some, None, Result, Ok, Err, if◌then◌else◌}
+use Rattle.cob_base.specs.declared.limit.Limit.{Limit}
+use Rattle.cob_base.specs.declared.limit.LimitKind.{LimitKind}
+use Rattle.cob_base.specs.declared.limit.LimitKind.TheVariants as limits
+use Rattle.cob_tree.specs.declared.fault.ParseFault.TheVariants as faults
+use Rattle.cob_tree.specs.declared.program.Program.{Program}
+use Rattle.ref_format.specs.declared.fault.FormatFault.{FormatFault}
+use Rattle.ref_format.specs.declared.fault.FormatFault.TheVariants as format
+use Rattle.ref_format.specs.declared.placed.Placed.{Placed}
+use Rattle.ref_format.specs.Joining.{program_text}
+use Rattle.cobol_lex.specs.declared.fault.LexFault.{LexFault}
+use Rattle.cobol_lex.specs.declared.fault.LexFault.TheVariants as lex
+use Rattle.cobol_lex.specs.declared.token.Token.{Token}
+use Rattle.cobol_lex.specs.Token.{tokens_of}
+use Rattle.grammar_forms.specs.declared.note.Note.{Note}
+use Rattle.grammar_forms.specs.declared.why.Why.{Why}
+use Rattle.grammar_forms.specs.declared.why.Why.TheVariants as whys
+use Rattle.grammar_forms.specs.declared.why.Unread.{Unread}
+use Rattle.grammar_forms.specs.declared.why.Unread.TheVariants as unread
+use Rattle.grammar_forms.specs.Form.{Outcome, Got, Stop}
+use Rattle.grammar_forms.specs.Reading.{start, fault_line}
+use Rattle.data_sizes.specs.Storage.{storage_limit, storage_of}
+use Rattle.procedure_parse.specs.Answer.{passed, name_fault}
+use Rattle.cobol_read.specs.declared.program.Declarations.{Declarations}
+use Rattle.cobol_read.specs.declared.program.ProgramDraft.{ProgramDraft}
+use Rattle.cobol_read.specs.declared.refusal.ReadRefusal.{ReadRefusal}
+use Rattle.cobol_read.specs.declared.refusal.ReadRefusal.TheVariants as refusals
+use Rattle.cobol_read.specs.LeftOut.{first_left_out}
+use Rattle.cobol_read.specs.Limit.{source_limit, token_limit, paragraph_limit, past_source, past_tokens, past_paragraphs}
+use Rattle.cobol_read.specs.Program.{declarations_of, fault_in, program, program_of}
+
+abbrev pub Answer : Type 0
+Answer = Result Program ReadRefusal
+
+-- ---- behind the syntax
+
+abbrev pub with_few_paragraphs : Program → Answer
+with_few_paragraphs found =
+    if nat_le (length found.paragraphs) paragraph_limit then Ok found
+    else Err (refusals.Limit (past_paragraphs (length found.paragraphs)))
+
+abbrev pub within_storage : Option Limit → Program → Answer
+within_storage (Some limit) found = Err (refusals.Limit limit)
+within_storage None found = with_few_paragraphs found
+
+abbrev pub name_refusal : Note → ReadRefusal
+name_refusal note = refusals.Parse (faults.Name (name_fault note.kind note.position.line))
+
+abbrev pub named : Option Note → Program → Answer
+named (Some note) found = Err (name_refusal note)
+named None found = within_storage (storage_limit false (storage_of found.entries)) found
+
+-- ---- the syntax
+
+abbrev pub stop_refusal : Why → (line : ℕ) → ReadRefusal
+stop_refusal whys.Syntax line = refusals.Parse (faults.Syntax line)
+stop_refusal whys.Terms line = refusals.Limit (passed limits.Terms)
+stop_refusal whys.Parens line = refusals.Limit (passed limits.Parens)
+stop_refusal whys.Nesting line = refusals.Limit (passed limits.Nesting)
+
+abbrev pub passed_refusal : LimitKind → ReadRefusal
+passed_refusal kind = refusals.Limit (passed kind)
+
+-- want of memory is told as that
+abbrev pub unread_refusal : Unread → (line : ℕ) → ReadRefusal
+unread_refusal (unread.Stop why) line = stop_refusal why line
+unread_refusal unread.NoMemory line = refusals.NoMemory
+
+abbrev pub parsed : List Token → Declarations → Outcome ProgramDraft → Answer
+parsed tokens known (Stop why rest) = Err (stop_refusal why (fault_line tokens rest))
+parsed tokens known (Got draft behind) =
+    named (fault_in known behind.fault) (program_of known draft)
+
+-- ---- before it
+
+abbrev pub worded : Option ReadRefusal → List Token → Answer
+worded (Some refusal) tokens = Err refusal
+worded None tokens =
+    parsed tokens (declarations_of tokens) ((program (declarations_of tokens)).reads (start tokens))
+
+abbrev pub with_few_tokens : List Token → Answer
+with_few_tokens tokens =
+    if nat_le (length tokens) token_limit then worded (first_left_out tokens) tokens
+    else Err (refusals.Limit (past_tokens (length tokens)))
+
+abbrev pub lex_refusal : LexFault → ReadRefusal
+lex_refusal lex.NoMemory = refusals.NoMemory
+lex_refusal fault = refusals.Lex fault
+
+abbrev pub format_refusal : FormatFault → ReadRefusal
+format_refusal format.NoMemory = refusals.NoMemory
+format_refusal fault = refusals.Format fault
+
+abbrev pub lexed : Result (List Token) LexFault → Answer
+lexed (Ok tokens) = with_few_tokens tokens
+lexed (Err fault) = Err (lex_refusal fault)
+
+abbrev pub formatted : Result (List Placed) FormatFault → Answer
+formatted (Ok text) = lexed (tokens_of text)
+formatted (Err fault) = Err (format_refusal fault)
+
+-- what these bytes are read to
+abbrev pub answer_of : List ℕ → Answer
+answer_of bytes =
+    if nat_le (length bytes) source_limit then formatted (program_text bytes)
+    else Err (refusals.Limit past_source)

@@ -1,0 +1,144 @@
+-- Which bytes are which program, and the cause of each refusal.
+use Rattle.std.specs.Prelude.{ℕ, ◌≡◌, ◌<◌, ◌≤◌, ◌⊎◌, false, List, length, Option, Some, None, Result, Ok, Err}
+use Rattle.cob_base.specs.declared.limit.Limit.{Limit}
+use Rattle.cob_base.specs.declared.limit.LimitKind.{LimitKind}
+use Rattle.cob_base.specs.declared.limit.LimitKind.TheVariants as limits
+use Rattle.cob_tree.specs.declared.fault.NameFault.{NameFault}
+use Rattle.cob_tree.specs.declared.fault.ParseFault.{ParseFault}
+use Rattle.cob_tree.specs.declared.fault.ParseFault.TheVariants as faults
+use Rattle.cob_tree.specs.declared.program.Program.{Program}
+use Rattle.ref_format.specs.declared.fault.FormatFault.TheVariants as format
+use Rattle.ref_format.specs.declared.placed.Placed.{Placed}
+use Rattle.ref_format.specs.Joining.{program_text}
+use Rattle.cobol_lex.specs.declared.fault.LexFault.TheVariants as lex
+use Rattle.cobol_lex.specs.declared.token.Token.{Token}
+use Rattle.cobol_lex.specs.Token.{tokens_of}
+use Rattle.grammar_forms.specs.declared.note.Note.{Note}
+use Rattle.grammar_forms.specs.declared.why.Why.{Why}
+use Rattle.grammar_forms.specs.declared.why.Why.TheVariants as whys
+use Rattle.grammar_forms.specs.Reading.{AllSpell, Stops, start, fault_line}
+use Rattle.data_sizes.specs.Storage.{storage_limit, storage_of}
+use Rattle.procedure_parse.specs.Answer.{passed, name_fault}
+use Rattle.cobol_read.specs.declared.program.ProgramDraft.{ProgramDraft}
+use Rattle.cobol_read.specs.declared.refusal.ReadRefusal.{ReadRefusal}
+use Rattle.cobol_read.specs.declared.refusal.ReadRefusal.TheVariants as refusals
+use Rattle.cobol_read.specs.LeftOut.{first_left_out}
+use Rattle.cobol_read.specs.Limit.{source_limit, token_limit, paragraph_limit, past_source, past_tokens, past_paragraphs}
+use Rattle.cobol_read.specs.Program.{declarations_of, fault_in, program, program_of}
+
+-- ---- the steps of reading, each behind those before
+
+-- a source that is no longer than its limit, in the format
+pub record HasText (bytes : List ℕ) (text : List Placed) : Type 0 where
+  pub within : length bytes ≤ source_limit
+  pub formatted : program_text bytes ≡ Ok text
+
+pub record HasTokens (bytes : List ℕ) (tokens : List Token) : Type 0 where
+  pub text : List Placed
+  pub has_text : HasText bytes text
+  pub lexed : tokens_of text ≡ Ok tokens
+
+-- no more tokens than their limit
+pub record HasFewTokens (bytes : List ℕ) (tokens : List Token) : Type 0 where
+  pub has_tokens : HasTokens bytes tokens
+  pub few : length tokens ≤ token_limit
+
+-- and no word among them that is left out
+pub record HasWords (bytes : List ℕ) (tokens : List Token) : Type 0 where
+  pub has_few : HasFewTokens bytes tokens
+  pub none_left_out : first_left_out tokens ≡ None
+
+-- all tokens spell a program over what they declare, and this is its first name fault
+pub record HasSyntax (bytes : List ℕ) (found : Program) (fault : Option Note) : Type 0 where
+  pub tokens : List Token
+  pub has_words : HasWords bytes tokens
+  pub draft : ProgramDraft
+  pub noted : Option Note
+  pub spelled : AllSpell (program (declarations_of tokens)) tokens draft noted
+  pub is : found ≡ program_of (declarations_of tokens) draft
+  pub fault_is : fault ≡ fault_in (declarations_of tokens) noted
+
+-- and its items are within the limit of storage
+pub record HasRoom (bytes : List ℕ) (found : Program) : Type 0 where
+  pub has_syntax : HasSyntax bytes found None
+  pub stored : storage_limit false (storage_of found.entries) ≡ None
+
+-- the bytes are this program, within all limits of reading
+pub record Reads (bytes : List ℕ) (found : Program) : Type 0 where
+  pub has_room : HasRoom bytes found
+  pub few : length found.paragraphs ≤ paragraph_limit
+
+-- ---- the causes of refusals
+
+-- the tokens stop being a program at the first token up to which they aren't cut, and why
+abbrev pub StopsAt : List ℕ → Why → (line : ℕ) → Type 0
+StopsAt bytes why line =
+    (tokens : List Token) × (rest : List Token) × HasWords bytes tokens
+    × Stops (program (declarations_of tokens)) (start tokens) why rest
+    × (line ≡ fault_line tokens rest)
+
+abbrev pub PassesOne : List ℕ → Why → LimitKind → Limit → Type 0
+PassesOne bytes why kind limit = ((line : ℕ) × StopsAt bytes why line) × (limit ≡ passed kind)
+
+abbrev pub IsTooLong : List ℕ → Limit → Type 0
+IsTooLong bytes limit = (source_limit < length bytes) × (limit ≡ past_source)
+
+abbrev pub HasManyTokens : List ℕ → Limit → Type 0
+HasManyTokens bytes limit =
+    (tokens : List Token) × HasTokens bytes tokens × (token_limit < length tokens)
+    × (limit ≡ past_tokens (length tokens))
+
+abbrev pub IsPastStorage : List ℕ → Limit → Type 0
+IsPastStorage bytes limit =
+    (found : Program) × HasSyntax bytes found None
+    × (storage_limit false (storage_of found.entries) ≡ Some limit)
+
+abbrev pub HasManyParagraphs : List ℕ → Limit → Type 0
+HasManyParagraphs bytes limit =
+    (found : Program) × HasRoom bytes found × (paragraph_limit < length found.paragraphs)
+    × (limit ≡ past_paragraphs (length found.paragraphs))
+
+-- a limit that is passed, by its kind
+abbrev pub IsPast : List ℕ → LimitKind → Limit → Type 0
+IsPast bytes limits.Source limit = IsTooLong bytes limit
+IsPast bytes limits.Tokens limit = HasManyTokens bytes limit
+IsPast bytes limits.Terms limit = PassesOne bytes whys.Terms limits.Terms limit
+IsPast bytes limits.Parens limit = PassesOne bytes whys.Parens limits.Parens limit
+IsPast bytes limits.Nesting limit = PassesOne bytes whys.Nesting limits.Nesting limit
+IsPast bytes limits.Storage limit = IsPastStorage bytes limit
+IsPast bytes limits.Paragraphs limit = HasManyParagraphs bytes limit
+IsPast bytes _ limit = ⊥
+
+abbrev pub HasLeftOut : List ℕ → ReadRefusal → Type 0
+HasLeftOut bytes refusal =
+    (tokens : List Token) × HasFewTokens bytes tokens × (first_left_out tokens ≡ Some refusal)
+
+-- a fault of a name, in a program without a fault of syntax
+abbrev pub HasNameFault : List ℕ → NameFault → Type 0
+HasNameFault bytes fault =
+    (found : Program) × (note : Note) × HasSyntax bytes found (Some note)
+    × (fault ≡ name_fault note.kind note.position.line)
+
+abbrev pub IsParseFault : List ℕ → ParseFault → Type 0
+IsParseFault bytes (faults.Syntax line) = StopsAt bytes whys.Syntax line
+IsParseFault bytes (faults.Name fault) = HasNameFault bytes fault
+IsParseFault bytes (faults.Limit limit) = ⊥
+IsParseFault bytes faults.NoMemory = ⊥
+
+-- the cause of each refusal; want of memory may come at any place
+abbrev pub HasCause : List ℕ → ReadRefusal → Type 0
+HasCause bytes (refusals.Format format.NoMemory) = ⊥
+HasCause bytes (refusals.Format fault) =
+    (length bytes ≤ source_limit) × (program_text bytes ≡ Err fault)
+HasCause bytes (refusals.Lex lex.NoMemory) = ⊥
+HasCause bytes (refusals.Lex fault) =
+    (text : List Placed) × HasText bytes text × (tokens_of text ≡ Err fault)
+HasCause bytes (refusals.LeftOut word line) = HasLeftOut bytes (refusals.LeftOut word line)
+HasCause bytes (refusals.Power line) = HasLeftOut bytes (refusals.Power line)
+HasCause bytes (refusals.Parse fault) = IsParseFault bytes fault
+HasCause bytes (refusals.Limit limit) = IsPast bytes limit.kind limit
+HasCause bytes refusals.NoMemory = Unit {0}
+
+-- this answer, unless memory is wanted
+abbrev pub IsAnswered : Result Program ReadRefusal → Result Program ReadRefusal → Type 0
+IsAnswered answer result = (result ≡ answer) ⊎ (result ≡ Err refusals.NoMemory)

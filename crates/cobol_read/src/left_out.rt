@@ -1,0 +1,45 @@
+//! Words that are left out.
+
+ghost use Rattle.std.specs.Prelude.{◌≡◌};
+ghost use Rattle.cobol_read.specs.LeftOut as words;
+
+use crate::refusal::ReadRefusal;
+use cob_base::Word;
+use cob_words::left_out;
+use cobol_lex::{Token, TokenKind};
+
+fn word_refusal(word: &Word, line: u32) -> Option<ReadRefusal>
+    ensures { result ≡ words.word_refusal word.now line }
+{
+    if left_out(word) {
+        Some(ReadRefusal::LeftOut(*word, line))
+    } else {
+        None
+    }
+}
+
+fn token_refusal(token: &Token) -> Option<ReadRefusal>
+    ensures { result ≡ words.token_refusal token.now }
+{
+    match &token.kind {
+        TokenKind::Word(word) => word_refusal(word, token.line),
+        TokenKind::Power => Some(ReadRefusal::Power(token.line)),
+        _ => None,
+    }
+}
+
+/// Why the first of these tokens is refused that is.
+#[tactic(auto, unfolding(crate::specs::LeftOut::first_left_out))]
+pub fn first_left_out(tokens: &[Token]) -> Option<ReadRefusal>
+    ensures { result ≡ words.first_left_out tokens.now }
+{
+    let mut rest = tokens;
+    'tokens: while let [token, behind @ ..] = rest {
+        let refusal = token_refusal(token);
+        if refusal.is_some() {
+            return refusal;
+        }
+        rest = behind;
+    }
+    None
+}

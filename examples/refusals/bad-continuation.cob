@@ -1,0 +1,7 @@
+       IDENTIFICATION DIVISION.
+       PROGRAM-ID. T.
+       PROCEDURE DIVISION.
+       A.
+           DISPLAY "ONE".
+      -    DISPLAY "TWO".
+      -

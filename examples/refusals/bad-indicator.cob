@@ -1,0 +1,5 @@
+      XIDENTIFICATION DIVISION.
+       PROGRAM-ID. T.
+       PROCEDURE DIVISION.
+       A.
+           STOP RUN.
