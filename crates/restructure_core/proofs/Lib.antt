@@ -1,11 +1,17 @@
-pub mod Alike
-pub mod Along
-pub mod Answering
-pub mod Following
-pub mod Leaves
+-- In reading order.
+-- marks of the paragraphs that were seen
 pub mod Marks
-pub mod Nested
-pub mod Onward
+-- what is left of a paragraph, and the way of control
+pub mod Leaves
+pub mod Following
+-- a way that never comes back ends
 pub mod Pigeons
-pub mod Structured
 pub mod Walked
+pub mod Along
+pub mod Onward
+-- what is rendered is structured, and behaves as the source
+pub mod Structured
+pub mod Nested
+pub mod Alike
+-- what the answer to a program tells of the bytes
+pub mod Answering

@@ -29,7 +29,8 @@ stmts_at program number = stmts_unless_absent (slice_get program.paragraphs numb
 
 -- the paragraph to which control comes from this one; none where the run stops
 abbrev pub next_by : ℕ → ℕ → Leaving → Option ℕ
-next_by count number Falls = if nat_lt (number + 1) count then Some (number + 1) else None
+next_by count number Falls =
+    if nat_lt (number + 1) count then Some (number + 1) else None
 next_by count number (Jumps to) = Some to
 next_by count number Stops = None
 

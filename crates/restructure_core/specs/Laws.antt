@@ -15,4 +15,5 @@ abbrev pub RenderingIsStructured : Type 0
 RenderingIsStructured = (program : Program) → IsStraight program → IsStructured (rendered program)
 
 abbrev pub RenderingKeepsBehaviour : Type 0
-RenderingKeepsBehaviour = (program : Program) → IsStraight program → SameBehaviour program (rendered program)
+RenderingKeepsBehaviour =
+    (program : Program) → IsStraight program → SameBehaviour program (rendered program)

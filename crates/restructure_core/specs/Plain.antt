@@ -8,12 +8,12 @@ use Rattle.cob_tree.specs.declared.program.Paragraph.{Paragraph}
 use Rattle.cob_tree.specs.declared.program.Program.{Program}
 use Rattle.cob_tree.specs.declared.place.Operand.TheVariants.{Text}
 
--- a literal of text
+-- a literal in quotation marks
 abbrev pub IsLiteral : Operand → Type 0
 IsLiteral (Text bytes) = Unit {0}
 IsLiteral _ = ⊥
 
--- DISPLAY of literals, GO TO one of the paragraphs, of which there are this many, or STOP RUN
+-- DISPLAY of such literals, GO TO one of the paragraphs, of which there are this many, or STOP RUN
 abbrev pub IsPlainStmt : ℕ → Stmt → Type 0
 IsPlainStmt count (Display items advance) = All IsLiteral items
 IsPlainStmt count (Go to) = to < count

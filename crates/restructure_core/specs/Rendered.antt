@@ -18,7 +18,12 @@ displays (other ∷ stmts) = displays stmts
 abbrev pub displays_from : Program → ℕ → Option ℕ → List Stmt
 displays_from program zero at = []
 displays_from program (suc n) None = []
-displays_from program (suc n) (Some number) = displays (stmts_at program number) ++ displays_from program n (next_of program number)
+displays_from program (suc n) (Some number) =
+    displays (stmts_at program number) ++ displays_from program n (next_of program number)
+
+-- those on the whole way of control; it comes to each paragraph once at most
+abbrev pub shown_of : Program → List Stmt
+shown_of program = displays_from program (length program.paragraphs) (Some 0)
 
 abbrev pub first_name : Option Paragraph → Option (List ℕ)
 first_name None = None
@@ -37,6 +42,5 @@ one_paragraph program stmts = record {
   } ∷ [];
 }
 
--- the displays on the way of control; it comes to each paragraph once at most
 abbrev pub rendered : Program → Program
-rendered program = one_paragraph program (displays_from program (length program.paragraphs) (Some 0))
+rendered program = one_paragraph program (shown_of program)

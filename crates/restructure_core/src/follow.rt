@@ -3,7 +3,7 @@
 ghost use Rattle.std.specs.Prelude.{◌≡◌, ◌<◌, ◌^◌, ◌++◌, length, replicate, false, IfOk, OnOk, Err, Some};
 ghost use Rattle.restructure_core.specs.Control.{ComesBack, stmts_at, next_of};
 ghost use Rattle.restructure_core.specs.Plain.{IsPlain};
-ghost use Rattle.restructure_core.specs.Rendered.{displays, displays_from};
+ghost use Rattle.restructure_core.specs.Rendered.{displays, shown_of};
 
 use crate::fault::FollowFault;
 use cob_base::{Copied, Items, NoMemory};
@@ -14,7 +14,7 @@ use std::alloc::Global;
 pub fn follow(alloc: Global, program: &Program) -> Result<Items<Stmt>, FollowFault>
     requires plain { IsPlain program.now }
     requires small { length program.now.paragraphs < 2 ^ 31 }
-    ensures shown { IfOk result (λ shown. shown ≡ displays_from program.now (length program.now.paragraphs) (Some 0)) }
+    ensures shown { IfOk result (λ shown. shown ≡ shown_of program.now) }
     ensures onward { OnOk result (ComesBack program.now → ⊥) }
     ensures back { result ≡ Err FollowFault.ComesBack → ComesBack program.now }
 {

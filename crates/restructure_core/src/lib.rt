@@ -8,10 +8,10 @@
 
 mod fault;
 mod follow;
-mod law;
+mod laws;
 mod pipeline;
 mod plain;
 
 pub use fault::{Later, Refused};
-pub use law::rendering_keeps_behaviour;
+pub use laws::rendering_keeps_behaviour;
 pub use pipeline::{Done, restructure};

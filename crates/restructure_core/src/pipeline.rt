@@ -24,8 +24,8 @@ pub struct Done {
 
 /// Restructures a source whose program is of the plain form.
 ///
-/// A program of the plain form has no files and no data, and its paragraphs have names and no
-/// statements but DISPLAY of literals, GO TO and STOP RUN. The errors are those of reading, then
+/// A program of the plain form has no files and no data; its paragraphs have names and are in no
+/// section, and their statements are DISPLAY of literals in quotation marks, GO TO and STOP RUN. The errors are those of reading, then
 /// another form, then control that comes to a paragraph a second time.
 pub fn restructure(alloc: Global, bytes: &[u8]) -> Result<Done, Refused>
     // what each answer tells

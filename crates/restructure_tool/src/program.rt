@@ -22,8 +22,8 @@ const HELP: &str = "\
 usage: restructure_tool restructure < SOURCE > RESULT
 
 Reads a COBOL-85 program from standard input and writes a structured program
-that behaves the same to standard output. Where it can't, standard output stays
-empty, and standard error has a line that says why.
+that behaves the same to standard output. Where it can't, standard error has a
+line that says why, and standard output stays empty, but at WRITE FAULT.
 
 Exit statuses: 0 done, 1 USAGE, 2 NOT SUBSET, NOT YET FORM or NOT YET LOOP,
 4 LIMIT, 5 READ FAULT, 6 WRITE FAULT, 10 NO MEMORY.

@@ -11,7 +11,7 @@ pub enum Status {
     Done,
     /// The words are no ask.
     Usage,
-    /// The source isn't of the form that is restructured.
+    /// The source is no program of the language, or isn't restructured yet.
     NotSubset,
     /// Control of the program runs into a fault of PERFORM.
     Flow,

@@ -68,7 +68,7 @@ fn ranges_of_hops(alloc: Global, hops: &[Hop]) -> Result<Vec<Range>, NoMemory>
 
 /// Whether a trail is accepted, with no range twice among its lemmas or among its hops.
 pub fn accepted(alloc: Global, program: &Program, trail: &Trail) -> Result<bool, NoMemory>
-    ensures { IfOk result (λ good. IsTrue good →
+    ensures { IfOk result (λ good. IsTrue good ↔
         IsFound (never_first_of program.now.files) (control_of program.now) trail.now) }
 {
     let lemmas = ranges_of_lemmas(alloc, trail.lemmas.as_slice())?;

@@ -1,4 +1,4 @@
-use Rattle.std.proofs.Common.{◌+◌, ℕ, suc, List, None, get_or, drop, refl, ap, subst, ◌∙◌, add-one, arith}
+use Rattle.std.proofs.Common.{ℕ, List, None, get_or, drop, refl, ap, subst, ◌∙◌, add-one, arith}
 use Rattle.std.proofs.lemmas.Option.{slice_get-get_or}
 use Rattle.cob_tree.specs.declared.program.Range.{Range}
 use Rattle.flow_paths.specs.Accepted.{IsIn}

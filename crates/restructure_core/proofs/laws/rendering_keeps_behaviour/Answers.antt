@@ -1,6 +1,6 @@
 use Rattle.restructure_core.proofs.Structured.{rendering-structured}
 use Rattle.restructure_core.proofs.Alike.{rendering-same}
-use Rattle.restructure_core.proofs.law.rendering_keeps_behaviour.Goals as goal
+use Rattle.restructure_core.proofs.laws.rendering_keeps_behaviour.Goals as goal
 
 pub returns-clause-structured : goal.returns-clause-structured
 returns-clause-structured c = λ program straight. rendering-structured program straight.plain
