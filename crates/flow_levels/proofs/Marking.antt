@@ -1,6 +1,6 @@
 -- Lists of places with their marks.
 use Rattle.std.proofs.Common.{◌≡◌, ◌+◌, ◌<◌, ◌≤◌, ℕ, zero, suc, Bool, true, false, List, [], ◌∷◌, ◌++◌, length, set, get_or, Option, Some, None, slice_get, refl, ap, sym, ◌∙◌, subst, ◌⊎◌, inl, inr, arith, OnOk, Result, Ok, Err, eqb, eqb-true, eq-eqb}
-use Rattle.std.proofs.lemmas.Option.{slice_get_read, slice_get-get_or}
+use Rattle.std.proofs.lemmas.Option.{slice_get_read, slice_get-get_or, slice_get_within}
 use Rattle.cob_tree.specs.declared.program.Range.{Range}
 use Rattle.flow_places.specs.declared.table.Place.{Place}
 use Rattle.flow_places.specs.declared.table.Place.TheVariants.{Chooses}
@@ -160,3 +160,44 @@ flag-is flags index flag lt e = slice_get-get_or flags index false lt ∙ ap (λ
 pub on-ok : {A B : Type 0} → (r : Result A B) (P Q : Type 0) → (P → Q) → OnOk r P → OnOk r Q
 on-ok (Ok x) P Q f h = f h
 on-ok (Err e) P Q f h = h
+
+pub ok-any : {A B : Type 0} → (r : Result A B) (P : Type 0) → P → OnOk r P
+ok-any (Ok x) P p = p
+ok-any (Err e) P p = tt
+
+-- marks that are taken away along the list
+
+unset : (marks : List Bool) (at other : ℕ) → slice_get (set marks at false) other ≡ Some true → (at ≡ other → ⊥) × (slice_get marks other ≡ Some true)
+unset [] at other e = absurd (let k : ⊥ = cc in k)
+unset (mark ∷ marks) zero zero e = absurd (let k : ⊥ = cc in k)
+unset (mark ∷ marks) zero (suc other) e = ((λ s. (let k : ⊥ = cc in k)), e)
+unset (mark ∷ marks) (suc at) zero e = ((λ s. (let k : ⊥ = cc in k)), e)
+unset (mark ∷ marks) (suc at) (suc other) e = (let old = unset marks at other e in ((λ s. old.0 (let k : at ≡ other = cc in k)), old.1))
+
+-- what has a mark stands in the list from this number on
+abbrev pub IsLeft : List ℕ → List Bool → ℕ → Type 0
+IsLeft places marks from = (place : ℕ) → slice_get marks place ≡ Some true → (at : ℕ) × (from ≤ at) × (slice_get places at ≡ Some place)
+
+pub left-begin : (places : List ℕ) (marks : List Bool) → IsMarked places marks → IsLeft places marks 0
+left-begin places marks is = λ place e. (let h = is.there place e in (h.0, omega arith, h.1))
+
+pub left-more : (places : List ℕ) (marks : List Bool) (from here : ℕ) → slice_get places from ≡ Some here → IsLeft places marks from → IsLeft places (set marks here false) (from + 1)
+left-more places marks from here is left = λ place e.
+    let old = unset marks here place e in
+    let h = left place old.1 in (
+      h.0,
+      (elim (eqb from h.0) as (λ b. eqb from h.0 ≡ b → from + 1 ≤ h.0) [
+        | true ↦ λ t. absurd (old.0 (let both : Some here ≡ Some place = sym is ∙ ap (λ (n : ℕ). slice_get places n) (eqb-true from h.0 t) ∙ h.2 in let k : here ≡ place = cc in k))
+        | false ↦ λ f. (let ne : from ≡ h.0 → ⊥ = λ s. (let t : eqb from h.0 ≡ true = eq-eqb from h.0 s in let both : true ≡ false = sym t ∙ f in let k : ⊥ = cc in k) in let le = h.1 in omega arith)
+      ]) refl,
+      h.2,
+    )
+
+pub left-end : (places none : List ℕ) (marks : List Bool) (from : ℕ) → length places ≤ from → none ≡ [] → IsLeft places marks from → IsMarked none marks
+left-end places none marks from le empty left =
+    let nothing : (at place : ℕ) → slice_get none at ≡ Some place → ⊥ = λ at place e. (let f : slice_get [] at ≡ Some place = ap (λ (ps : List ℕ). slice_get ps at) (sym empty) ∙ e in let k : ⊥ = cc in k) in
+    record {
+      there = λ place e. (let h = left place e in absurd (let lt : h.0 < length places = slice_get_within places h.0 place h.2 in let up = h.1 in omega (arith, lt, up, le)));
+      marked = λ place h. absurd (nothing h.0 place h.1);
+      once = λ a b place e f. absurd (nothing a place e);
+    }

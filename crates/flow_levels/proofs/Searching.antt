@@ -53,7 +53,7 @@ distinct-none : IsDistinct eqb []
 unfolding IsDistinct
 distinct-none = tt
 
-distinct : (xs : List ℕ) → ((a b x : ℕ) → slice_get xs a ≡ Some x → slice_get xs b ≡ Some x → a ≡ b) → IsDistinct eqb xs
+pub distinct : (xs : List ℕ) → ((a b x : ℕ) → slice_get xs a ≡ Some x → slice_get xs b ≡ Some x → a ≡ b) → IsDistinct eqb xs
 distinct [] once = distinct-none
 distinct (x ∷ xs) once =
     IsDistinct-cons eqb x xs

@@ -1,52 +1,43 @@
--- Flags on what places do.
-use Rattle.std.proofs.Common.{◌≡◌, ◌+◌, ◌<◌, ◌≤◌, ℕ, zero, suc, Bool, true, false, List, [], ◌∷◌, length, set, replicate, Some, slice_get, refl, ap, sym, ◌∙◌, subst, inl, inr, arith}
+-- Lists of what places do.
+use Rattle.std.proofs.Common.{◌≡◌, ◌+◌, ◌<◌, ◌≤◌, ℕ, false, List, [], length, Some, slice_get, ap, sym, ◌∙◌, subst, inl, inr, arith}
 use Rattle.std.proofs.lemmas.Option.{slice_get_within}
 use Rattle.cob_tree.specs.declared.program.Range.{Range}
 use Rattle.flow_paths.specs.Flow.{is_exit}
 use Rattle.flow_places.specs.declared.table.Place.{Place}
 use Rattle.flow_places.specs.declared.table.Place.TheVariants.{Calls, Ends}
 use Rattle.flow_places.specs.declared.table.Table.{Table}
-use Rattle.flow_levels.specs.Reaching.{IsCalled, IsEnded, FlagsCalls, FlagsEnds}
-use Rattle.flow_levels.proofs.Searching.{set-get, before-or-now, no-mark}
+use Rattle.flow_levels.specs.Reaching.{Holds, Adds, IsCalled, IsEnded, GathersCalls, GathersEnds, GathersAllCalls, GathersAllEnds}
+use Rattle.flow_levels.proofs.Searching.{before-or-now}
 
-set-here : (flags : List Bool) (at : ℕ) → at < length flags → slice_get (set flags at true) at ≡ Some true
-set-here [] at lt = absurd (omega arith)
-set-here (flag ∷ flags) zero lt = refl
-set-here (flag ∷ flags) (suc at) lt = set-here flags at (omega arith)
-
-set-keeps : (flags : List Bool) (at other : ℕ) → slice_get flags other ≡ Some true → slice_get (set flags at true) other ≡ Some true
-set-keeps [] at other e = e
-set-keeps (flag ∷ flags) zero zero e = refl
-set-keeps (flag ∷ flags) zero (suc other) e = e
-set-keeps (flag ∷ flags) (suc at) zero e = e
-set-keeps (flag ∷ flags) (suc at) (suc other) e = set-keeps flags at other e
+holds-after : (before after : List ℕ) (number : ℕ) → ((at other : ℕ) → slice_get before at ≡ Some other → slice_get after at ≡ Some other) → Holds before number → Holds after number
+holds-after before after number kept h = (h.0, kept h.0 number h.1)
 
 module _ (table : Table) (places : List ℕ) where
-  pub calls-none : (count : ℕ) (flags : List Bool) → flags ≡ replicate count false → FlagsCalls table places flags 0
-  calls-none count flags same = record {
-    sound = λ range e. absurd (no-mark count range (ap (λ (fs : List Bool). slice_get fs range) (sym same) ∙ e));
+  pub calls-none : (calls : List ℕ) → calls ≡ [] → GathersCalls table places calls 0
+  calls-none calls none = record {
+    sound = λ range h. absurd (let f : slice_get [] h.0 ≡ Some range = ap (λ (ps : List ℕ). slice_get ps h.0) (sym none) ∙ h.1 in let k : ⊥ = cc in k);
     done = λ at place range after lt e f. absurd (omega arith);
   }
 
-  pub calls-set : (flags : List Bool) (index here range after : ℕ) → FlagsCalls table places flags index → slice_get places index ≡ Some here → slice_get table.places here ≡ Some (Calls range after) → range < length flags → FlagsCalls table places (set flags range true) (index + 1)
-  calls-set flags index here range after so e f lt = record {
-    sound = λ other g. elim (set-get flags range other g) [
-      | inl same ↦ subst (λ (n : ℕ). IsCalled table places n) (sym same) (here, after, (index, e), f)
-      | inr old ↦ so.sound other old
+  pub calls-more : (calls more : List ℕ) (index here range after : ℕ) → GathersCalls table places calls index → slice_get places index ≡ Some here → slice_get table.places here ≡ Some (Calls range after) → Adds calls more range → GathersCalls table places more (index + 1)
+  calls-more calls more index here range after so e f adds = record {
+    sound = λ other g. elim (adds.only other g) [
+      | inl old ↦ so.sound other old
+      | inr same ↦ subst (λ (n : ℕ). IsCalled table places n) (sym same) (here, after, (index, e), f)
     ];
     done = λ at place other behind less g h. elim (before-or-now at index less) [
-      | inl before ↦ set-keeps flags range other (so.done at place other behind before g h)
+      | inl before ↦ holds-after calls more other adds.kept (so.done at place other behind before g h)
       | inr now ↦
           let first : Some here ≡ Some place = sym e ∙ ap (λ (n : ℕ). slice_get places n) (sym now) ∙ g in
           let same : here ≡ place = cc in
           let second : Some (Calls range after) ≡ Some (Calls other behind) = sym f ∙ ap (λ (n : ℕ). slice_get table.places n) same ∙ h in
           let range_same : range ≡ other = cc in
-          subst (λ (n : ℕ). slice_get (set flags range true) n ≡ Some true) range_same (set-here flags range lt)
+          subst (λ (n : ℕ). Holds more n) range_same adds.added
     ];
   }
 
-  pub calls-skip : (flags : List Bool) (index here : ℕ) (place : Place) → FlagsCalls table places flags index → slice_get places index ≡ Some here → slice_get table.places here ≡ Some place → ((range after : ℕ) → place ≡ Calls range after → ⊥) → FlagsCalls table places flags (index + 1)
-  calls-skip flags index here place so e f none = record {
+  pub calls-skip : (calls : List ℕ) (index here : ℕ) (place : Place) → GathersCalls table places calls index → slice_get places index ≡ Some here → slice_get table.places here ≡ Some place → ((range after : ℕ) → place ≡ Calls range after → ⊥) → GathersCalls table places calls (index + 1)
+  calls-skip calls index here place so e f none = record {
     sound = so.sound;
     done = λ at other range after less g h. elim (before-or-now at index less) [
       | inl before ↦ so.done at other range after before g h
@@ -59,36 +50,38 @@ module _ (table : Table) (places : List ℕ) where
     ];
   }
 
-  pub calls-all : (flags : List Bool) (index : ℕ) → FlagsCalls table places flags index → length places ≤ index → (range : ℕ) → IsCalled table places range → slice_get flags range ≡ Some true
-  calls-all flags index so le range call =
-      so.done call.2.0 call.0 range call.1 (let lt : call.2.0 < length places = slice_get_within places call.2.0 call.0 call.2.1 in omega arith) call.2.1 call.3
+  pub calls-all : (calls : List ℕ) (index : ℕ) → GathersCalls table places calls index → length places ≤ index → GathersAllCalls table places calls
+  calls-all calls index so le = λ range. (
+    so.sound range,
+    λ call. so.done call.2.0 call.0 range call.1 (let lt : call.2.0 < length places = slice_get_within places call.2.0 call.0 call.2.1 in omega arith) call.2.1 call.3,
+  )
 
 module _ (table : Table) (range : Range) (places : List ℕ) where
-  pub ends-none : (count : ℕ) (flags : List Bool) → flags ≡ replicate count false → FlagsEnds table range places flags 0
-  ends-none count flags same = record {
-    sound = λ paragraph e. absurd (no-mark count paragraph (ap (λ (fs : List Bool). slice_get fs paragraph) (sym same) ∙ e));
+  pub ends-none : (ends : List ℕ) → ends ≡ [] → GathersEnds table range places ends 0
+  ends-none ends none = record {
+    sound = λ paragraph h. absurd (let f : slice_get [] h.0 ≡ Some paragraph = ap (λ (ps : List ℕ). slice_get ps h.0) (sym none) ∙ h.1 in let k : ⊥ = cc in k);
     done = λ at place paragraph lt e f g. absurd (omega arith);
   }
 
-  pub ends-set : (flags : List Bool) (index here paragraph : ℕ) → FlagsEnds table range places flags index → slice_get places index ≡ Some here → slice_get table.places here ≡ Some (Ends paragraph) → is_exit range.exit paragraph ≡ false → paragraph < length flags → FlagsEnds table range places (set flags paragraph true) (index + 1)
-  ends-set flags index here paragraph so e f out lt = record {
-    sound = λ other g. elim (set-get flags paragraph other g) [
-      | inl same ↦ subst (λ (n : ℕ). IsEnded table range places n) (sym same) (here, (index, e), f, out)
-      | inr old ↦ so.sound other old
+  pub ends-more : (ends more : List ℕ) (index here paragraph : ℕ) → GathersEnds table range places ends index → slice_get places index ≡ Some here → slice_get table.places here ≡ Some (Ends paragraph) → is_exit range.exit paragraph ≡ false → Adds ends more paragraph → GathersEnds table range places more (index + 1)
+  ends-more ends more index here paragraph so e f out adds = record {
+    sound = λ other g. elim (adds.only other g) [
+      | inl old ↦ so.sound other old
+      | inr same ↦ subst (λ (n : ℕ). IsEnded table range places n) (sym same) (here, (index, e), f, out)
     ];
     done = λ at place other less g h k. elim (before-or-now at index less) [
-      | inl before ↦ set-keeps flags paragraph other (so.done at place other before g h k)
+      | inl before ↦ holds-after ends more other adds.kept (so.done at place other before g h k)
       | inr now ↦
           let first : Some here ≡ Some place = sym e ∙ ap (λ (n : ℕ). slice_get places n) (sym now) ∙ g in
           let same : here ≡ place = cc in
           let second : Some (Ends paragraph) ≡ Some (Ends other) = sym f ∙ ap (λ (n : ℕ). slice_get table.places n) same ∙ h in
           let paragraph_same : paragraph ≡ other = cc in
-          subst (λ (n : ℕ). slice_get (set flags paragraph true) n ≡ Some true) paragraph_same (set-here flags paragraph lt)
+          subst (λ (n : ℕ). Holds more n) paragraph_same adds.added
     ];
   }
 
-  pub ends-skip : (flags : List Bool) (index here : ℕ) (place : Place) → FlagsEnds table range places flags index → slice_get places index ≡ Some here → slice_get table.places here ≡ Some place → ((paragraph : ℕ) → place ≡ Ends paragraph → is_exit range.exit paragraph ≡ false → ⊥) → FlagsEnds table range places flags (index + 1)
-  ends-skip flags index here place so e f none = record {
+  pub ends-skip : (ends : List ℕ) (index here : ℕ) (place : Place) → GathersEnds table range places ends index → slice_get places index ≡ Some here → slice_get table.places here ≡ Some place → ((paragraph : ℕ) → place ≡ Ends paragraph → is_exit range.exit paragraph ≡ false → ⊥) → GathersEnds table range places ends (index + 1)
+  ends-skip ends index here place so e f none = record {
     sound = so.sound;
     done = λ at other paragraph less g h out. elim (before-or-now at index less) [
       | inl before ↦ so.done at other paragraph before g h out
@@ -101,6 +94,8 @@ module _ (table : Table) (range : Range) (places : List ℕ) where
     ];
   }
 
-  pub ends-all : (flags : List Bool) (index : ℕ) → FlagsEnds table range places flags index → length places ≤ index → (paragraph : ℕ) → IsEnded table range places paragraph → slice_get flags paragraph ≡ Some true
-  ends-all flags index so le paragraph end =
-      so.done end.1.0 end.0 paragraph (let lt : end.1.0 < length places = slice_get_within places end.1.0 end.0 end.1.1 in omega arith) end.1.1 end.2 end.3
+  pub ends-all : (ends : List ℕ) (index : ℕ) → GathersEnds table range places ends index → length places ≤ index → GathersAllEnds table range places ends
+  ends-all ends index so le = λ paragraph. (
+    so.sound paragraph,
+    λ end. so.done end.1.0 end.0 paragraph (let lt : end.1.0 < length places = slice_get_within places end.1.0 end.0 end.1.1 in omega arith) end.1.1 end.2 end.3,
+  )

@@ -107,30 +107,27 @@ IsEnded table range places paragraph = (place : ℕ) × Holds places place
     × (slice_get table.places place ≡ Some (Ends paragraph))
     × (is_exit range.exit paragraph ≡ false)
 
--- the flags are on what the first places do
-pub record FlagsCalls (table : Table) (places : List ℕ) (flags : List Bool) (index : ℕ) : Type 0
+-- the list has what the first places do
+pub record GathersCalls (table : Table) (places calls : List ℕ) (index : ℕ) : Type 0 where
+  pub sound : (range : ℕ) → Holds calls range → IsCalled table places range
+  pub done : (at place range after : ℕ) → at < index → slice_get places at ≡ Some place →
+      slice_get table.places place ≡ Some (Calls range after) → Holds calls range
+
+pub record GathersEnds (table : Table) (range : Range) (places ends : List ℕ) (index : ℕ) : Type 0
   where
-    pub sound : (range : ℕ) → slice_get flags range ≡ Some true → IsCalled table places range
-    pub done : (at place range after : ℕ) → at < index → slice_get places at ≡ Some place →
-        slice_get table.places place ≡ Some (Calls range after) → slice_get flags range ≡ Some true
+    pub sound : (paragraph : ℕ) → Holds ends paragraph → IsEnded table range places paragraph
+    pub done : (at place paragraph : ℕ) → at < index → slice_get places at ≡ Some place →
+        slice_get table.places place ≡ Some (Ends paragraph) →
+        is_exit range.exit paragraph ≡ false → Holds ends paragraph
 
-pub record FlagsEnds (table : Table) (range : Range) (places : List ℕ) (flags : List Bool) (index :
-    ℕ) : Type 0 where
-  pub sound : (paragraph : ℕ) → slice_get flags paragraph ≡ Some true →
-      IsEnded table range places paragraph
-  pub done : (at place paragraph : ℕ) → at < index → slice_get places at ≡ Some place →
-      slice_get table.places place ≡ Some (Ends paragraph) → is_exit range.exit paragraph ≡ false →
-      slice_get flags paragraph ≡ Some true
+-- the list has exactly the ranges that the places perform
+abbrev pub GathersAllCalls : Table → List ℕ → List ℕ → Type 0
+GathersAllCalls table places calls = (range : ℕ) → Holds calls range ↔ IsCalled table places range
 
--- a flag is on exactly where one of the places performs the range
-abbrev pub FlagsAllCalls : Table → List ℕ → List Bool → Type 0
-FlagsAllCalls table places flags =
-    (range : ℕ) → slice_get flags range ≡ Some true ↔ IsCalled table places range
-
--- a flag is on exactly where one of the places is the paragraph's end, and no return
-abbrev pub FlagsAllEnds : Table → Range → List ℕ → List Bool → Type 0
-FlagsAllEnds table range places flags =
-    (paragraph : ℕ) → slice_get flags paragraph ≡ Some true ↔ IsEnded table range places paragraph
+-- the list has exactly the paragraphs of which one of the places is the end, and no return
+abbrev pub GathersAllEnds : Table → Range → List ℕ → List ℕ → Type 0
+GathersAllEnds table range places ends = (paragraph : ℕ) → Holds ends paragraph
+    ↔ IsEnded table range places paragraph
 
 -- of each program of which it is a table, the ranges that are said to return do
 abbrev pub SaysSoundly : Table → List Bool → Type 0

@@ -1,54 +1,59 @@
 //! What a level performs, and whose ends it passes.
 
-ghost use Rattle.std.specs.Prelude.{ℕ, ◌≡◌, ◌≤◌, ◌↔◌, true, Some, length, slice_get, IfOk};
+ghost use Rattle.std.specs.Prelude.{◌≡◌, length, OnOk};
 ghost use Rattle.flow_places.specs.Table.{IsTidy};
-ghost use Rattle.flow_levels.specs.Reaching.{AllPlaces, FlagsAllCalls, FlagsAllEnds};
+ghost use Rattle.flow_levels.specs.Reaching.{AllPlaces, IsMarked, GathersAllCalls, GathersAllEnds};
 
-use crate::reach::ends_at;
+use crate::reach::{Reach, ends_at};
 use cob_base::NoMemory;
 use cob_tree::Range;
 use flow_places::{Place, Table};
-use std::alloc::Global;
 
-/// A flag for each range that one of the places performs.
-pub fn calls_of(alloc: Global, table: &Table, places: &[u32]) -> Result<Vec<bool>, NoMemory>
+/// Makes these the ranges that the places perform.
+pub fn calls_of(calls: &mut Reach, table: &Table, places: &[u32]) -> Result<(), NoMemory>
+    requires marked { IsMarked calls.old.places.items calls.old.marks.items }
+    requires size { length calls.old.marks.items ≡ length table.now.ranges }
     requires tidy { IsTidy table.now }
     requires places { AllPlaces (length table.now.places) places.now }
-    ensures size { IfOk result (λ flags. length flags.items ≡ length table.now.ranges) }
-    ensures calls { IfOk result (λ flags. FlagsAllCalls table.now places.now flags.items) }
+    ensures calls { OnOk result (GathersAllCalls table.now places.now calls.new.places.items) }
+    ensures marked { IsMarked calls.new.places.items calls.new.marks.items }
+    ensures size { length calls.new.marks.items ≡ length table.now.ranges }
 {
-    let mut flags = vec![in alloc; false; table.ranges.len()]?;
+    calls.clear();
     for number in places {
         match &table.places.as_slice()[*number as usize] {
-            Place::Calls { range, .. } => flags[*range as usize] = true,
+            Place::Calls { range, .. } => calls.visit(*range)?,
             _ => {}
         }
     }
-    Ok(flags)
+    Ok(())
 }
 
-/// A flag for each paragraph whose end is one of the places, where the range doesn't return.
+/// Makes these the paragraphs whose end is one of the places, where the range doesn't return.
 pub fn ends_of(
-    alloc: Global,
+    ends: &mut Reach,
     table: &Table,
     range: Range,
     places: &[u32],
-) -> Result<Vec<bool>, NoMemory>
+) -> Result<(), NoMemory>
+    requires marked { IsMarked ends.old.places.items ends.old.marks.items }
+    requires size { length ends.old.marks.items ≡ length table.now.starts }
     requires tidy { IsTidy table.now }
     requires places { AllPlaces (length table.now.places) places.now }
-    ensures size { IfOk result (λ flags. length flags.items ≡ length table.now.starts) }
-    ensures ends { IfOk result (λ flags. FlagsAllEnds table.now range places.now flags.items) }
+    ensures ends { OnOk result (GathersAllEnds table.now range places.now ends.new.places.items) }
+    ensures marked { IsMarked ends.new.places.items ends.new.marks.items }
+    ensures size { length ends.new.marks.items ≡ length table.now.starts }
 {
-    let mut flags = vec![in alloc; false; table.starts.len()]?;
+    ends.clear();
     for number in places {
         match &table.places.as_slice()[*number as usize] {
             Place::Ends(paragraph) => {
                 if !ends_at(range.exit, *paragraph) {
-                    flags[*paragraph as usize] = true;
+                    ends.visit(*paragraph)?;
                 }
             }
             _ => {}
         }
     }
-    Ok(flags)
+    Ok(())
 }

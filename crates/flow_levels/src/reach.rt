@@ -31,6 +31,20 @@ impl Reach {
         })
     }
 
+    /// No place any more, in the time of those that were there.
+    pub fn clear(&mut self)
+        requires marked { IsMarked self.old.places.items self.old.marks.items }
+        ensures none { self.new.places.items ≡ [] }
+        ensures marked { IsMarked self.new.places.items self.new.marks.items }
+        ensures size { length self.new.marks.items ≡ length self.old.marks.items }
+    {
+        for at in 0..self.places.len() {
+            let place = self.places[at] as usize;
+            self.marks[place] = false;
+        }
+        self.places.clear();
+    }
+
     /// Adds a place, unless it is there.
     pub fn visit(&mut self, place: u32) -> Result<(), NoMemory>
         requires room { place < length self.old.marks.items }
@@ -118,32 +132,33 @@ pub fn ends_at(exit: Option<u32>, paragraph: u32) -> bool
     }
 }
 
-/// The places that the range's level comes to, where these ranges return, in the order in which
-/// they are come to. Err where memory is wanted.
+/// Makes these the places that the range's level comes to, where these ranges return, in the order
+/// in which they are come to. What was there before is let go. Err where memory is wanted.
 pub fn reached(
-    alloc: Global,
+    reach: &mut Reach,
     table: &Table,
     returns: &[bool],
     range: Range,
-) -> Result<Vec<u32>, NoMemory>
+) -> Result<(), NoMemory>
+    requires marked { IsMarked reach.old.places.items reach.old.marks.items }
+    requires size { length reach.old.marks.items ≡ length table.now.places }
     requires tidy { IsTidy table.now }
     requires known { length table.now.ranges ≤ length returns.now }
-    ensures { IfOk result (λ places. IsReach table.now returns.now range places.items) }
+    ensures reach { OnOk result (IsReach table.now returns.now range reach.new.places.items) }
+    ensures marked { IsMarked reach.new.places.items reach.new.marks.items }
+    ensures size { length reach.new.marks.items ≡ length table.now.places }
 {
-    let count = table.places.len();
-    let mut reach = Reach::new(alloc, count)?;
+    reach.clear();
     match table.starts.get(range.entry as usize) {
         Some(start) => reach.visit(*start)?,
         None => {}
     }
-    for at in 0..count {
+    for at in 0..table.places.len() {
         if at >= reach.places.len() {
-            let Reach { places, .. } = reach;
-            return Ok(places);
+            return Ok(());
         }
         let number = reach.places[at] as usize;
         reach.visit_next(table, returns, range, &table.places.as_slice()[number])?;
     }
-    let Reach { places, .. } = reach;
-    Ok(places)
+    Ok(())
 }

@@ -2,9 +2,9 @@
 
 ghost use Rattle.std.specs.Prelude.{Bool, ℕ, ◌≡◌, ◌<◌, ◌≤◌, ◌↔◌, true, false, length, IfOk, IsTrue};
 ghost use Rattle.flow_places.specs.Table.{IsTidy, IsClosed, ReturnsHere};
-ghost use Rattle.flow_levels.specs.Reaching.{HasEnd, AllPlaces, SaysSoundly, StaysSound, trues};
+ghost use Rattle.flow_levels.specs.Reaching.{HasEnd, AllPlaces, IsMarked, SaysSoundly, StaysSound, trues};
 
-use crate::reach::{ends_at, reached};
+use crate::reach::{Reach, ends_at, reached};
 use crate::working::look_all;
 use cob_base::NoMemory;
 use cob_tree::Range;
@@ -31,33 +31,41 @@ pub fn has_end(table: &Table, range: Range, places: &[u32]) -> bool
 
 /// Whether the range's level comes to its return, where these ranges return.
 pub fn comes_back(
-    alloc: Global,
+    reach: &mut Reach,
     table: &Table,
     returns: &[bool],
     range: Range,
 ) -> Result<bool, NoMemory>
+    requires marked { IsMarked reach.old.places.items reach.old.marks.items }
+    requires size { length reach.old.marks.items ≡ length table.now.places }
     requires tidy { IsTidy table.now }
     requires known { length table.now.ranges ≤ length returns.now }
-    ensures { IfOk result (λ back. IsTrue back ↔ ReturnsHere table.now returns.now range) }
+    ensures back { IfOk result (λ back. IsTrue back ↔ ReturnsHere table.now returns.now range) }
+    ensures marked { IsMarked reach.new.places.items reach.new.marks.items }
+    ensures size { length reach.new.marks.items ≡ length table.now.places }
 {
-    let places = reached(alloc, table, returns, range)?;
-    Ok(has_end(table, range, places.as_slice()))
+    reached(reach, table, returns, range)?;
+    Ok(has_end(table, range, reach.places.as_slice()))
 }
 
 /// Looks at each range that isn't said to return, and says whether one of them does.
-pub fn round(alloc: Global, table: &Table, returns: &mut Vec<bool>) -> Result<bool, NoMemory>
+pub fn round(reach: &mut Reach, table: &Table, returns: &mut Vec<bool>) -> Result<bool, NoMemory>
+    requires marked { IsMarked reach.old.places.items reach.old.marks.items }
+    requires places { length reach.old.marks.items ≡ length table.now.places }
     requires tidy { IsTidy table.now }
     requires size { length returns.old.items ≡ length table.now.ranges }
     ensures size { length returns.new.items ≡ length table.now.ranges }
     ensures sound { StaysSound table.now returns.old.items returns.new.items }
     ensures closed { IfOk result (λ more. more ≡ false → IsClosed table.now returns.new.items) }
     ensures more { IfOk result (λ more. more ≡ true → trues returns.old.items < trues returns.new.items) }
+    ensures marked { IsMarked reach.new.places.items reach.new.marks.items }
+    ensures places { length reach.new.marks.items ≡ length table.now.places }
 {
     let mut more = false;
     for number in 0..table.ranges.len() {
         if !returns[number] {
             let range = table.ranges.as_slice()[number];
-            if comes_back(alloc, table, returns.as_slice(), range)? {
+            if comes_back(reach, table, returns.as_slice(), range)? {
                 returns[number] = true;
                 more = true;
             }
@@ -75,9 +83,10 @@ pub fn settle(alloc: Global, table: &Table) -> Result<Vec<bool>, NoMemory>
     ensures closed { IfOk result (λ returns. IsClosed table.now returns.items) }
 {
     let mut returns = vec![in alloc; false; table.ranges.len()]?;
-    look_all(alloc, table, &mut returns)?;
+    let mut reach = Reach::new(alloc, table.places.len())?;
+    look_all(alloc, &mut reach, table, &mut returns)?;
     'rounds: loop {
-        if !round(alloc, table, &mut returns)? {
+        if !round(&mut reach, table, &mut returns)? {
             return Ok(returns);
         }
     }

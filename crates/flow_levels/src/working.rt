@@ -2,9 +2,9 @@
 
 ghost use Rattle.std.specs.Prelude.{◌≡◌, length};
 ghost use Rattle.flow_places.specs.Table.{IsTidy};
-ghost use Rattle.flow_levels.specs.Reaching.{StaysSound};
+ghost use Rattle.flow_levels.specs.Reaching.{IsMarked, StaysSound};
 
-use crate::reach::reached;
+use crate::reach::{Reach, reached};
 use crate::settling::has_end;
 use cob_base::NoMemory;
 use flow_places::{Place, Table};
@@ -103,36 +103,49 @@ impl Work {
 
 /// Says that the range with this number returns, where it does.
 pub fn look(
-    alloc: Global,
+    reach: &mut Reach,
     table: &Table,
     returns: &mut Vec<bool>,
     work: &mut Work,
     number: u32,
 ) -> Result<(), NoMemory>
+    requires marked { IsMarked reach.old.places.items reach.old.marks.items }
+    requires places { length reach.old.marks.items ≡ length table.now.places }
     requires tidy { IsTidy table.now }
     requires size { length returns.old.items ≡ length table.now.ranges }
     ensures size { length returns.new.items ≡ length table.now.ranges }
     ensures sound { StaysSound table.now returns.old.items returns.new.items }
+    ensures marked { IsMarked reach.new.places.items reach.new.marks.items }
+    ensures places { length reach.new.marks.items ≡ length table.now.places }
 {
     if number as usize >= returns.len() || returns[number as usize] {
         return Ok(());
     }
     let range = table.ranges.as_slice()[number as usize];
-    let places = reached(alloc, table, returns.as_slice(), range)?;
-    if has_end(table, range, places.as_slice()) {
+    reached(reach, table, returns.as_slice(), range)?;
+    if has_end(table, range, reach.places.as_slice()) {
         returns[number as usize] = true;
         work.wake(number)
     } else {
-        work.wait_all(table, returns.as_slice(), number, places.as_slice())
+        work.wait_all(table, returns.as_slice(), number, reach.places.as_slice())
     }
 }
 
 /// Looks at each range, and again at those that wait for one that comes to return.
-pub fn look_all(alloc: Global, table: &Table, returns: &mut Vec<bool>) -> Result<(), NoMemory>
+pub fn look_all(
+    alloc: Global,
+    reach: &mut Reach,
+    table: &Table,
+    returns: &mut Vec<bool>,
+) -> Result<(), NoMemory>
+    requires marked { IsMarked reach.old.places.items reach.old.marks.items }
+    requires places { length reach.old.marks.items ≡ length table.now.places }
     requires tidy { IsTidy table.now }
     requires size { length returns.old.items ≡ length table.now.ranges }
     ensures size { length returns.new.items ≡ length table.now.ranges }
     ensures sound { StaysSound table.now returns.old.items returns.new.items }
+    ensures marked { IsMarked reach.new.places.items reach.new.marks.items }
+    ensures places { length reach.new.marks.items ≡ length table.now.places }
 {
     let count = match u32::try_from(table.ranges.len()) {
         Ok(count) => count,
@@ -144,7 +157,7 @@ pub fn look_all(alloc: Global, table: &Table, returns: &mut Vec<bool>) -> Result
             return Ok(());
         }
         let number = work.queue[at];
-        look(alloc, table, returns, &mut work, number)?;
+        look(reach, table, returns, &mut work, number)?;
     }
     Ok(())
 }

@@ -3,10 +3,10 @@ use Rattle.std.proofs.Common.{◌≡◌, ◌+◌, ◌<◌, ◌≤◌, ℕ, Bool,
 use Rattle.cob_tree.specs.declared.program.Range.{Range}
 use Rattle.flow_places.specs.declared.table.Table.{Table}
 use Rattle.flow_places.specs.Table.{IsTidy}
-use Rattle.flow_levels.specs.Reaching.{Holds, IsMarked, Adds, IsReach, AllPlaces, FlagsAllCalls, FlagsAllEnds}
+use Rattle.flow_levels.specs.Reaching.{Holds, IsMarked, Adds, IsReach, AllPlaces, GathersAllCalls, GathersAllEnds}
 use Rattle.flow_levels.proofs.Searching.{comes-below}
 use Rattle.pending_returns.specs.declared.facts.RangeFacts.{RangeFacts}
-use Rattle.pending_returns.specs.Tabled.{Lists, TellsLevel, TellsLevels, LeadsTo, AddsCalls}
+use Rattle.pending_returns.specs.Tabled.{Orders, TellsLevel, TellsLevels, LeadsTo, AddsCalls}
 use Rattle.pending_returns.specs.Tabled as tabled
 use Rattle.pending_returns.proofs.Getting.{get-back, get-below, get-some, before-or-now}
 
@@ -44,21 +44,19 @@ levels-all table returns at levels is so_far = record { size = so_far.size ∙ i
 pub level-below : (table : Table) (returns : List Bool) (range : Range) (places same : List ℕ) → IsTidy table → IsReach table returns range places → same ≡ places → AllPlaces (length table.places) same
 level-below table returns range places same tidy reach is = λ place has. comes-below table returns range tidy place (reach.0 place (subst (λ (ps : List ℕ). Holds ps place) is has))
 
--- what a level does is told by flags on what its places do
-pub tells-level : (table : Table) (returns : List Bool) (range : Range) (places ps1 ps2 : List ℕ) (calls cs : List Bool) (ends es : List Bool) (called ended : List ℕ) → IsReach table returns range places → ps1 ≡ places → ps2 ≡ places → cs ≡ calls → es ≡ ends →
-    FlagsAllCalls table ps1 calls → FlagsAllEnds table range ps2 ends → Lists cs called → Lists es ended → TellsLevel table returns range called ended
-tells-level table returns range places ps1 ps2 calls cs ends es called ended reach one two three four all_calls all_ends list_calls list_ends =
-    let fc = subst (λ (ps : List ℕ). FlagsAllCalls table ps calls) one all_calls in
-    let fe = subst (λ (ps : List ℕ). FlagsAllEnds table range ps ends) two all_ends in
-    let lc = subst (λ (fs : List Bool). Lists fs called) three list_calls in
-    let le = subst (λ (fs : List Bool). Lists fs ended) four list_ends in
+-- what a level does is told by lists of what its places do
+pub tells-level : (table : Table) (returns : List Bool) (range : Range) (places calls cs ends es called ended : List ℕ) → IsReach table returns range places → cs ≡ calls → es ≡ ends →
+    GathersAllCalls table places calls → GathersAllEnds table range places ends → Orders cs called → Orders es ended → TellsLevel table returns range called ended
+tells-level table returns range places calls cs ends es called ended reach one two all_calls all_ends order_calls order_ends =
+    let oc = subst (λ (ns : List ℕ). Orders ns called) one order_calls in
+    let oe = subst (λ (ns : List ℕ). Orders ns ended) two order_ends in
     record {
       places = places;
       reach = reach;
-      calls_rise = lc.rises;
-      calls_are = λ number. (λ is. (lc.on number).0 ((fc number).1 is), λ has. (fc number).0 ((lc.on number).1 has));
-      ends_rise = le.rises;
-      ends_are = λ paragraph. (λ is. (le.on paragraph).0 ((fe paragraph).1 is), λ has. (fe paragraph).0 ((le.on paragraph).1 has));
+      calls_rise = oc.rises;
+      calls_are = λ number. (λ is. (oc.same number).0 ((all_calls number).1 is), λ has. (all_calls number).0 ((oc.same number).1 has));
+      ends_rise = oe.rises;
+      ends_are = λ paragraph. (λ is. (oe.same paragraph).0 ((all_ends paragraph).1 is), λ has. (all_ends paragraph).0 ((oe.same paragraph).1 has));
     }
 
 -- the first of the calls were added

@@ -2,6 +2,8 @@
 mod Getting
 -- flags as lists
 mod Flags
+-- numbers that are sorted
+mod Ordering
 -- the levels of a table, and where calls lead
 mod Leveling
 -- facts by new numbers

@@ -19,6 +19,16 @@ pub record Lists (flags : List Bool) (numbers : List ℕ) : Type 0 where
   pub rises : Rises numbers
   pub on : (number : ℕ) → slice_get flags number ≡ Some true ↔ Holds numbers number
 
+-- no number stands twice
+abbrev pub StandOnce : List ℕ → Type 0
+StandOnce numbers = (a b number : ℕ) → slice_get numbers a ≡ Some number →
+    slice_get numbers b ≡ Some number → a ≡ b
+
+-- the same numbers, rising
+pub record Orders (numbers sorted : List ℕ) : Type 0 where
+  pub rises : Rises sorted
+  pub same : (number : ℕ) → Holds numbers number ↔ Holds sorted number
+
 -- the ranges that the level performs, and the paragraphs whose end it passes
 pub record TellsLevel (table : Table) (returns : List Bool) (range : Range) (calls ends : List ℕ)
     : Type 0 where

@@ -2,12 +2,13 @@
 
 ghost use Rattle.std.specs.Prelude.{◌≡◌, ◌≤◌, length, IfOk};
 ghost use Rattle.flow_places.specs.Table.{IsTidy};
+ghost use Rattle.flow_levels.specs.Fitting.{FitsTable};
 ghost use Rattle.pending_returns.specs.Tabled.{TellsLevel, TellsLevels};
 
-use crate::listing::lists;
+use crate::listing::rising;
 use cob_base::{Items, NoMemory};
 use cob_tree::Range;
-use flow_levels::{calls_of, ends_of, reached};
+use flow_levels::Level;
 use flow_places::Table;
 use std::alloc::Global;
 
@@ -34,27 +35,28 @@ pub struct Summary {
 /// What a range's level does, where these ranges return.
 pub fn level_of(
     alloc: Global,
+    level: &mut Level,
     table: &Table,
     returns: &[bool],
     range: Range,
     back: bool,
 ) -> Result<RangeFacts, NoMemory>
+    requires fits { FitsTable table.now level.old }
     requires tidy { IsTidy table.now }
     requires known { length table.now.ranges ≤ length returns.now }
     ensures range { IfOk result (λ facts. facts.range ≡ range) }
     ensures returns { IfOk result (λ facts. facts.returns ≡ back) }
     ensures tells { IfOk result (λ facts. TellsLevel table.now returns.now range facts.calls facts.ends) }
+    ensures fits { FitsTable table.now level.new }
 {
-    let places = reached(alloc, table, returns, range)?;
-    let calls = calls_of(alloc, table, places.as_slice())?;
-    let ends = ends_of(alloc, table, range, places.as_slice())?;
-    let called = lists(alloc, calls.as_slice())?;
-    let ended = lists(alloc, ends.as_slice())?;
+    level.take(table, returns, range)?;
+    let calls = rising(alloc, level.calls.places.as_slice())?;
+    let ends = rising(alloc, level.ends.places.as_slice())?;
     Ok(RangeFacts {
         range,
         returns: back,
-        calls: called,
-        ends: ended,
+        calls,
+        ends,
     })
 }
 
@@ -68,10 +70,11 @@ pub fn levels_of(
     requires known { length returns.now ≡ length table.now.ranges }
     ensures { IfOk result (λ levels. TellsLevels table.now returns.now levels) }
 {
+    let mut level = Level::new(alloc, table)?;
     let mut levels = Items::new(alloc);
     for at in 0..returns.len() {
         let range = table.ranges.as_slice()[at];
-        let facts = level_of(alloc, table, returns, range, returns[at])?;
+        let facts = level_of(alloc, &mut level, table, returns, range, returns[at])?;
         levels.push(facts)?;
     }
     Ok(levels)

@@ -14,6 +14,6 @@ mod summary;
 pub use calling::{led_to, visit_calls};
 pub use facts::{RangeFacts, Summary, level_of, levels_of};
 pub use keeping::{kept_facts, ranks_of, renumbered};
-pub use listing::{lists, number_of};
+pub use listing::{lists, number_of, rising};
 pub use passing::{mark_owners, marked_owners};
 pub use summary::{RANGES, limit_of, summarise};

@@ -1,7 +1,7 @@
-//! Flags as the list of those that are on.
+//! Lists of numbers that rise.
 
 ghost use Rattle.std.specs.Prelude.{◌≡◌, ◌++◌, ◌∷◌, [], true, false, IfOk, OnOk};
-ghost use Rattle.pending_returns.specs.Tabled.{Lists};
+ghost use Rattle.pending_returns.specs.Tabled.{Lists, Orders, StandOnce};
 
 use cob_base::{Items, NoMemory};
 use std::alloc::Global;
@@ -37,4 +37,14 @@ pub fn lists(alloc: Global, flags: &[bool]) -> Result<Items<u32>, NoMemory>
         add_if(&mut numbers, flags[at], at)?;
     }
     Ok(numbers)
+}
+
+/// These numbers, rising.
+pub fn rising(alloc: Global, numbers: &[u32]) -> Result<Items<u32>, NoMemory>
+    requires once { StandOnce numbers.now }
+    ensures { IfOk result (λ sorted. Orders numbers.now sorted) }
+{
+    let mut sorted = Vec::from_slice(alloc, numbers)?;
+    sorted.sort_unstable();
+    Ok(Items::from_vec(sorted))
 }

@@ -6,7 +6,7 @@ ghost use Rattle.flow_levels.specs.Reaching.{AllPlaces};
 ghost use Rattle.pending_returns.specs.Tabled.{AllBelow, MarksOwners, MarksLevels, OwnersBelow};
 
 use cob_base::NoMemory;
-use flow_levels::reached;
+use flow_levels::{Reach, reached};
 use flow_places::Table;
 use std::alloc::Global;
 
@@ -36,10 +36,11 @@ pub fn marked_owners(
     ensures size { IfOk result (λ flags. length flags.items ≡ length table.now.starts) }
 {
     let mut flags = vec![in alloc; false; table.starts.len()]?;
+    let mut reach = Reach::new(alloc, table.places.len())?;
     for at in 0..kept.len() {
         let range = table.ranges.as_slice()[kept[at] as usize];
-        let places = reached(alloc, table, returns, range)?;
-        mark_owners(&mut flags, table.owners.as_slice(), places.as_slice());
+        reached(&mut reach, table, returns, range)?;
+        mark_owners(&mut flags, table.owners.as_slice(), reach.places.as_slice());
     }
     Ok(flags)
 }

@@ -4,7 +4,7 @@ ghost use Rattle.std.specs.Prelude.{◌≡◌, length};
 ghost use Rattle.flow_places.specs.Table.{IsTidy};
 
 use cob_base::NoMemory;
-use flow_levels::{Work, look};
+use flow_levels::{Reach, Work, look};
 use flow_places::Table;
 use std::alloc::Global;
 
@@ -57,12 +57,13 @@ pub fn turns_of(alloc: Global, table: &Table) -> Result<Turns, NoMemory>
     let mut returns = vec![in alloc; false; known]?;
     let mut turns = Turns::new(alloc, known)?;
     let mut work = Work::new(alloc, count)?;
+    let mut reach = Reach::new(alloc, table.places.len())?;
     for at in 0..usize::MAX {
         if at >= work.queue.len() {
             return Ok(turns);
         }
         let number = work.queue[at];
-        look(alloc, table, &mut returns, &mut work, number)?;
+        look(&mut reach, table, &mut returns, &mut work, number)?;
         if returns.get(number as usize) == Some(&true) {
             turns.take(number)?;
         }

@@ -1,17 +1,15 @@
-use Rattle.std.proofs.Common.{◌<◌, ◌+◌, length, get_or, Some, true, subst, sym, ap, ◌∙◌, arith}
+use Rattle.std.proofs.Common.{◌+◌, length, get_or, Some, subst, sym, ap, ◌∙◌, arith}
 use Rattle.std.proofs.lemmas.Option.{slice_get-get_or}
-use Rattle.std.proofs.Math.ListN.{length-set}
 use Rattle.flow_places.specs.declared.table.Place.{Place}
 use Rattle.flow_places.specs.Table.{IsTidyPlace}
-use Rattle.flow_levels.specs.Reaching.{FlagsCalls}
+use Rattle.flow_levels.specs.Reaching.{IsMarked, GathersCalls}
 use Rattle.flow_levels.proofs.Searching.{at-place}
-use Rattle.flow_levels.proofs.Telling.{calls-set, calls-skip, calls-all}
+use Rattle.flow_levels.proofs.Telling.{calls-none, calls-more, calls-skip, calls-all}
 use Rattle.flow_levels.proofs.facts.calls_of.Goals as goal
-use Rattle.flow_levels.proofs.facts.calls_of.Goals.{in-Calls, in_default}
+use Rattle.flow_levels.proofs.facts.calls_of.Goals.{in-Calls+in_ok-visit-in-Calls, in_default}
 
 pub bounds-as_slice-number : goal.bounds-as_slice-number
 bounds-as_slice-number c =
-    let table = c.args.table.now in
     let places = c.args.places.now in
     let i = c.loop-number.number-index in
     let n = get_or places i 0 in
@@ -19,8 +17,8 @@ bounds-as_slice-number c =
     let lt = c.requires.places n (i, here) in
     omega (arith, lt, ap (λ xs. length xs) c.as_slice.ensures)
 
-pub index_mut-requires : goal.index_mut-requires
-index_mut-requires c =
+pub visit-requires-clause-room : goal.visit-requires-clause-room
+visit-requires-clause-room c =
     let table = c.args.table.now in
     let places = c.args.places.now in
     let i = c.loop-number.number-index in
@@ -31,6 +29,13 @@ index_mut-requires c =
     let tidy = subst (λ p. IsTidyPlace table p) c.in-Calls.is (c.requires.tidy.places n c.index-as_slice-number.result place) in
     omega (arith, tidy.0, c.loop-number.invariant.size)
 
+pub loop-number-init : goal.loop-number-init
+loop-number-init c = record {
+  marked = c.clear.ensures.marked;
+  size = c.clear.ensures.size ∙ c.requires.size;
+  calls = calls-none c.args.table.now c.args.places.now c.clear.new.self.places.items c.clear.ensures.none;
+}
+
 pub loop-number-preserved : goal.loop-number-preserved
 loop-number-preserved c =
     let table = c.args.table.now in
@@ -40,26 +45,22 @@ loop-number-preserved c =
     let here = slice_get-get_or places i 0 c.loop-number-test.true in
     let lt = c.requires.places n (i, here) in
     let place = at-place c.as_slice.result.now table.places n c.index-as_slice-number.result c.as_slice.ensures (omega (arith, lt, ap (λ xs. length xs) c.as_slice.ensures)) c.index-as_slice-number.is in
-    let flags = c.loop-number.flags.items in
+    let inv = c.loop-number.invariant in
+    let calls = c.loop-number.calls in
     elim c.match-as_slice-number.branch [
-      | in-Calls w ↦
-          let tidy = subst (λ p. IsTidyPlace table p) w.in-Calls.is (c.requires.tidy.places n c.index-as_slice-number.result place) in
-          let room : w.in-Calls.range < length flags = omega (arith, tidy.0, c.loop-number.invariant.size) in
-          record {
-            size = ap (λ v. length v.items) w.flags-is ∙ length-set flags w.in-Calls.range true ∙ c.loop-number.invariant.size;
-            flags = subst (λ v. FlagsCalls table places v.items (i + 1)) (sym w.flags-is)
-                (calls-set table places flags i n w.in-Calls.range w.in-Calls.after c.loop-number.invariant.flags here (place ∙ ap (λ (p : Place). Some p) w.in-Calls.is) room);
-          }
-      | in_default w ↦
-          record {
-            size = ap (λ v. length v.items) w.flags-is ∙ c.loop-number.invariant.size;
-            flags = subst (λ v. FlagsCalls table places v.items (i + 1)) (sym w.flags-is)
-                (calls-skip table places flags i n c.index-as_slice-number.result c.loop-number.invariant.flags here place (λ range after e. w.in_default.not-Calls range after e));
-          }
+      | in-Calls+in_ok-visit-in-Calls w ↦ record {
+        marked = subst (λ r. IsMarked r.places.items r.marks.items) (sym w.calls-is) w.in_ok-visit-in-Calls.ensures.marked;
+        size = ap (λ r. length r.marks.items) w.calls-is ∙ w.in_ok-visit-in-Calls.ensures.size ∙ inv.size;
+        calls = subst (λ r. GathersCalls table places r.places.items (i + 1)) (sym w.calls-is)
+            (calls-more table places calls.places.items w.visit.new.self.places.items i n w.in-Calls.range w.in-Calls.after inv.calls here (place ∙ ap (λ (p : Place). Some p) w.in-Calls.is) w.in_ok-visit-in-Calls.ensures.adds);
+      }
+      | in_default w ↦ record {
+        marked = subst (λ r. IsMarked r.places.items r.marks.items) (sym w.calls-is) inv.marked;
+        size = ap (λ r. length r.marks.items) w.calls-is ∙ inv.size;
+        calls = subst (λ r. GathersCalls table places r.places.items (i + 1)) (sym w.calls-is)
+            (calls-skip table places calls.places.items i n c.index-as_slice-number.result inv.calls here place (λ range after e. w.in_default.not-Calls range after e));
+      }
     ]
 
 pub returns-clause-calls : goal.returns-clause-calls
-returns-clause-calls c = λ range. (
-  c.loop-number.invariant.flags.sound range,
-  calls-all c.args.table.now c.args.places.now c.loop-number.flags.items c.loop-number.number-index c.loop-number.invariant.flags c.loop-number-test.false range,
-)
+returns-clause-calls c = calls-all c.args.table.now c.args.places.now c.loop-number.calls.places.items c.loop-number.number-index c.loop-number.invariant.calls c.loop-number-test.false

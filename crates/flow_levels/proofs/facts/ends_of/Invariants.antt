@@ -1,9 +1,10 @@
 use Rattle.std.proofs.Common.{◌≡◌, length}
-use Rattle.flow_levels.specs.Reaching.{FlagsEnds}
+use Rattle.flow_levels.specs.Reaching.{IsMarked, GathersEnds}
 use Rattle.flow_levels.proofs.facts.ends_of.Given as goal
 
 abbrev pub invariant-loop-number : goal.invariant-loop-number
 invariant-loop-number l = record {
-  size : length l.flags.items ≡ length l.table.starts;
-  flags : FlagsEnds l.table l.range l.places l.flags.items l.number-index;
+  marked : IsMarked l.ends.places.items l.ends.marks.items;
+  size : length l.ends.marks.items ≡ length l.table.starts;
+  ends : GathersEnds l.table l.range l.places l.ends.places.items l.number-index;
 }

@@ -7,23 +7,31 @@ use Rattle.flow_levels.proofs.reach.reached.Goals.{in-Some+in_ok-visit-in-Some, 
 
 pub loop-at-init : goal.loop-at-init
 loop-at-init c =
+    let cleared = c.clear.new.self in
     elim c.match-get.branch [
       | in-Some+in_ok-visit-in-Some w ↦ subst (λ r. IsSoFar c.args.table.now c.args.returns.now c.args.range r.places.items r.marks.items 0) (sym w.reach-is)
-          (begin-some c.args.table.now c.args.returns.now c.args.range c.in_ok-reach.reach.places.items w.visit.new.self.places.items w.visit.new.self.marks.items w.in-Some.start.now
-          c.in_ok-reach.ensures.none w.in_ok-visit-in-Some.ensures.marked (w.in_ok-visit-in-Some.ensures.size ∙ c.in_ok-reach.ensures.size ∙ c.len-count.ensures) (sym w.in-Some.ensures) w.in_ok-visit-in-Some.ensures.adds)
+          (begin-some c.args.table.now c.args.returns.now c.args.range cleared.places.items w.visit.new.self.places.items w.visit.new.self.marks.items w.in-Some.start.now
+          c.clear.ensures.none w.in_ok-visit-in-Some.ensures.marked (w.in_ok-visit-in-Some.ensures.size ∙ c.clear.ensures.size ∙ c.requires.size) (sym w.in-Some.ensures) w.in_ok-visit-in-Some.ensures.adds)
       | in-None w ↦ subst (λ r. IsSoFar c.args.table.now c.args.returns.now c.args.range r.places.items r.marks.items 0) (sym w.reach-is)
-          (begin-none c.args.table.now c.args.returns.now c.args.range c.in_ok-reach.reach.places.items c.in_ok-reach.reach.marks.items
-          c.in_ok-reach.ensures.none c.in_ok-reach.ensures.marked (c.in_ok-reach.ensures.size ∙ c.len-count.ensures) (sym w.in-None.ensures))
+          (begin-none c.args.table.now c.args.returns.now c.args.range cleared.places.items cleared.marks.items
+          c.clear.ensures.none c.clear.ensures.marked (c.clear.ensures.size ∙ c.requires.size) (sym w.in-None.ensures))
     ]
 
 pub returns-then-at-len : goal.returns-then-at-len
-returns-then-at-len c =
-    all-reached c.args.table.now c.args.returns.now c.args.range c.loop-at.reach.places.items c.loop-at.reach.marks.items c.loop-at.at c.loop-at.invariant (omega (arith, c.if-at-len.true))
+returns-then-at-len c = record {
+  reach = all-reached c.args.table.now c.args.returns.now c.args.range c.loop-at.reach.places.items c.loop-at.reach.marks.items c.loop-at.at c.loop-at.invariant (omega (arith, c.if-at-len.true));
+  marked = c.loop-at.invariant.marked;
+  size = c.loop-at.invariant.size;
+}
 
 pub returns : goal.returns
 returns c =
     let up : length c.loop-at.reach.places.items ≤ length c.loop-at.reach.marks.items = few c.loop-at.reach.places.items c.loop-at.reach.marks.items c.loop-at.invariant.marked in
-    all-reached c.args.table.now c.args.returns.now c.args.range c.loop-at.reach.places.items c.loop-at.reach.marks.items c.loop-at.at c.loop-at.invariant (omega (arith, up, c.loop-at.invariant.size, c.len-count.ensures, c.loop-at-test.false))
+    record {
+      reach = all-reached c.args.table.now c.args.returns.now c.args.range c.loop-at.reach.places.items c.loop-at.reach.marks.items c.loop-at.at c.loop-at.invariant (omega (arith, up, c.loop-at.invariant.size, c.len-at-end.ensures, c.loop-at-test.false));
+      marked = c.loop-at.invariant.marked;
+      size = c.loop-at.invariant.size;
+    }
 
 pub bounds-as_slice-number : goal.bounds-as_slice-number
 bounds-as_slice-number c =

@@ -6,4 +6,4 @@ use Rattle.flow_levels.proofs.settling.comes_back.Goals as goal
 pub has_end-requires : goal.has_end-requires
 has_end-requires c = λ place h.
     comes-below c.args.table.now c.args.returns.now c.args.range c.requires.tidy place
-    (c.in_ok-places.ensures.0 place (subst (λ ps. Holds ps place) c.as_slice.ensures.value h))
+    (c.in_ok-reached.ensures.reach.0 place (subst (λ ps. Holds ps place) c.as_slice.ensures.value h))

@@ -3,7 +3,7 @@ use Rattle.std.proofs.lemmas.Option.{slice_get_within}
 use Rattle.std.proofs.Math.ListN.{length-set}
 use Rattle.cob_tree.specs.declared.program.Range.{Range}
 use Rattle.flow_places.specs.Table.{IsSound, ReturnsHere}
-use Rattle.flow_levels.specs.Reaching.{trues}
+use Rattle.flow_levels.specs.Reaching.{IsMarked, trues}
 use Rattle.flow_levels.proofs.Searching.{trues-set, sound-more, flag-at, range-at, before-or-now}
 use Rattle.flow_levels.proofs.settling.round.Goals as goal
 use Rattle.flow_levels.proofs.settling.round.Goals.{then-not-index+in_ok-comes_back+then-branch, then-not-index+in_ok-comes_back+else-branch, else-not-index}
@@ -23,9 +23,11 @@ loop-number-preserved c =
           let range = get_or w.as_slice.result.now k none in
           let at = range-at w.as_slice.result.now table.ranges k none w.as_slice.ensures in_ranges in
           let unmarked = flag ∙ ap (λ b. Some b) w.if-not-index.true in
-          let back = subst (λ fs. ReturnsHere table fs range) w.as_slice-then-not-index.ensures.value (w.in_ok-comes_back.ensures.0 w.if-branch.true) in
+          let back = subst (λ fs. ReturnsHere table fs range) w.as_slice-then-not-index.ensures.value (w.in_ok-comes_back.ensures.back.0 w.if-branch.true) in
           let one_more : trues c.if-not-index.returns.items ≡ suc (trues flags) = ap (λ v. trues v.items) w.returns-is ∙ trues-set flags k unmarked in
           record {
+            marked = subst (λ r. IsMarked r.places.items r.marks.items) (sym w.reach-is) w.in_ok-comes_back.ensures.marked;
+            places = ap (λ r. length r.marks.items) w.reach-is ∙ w.in_ok-comes_back.ensures.size;
             size = ap (λ v. length v.items) w.returns-is ∙ length-set flags k true ∙ inv.size;
             sound = λ never_first program points is sound. subst (λ v. IsSound never_first program table v.items) (sym w.returns-is)
                 (sound-more never_first program table points flags k range is (inv.sound never_first program points is sound) at back);
@@ -38,6 +40,8 @@ loop-number-preserved c =
           let range = get_or w.as_slice.result.now k none in
           let at = range-at w.as_slice.result.now table.ranges k none w.as_slice.ensures in_ranges in
           record {
+            marked = subst (λ r. IsMarked r.places.items r.marks.items) (sym w.reach-is) w.in_ok-comes_back.ensures.marked;
+            places = ap (λ r. length r.marks.items) w.reach-is ∙ w.in_ok-comes_back.ensures.size;
             size = ap (λ v. length v.items) w.returns-is ∙ inv.size;
             sound = λ never_first program points is sound. subst (λ v. IsSound never_first program table v.items) (sym w.returns-is) (inv.sound never_first program points is sound);
             grown = omega (arith, ap (λ v. trues v.items) w.returns-is, inv.grown);
@@ -50,13 +54,15 @@ loop-number-preserved c =
                   | inr same ↦ absurd (
                       let both : Some range ≡ Some other = sym at ∙ ap (λ n. slice_get table.ranges n) (sym same) ∙ there in
                       let one : range ≡ other = cc in
-                      let back = w.in_ok-comes_back.ensures.1 (subst (λ fs. ReturnsHere table fs range) (sym w.as_slice-then-not-index.ensures.value) (subst (λ r. ReturnsHere table flags r) (sym one) here_old)) in
+                      let back = w.in_ok-comes_back.ensures.back.1 (subst (λ fs. ReturnsHere table fs range) (sym w.as_slice-then-not-index.ensures.value) (subst (λ r. ReturnsHere table flags r) (sym one) here_old)) in
                       let clash : true ≡ false = sym back ∙ w.if-branch.false in
                       (let l : ⊥ = cc in l))
                 ]);
           }
       | else-not-index w ↦
           record {
+            marked = subst (λ r. IsMarked r.places.items r.marks.items) (sym w.reach-is) inv.marked;
+            places = ap (λ r. length r.marks.items) w.reach-is ∙ inv.places;
             size = ap (λ v. length v.items) w.returns-is ∙ inv.size;
             sound = λ never_first program points is sound. subst (λ v. IsSound never_first program table v.items) (sym w.returns-is) (inv.sound never_first program points is sound);
             grown = omega (arith, ap (λ v. trues v.items) w.returns-is, inv.grown);

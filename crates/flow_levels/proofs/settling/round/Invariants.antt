@@ -3,11 +3,13 @@ use Rattle.cob_tree.specs.declared.program.Range.{Range}
 use Rattle.language.specs.Language.{Chooser, Program}
 use Rattle.flow_paths.specs.Step.{Point}
 use Rattle.flow_places.specs.Table.{IsTable, IsSound, ReturnsHere}
-use Rattle.flow_levels.specs.Reaching.{trues}
+use Rattle.flow_levels.specs.Reaching.{IsMarked, trues}
 use Rattle.flow_levels.proofs.settling.round.Given as goal
 
 abbrev pub invariant-loop-number : goal.invariant-loop-number
 invariant-loop-number l = record {
+  marked : IsMarked l.reach.places.items l.reach.marks.items;
+  places : length l.reach.marks.items ≡ length l.table.places;
   size : length l.returns.items ≡ length l.table.ranges;
   sound : (never_first : Chooser → Bool) (program : Program) (points : ℕ → Point) → IsTable never_first program l.table points → IsSound never_first program l.table l.fn.returns.items → IsSound never_first program l.table l.returns.items;
   grown : trues l.fn.returns.items ≤ trues l.returns.items;

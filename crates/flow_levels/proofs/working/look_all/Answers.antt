@@ -2,6 +2,8 @@ use Rattle.flow_levels.proofs.working.look_all.Goals as goal
 
 pub loop-at-preserved : goal.loop-at-preserved
 loop-at-preserved c = record {
+  marked = c.look.ensures.marked;
+  places = c.look.ensures.places;
   size = c.look.ensures.size;
   sound = λ never_first program points is sound. c.look.ensures.sound never_first program points is (c.loop-at.invariant.sound never_first program points is sound);
 }

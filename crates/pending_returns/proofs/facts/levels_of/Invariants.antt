@@ -1,5 +1,9 @@
+use Rattle.flow_levels.specs.Fitting.{FitsTable}
 use Rattle.pending_returns.proofs.Leveling.{LevelsUpTo}
 use Rattle.pending_returns.proofs.facts.levels_of.Given as goal
 
 abbrev pub invariant-loop-at : goal.invariant-loop-at
-invariant-loop-at l = LevelsUpTo l.table l.returns l.at l.levels
+invariant-loop-at l = record {
+  fits : FitsTable l.table l.level;
+  levels : LevelsUpTo l.table l.returns l.at l.levels;
+}

@@ -16,8 +16,10 @@ loop-at-preserved c =
     let range = get_or c.as_slice.result.now number none in
     let is_range = get-read c.as_slice.result.now table.ranges number none c.as_slice.ensures (c.requires.below number (at, here)) in
     record {
-      marks = levels-more table c.args.returns.now kept at number range c.in_ok-places.places.items c.loop-at.flags.items c.mark_owners.new.flags.items here is_range c.in_ok-places.ensures
-          (marks-through table.owners c.as_slice-in-loop-at.result.now c.in_ok-places.places.items c.as_slice-in-loop-at-2.result.now c.loop-at.flags.items c.mark_owners.new.flags.items c.as_slice-in-loop-at.ensures c.as_slice-in-loop-at-2.ensures.value c.mark_owners.ensures.marks) c.loop-at.invariant.marks;
+      marks = levels-more table c.args.returns.now kept at number range c.reached.new.reach.places.items c.loop-at.flags.items c.mark_owners.new.flags.items here is_range c.in_ok-reached.ensures.reach
+          (marks-through table.owners c.as_slice-in-loop-at.result.now c.reached.new.reach.places.items c.as_slice-in-loop-at-2.result.now c.loop-at.flags.items c.mark_owners.new.flags.items c.as_slice-in-loop-at.ensures c.as_slice-in-loop-at-2.ensures.value c.mark_owners.ensures.marks) c.loop-at.invariant.marks;
+      marked = c.in_ok-reached.ensures.marked;
+      places = c.in_ok-reached.ensures.size;
       size = c.mark_owners.ensures.size ∙ c.loop-at.invariant.size;
     }
 
@@ -34,7 +36,7 @@ bounds-as_slice-kept c =
 pub mark_owners-requires-clause-places : goal.mark_owners-requires-clause-places
 mark_owners-requires-clause-places c =
     let range = get_or c.as_slice.result.now (get_or c.args.kept.now c.loop-at.at 0) (let none : Range = record { entry = 0; exit = None } in none) in
-    places-owned c.args.table.now c.args.returns.now range c.in_ok-places.places.items c.as_slice-in-loop-at-2.result.now c.as_slice-in-loop-at.result.now c.requires.tidy c.in_ok-places.ensures c.as_slice-in-loop-at-2.ensures.value c.as_slice-in-loop-at.ensures
+    places-owned c.args.table.now c.args.returns.now range c.reached.new.reach.places.items c.as_slice-in-loop-at-2.result.now c.as_slice-in-loop-at.result.now c.requires.tidy c.in_ok-reached.ensures.reach c.as_slice-in-loop-at-2.ensures.value c.as_slice-in-loop-at.ensures
 
 pub mark_owners-requires-clause-owners : goal.mark_owners-requires-clause-owners
 mark_owners-requires-clause-owners c = owners-below c.args.table.now c.as_slice-in-loop-at.result.now (length c.loop-at.flags.items) c.requires.tidy c.as_slice-in-loop-at.ensures c.loop-at.invariant.size
