@@ -1,0 +1,8 @@
+-- the sizes of what is seen
+pub mod SizeLemmas
+-- places
+pub mod LayoutLemmas
+-- continuations
+pub mod LeafLemmas
+-- the ends of paragraphs
+pub mod FallLemmas

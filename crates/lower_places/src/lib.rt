@@ -1,0 +1,17 @@
+//! The places of a program, and where a rest of it goes on: the tables that lowering stands on.
+//!
+//! Hold `layout_of` against the numbering of places, paragraphs and behind each its statements in
+//! text order (`lowering/specs/Lowered`), `leaf_of` against what a continuation is, and `end_leaf`
+//! against the end of a paragraph in a range (`lowering/specs/Lower`). Contracts speak of any
+//! numbering that gives the places of the table, so that those of the theory are among them.
+#![tactic(auto)]
+
+mod fall;
+mod layout;
+mod leaf;
+mod size;
+
+pub use fall::{end_leaf, section_last};
+pub use layout::{Layout, layout_of};
+pub use leaf::{Leaf, leaf_of, point};
+pub use size::{stmt_size, stmts_size};

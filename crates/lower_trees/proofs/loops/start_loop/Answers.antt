@@ -1,0 +1,26 @@
+use Rattle.std.proofs.Common.{◌++◌, [], ◌∷◌, ap, sym, ◌∙◌}
+use Rattle.language.specs.Control.{control_in}
+use Rattle.language.specs.Language.{Do, Take}
+use Rattle.graph_rules.specs.Shapes.{followed}
+use Rattle.branch_tree.specs.Trees.{seen_body}
+use Rattle.branch_tree.specs.declared.tree.Piece.TheVariants as piece
+use Rattle.lower_trees.specs.Loops.{start_by}
+use Rattle.lower_trees.proofs.StartRows.{body_pushed, seen_take, followed_none}
+use Rattle.lower_trees.proofs.loops.start_loop.Goals as goal
+
+pub returns-in-Once : goal.returns-in-Once
+returns-in-Once c =
+    followed_none (seen_body c.args.body.now.items)
+    ∙ ap (λ control. followed (seen_body c.args.body.now.items) (start_by (control_in control) c.args.place)) (sym c.in-Once.is)
+
+pub returns-in-Until : goal.returns-in-Until
+returns-in-Until c =
+    followed_none (seen_body c.args.body.now.items)
+    ∙ ap (λ control. followed (seen_body c.args.body.now.items) (start_by (control_in control) c.args.place)) (sym c.in-Until.is)
+
+pub returns-in_ok-push-in-Times : goal.returns-in_ok-push-in-Times
+returns-in_ok-push-in-Times c =
+    body_pushed c.args.body.now.items c.push.new.self.items (piece.Take c.args.place c.in-Times.amount) (Do (Take c.args.place c.in-Times.amount))
+    (c.in_ok-push-in-Times.ensures.items ∙ ap (λ amount. c.args.body.now.items ++ piece.Take c.args.place amount ∷ []) c.in_ok-amount-in-Times.ensures)
+    (seen_take c.args.place c.in-Times.amount)
+    ∙ ap (λ control. followed (seen_body c.args.body.now.items) (start_by (control_in control) c.args.place)) (sym c.in-Times.is)
