@@ -1,0 +1,88 @@
+#!/usr/bin/env python3
+"""Runs spoiled programs through the built program: none may crash, take a second, or be answered halfway.
+
+    python3 tools/mutate.py PROGRAM COUNT [SEED]
+
+Each run takes one of the examples, cuts it at a random place or changes, drops, doubles or moves some of its
+bytes, words or lines, and looks at the answer: 0 with a result and no note, or 2 or 4 with one note alone."""
+import collections
+import glob
+import os
+import random
+import subprocess
+import sys
+import time
+
+HERE = os.path.dirname(os.path.dirname(os.path.abspath(__file__)))
+BYTES = b" .\"'\n\t\r-*/()0123456789ABCXYZ:=<>,;\x00\x01\x7f\xff"
+
+
+def spoiled(source, all_sources, r):
+    text = bytearray(source)
+    for _ in range(r.choice([1, 1, 1, 2, 4, 16])):
+        at = r.randrange(len(text) + 1)
+        to = min(len(text), at + r.choice([1, 1, 2, 8, 40]))
+        kind = r.randrange(7)
+        if kind == 0:
+            del text[at:]
+        elif kind == 1:
+            text[at:to] = bytes(r.choice(BYTES) for _ in range(to - at))
+        elif kind == 2:
+            del text[at:to]
+        elif kind == 3:
+            text[at:at] = text[at:to]
+        elif kind == 4:
+            lines = text.split(b"\n")
+            i, j = r.randrange(len(lines)), r.randrange(len(lines))
+            lines[i], lines[j] = lines[j], lines[i]
+            text = bytearray(b"\n".join(lines))
+        elif kind == 5:
+            other = r.choice(all_sources)
+            begin = r.randrange(len(other) + 1)
+            text[at:at] = other[begin:begin + r.choice([8, 80, 800])]
+        else:
+            words = text.split(b" ")
+            i, j = r.randrange(len(words)), r.randrange(len(words))
+            words[i], words[j] = words[j], words[i]
+            text = bytearray(b" ".join(words))
+    return bytes(text)
+
+
+def fault(program, source):
+    begun = time.monotonic()
+    try:
+        run = subprocess.run([program, "restructure"], input=source, capture_output=True, timeout=10)
+    except subprocess.TimeoutExpired:
+        return "no answer in ten seconds", None
+    took = time.monotonic() - begun
+    one_note = run.stderr.endswith(b"\n") and run.stderr.count(b"\n") == 1
+    if run.returncode == 0:
+        good = run.stdout != b"" and run.stderr == b""
+    else:
+        good = run.returncode in (2, 4) and run.stdout == b"" and one_note
+    if not good:
+        return f"status {run.returncode}, {len(run.stdout)} bytes, {run.stderr[:80]!r}", run.returncode
+    return (f"{took:.1f} seconds" if took > 1 else None), run.returncode
+
+
+def main():
+    program, count = sys.argv[1], int(sys.argv[2])
+    r = random.Random(int(sys.argv[3]) if len(sys.argv) > 3 else 1)
+    sources = []
+    for name in sorted(glob.glob(HERE + "/examples/*/*.cob")):
+        with open(name, "rb") as file:
+            sources.append(file.read())
+    statuses, bad = collections.Counter(), 0
+    for number in range(count):
+        source = spoiled(r.choice(sources), sources, r)
+        found, status = fault(program, source)
+        statuses[status] += 1
+        if found:
+            bad += 1
+            print(f"run {number}: {found}: {source!r}")
+    print(f"{count} runs, statuses {dict(sorted(statuses.items(), key=str))}, {bad} bad")
+    return bad != 0
+
+
+if __name__ == "__main__":
+    sys.exit(main())
