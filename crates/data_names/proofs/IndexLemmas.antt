@@ -1,7 +1,6 @@
 -- What is found among the items that a word names is what is found among all.
-use Rattle.std.proofs.Common.{◌≡◌, ℕ, suc, ◌+◌, ◌<◌, Bool, true, false, ◌&&◌, ◌||◌, List, [], ◌∷◌, ◌++◌, length, drop, Option, Some, None, refl, sym, ap, ◌∙◌, add-one, arith, if◌then◌else◌, cond}
+use Rattle.std.proofs.Common.{◌≡◌, ℕ, suc, ◌+◌, ◌<◌, Bool, true, false, ◌&&◌, ◌||◌, List, [], ◌∷◌, ◌++◌, length, drop, Some, refl, sym, ap, ◌∙◌, arith, if◌then◌else◌, cond}
 use Rattle.std.specs.List.{fold, list_any, position_from, slice_get}
-use Rattle.std.specs.Prelude.{position}
 use Rattle.std.proofs.lemmas.Iterator.Adapters.{position_from-zero}
 use Rattle.std.proofs.lemmas.List.{append_assoc, drop_at, get_or_at, length-append}
 use Rattle.std.proofs.lemmas.Option.{slice_get-get_or}
@@ -9,7 +8,7 @@ use Rattle.data_names.specs.declared.name.Found.{Found}
 use Rattle.data_names.specs.declared.name.Found.TheVariants as found
 use Rattle.data_names.specs.declared.name.Name.{Name}
 use Rattle.data_names.specs.Index.{and_item, find_among, places_from, places_of, tally}
-use Rattle.data_names.specs.Look.{are_within, find, fits, found_at, found_from, is_called}
+use Rattle.data_names.specs.Look.{are_within, find, fits, found_from, is_called}
 
 -- the element behind those before it
 slice_get-at : (before : List Name) (name : Name) (names : List Name) → slice_get (before ++ name ∷ names) (length before) ≡ Some name

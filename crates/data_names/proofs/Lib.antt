@@ -1,5 +1,7 @@
 -- An entry more before another one.
 pub mod GroupingLemmas
+-- What an entry stands in, by what others stand in.
+pub mod NestingLemmas
 -- Entries and files as references see them, one by one.
 pub mod NamesLemmas
 -- What is found among the items that a word names is what is found among all.

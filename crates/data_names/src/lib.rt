@@ -7,11 +7,14 @@
 //! in their order.
 #![tactic(auto)]
 
+mod above;
 mod grouping;
 mod index;
 mod name;
+mod nesting;
 mod table;
 
 pub use grouping::{bound_of, has_items, holds, is_numbered, repeats, same_file};
 pub use name::{Found, Kind, Name};
+pub use nesting::{Nesting, nestings_of};
 pub use table::{NameTable, is_group};

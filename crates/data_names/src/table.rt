@@ -1,16 +1,20 @@
 //! The table of the names of a program.
 
-ghost use Rattle.std.specs.Prelude.{◌≡◌, ◌++◌, ◌<◌, ◌^◌, List, ℕ, [], ◌∷◌, length, map, reverse, position, slice_get, IfOk, OnOk, if◌then◌else◌};
+ghost use Rattle.std.specs.Prelude.{◌≡◌, ◌++◌, ◌<◌, ◌^◌, List, ℕ, [], ◌∷◌, ◌+◌, ◌==◌, get_or, take, drop, length, map, reverse, position, slice_get, IfOk, OnOk, if◌then◌else◌};
 ghost use Rattle.std.specs.Option.{option_copied};
 ghost use Rattle.std.specs.Str.{bytes_eq};
 ghost use Rattle.cob_base.specs.Answers.{Makes};
 ghost use Rattle.data_names.specs.Index.{and_item, find_among, numbers_in, places_of, tally};
 ghost use Rattle.data_names.specs.Look as look;
 ghost use Rattle.data_names.specs.Names as names;
+ghost use Rattle.data_names.specs.Nesting as nested;
+ghost use Rattle.data_names.specs.declared.name.Kind.TheVariants.{Condition, Group};
 
-use crate::grouping::{groups_above, has_items, is_numbered, repeats};
+use crate::above::groups_above;
+use crate::grouping::{has_items, is_numbered, repeats};
 use crate::index::{WordIndex, add_number, numbers_of};
 use crate::name::{Found, Kind, Name};
+use crate::nesting::{Nesting, nesting_at, nestings_of};
 use cob_base::{Items, NoMemory, Word};
 use cob_tree::{Entry, FileEntry, Picture};
 use indexmap::IndexMap;
@@ -82,9 +86,10 @@ fn item_names(
     requires { length entries.now < 2 ^ 31 }
     ensures { Makes (names.names_from files.now [] entries.now) result }
 {
+    let nestings = nestings_of(alloc, entries)?;
     let mut items = Items::new(alloc);
     for (at, entry) in entries.iter().enumerate() {
-        items.push(name_of(alloc, files, &entries[..at], entry, &entries[at + 1..])?)?;
+        items.push(name_of(alloc, files, entries, nestings.as_slice(), at, entry)?)?;
     }
     Ok(items)
 }
@@ -115,12 +120,12 @@ pub fn is_group(entry: &Entry, behind: &[Entry]) -> bool
     is_numbered(entry.level) && has_items(entry.level, entry.file, behind)
 }
 
-fn kind_of(entry: &Entry, behind: &[Entry]) -> Kind
-    ensures { result ≡ names.kind_of entry.now behind.now }
+fn kind_of(entry: &Entry, group: bool) -> Kind
+    ensures { result ≡ (if entry.now.level == 88 then Condition else (if group then Group else names.picture_kind entry.now.picture)) }
 {
     if entry.level == 88 {
         Kind::Condition
-    } else if is_group(entry, behind) {
+    } else if group {
         Kind::Group
     } else {
         picture_kind(entry.picture)
@@ -145,23 +150,29 @@ fn add_file(words: &mut Items<Word>, files: &[FileEntry], file: Option<u32>) -> 
     }
 }
 
+#[tactic(auto, using(crate::proofs::NestingLemmas::own_nesting, crate::proofs::NestingLemmas::own_groups, crate::proofs::NestingLemmas::own_within))]
 fn name_of(
     alloc: Global,
     files: &[FileEntry],
-    before: &[Entry],
+    entries: &[Entry],
+    nestings: &[Nesting],
+    at: usize,
     entry: &Entry,
-    behind: &[Entry],
 ) -> Result<Name, NoMemory>
-    requires { length before.now < 2 ^ 31 }
-    ensures { Makes (names.name_of files.now (reverse before.now) entry.now behind.now) result }
+    requires short { length entries.now < 2 ^ 31 }
+    requires table { nestings.now ≡ nested.nestings_of entries.now }
+    requires within { at < length entries.now }
+    requires own { entry.now ≡ get_or entries.now at entry.now }
+    ensures { Makes (names.name_of files.now (reverse (take at entries.now)) entry.now (drop (at + 1) entries.now)) result }
 {
-    let above = groups_above(alloc, before, entry.level, entry.file)?;
+    let nesting = nesting_at(nestings, at);
+    let above = groups_above(alloc, entries, nestings, nesting.holder)?;
     let mut words = above.words;
     add_file(&mut words, files, entry.file)?;
     Ok(Name {
         word: entry.name,
         above: words,
-        kind: kind_of(entry, behind),
+        kind: kind_of(entry, nesting.group),
         dims: above.dims + usize::from(repeats(entry)),
     })
 }

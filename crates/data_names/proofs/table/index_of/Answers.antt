@@ -1,6 +1,6 @@
 use Rattle.std.proofs.Common.{◌≡◌, ◌+◌, ◌++◌, ◌∷◌, [], length, take, sym, ap, ◌∙◌, arith, if◌then◌else◌}
 use Rattle.std.proofs.lemmas.List.{length-take-le, take_more}
-use Rattle.data_names.specs.Index.{numbers_in, places_of}
+use Rattle.data_names.specs.Index.{places_of}
 use Rattle.data_names.specs.Look.{is_called}
 use Rattle.data_names.proofs.IndexLemmas.{places_of_push}
 use Rattle.data_names.proofs.table.index_of.Goals as goal

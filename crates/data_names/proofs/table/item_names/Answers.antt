@@ -1,5 +1,5 @@
-use Rattle.std.proofs.Common.{◌≡◌, ◌+◌, [], drop}
-use Rattle.std.proofs.lemmas.List.{append-nil, append_assoc, take_rest}
+use Rattle.std.proofs.Common.{◌≡◌, [], drop}
+use Rattle.std.proofs.lemmas.List.{append-nil, append_assoc}
 use Rattle.std.proofs.Math.ListN.{drop_of_length-le}
 use Rattle.data_names.proofs.NamesLemmas.{names_from-at, names_from-none}
 use Rattle.data_names.proofs.table.item_names.Goals as goal
@@ -7,8 +7,7 @@ use Rattle.data_names.proofs.table.item_names.Goals as goal
 pub loop-at-preserved : goal.loop-at-preserved
 loop-at-preserved c =
     let n = names_from-at c.args.files.now c.args.entries.now c.loop-at.at c.index-entries-at.result c.loop-at-test.true c.index-entries-at.is in
-    let m = rw (take_rest c.args.entries.now (c.loop-at.at + 1)) at c.in_ok-name_of.ensures in
-    let f = rw (n, ← m) at c.loop-at.invariant in
+    let f = rw (n, ← c.in_ok-name_of.ensures) at c.loop-at.invariant in
     rw (c.in_ok-push.ensures.ok, append_assoc) f
 
 pub returns : goal.returns
