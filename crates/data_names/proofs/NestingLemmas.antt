@@ -4,7 +4,7 @@ use Rattle.std.proofs.Common.{◌≡◌, ℕ, zero, suc, ◌+◌, ◌<◌, ◌�
 use Rattle.std.proofs.lemmas.List.{append-nil, append_assoc, get_or-take, length-reverse, length-take-le, reverse-append, take_more}
 use Rattle.std.proofs.Math.Seq.{take-length}
 use Rattle.std.proofs.lemmas.Bool.{eqb-true}
-use Rattle.std.proofs.lemmas.Option.{get_or_from_slice_get}
+use Rattle.std.proofs.lemmas.Option.{get_or_from_slice_get, slice_get_within}
 use Rattle.std.specs.List.{slice_get}
 use Rattle.cob_tree.specs.declared.entry.Entry.{Entry}
 use Rattle.data_names.specs.declared.nesting.Nesting.{Nesting}
@@ -203,3 +203,11 @@ own_within entries n x m h e = rw e (nearest_within (bound_of x.level) x.file en
 
 pub table_length : (entries : List Entry) (nestings : List Nesting) → nestings ≡ nestings_of entries → length nestings ≡ length entries
 table_length entries nestings t = ap length t ∙ length_nestings_from [] entries
+
+-- as `get` finds an entry
+pub found_nesting : (entries : List Entry) (nestings : List Nesting) (n : ℕ) (x : Entry) (m : Nesting) → nestings ≡ nestings_of entries → slice_get entries n ≡ Some x → slice_get nestings n ≡ Some m → m ≡ nesting_of (reverse (take n entries)) x (drop (n + 1) entries)
+found_nesting entries nestings n x m t s f =
+    own_nesting entries nestings n x m t (slice_get_within entries n x s) (sym (get_or_from_slice_get entries n x x s)) f
+
+pub found_within : (entries : List Entry) (nestings : List Nesting) (n : ℕ) (x : Entry) → nestings ≡ nestings_of entries → slice_get entries n ≡ Some x → n < length nestings
+found_within entries nestings n x t s = rw (table_length entries nestings t) (slice_get_within entries n x s)

@@ -16,5 +16,5 @@ mod table;
 
 pub use grouping::{bound_of, has_items, holds, is_numbered, repeats, same_file};
 pub use name::{Found, Kind, Name};
-pub use nesting::{Nesting, nestings_of};
+pub use nesting::{Nesting, nesting_at, nestings_of};
 pub use table::{NameTable, is_group};

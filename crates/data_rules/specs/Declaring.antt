@@ -14,7 +14,6 @@ use Rattle.grammar_forms.specs.declared.note.Note.{Note}
 use Rattle.data_rules.specs.declared.declaring.Declared.{Declared}
 use Rattle.data_rules.specs.declared.judging.Judged.{Judged}
 use Rattle.data_rules.specs.Base.{base_of}
-use Rattle.data_rules.specs.Fault.{first_of}
 use Rattle.data_rules.specs.File.{fds_fault, file_number, file_of, selects_fault}
 use Rattle.data_rules.specs.Redefining.{redefined_in}
 use Rattle.data_rules.specs.Rule.{entry_fault}

@@ -16,13 +16,16 @@ use Rattle.data_rules.specs.Redefining.{redefines_fault, size_at}
 use Rattle.data_rules.specs.Standing.{before, behind, holder_of, standing_of}
 use Rattle.data_rules.specs.Value.{missing_fault, spans_fault, value_fault}
 
--- what a literal for this entry is to fit
-abbrev pub target_of : List Entry → List ℕ → ℕ → Entry → Target
-target_of bases sizes at entry = record {
-  group = is_group entry (behind bases at);
+-- what a literal for this entry is to fit, which is a group or isn't
+abbrev pub target_by : (group : Bool) → List ℕ → ℕ → Entry → Target
+target_by group sizes at entry = record {
+  group = group;
   picture = entry.picture;
   size = size_at (slice_get sizes at);
 }
+
+abbrev pub target_of : List Entry → List ℕ → ℕ → Entry → Target
+target_of bases sizes at entry = target_by (is_group entry (behind bases at)) sizes at entry
 
 abbrev pub fits_at : List Entry → List ℕ → EntryDraft → ℕ → Option Entry → Option Note
 fits_at bases sizes draft item None = None

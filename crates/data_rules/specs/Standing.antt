@@ -1,9 +1,10 @@
 -- Where an entry stands among those of its program.
-use Rattle.std.specs.Prelude.{ℕ, ◌+◌, Bool, ◌||◌, List, [], ◌∷◌, length, take, drop, reverse, Option, Some, None, if◌then◌else◌}
+use Rattle.std.specs.Prelude.{ℕ, ◌+◌, Bool, ◌||◌, List, take, drop, reverse, Option}
 use Rattle.std.specs.List.{list_any}
 use Rattle.std.specs.Option.{is_some}
 use Rattle.cob_tree.specs.declared.entry.Entry.{Entry}
-use Rattle.data_names.specs.Grouping.{bound_of, dims_in, groups_of, holds, same_file}
+use Rattle.data_names.specs.Grouping.{bound_of, dims_in, groups_of}
+use Rattle.data_names.specs.Nesting.{nearest}
 use Rattle.data_rules.specs.declared.standing.Standing.{Standing}
 
 -- the entries before one, and those behind it
@@ -12,14 +13,6 @@ before entries at = take at entries
 
 abbrev pub behind : List Entry → ℕ → List Entry
 behind entries at = drop (at + 1) entries
-
--- the number of the nearest entry that one stands in, among those before it, the last first
-unfoldable pub nearest : (bound : ℕ) → Option ℕ → (before : List Entry) → Option ℕ
-nearest bound file [] = None
-nearest bound file (other ∷ before) =
-    if same_file file other.file
-    then (if holds bound other then Some (length before) else nearest bound file before)
-    else None
 
 -- the number of the item or group that an entry stands in
 abbrev pub holder_of : Entry → (before : List Entry) → Option ℕ

@@ -13,7 +13,7 @@ use crate::standing::behind;
 use cob_base::{Copied, Items, NoMemory};
 use cob_tree::{Entry, FileEntry, Picture};
 use data_forms::{Divisions, EntryDraft, FdDraft, SelectDraft};
-use data_names::is_group;
+use data_names::{is_group, nestings_of};
 use data_sizes::sizes_of;
 use grammar_forms::Note;
 use std::alloc::Global;
@@ -203,7 +203,13 @@ pub fn declared_of(alloc: Global, divisions: &Divisions) -> Result<Declared, NoM
     let bases = bases_of(alloc, divisions)?;
     let entries = settled_by(alloc, bases.as_slice(), divisions)?;
     let sizes = sizes_of(alloc, entries.as_slice())?;
-    let fault = fault_by(bases.as_slice(), sizes.as_slice(), divisions);
+    let nestings = nestings_of(alloc, bases.as_slice())?;
+    let fault = fault_by(
+        bases.as_slice(),
+        sizes.as_slice(),
+        nestings.as_slice(),
+        divisions,
+    );
     let files = files_of(alloc, divisions.selects.as_slice())?;
     Ok(Declared {
         files,

@@ -1,7 +1,8 @@
 //! The first fault of all entries.
 
-ghost use Rattle.std.specs.Prelude.{◌≡◌, Some, None};
+ghost use Rattle.std.specs.Prelude.{◌≡◌, ◌<◌, ◌^◌, length};
 ghost use Rattle.std.specs.List.{fold};
+ghost use Rattle.data_names.specs.Nesting.{nestings_of};
 ghost use Rattle.data_rules.specs.Declaring as declaring;
 
 use crate::fault::first_of;
@@ -9,6 +10,7 @@ use crate::file::{fds_fault, selects_fault};
 use crate::rule::entry_fault;
 use cob_tree::Entry;
 use data_forms::{Divisions, EntryDraft, FdDraft};
+use data_names::Nesting;
 use grammar_forms::Note;
 
 /// How many entries were judged, and their first fault.
@@ -18,41 +20,64 @@ pub struct Judged {
     pub fault: Option<Note>,
 }
 
-fn judge(bases: &[Entry], sizes: &[u64], judged: Judged, draft: &EntryDraft) -> Judged
+fn judge(
+    bases: &[Entry],
+    sizes: &[u64],
+    nestings: &[Nesting],
+    judged: Judged,
+    draft: &EntryDraft,
+) -> Judged
+    requires short { length bases.now < 2 ^ 31 }
+    requires table { nestings.now ≡ nestings_of bases.now }
     ensures { result ≡ declaring.judge bases.now sizes.now judged draft.now }
 {
     let at = judged.at;
-    if at < bases.len() {
-        Judged {
+    match bases.get(at) {
+        None => judged,
+        Some(entry) => Judged {
             at: at + 1,
             fault: first_of(
                 judged.fault,
-                entry_fault(bases, sizes, at, &bases[at], draft),
+                entry_fault(bases, sizes, nestings, at, entry, draft),
             ),
-        }
-    } else {
-        judged
+        },
     }
 }
 
 #[tactic(auto, using(crate::proofs::StepLemmas::fold_step))]
-fn judge_all(bases: &[Entry], sizes: &[u64], judged: Judged, drafts: &[EntryDraft]) -> Judged
+fn judge_all(
+    bases: &[Entry],
+    sizes: &[u64],
+    nestings: &[Nesting],
+    judged: Judged,
+    drafts: &[EntryDraft],
+) -> Judged
+    requires short { length bases.now < 2 ^ 31 }
+    requires table { nestings.now ≡ nestings_of bases.now }
     ensures { result ≡ declaring.judge_all bases.now sizes.now judged drafts.now }
 {
     let mut found = judged;
     for draft in drafts {
-        found = judge(bases, sizes, found, draft);
+        found = judge(bases, sizes, nestings, found, draft);
     }
     found
 }
 
 #[tactic(auto, using(crate::proofs::StepLemmas::fold_step))]
-fn judge_records(bases: &[Entry], sizes: &[u64], judged: Judged, fds: &[FdDraft]) -> Judged
+fn judge_records(
+    bases: &[Entry],
+    sizes: &[u64],
+    nestings: &[Nesting],
+    judged: Judged,
+    fds: &[FdDraft],
+) -> Judged
+    requires short { length bases.now < 2 ^ 31 }
+    requires table { nestings.now ≡ nestings_of bases.now }
     ensures { result ≡ fold (declaring.judge_records bases.now sizes.now) judged fds.now }
 {
     let mut found = judged;
     for fd in fds {
-        found = judge_all(bases, sizes, found, fd.entries.as_slice());
+        found = judge_all(bases, sizes, nestings, found, fd.entries.as_slice());
     }
     found
 }
@@ -65,20 +90,24 @@ fn files_fault(divisions: &Divisions) -> Option<Note>
     first_of(selects_fault(fds, selects), fds_fault(selects, fds))
 }
 
-/// The first fault of the files and entries, whose bytes lie so.
-pub fn fault_by(bases: &[Entry], sizes: &[u64], divisions: &Divisions) -> Option<Note>
+/// The first fault of the files and entries, whose bytes lie so and which are nested so.
+pub fn fault_by(
+    bases: &[Entry],
+    sizes: &[u64],
+    nestings: &[Nesting],
+    divisions: &Divisions,
+) -> Option<Note>
+    requires short { length bases.now < 2 ^ 31 }
+    requires table { nestings.now ≡ nestings_of bases.now }
     ensures { result ≡ (declaring.judged_by bases.now sizes.now (declaring.start_of divisions.now) divisions.now).fault }
 {
     let start = Judged {
         at: 0,
         fault: files_fault(divisions),
     };
-    let records = judge_records(bases, sizes, start, divisions.data_part.fds.as_slice());
-    let all = judge_all(
-        bases,
-        sizes,
-        records,
-        divisions.data_part.storage.as_slice(),
-    );
+    let records = divisions.data_part.fds.as_slice();
+    let storage = divisions.data_part.storage.as_slice();
+    let judged = judge_records(bases, sizes, nestings, start, records);
+    let all = judge_all(bases, sizes, nestings, judged, storage);
     all.fault
 }

@@ -1,6 +1,8 @@
 //! The rules on an entry.
 
-ghost use Rattle.std.specs.Prelude.{◌≡◌, slice_get};
+ghost use Rattle.std.specs.Prelude.{◌≡◌, ◌<◌, ◌^◌, Some, length, slice_get};
+ghost use Rattle.std.specs.Option.{option_copied};
+ghost use Rattle.data_names.specs.Nesting.{nestings_of};
 ghost use Rattle.data_rules.specs.Rule as rules;
 
 use crate::base::spans_of;
@@ -9,31 +11,44 @@ use crate::fault::{fault_at, first_of};
 use crate::item::{level_stands, occurs_fault, picture_fault, sign_fault};
 use crate::literal::Target;
 use crate::redefining::{redefines_fault, size_at};
-use crate::standing::{Standing, before, behind, holder_of, standing_of};
+use crate::standing::{Standing, standing_of};
 use crate::value::{missing_fault, spans_fault, value_fault};
 use cob_tree::Entry;
 use data_forms::EntryDraft;
-use data_names::is_group;
+use data_names::{Nesting, nesting_at};
 use grammar_forms::{NameKind, Note};
 
 /// What a literal for this entry is to fit.
-fn target_of(bases: &[Entry], sizes: &[u64], at: usize, entry: &Entry) -> Target
-    ensures { result ≡ rules.target_of bases.now sizes.now at entry.now }
+fn target_by(group: bool, sizes: &[u64], at: usize, entry: &Entry) -> Target
+    ensures { result ≡ rules.target_by group sizes.now at entry.now }
 {
     Target {
-        group: is_group(entry, behind(bases, at)),
+        group,
         picture: entry.picture,
         size: size_at(sizes, at),
     }
 }
 
-fn fits_at(bases: &[Entry], sizes: &[u64], draft: &EntryDraft, item: usize) -> Option<Note>
+fn base_at(bases: &[Entry], at: usize) -> Option<&Entry>
+    ensures { option_copied result ≡ slice_get bases.now at }
+{
+    bases.get(at)
+}
+
+fn fits_at(
+    bases: &[Entry],
+    sizes: &[u64],
+    nestings: &[Nesting],
+    draft: &EntryDraft,
+    item: usize,
+) -> Option<Note>
+    requires { nestings.now ≡ nestings_of bases.now }
     ensures { result ≡ rules.fits_at bases.now sizes.now draft.now item (slice_get bases.now item) }
 {
-    match bases.get(item) {
+    match base_at(bases, item) {
         None => None,
         Some(entry) => spans_fault(
-            target_of(bases, sizes, item, entry),
+            target_by(nesting_at(nestings, item).group, sizes, item, entry),
             spans_of(draft.clauses.as_slice()),
         ),
     }
@@ -42,29 +57,33 @@ fn fits_at(bases: &[Entry], sizes: &[u64], draft: &EntryDraft, item: usize) -> O
 fn fits_fault(
     bases: &[Entry],
     sizes: &[u64],
+    nestings: &[Nesting],
     draft: &EntryDraft,
     item: Option<usize>,
 ) -> Option<Note>
+    requires { nestings.now ≡ nestings_of bases.now }
     ensures { result ≡ rules.fits_fault bases.now sizes.now draft.now item }
 {
     match item {
         None => None,
-        Some(item) => fits_at(bases, sizes, draft, item),
+        Some(item) => fits_at(bases, sizes, nestings, draft, item),
     }
 }
 
 fn condition_fault(
     bases: &[Entry],
     sizes: &[u64],
+    nestings: &[Nesting],
     draft: &EntryDraft,
     item: Option<usize>,
 ) -> Option<Note>
+    requires { nestings.now ≡ nestings_of bases.now }
     ensures { result ≡ rules.condition_fault bases.now sizes.now draft.now item }
 {
     let clauses = draft.clauses.as_slice();
     let again = first_of(again_fault(clauses), other_fault(clauses));
     let missing = first_of(again, missing_fault(draft.at, clauses));
-    first_of(missing, fits_fault(bases, sizes, draft, item))
+    first_of(missing, fits_fault(bases, sizes, nestings, draft, item))
 }
 
 fn clauses_fault(
@@ -90,40 +109,63 @@ fn clauses_fault(
 fn item_fault(
     bases: &[Entry],
     sizes: &[u64],
+    nestings: &[Nesting],
     at: usize,
     entry: &Entry,
     draft: &EntryDraft,
 ) -> Option<Note>
+    requires short { length bases.now < 2 ^ 31 }
+    requires table { nestings.now ≡ nestings_of bases.now }
+    requires own { slice_get bases.now at ≡ Some entry.now }
     ensures { result ≡ rules.item_fault bases.now sizes.now at entry.now draft.now }
 {
+    let nesting = nesting_at(nestings, at);
+    let target = target_by(nesting.group, sizes, at, entry);
+    let standing = standing_of(bases, nestings, nesting.holder);
     first_of(
-        clauses_fault(
-            entry,
-            target_of(bases, sizes, at, entry),
-            standing_of(entry, before(bases, at)),
-            draft,
-        ),
+        clauses_fault(entry, target, standing, draft),
         redefines_fault(bases, sizes, at, entry, draft.clauses.as_slice()),
     )
+}
+
+fn held_fault(
+    bases: &[Entry],
+    sizes: &[u64],
+    nestings: &[Nesting],
+    at: usize,
+    entry: &Entry,
+    draft: &EntryDraft,
+    holder: Option<usize>,
+) -> Option<Note>
+    requires short { length bases.now < 2 ^ 31 }
+    requires table { nestings.now ≡ nestings_of bases.now }
+    requires own { slice_get bases.now at ≡ Some entry.now }
+    ensures { result ≡ rules.held_fault bases.now sizes.now at entry.now draft.now holder }
+{
+    if !level_stands(entry.level, holder) {
+        return fault_at(NameKind::Level, draft.at);
+    }
+    if entry.level == 88 {
+        condition_fault(bases, sizes, nestings, draft, holder)
+    } else {
+        item_fault(bases, sizes, nestings, at, entry, draft)
+    }
 }
 
 /// The first fault of an entry.
 pub fn entry_fault(
     bases: &[Entry],
     sizes: &[u64],
+    nestings: &[Nesting],
     at: usize,
     entry: &Entry,
     draft: &EntryDraft,
 ) -> Option<Note>
+    requires short { length bases.now < 2 ^ 31 }
+    requires table { nestings.now ≡ nestings_of bases.now }
+    requires own { slice_get bases.now at ≡ Some entry.now }
     ensures { result ≡ rules.entry_fault bases.now sizes.now at entry.now draft.now }
 {
-    let holder = holder_of(entry, before(bases, at));
-    if !level_stands(entry.level, holder) {
-        return fault_at(NameKind::Level, draft.at);
-    }
-    if entry.level == 88 {
-        condition_fault(bases, sizes, draft, holder)
-    } else {
-        item_fault(bases, sizes, at, entry, draft)
-    }
+    let holder = nesting_at(nestings, at).holder;
+    held_fault(bases, sizes, nestings, at, entry, draft, holder)
 }

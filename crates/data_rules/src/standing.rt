@@ -1,12 +1,11 @@
 //! Where an entry stands among those of its program.
 
-ghost use Rattle.std.specs.Prelude.{◌≡◌, ◌||◌, reverse};
-ghost use Rattle.std.specs.List.{list_any};
-ghost use Rattle.data_names.specs.Grouping.{bound_of, dims_in, groups_of};
+ghost use Rattle.std.specs.Prelude.{◌≡◌, ◌<◌, ◌≤◌, ◌^◌, ◌||◌, length};
+ghost use Rattle.data_names.specs.Nesting.{count_to, groups_from, nestings_of};
 ghost use Rattle.data_rules.specs.Standing as standings;
 
 use cob_tree::Entry;
-use data_names::{bound_of, holds, repeats, same_file};
+use data_names::{Nesting, nesting_at, repeats};
 
 /// What stands above an entry.
 #[derive(Clone, Copy, Debug)]
@@ -39,32 +38,6 @@ pub fn behind(entries: &[Entry], at: usize) -> &[Entry]
     }
 }
 
-#[tactic(auto, using(crate::proofs::BackLemmas::nearest_step, crate::proofs::BackLemmas::nearest_none))]
-fn nearest(entry: &Entry, before: &[Entry]) -> Option<usize>
-    ensures { result ≡ standings.nearest (bound_of entry.now.level) entry.now.file (reverse before.now) }
-{
-    let bound = bound_of(entry.level);
-    let mut at = before.len();
-    while at > 0 {
-        at -= 1;
-        let other = &before[at];
-        if !same_file(entry.file, other.file) {
-            return None;
-        }
-        if holds(bound, other) {
-            return Some(at);
-        }
-    }
-    None
-}
-
-/// The number of the item or group that an entry stands in.
-pub fn holder_of(entry: &Entry, before: &[Entry]) -> Option<usize>
-    ensures { result ≡ standings.holder_of entry.now before.now }
-{
-    nearest(entry, before)
-}
-
 fn bars_value(group: &Entry) -> bool
     ensures { result ≡ standings.bars_value group.now }
 {
@@ -77,26 +50,21 @@ fn barred_too(barred: bool, group: &Entry) -> bool
     barred || bars_value(group)
 }
 
-/// What stands above an entry.
-#[tactic(auto, using(crate::proofs::BackLemmas::dims_step, crate::proofs::BackLemmas::barred_step, crate::proofs::BackLemmas::groups_none, crate::proofs::BackLemmas::or_false, crate::proofs::BackLemmas::or_assoc))]
-pub fn standing_of(entry: &Entry, before: &[Entry]) -> Standing
-    ensures { result ≡ standings.standing_of entry.now before.now }
+/// What stands above an entry that stands in this one.
+pub fn standing_of(entries: &[Entry], nestings: &[Nesting], holder: Option<usize>) -> Standing
+    requires short { length entries.now < 2 ^ 31 }
+    requires table { nestings.now ≡ nestings_of entries.now }
+    requires within { count_to holder ≤ length entries.now }
+    ensures { result ≡ standings.standing_in (groups_from entries.now holder) }
 {
     let mut dims = 0usize;
     let mut barred = false;
-    let mut bound = bound_of(entry.level);
-    let mut at = before.len();
-    while at > 0 {
-        at -= 1;
-        let other = &before[at];
-        if !same_file(entry.file, other.file) {
-            return Standing { dims, barred };
-        }
-        if holds(bound, other) {
-            dims += usize::from(repeats(other));
-            barred = barred_too(barred, other);
-            bound = bound_of(other.level);
-        }
+    let mut next = holder;
+    while let Some(number) = next {
+        let group = &entries[number];
+        dims += usize::from(repeats(group));
+        barred = barred_too(barred, group);
+        next = nesting_at(nestings, number).holder;
     }
     Standing { dims, barred }
 }

@@ -1,4 +1,4 @@
-use Rattle.std.proofs.Common.{◌≡◌, Bool, true, false, ap, sym, ◌∙◌, arith}
+use Rattle.std.proofs.Common.{◌≡◌, true, false, ap, sym, ◌∙◌, arith}
 use Rattle.data_names.specs.Grouping.{bound_of, holds}
 use Rattle.data_rules.proofs.BackLemmas.{last_alike_step}
 use Rattle.data_rules.proofs.redefining.last_alike.Goals as goal

@@ -1,16 +1,17 @@
-use Rattle.std.proofs.Common.{◌≡◌, ◌+◌, ◌≤◌, ◌||◌, length, reverse, take}
+use Rattle.std.proofs.Common.{◌≡◌, ◌+◌, ◌≤◌, ◌||◌, length}
 use Rattle.std.specs.List.{list_any}
-use Rattle.data_names.specs.Grouping.{bound_of, dims_in, groups_of}
+use Rattle.data_names.specs.Grouping.{dims_in}
+use Rattle.data_names.specs.Nesting.{count_to, groups_from}
 use Rattle.data_rules.specs.Standing.{bars_value}
 use Rattle.data_rules.proofs.standing.standing_of.Given as goal
 
-abbrev pub invariant-loop-at : goal.invariant-loop-at
-invariant-loop-at l = record {
-  within : l.at ≤ length l.before;
-  room : l.dims + l.at ≤ length l.before;
-  dims : l.dims + dims_in (groups_of l.bound l.entry.file (reverse (take l.at l.before))) ≡ dims_in (groups_of (bound_of l.entry.level) l.entry.file (reverse l.before));
-  barred : (l.barred || list_any bars_value (groups_of l.bound l.entry.file (reverse (take l.at l.before)))) ≡ list_any bars_value (groups_of (bound_of l.entry.level) l.entry.file (reverse l.before));
+abbrev pub invariant-loop-next : goal.invariant-loop-next
+invariant-loop-next l = record {
+  within : count_to l.next ≤ length l.entries;
+  room : l.dims + count_to l.next ≤ length l.entries;
+  dims : l.dims + dims_in (groups_from l.entries l.next) ≡ dims_in (groups_from l.entries l.fn.holder);
+  barred : (l.barred || list_any bars_value (groups_from l.entries l.next)) ≡ list_any bars_value (groups_from l.entries l.fn.holder);
 }
 
-abbrev pub decreases-loop-at : goal.decreases-loop-at
-decreases-loop-at l = l.at
+abbrev pub decreases-loop-next : goal.decreases-loop-next
+decreases-loop-next l = count_to l.next
