@@ -1,7 +1,6 @@
 -- What a source is read to: the first refusal, in the order of these steps, or the program.
 use Rattle.std.specs.Prelude.{ℕ, nat_le, false, List, length, Option, Some, None, Result, Ok, Err, if◌then◌else◌}
 use Rattle.cob_base.specs.declared.limit.Limit.{Limit}
-use Rattle.cob_base.specs.declared.limit.LimitKind.{LimitKind}
 use Rattle.cob_base.specs.declared.limit.LimitKind.TheVariants as limits
 use Rattle.cob_tree.specs.declared.fault.ParseFault.TheVariants as faults
 use Rattle.cob_tree.specs.declared.program.Program.{Program}
@@ -21,7 +20,7 @@ use Rattle.grammar_forms.specs.declared.why.Unread.TheVariants as unread
 use Rattle.grammar_forms.specs.Form.{Outcome, Got, Stop}
 use Rattle.grammar_forms.specs.Reading.{start, fault_line}
 use Rattle.data_sizes.specs.Storage.{storage_limit, storage_of}
-use Rattle.procedure_parse.specs.Answer.{passed, name_fault}
+use Rattle.read_faults.specs.Fault.{passed, name_fault}
 use Rattle.cobol_read.specs.declared.program.Declarations.{Declarations}
 use Rattle.cobol_read.specs.declared.program.ProgramDraft.{ProgramDraft}
 use Rattle.cobol_read.specs.declared.refusal.ReadRefusal.{ReadRefusal}
@@ -58,9 +57,6 @@ stop_refusal whys.Syntax line = refusals.Parse (faults.Syntax line)
 stop_refusal whys.Terms line = refusals.Limit (passed limits.Terms)
 stop_refusal whys.Parens line = refusals.Limit (passed limits.Parens)
 stop_refusal whys.Nesting line = refusals.Limit (passed limits.Nesting)
-
-abbrev pub passed_refusal : LimitKind → ReadRefusal
-passed_refusal kind = refusals.Limit (passed kind)
 
 -- want of memory is told as that
 abbrev pub unread_refusal : Unread → (line : ℕ) → ReadRefusal

@@ -18,7 +18,7 @@ use Rattle.grammar_forms.specs.declared.why.Why.{Why}
 use Rattle.grammar_forms.specs.declared.why.Why.TheVariants as whys
 use Rattle.grammar_forms.specs.Reading.{AllSpell, Stops, start, fault_line}
 use Rattle.data_sizes.specs.Storage.{storage_limit, storage_of}
-use Rattle.procedure_parse.specs.Answer.{passed, name_fault}
+use Rattle.read_faults.specs.Fault.{passed, name_fault}
 use Rattle.cobol_read.specs.declared.program.ProgramDraft.{ProgramDraft}
 use Rattle.cobol_read.specs.declared.refusal.ReadRefusal.{ReadRefusal}
 use Rattle.cobol_read.specs.declared.refusal.ReadRefusal.TheVariants as refusals

@@ -6,7 +6,6 @@ ghost use Rattle.cobol_lex.specs.Token as lexing;
 ghost use Rattle.data_rules.specs.Declaring as declaring;
 ghost use Rattle.grammar_forms.specs.Note as notes;
 ghost use Rattle.grammar_forms.specs.Reading.{start};
-ghost use Rattle.procedure_parse.specs.Answer as faults;
 ghost use Rattle.cobol_read.specs.declared.refusal.ReadRefusal.TheVariants.{NoMemory as Memory};
 ghost use Rattle.cobol_read.specs.Answer as answers;
 ghost use Rattle.cobol_read.specs.LeftOut as words;
@@ -21,12 +20,13 @@ use crate::limit::{
 use crate::program::{Declarations, ProgramDraft, program};
 use crate::refusal::ReadRefusal;
 use cob_base::{Items, Limit, LimitKind, NoMemory};
-use cob_tree::{Entry, FileEntry, NameFault, ParseFault, Program};
+use cob_tree::{Entry, FileEntry, ParseFault, Program};
 use cobol_lex::{LexFault, Token, tokens};
 use data_forms::Divisions;
 use data_rules::{Declared, declared_of};
 use data_sizes::{storage_limit, storage_of};
-use grammar_forms::{Cursor, NameKind, Note, Unread, Why};
+use grammar_forms::{Cursor, Note, Unread, Why};
+use read_faults::{name_fault, passed};
 use ref_format::{FormatFault, Placed, unfold};
 use std::alloc::Global;
 
@@ -53,21 +53,6 @@ fn within_storage(limit: Option<Limit>, found: Program) -> Result<Program, ReadR
             Err(ReadRefusal::Limit(limit))
         }
         None => with_few_paragraphs(found),
-    }
-}
-
-fn name_fault(kind: NameKind, line: u32) -> NameFault
-    ensures { result ≡ faults.name_fault kind line }
-{
-    match kind {
-        NameKind::Duplicate => NameFault::Duplicate(line),
-        NameKind::Unknown => NameFault::Unknown(line),
-        NameKind::Ambiguous => NameFault::Ambiguous(line),
-        NameKind::Level => NameFault::Level(line),
-        NameKind::Picture => NameFault::Picture(line),
-        NameKind::Redefines => NameFault::Redefines(line),
-        NameKind::Value => NameFault::Value(line),
-        NameKind::Usage => NameFault::Usage(line),
     }
 }
 
@@ -104,25 +89,14 @@ fn named(alloc: Global, fault: Option<Note>, found: Program) -> Result<Program, 
 
 // ---- the syntax
 
-fn passed(kind: LimitKind) -> ReadRefusal
-    ensures { result ≡ answers.passed_refusal kind }
-{
-    ReadRefusal::Limit(Limit {
-        kind,
-        of_result: false,
-        counted: 501,
-        limit: 500,
-    })
-}
-
 fn stop_refusal(why: Why, line: u32) -> ReadRefusal
     ensures { result ≡ answers.stop_refusal why line }
 {
     match why {
         Why::Syntax => ReadRefusal::Parse(ParseFault::Syntax(line)),
-        Why::Terms => passed(LimitKind::Terms),
-        Why::Parens => passed(LimitKind::Parens),
-        Why::Nesting => passed(LimitKind::Nesting),
+        Why::Terms => ReadRefusal::Limit(passed(LimitKind::Terms)),
+        Why::Parens => ReadRefusal::Limit(passed(LimitKind::Parens)),
+        Why::Nesting => ReadRefusal::Limit(passed(LimitKind::Nesting)),
     }
 }
 

@@ -13,6 +13,7 @@ use cond_tests::{
 };
 use data_names::NameTable;
 use expr_forms::Side;
+use expr_sides::MAX_PARENS;
 use grammar_forms::{Cursor, Position, Unread, Why};
 use std::alloc::Global;
 
@@ -311,9 +312,6 @@ fn cond_with(
     let first = neg(alloc, cursor, names, levels, None, count)?;
     conds_from(alloc, cursor, names, levels, first)
 }
-
-/// How many levels of parentheses one condition may have.
-const MAX_PARENS: u32 = 500;
 
 /// Reads a condition as far as it goes, with what is known of it.
 #[tactic(auto, unfolding(cond_forms::specs::Condition::cond))]

@@ -15,11 +15,11 @@ use crate::primary::{expr_prim, prim_behind};
 use cob_base::{Copied, NoMemory};
 use cob_tree::Rel;
 use cond_forms::{Part, Read, Setting};
-use cond_tests::{at_plain_rel, at_rel, part_by, part_of, rel, relation_of, tally, with_rel};
+use cond_tests::{at_plain_rel, at_rel, part_by, part_of, rel, relation_of, with_rel};
 use data_names::NameTable;
 use expr_forms::Side;
 use expr_parse::operand;
-use expr_sides::{relation_fault, value_fault};
+use expr_sides::{relation_fault, tally, value_fault};
 use grammar_forms::{Cursor, Unread, Why};
 use std::alloc::Global;
 

@@ -1,47 +1,21 @@
 -- What is answered for a condition or an expression that begins at a place in a list of tokens.
 use Rattle.std.specs.Prelude.{◌≡◌, ℕ, ◌-◌, Bool, true, false, ◌⊎◌, List, Option, Some, None, Result, Ok, Err}
-use Rattle.cob_base.specs.declared.limit.Limit.{Limit}
-use Rattle.cob_base.specs.declared.limit.LimitKind.{LimitKind}
-use Rattle.cob_base.specs.declared.limit.LimitKind.TheVariants as limits
 use Rattle.cob_tree.specs.declared.cond.Cond.{Cond}
 use Rattle.cob_tree.specs.declared.fault.NameFault.{NameFault}
-use Rattle.cob_tree.specs.declared.fault.NameFault.TheVariants as names_of_faults
 use Rattle.cob_tree.specs.declared.fault.ParseFault.{ParseFault}
 use Rattle.cob_tree.specs.declared.fault.ParseFault.TheVariants as faults
 use Rattle.cobol_lex.specs.declared.token.Token.{Token}
 use Rattle.grammar_forms.specs.declared.note.Note.{Note}
-use Rattle.grammar_forms.specs.declared.note.NameKind.{NameKind}
-use Rattle.grammar_forms.specs.declared.note.NameKind.TheVariants as kinds
 use Rattle.grammar_forms.specs.declared.why.Why.{Why}
-use Rattle.grammar_forms.specs.declared.why.Why.TheVariants as whys
 use Rattle.grammar_forms.specs.Form.{Form, Input}
 use Rattle.grammar_forms.specs.Reading.{Stops, start_at, fault_line}
+use Rattle.read_faults.specs.Fault.{stop_fault, name_fault}
 use Rattle.expr_forms.specs.declared.side.Side.{Side}
 use Rattle.expr_forms.specs.Side.{expr_of}
 use Rattle.cond_read.specs.declared.answer.CondPart.{CondPart}
 use Rattle.cond_read.specs.declared.answer.ExprPart.{ExprPart}
 
 -- ---- faults
-
--- terms, parentheses and nested statements have one limit, which is passed by one
-abbrev pub passed : LimitKind → Limit
-passed kind = record { kind = kind; of_result = false; counted = 501; limit = 500 }
-
-abbrev pub stop_fault : Why → (line : ℕ) → ParseFault
-stop_fault whys.Syntax line = faults.Syntax line
-stop_fault whys.Terms line = faults.Limit (passed limits.Terms)
-stop_fault whys.Parens line = faults.Limit (passed limits.Parens)
-stop_fault whys.Nesting line = faults.Limit (passed limits.Nesting)
-
-abbrev pub name_fault : NameKind → (line : ℕ) → NameFault
-name_fault kinds.Duplicate line = names_of_faults.Duplicate line
-name_fault kinds.Unknown line = names_of_faults.Unknown line
-name_fault kinds.Ambiguous line = names_of_faults.Ambiguous line
-name_fault kinds.Level line = names_of_faults.Level line
-name_fault kinds.Picture line = names_of_faults.Picture line
-name_fault kinds.Redefines line = names_of_faults.Redefines line
-name_fault kinds.Value line = names_of_faults.Value line
-name_fault kinds.Usage line = names_of_faults.Usage line
 
 abbrev pub noted_fault : Option Note → Option NameFault
 noted_fault None = None

@@ -7,14 +7,16 @@ ghost use Rattle.cobol_lex.specs.declared.token.Token.{Token};
 ghost use Rattle.grammar_forms.specs.declared.why.Why.{Why};
 ghost use Rattle.grammar_forms.specs.Reading.{Stops, fault_line, start_at};
 ghost use Rattle.cond_forms.specs.Condition.{whole_cond};
-ghost use Rattle.cond_read.specs.Answer.{Gives, IsCond, IsFault, Refuses, Spelled, stop_fault};
+ghost use Rattle.read_faults.specs.Fault.{stop_fault};
+ghost use Rattle.cond_read.specs.Answer.{Gives, IsCond, IsFault, Refuses, Spelled};
 
-use crate::answer::{CondPart, noted_fault, stop_fault, unread};
+use crate::answer::{CondPart, noted_fault, unread};
 use cob_tree::ParseFault;
 use cobol_lex::Token;
 use cond_parse::whole_cond;
 use data_names::NameTable;
 use grammar_forms::{Cursor, Unread};
+use read_faults::stop_fault;
 use std::alloc::Global;
 
 /// The condition that these tokens spell behind so many of them.

@@ -7,15 +7,17 @@ ghost use Rattle.grammar_forms.specs.declared.why.Why.{Why};
 ghost use Rattle.grammar_forms.specs.Reading.{Stops, fault_line, start_at};
 ghost use Rattle.expr_forms.specs.declared.side.Side.{Side};
 ghost use Rattle.expr_forms.specs.Levels.{whole_expr};
-ghost use Rattle.cond_read.specs.Answer.{Gives, IsExpr, IsFault, Refuses, Spelled, stop_fault};
+ghost use Rattle.read_faults.specs.Fault.{stop_fault};
+ghost use Rattle.cond_read.specs.Answer.{Gives, IsExpr, IsFault, Refuses, Spelled};
 
-use crate::answer::{ExprPart, noted_fault, stop_fault};
+use crate::answer::{ExprPart, noted_fault};
 use cob_tree::ParseFault;
 use cobol_lex::Token;
 use data_names::NameTable;
 use expr_parse::whole_expr;
 use expr_sides::expr_of;
 use grammar_forms::{Cursor, Unread};
+use read_faults::stop_fault;
 use std::alloc::Global;
 
 /// The expression that these tokens spell behind so many of them.

@@ -12,13 +12,12 @@ ghost use Rattle.expr_forms.specs.Fault.{is_condition};
 ghost use Rattle.cond_forms.specs.Test as tests;
 ghost use Rattle.cond_forms.specs.Alone as alones;
 
-use crate::limit::tally;
 use crate::test::relation_of;
 use cob_base::{Boxed, Copied, NoMemory};
 use cob_tree::{Cond, Place, Rel};
 use cond_forms::{Part, Primary, Setting};
 use expr_forms::{Shape, Side, What};
-use expr_sides::{condition_fault, is_condition, relation_fault, shape_of, value_fault};
+use expr_sides::{condition_fault, is_condition, relation_fault, shape_of, tally, value_fault};
 use grammar_forms::{Cursor, Unread, Why};
 use std::alloc::Global;
 

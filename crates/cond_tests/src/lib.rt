@@ -7,14 +7,12 @@
 
 mod alone;
 mod joined;
-mod limit;
 mod relation;
 mod test;
 mod token;
 
 pub use alone::{alone_part, part_by, part_of, with_rel};
 pub use joined::{and_joined, close_cond, close_side, joined_whole, or_joined};
-pub use limit::tally;
 pub use relation::rel;
 pub use test::{class_or, read_test, relation_of, sign_test};
 pub use token::{at_join, at_plain_rel, at_rel, at_rel_behind, at_sign};

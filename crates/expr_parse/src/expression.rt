@@ -6,14 +6,13 @@ ghost use Rattle.expr_forms.specs.Expression as expressions;
 ghost use Rattle.expr_forms.specs.Levels.{inner};
 
 use crate::levels::nested;
-use crate::limit::tally;
 use crate::reference::reference;
 use cob_tree::Op;
 use data_names::NameTable;
 use expr_forms::{Chain, Side};
 use expr_sides::{
     at_operand, at_turn, chain_of, finish, joined, last_fault, literal_kind, literal_side, negated,
-    number_fault, operator, sum_side,
+    number_fault, operator, sum_side, tally,
 };
 use grammar_forms::{Cursor, Unread, Why};
 use std::alloc::Global;

@@ -8,7 +8,6 @@ ghost use Rattle.expr_forms.specs.Levels.{inner};
 ghost use Rattle.expr_parse.specs.Front as names_in_front;
 
 use crate::expression::{operated, turn, unary, unsigned};
-use crate::limit::tally;
 use crate::reference::{qualifiers, ref_behind};
 use crate::subscript::more_subs;
 use crate::window::window_behind;
@@ -18,7 +17,7 @@ use data_names::{Found, NameTable};
 use expr_forms::{Either, Front, Suffix};
 use expr_sides::{
     at_turn, chain_of, either_fault, finish, found_fault, number_either, operator, ref_either,
-    subs_of, sum_side, with_number,
+    subs_of, sum_side, tally, with_number,
 };
 use grammar_forms::{Cursor, Position, Unread};
 use std::alloc::Global;

@@ -8,20 +8,16 @@ ghost use Rattle.expr_forms.specs.Levels.{inner};
 
 use crate::expression::{expr, in_nested, literal_operand};
 use crate::front::in_suffix;
-use crate::limit::tally;
 use crate::reference::qualifiers;
 use crate::window::in_window;
 use cob_base::{Boxed, Items, Word};
 use cob_tree::Window;
 use data_names::{Found, NameTable};
 use expr_forms::{Behind, Side, Suffix};
-use expr_sides::{at_operand, found_fault, ref_side};
+use expr_sides::{MAX_PARENS, at_operand, found_fault, ref_side, tally};
 use grammar_forms::{Cursor, Position, Unread, Why};
 use std::alloc::Global;
 use word_forms::{name, sees_name};
-
-/// How many levels of parentheses one expression may have.
-const MAX_PARENS: u32 = 500;
 
 /// Reads an expression in parentheses, where a level is left.
 #[cycle(exprs)]

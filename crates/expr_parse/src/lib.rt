@@ -9,11 +9,9 @@
 mod expression;
 mod front;
 mod levels;
-mod limit;
 mod reference;
 mod subscript;
 mod window;
 
 pub use expression::{expr, operand, sum, unary};
 pub use levels::{data_operand, data_reference, data_reference_behind, whole_expr};
-pub use limit::tally;

@@ -8,6 +8,7 @@
 mod chain;
 mod either;
 mod fault;
+mod limit;
 mod side;
 mod token;
 
@@ -19,6 +20,7 @@ pub use fault::{
     condition_fault, found_fault, is_condition, is_whole, item_of, kind_of, last_fault,
     number_fault, relation_fault, value_fault, whole_fault, whole_fault_at,
 };
+pub use limit::{MAX_PARENS, tally};
 pub use side::{
     digits_side, enclosed, expr_of, literal_kind, literal_side, negated, number_of, place_of,
     ref_side, shape_of, sum_side,

@@ -8,48 +8,12 @@ ghost use Rattle.procedure_parse.specs.Answer as answers;
 
 use crate::paragraph::division;
 use act_parse::Parts;
-use cob_base::{Items, Limit, LimitKind};
+use cob_base::Items;
 use cob_tree::{NameFault, Paragraph, ParseFault};
 use cobol_lex::Token;
-use grammar_forms::{Cursor, NameKind, Note, Unread, Why};
+use grammar_forms::{Cursor, Note, Unread};
+use read_faults::{name_fault, stop_fault};
 use std::alloc::Global;
-
-fn passed(kind: LimitKind) -> Limit
-    ensures { result ≡ answers.passed kind }
-{
-    Limit {
-        kind,
-        of_result: false,
-        counted: 501,
-        limit: 500,
-    }
-}
-
-fn stop_fault(why: Why, line: u32) -> ParseFault
-    ensures { result ≡ answers.stop_fault why line }
-{
-    match why {
-        Why::Syntax => ParseFault::Syntax(line),
-        Why::Terms => ParseFault::Limit(passed(LimitKind::Terms)),
-        Why::Parens => ParseFault::Limit(passed(LimitKind::Parens)),
-        Why::Nesting => ParseFault::Limit(passed(LimitKind::Nesting)),
-    }
-}
-
-fn name_fault(kind: NameKind, line: u32) -> NameFault
-    ensures { result ≡ answers.name_fault kind line }
-{
-    match kind {
-        NameKind::Duplicate => NameFault::Duplicate(line),
-        NameKind::Unknown => NameFault::Unknown(line),
-        NameKind::Ambiguous => NameFault::Ambiguous(line),
-        NameKind::Level => NameFault::Level(line),
-        NameKind::Picture => NameFault::Picture(line),
-        NameKind::Redefines => NameFault::Redefines(line),
-        NameKind::Value => NameFault::Value(line),
-        NameKind::Usage => NameFault::Usage(line),
-    }
-}
 
 fn first_fault(earlier: Option<NameFault>, noted: Option<Note>) -> Option<NameFault>
     ensures { result ≡ answers.first_fault earlier noted }

@@ -3,7 +3,8 @@ use Rattle.grammar_forms.specs.Reading.{start_at}
 use Rattle.grammar_forms.proofs.Reader.{spelled, the_only, stops, none}
 use Rattle.cond_forms.specs.Condition as conditions
 use Rattle.cond_forms.proofs.ConditionLaws as laws
-use Rattle.cond_read.specs.Answer.{stop_fault, noted_fault, unread}
+use Rattle.read_faults.specs.Fault.{stop_fault}
+use Rattle.cond_read.specs.Answer.{noted_fault, unread}
 use Rattle.cond_read.proofs.cond.parse_cond.Goals as goal
 
 pub returns-in-Err-Stop-clause-only : goal.returns-in-Err-Stop-clause-only

@@ -4,7 +4,8 @@ use Rattle.grammar_forms.proofs.Reader.{spelled, the_only, stops, none}
 use Rattle.expr_forms.specs.Side.{expr_of}
 use Rattle.expr_forms.specs.Levels as expressions
 use Rattle.expr_forms.proofs.ExpressionLaws as laws
-use Rattle.cond_read.specs.Answer.{stop_fault, noted_fault}
+use Rattle.read_faults.specs.Fault.{stop_fault}
+use Rattle.cond_read.specs.Answer.{noted_fault}
 use Rattle.cond_read.proofs.expr.parse_expr.Goals as goal
 
 pub returns-in-Err-Stop-clause-only : goal.returns-in-Err-Stop-clause-only

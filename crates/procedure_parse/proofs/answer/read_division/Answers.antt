@@ -9,7 +9,8 @@ use Rattle.grammar_forms.specs.Reading.{start_at}
 use Rattle.grammar_forms.proofs.Reader.{spelled, the_only, stops, none}
 use Rattle.stmt_forms.specs.Paragraph as forms
 use Rattle.stmt_forms.proofs.ParagraphLaws as laws
-use Rattle.procedure_parse.specs.Answer.{first_fault, stop_fault, IsStop, IsFault}
+use Rattle.read_faults.specs.Fault.{stop_fault}
+use Rattle.procedure_parse.specs.Answer.{first_fault, IsStop, IsFault}
 use Rattle.procedure_parse.proofs.DivisionEnds.{division_ends}
 use Rattle.procedure_parse.proofs.answer.read_division.Goals as goal
 

@@ -1,4 +1,4 @@
-//! What is counted while an expression is read.
+//! What is counted while a condition or an expression is read.
 
 ghost use Rattle.grammar_forms.specs.Reading.{Reads};
 ghost use Rattle.expr_forms.specs.Limit as limits;
@@ -6,7 +6,11 @@ ghost use Rattle.expr_forms.specs.Limit as limits;
 use grammar_forms::{Cursor, Unread, Why};
 use std::alloc::Global;
 
+/// How many terms one condition or expression may have.
 const MAX_TERMS: u32 = 500;
+
+/// How deep parentheses may stand in it.
+pub const MAX_PARENS: u32 = 500;
 
 /// So many more terms, unless they pass the limit at the next token.
 pub fn tally(cursor: &Cursor<'_>, count: u32, more: u32) -> Result<u32, Unread>

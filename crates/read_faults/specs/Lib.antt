@@ -1,0 +1,2 @@
+-- How what went wrong in a reading is told.
+pub mod Fault
