@@ -10,7 +10,7 @@ ghost use Rattle.expr_parse.specs.Front as names_in_front;
 use crate::expression::{operated, turn, unary, unsigned};
 use crate::reference::{qualifiers, ref_behind};
 use crate::subscript::more_subs;
-use crate::window::window_behind;
+use crate::window::{is_in_window, window_behind};
 use cob_base::{Boxed, Items, Word};
 use cob_tree::Op;
 use data_names::{Found, NameTable};
@@ -424,7 +424,7 @@ pub fn front_end(
             Ok((Suffix::Window(Boxed::new(alloc, window)?), count))
         }
         Front::Either(either) => {
-            if cursor.sees_mark(b':') {
+            if is_in_window(cursor) {
                 let Either { chain, leaves, .. } = either;
                 let count = tally(cursor, count, leaves)?;
                 let first = finish(alloc, chain)?;
