@@ -11,6 +11,6 @@ mod ordering;
 mod words;
 
 pub use fresh_words::{FreshWord, fresh};
-pub use naming::names;
+pub use naming::{names, paragraph_label};
 pub use ordering::order;
 pub use words::word_table;

@@ -19,8 +19,8 @@ struct Named {
     next: u32,
 }
 
-/// A paragraph's name, else its section's.
-fn paragraph_label(paragraphs: &[Paragraph], entry: u32) -> Option<Word>
+/// The label of a paragraph: its name, else its section's.
+pub fn paragraph_label(paragraphs: &[Paragraph], entry: u32) -> Option<Word>
     ensures { result ≡ paragraph_label paragraphs.now entry }
 {
     match paragraphs.get(entry as usize) {

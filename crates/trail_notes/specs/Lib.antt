@@ -1,0 +1,2 @@
+-- the lines that tell a trail
+pub mod Trail
