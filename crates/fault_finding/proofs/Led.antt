@@ -1,5 +1,6 @@
 -- Where calls lead.
 use Rattle.std.proofs.Common.{◌≡◌, ◌+◌, ◌<◌, ◌≤◌, ℕ, Bool, true, List, [], length, Some, slice_get, refl, ap, sym, ◌∙◌, subst, ◌⊎◌, inl, inr, arith}
+use Rattle.std.proofs.lemmas.Option.{slice_get_within}
 use Rattle.flow_levels.specs.Reaching.{Holds, IsMarked, Adds}
 use Rattle.pending_returns.specs.declared.facts.RangeFacts.{RangeFacts}
 use Rattle.pending_returns.specs.Tabled.{AllBelow, AddsCalls, CallsBelow}
@@ -60,12 +61,18 @@ led-there levels base places marks at number le so_far (clashing.calls from to f
     let there = led-there levels base places marks at from le so_far led in
     so_far.done there.0 from to facts (let less : there.0 < length places = get-below places there.0 from there.1 in omega (arith, less, le)) there.1 is has
 
-pub led-all : (levels : List RangeFacts) (base : ℕ) (places : List ℕ) (marks : List Bool) (at : ℕ) → length places ≤ at → LedSoFar levels base places marks at → (number : ℕ) → (slice_get marks number ≡ Some true → LeadsFrom levels base number) × (LeadsFrom levels base number → slice_get marks number ≡ Some true)
+pub led-all : (levels : List RangeFacts) (base : ℕ) (places : List ℕ) (marks : List Bool) (at : ℕ) → length places ≤ at → LedSoFar levels base places marks at → (number : ℕ) → (Holds places number → LeadsFrom levels base number) × (LeadsFrom levels base number → Holds places number)
 led-all levels base places marks at le so_far number = (
-  λ e. so_far.sound number (so_far.marked.there number e),
-  λ led. so_far.marked.marked number (led-there levels base places marks at number le so_far led),
+  λ has. so_far.sound number has,
+  λ led. led-there levels base places marks at number le so_far led,
 )
 
 -- the calls of one that stands among the levels
 pub kept-calls : (levels : List RangeFacts) (count at : ℕ) (facts : RangeFacts) (calls : List ℕ) → CallsBelow count levels → slice_get levels at ≡ Some facts → calls ≡ facts.calls → AllBelow count calls
 kept-calls levels count at facts calls below is same = subst (λ (cs : List ℕ). AllBelow count cs) (sym same) (below at facts is)
+
+-- what is marked is one of the levels
+pub there-below : (places : List ℕ) (marks : List Bool) (count at here : ℕ) → IsMarked places marks → length marks ≡ count → slice_get places at ≡ Some here → here < count
+there-below places marks count at here marked size is =
+    let inside : here < length marks = slice_get_within marks here true (marked.marked here (at, is)) in
+    omega (arith, inside, size)

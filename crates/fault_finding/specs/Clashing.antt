@@ -44,6 +44,11 @@ abbrev pub NoneBelow : List RangeFacts → ℕ → ℕ → Type 0
 NoneBelow levels base end = (number : ℕ) (facts : RangeFacts) → LeadsFrom levels base number →
     slice_get levels number ≡ Some facts → IsFine levels facts end
 
+-- none faults on this range's end
+abbrev pub NoneFrom : List RangeFacts → ℕ → Type 0
+NoneFrom levels base = (end : ℕ) (facts : RangeFacts) → slice_get levels base ≡ Some facts →
+    facts.range.exit ≡ Some end → NoneBelow levels base end
+
 abbrev pub NoClash : List RangeFacts → Type 0
 NoClash levels = (base end : ℕ) (facts : RangeFacts) → slice_get levels base ≡ Some facts →
     facts.range.exit ≡ Some end → NoneBelow levels base end

@@ -1,17 +1,19 @@
 //! A pending range, and a level below it that faults on its end.
 
-ghost use Rattle.std.specs.Prelude.{◌≡◌, ◌<◌, Some, length, slice_get, IfOk, MatchOption};
+ghost use Rattle.std.specs.Prelude.{◌≡◌, ◌<◌, length, IfOk, MatchOption};
 ghost use Rattle.language.specs.Control.{control_of};
 ghost use Rattle.flow_paths.specs.Flow.{IsFaulty};
 ghost use Rattle.flow_numbers.specs.Kinds.{never_first_of};
+ghost use Rattle.flow_levels.specs.Reaching.{IsMarked};
 ghost use Rattle.pending_returns.specs.Summary.{IsSummary};
 ghost use Rattle.pending_returns.specs.Tabled.{CallsBelow};
-ghost use Rattle.fault_finding.specs.Clashing.{IsClash, HasClash, NoneBelow, NoClash};
+ghost use Rattle.fault_finding.specs.Clashing.{IsClash, HasClash, NoneBelow, NoneFrom, NoClash};
 
-use crate::fault::fault_if;
+use crate::fault::fault_at;
 use crate::leading::led_from;
 use cob_base::NoMemory;
 use cob_tree::Program;
+use flow_levels::Reach;
 use flow_paths::FlowFault;
 use pending_returns::{RangeFacts, Summary, number_of};
 use std::alloc::Global;
@@ -26,27 +28,51 @@ pub struct Clash {
 
 /// A level that faults on the end of this range, to which calls lead from it.
 pub fn clash_below(
-    alloc: Global,
+    reach: &mut Reach,
     levels: &[RangeFacts],
     base: u32,
     end: u32,
 ) -> Result<Option<Clash>, NoMemory>
+    requires marked { IsMarked reach.old.places.items reach.old.marks.items }
+    requires size { length reach.old.marks.items ≡ length levels.now }
     requires base { base < length levels.now }
     requires known { CallsBelow (length levels.now) levels.now }
-    ensures { IfOk result (λ found. MatchOption found (NoneBelow levels.now base end)
+    ensures found { IfOk result (λ found. MatchOption found (NoneBelow levels.now base end)
         (λ clash. IsClash levels.now base end clash)) }
+    ensures marked { IsMarked reach.new.places.items reach.new.marks.items }
+    ensures size { length reach.new.marks.items ≡ length levels.now }
 {
-    let flags = led_from(alloc, levels, base)?;
-    for number in 0..levels.len() {
-        match fault_if(levels, flags[number], &levels[number], end) {
-            Some(fault) => {
-                let last = number_of(number)?;
-                return Ok(Some(Clash { base, last, fault }));
-            }
+    led_from(reach, levels, base)?;
+    for at in 0..reach.places.len() {
+        let last = reach.places[at];
+        match fault_at(levels, &levels[last as usize], end) {
+            Some(fault) => return Ok(Some(Clash { base, last, fault })),
             None => {}
         }
     }
     Ok(None)
+}
+
+/// A level that faults on the end of this range, if it has one, to which calls lead from it.
+pub fn clash_from(
+    reach: &mut Reach,
+    levels: &[RangeFacts],
+    base: u32,
+) -> Result<Option<Clash>, NoMemory>
+    requires marked { IsMarked reach.old.places.items reach.old.marks.items }
+    requires size { length reach.old.marks.items ≡ length levels.now }
+    requires base { base < length levels.now }
+    requires known { CallsBelow (length levels.now) levels.now }
+    ensures found { IfOk result (λ found. MatchOption found (NoneFrom levels.now base)
+        (λ clash. HasClash levels.now clash)) }
+    ensures marked { IsMarked reach.new.places.items reach.new.marks.items }
+    ensures size { length reach.new.marks.items ≡ length levels.now }
+{
+    let facts = &levels[base as usize];
+    match facts.range.exit {
+        Some(end) => clash_below(reach, levels, base, end),
+        None => Ok(None),
+    }
 }
 
 /// A level that faults on the end of a range, to which calls lead from that one.
@@ -55,14 +81,11 @@ pub fn clash_of(alloc: Global, levels: &[RangeFacts]) -> Result<Option<Clash>, N
     ensures { IfOk result (λ found. MatchOption found (NoClash levels.now)
         (λ clash. HasClash levels.now clash)) }
 {
+    let mut reach = Reach::new(alloc, levels.len())?;
     for number in 0..levels.len() {
         let base = number_of(number)?;
-        let facts = &levels[number];
-        match facts.range.exit {
-            Some(end) => match clash_below(alloc, levels, base, end)? {
-                Some(clash) => return Ok(Some(clash)),
-                None => {}
-            },
+        match clash_from(&mut reach, levels, base)? {
+            Some(clash) => return Ok(Some(clash)),
             None => {}
         }
     }

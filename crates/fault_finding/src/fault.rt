@@ -1,6 +1,6 @@
 //! What a level does where a range that ends at some paragraph is pending.
 
-ghost use Rattle.std.specs.Prelude.{◌≡◌, ◌<◌, ◌↔◌, true, length, IsTrue, MatchOption};
+ghost use Rattle.std.specs.Prelude.{◌↔◌, length, IsTrue, MatchOption};
 ghost use Rattle.flow_levels.specs.Reaching.{Holds};
 ghost use Rattle.pending_returns.specs.Tabled.{AllBelow};
 ghost use Rattle.fault_finding.specs.Clashing.{EndsOne, FaultsAt, IsFine};
@@ -10,7 +10,7 @@ use flow_paths::FlowFault;
 use pending_returns::RangeFacts;
 
 /// Whether the number is one of these.
-pub fn has(numbers: &[u32], number: u32) -> bool
+pub fn is_among(numbers: &[u32], number: u32) -> bool
     ensures { IsTrue result ↔ Holds numbers.now number }
 {
     for other in numbers {
@@ -44,26 +44,8 @@ pub fn fault_at(levels: &[RangeFacts], facts: &RangeFacts, end: u32) -> Option<F
     if ends_one(levels, facts.calls.as_slice(), end) {
         return Some(FlowFault::Reentry(end));
     }
-    if has(facts.ends.as_slice(), end) {
+    if is_among(facts.ends.as_slice(), end) {
         return Some(FlowFault::Overlap(end));
     }
     None
-}
-
-/// The same, where the flag is on.
-pub fn fault_if(
-    levels: &[RangeFacts],
-    flag: bool,
-    facts: &RangeFacts,
-    end: u32,
-) -> Option<FlowFault>
-    requires { AllBelow (length levels.now) facts.now.calls }
-    ensures { MatchOption result (flag ≡ true → IsFine levels.now facts.now end)
-        (λ fault. (flag ≡ true) × FaultsAt levels.now facts.now end fault) }
-{
-    if flag {
-        fault_at(levels, facts, end)
-    } else {
-        None
-    }
 }

@@ -1,33 +1,34 @@
 //! The ranges to which calls lead.
 
-ghost use Rattle.std.specs.Prelude.{ℕ, ◌≡◌, ◌<◌, ◌↔◌, Some, true, length, slice_get, IfOk};
+ghost use Rattle.std.specs.Prelude.{ℕ, ◌≡◌, ◌<◌, ◌↔◌, length, OnOk};
+ghost use Rattle.flow_levels.specs.Reaching.{Holds, IsMarked};
 ghost use Rattle.pending_returns.specs.Tabled.{CallsBelow};
 ghost use Rattle.fault_finding.specs.Clashing.{LeadsFrom};
 
 use cob_base::NoMemory;
 use flow_levels::Reach;
 use pending_returns::{RangeFacts, visit_calls};
-use std::alloc::Global;
 
-/// A flag for each range to which calls lead from this one.
-pub fn led_from(alloc: Global, levels: &[RangeFacts], base: u32) -> Result<Vec<bool>, NoMemory>
+/// Makes these the ranges to which calls lead from this one. What was there before is let go, in the
+/// time that it took to come there. Err where memory is wanted.
+pub fn led_from(reach: &mut Reach, levels: &[RangeFacts], base: u32) -> Result<(), NoMemory>
+    requires marked { IsMarked reach.old.places.items reach.old.marks.items }
+    requires size { length reach.old.marks.items ≡ length levels.now }
     requires base { base < length levels.now }
     requires known { CallsBelow (length levels.now) levels.now }
-    ensures size { IfOk result (λ flags. length flags.items ≡ length levels.now) }
-    ensures led { IfOk result (λ flags. (number : ℕ) →
-        slice_get flags.items number ≡ Some true ↔ LeadsFrom levels.now base number) }
+    ensures led { OnOk result ((number : ℕ) →
+        Holds reach.new.places.items number ↔ LeadsFrom levels.now base number) }
+    ensures marked { IsMarked reach.new.places.items reach.new.marks.items }
+    ensures size { length reach.new.marks.items ≡ length levels.now }
 {
-    let count = levels.len();
-    let mut reach = Reach::new(alloc, count)?;
+    reach.clear();
     reach.visit(base)?;
-    for at in 0..count {
+    for at in 0..levels.len() {
         if at >= reach.places.len() {
-            let Reach { marks, .. } = reach;
-            return Ok(marks);
+            return Ok(());
         }
         let number = reach.places[at] as usize;
-        visit_calls(&mut reach, levels[number].calls.as_slice())?;
+        visit_calls(reach, levels[number].calls.as_slice())?;
     }
-    let Reach { marks, .. } = reach;
-    Ok(marks)
+    Ok(())
 }

@@ -9,6 +9,6 @@ mod clash;
 mod fault;
 mod leading;
 
-pub use clash::{Clash, clash_below, clash_in, clash_of};
-pub use fault::{ends_one, fault_at, fault_if, has};
+pub use clash::{Clash, clash_below, clash_from, clash_in, clash_of};
+pub use fault::{ends_one, fault_at, is_among};
 pub use leading::led_from;

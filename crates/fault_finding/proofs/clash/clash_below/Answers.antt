@@ -1,43 +1,50 @@
-use Rattle.std.proofs.Common.{◌≡◌, ℕ, Bool, length, Some, slice_get, refl, ap, sym, ◌∙◌, subst, arith}
-use Rattle.std.proofs.lemmas.Option.{slice_get_read}
-use Rattle.fault_finding.specs.Clashing.{LeadsFrom}
+use Rattle.std.proofs.Common.{◌<◌, ◌≤◌, ℕ, List, length, Some, slice_get, true, refl, ap, sym, ◌∙◌, subst, arith}
+use Rattle.std.proofs.lemmas.Option.{slice_get_within, slice_get_read}
+use Rattle.fault_finding.proofs.Led.{there-below}
 use Rattle.fault_finding.proofs.Standing.{fine-more, fine-all}
 use Rattle.fault_finding.proofs.clash.clash_below.Goals as goal
 
-pub fault_if-requires : goal.fault_if-requires
-fault_if-requires c =
-    let levels = c.args.levels.now in
-    let facts = c.index-levels-number.result in
-    c.requires.known c.loop-number.number facts (slice_get_read levels (length levels) c.loop-number.number facts refl (omega (arith, c.loop-number-test.true)) c.index-levels-number.is)
+pub bounds-levels-last : goal.bounds-levels-last
+bounds-levels-last c =
+    let reach = c.led_from.new.reach in
+    let here = slice_get_read reach.places.items (length reach.places.items) c.loop-at.at c.index-last.result.now refl (omega (arith, c.len-at-end.ensures, c.loop-at-test.true)) c.index-last.ensures in
+    there-below reach.places.items reach.marks.items (length c.args.levels.now) c.loop-at.at c.index-last.result.now c.in_ok-led_from.ensures.marked c.in_ok-led_from.ensures.size here
 
-pub returns-in-Some : goal.returns-in-Some
-returns-in-Some c =
+pub fault_at-requires : goal.fault_at-requires
+fault_at-requires c =
+    let reach = c.led_from.new.reach in
     let levels = c.args.levels.now in
-    let number = c.loop-number.number in
-    let facts = c.index-levels-number.result in
-    let flags = c.in_ok-flags.flags.items in
-    let flag = c.index.result.now in
-    let level = slice_get_read levels (length levels) number facts refl (omega (arith, c.loop-number-test.true)) c.index-levels-number.is in
-    let is_flag = slice_get_read flags (length flags) number flag refl (omega (arith, c.loop-number-test.true, c.in_ok-flags.ensures.size)) c.index.ensures in
-    let leads = (c.in_ok-flags.ensures.led number).0 (is_flag ∙ ap (λ (b : Bool). Some b) c.in-Some.ensures.0) in
+    let last = c.index-last.result.now in
+    let facts = c.index-levels-last.result in
+    let here = slice_get_read reach.places.items (length reach.places.items) c.loop-at.at last refl (omega (arith, c.len-at-end.ensures, c.loop-at-test.true)) c.index-last.ensures in
+    let inside = there-below reach.places.items reach.marks.items (length levels) c.loop-at.at last c.in_ok-led_from.ensures.marked c.in_ok-led_from.ensures.size here in
+    c.requires.known last facts (slice_get_read levels (length levels) last facts refl inside c.index-levels-last.is)
+
+pub returns-in-Some-clause-found : goal.returns-in-Some-clause-found
+returns-in-Some-clause-found c =
+    let reach = c.led_from.new.reach in
+    let levels = c.args.levels.now in
+    let last = c.index-last.result.now in
+    let facts = c.index-levels-last.result in
+    let here = slice_get_read reach.places.items (length reach.places.items) c.loop-at.at last refl (omega (arith, c.len-at-end.ensures, c.loop-at-test.true)) c.index-last.ensures in
+    let inside = there-below reach.places.items reach.marks.items (length levels) c.loop-at.at last c.in_ok-led_from.ensures.marked c.in_ok-led_from.ensures.size here in
     record {
       is_base = refl;
-      leads = subst (λ (n : ℕ). LeadsFrom levels c.args.base n) (sym c.in_ok-last-in-Some.ensures) leads;
+      leads = (c.in_ok-led_from.ensures.led last).0 (c.loop-at.at, here);
       facts = facts;
-      level = ap (λ (n : ℕ). slice_get levels n) c.in_ok-last-in-Some.ensures ∙ level;
-      faults = c.in-Some.ensures.1;
+      level = slice_get_read levels (length levels) last facts refl inside c.index-levels-last.is;
+      faults = c.in-Some.ensures;
     }
 
-pub loop-number-preserved : goal.loop-number-preserved
-loop-number-preserved c =
+pub loop-at-preserved : goal.loop-at-preserved
+loop-at-preserved c =
+    let reach = c.led_from.new.reach in
     let levels = c.args.levels.now in
-    let number = c.loop-number.number in
-    let facts = c.index-levels-number.result in
-    let flags = c.in_ok-flags.flags.items in
-    let flag = c.index.result.now in
-    let level = slice_get_read levels (length levels) number facts refl (omega (arith, c.loop-number-test.true)) c.index-levels-number.is in
-    let is_flag = slice_get_read flags (length flags) number flag refl (omega (arith, c.loop-number-test.true, c.in_ok-flags.ensures.size)) c.index.ensures in
-    fine-more levels c.args.base c.args.end number flags flag facts (c.in_ok-flags.ensures.led number) is_flag level c.in-None.ensures c.loop-number.invariant
+    let last = c.index-last.result.now in
+    let facts = c.index-levels-last.result in
+    let here = slice_get_read reach.places.items (length reach.places.items) c.loop-at.at last refl (omega (arith, c.len-at-end.ensures, c.loop-at-test.true)) c.index-last.ensures in
+    let inside = there-below reach.places.items reach.marks.items (length levels) c.loop-at.at last c.in_ok-led_from.ensures.marked c.in_ok-led_from.ensures.size here in
+    fine-more levels reach.places.items c.args.end c.loop-at.at last facts here (slice_get_read levels (length levels) last facts refl inside c.index-levels-last.is) c.in-None.ensures c.loop-at.invariant
 
-pub returns : goal.returns
-returns c = fine-all c.args.levels.now c.args.base c.args.end c.loop-number.number (omega (arith, c.loop-number-test.false)) c.loop-number.invariant
+pub returns-clause-found : goal.returns-clause-found
+returns-clause-found c = fine-all c.args.levels.now c.args.base c.args.end c.led_from.new.reach.places.items c.loop-at.at (omega (arith, c.len-at-end.ensures, c.loop-at-test.false)) c.in_ok-led_from.ensures.led c.loop-at.invariant

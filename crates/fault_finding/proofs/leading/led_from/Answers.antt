@@ -7,16 +7,24 @@ use Rattle.fault_finding.proofs.Led.{led-begins, led-more, led-all}
 use Rattle.fault_finding.proofs.leading.led_from.Goals as goal
 
 pub loop-at-init : goal.loop-at-init
-loop-at-init c = led-begins c.args.levels.now c.args.base c.in_ok-reach.reach.places.items c.visit.new.self.places.items c.visit.new.self.marks.items c.in_ok-reach.ensures.none c.in_ok-visit.ensures.adds c.in_ok-visit.ensures.marked
-    (c.in_ok-visit.ensures.size ∙ c.in_ok-reach.ensures.size)
+loop-at-init c = led-begins c.args.levels.now c.args.base c.clear.new.self.places.items c.visit.new.self.places.items c.visit.new.self.marks.items c.clear.ensures.none c.in_ok-visit.ensures.adds c.in_ok-visit.ensures.marked
+    (c.in_ok-visit.ensures.size ∙ c.clear.ensures.size ∙ c.requires.size)
 
-pub returns-then-at-len-clause-led : goal.returns-then-at-len-clause-led
-returns-then-at-len-clause-led c = led-all c.args.levels.now c.args.base c.loop-at.reach.places.items c.loop-at.reach.marks.items c.loop-at.at (omega (arith, c.if-at-len.true)) c.loop-at.invariant
+pub returns-then-at-len : goal.returns-then-at-len
+returns-then-at-len c = record {
+  led = led-all c.args.levels.now c.args.base c.loop-at.reach.places.items c.loop-at.reach.marks.items c.loop-at.at (omega (arith, c.if-at-len.true)) c.loop-at.invariant;
+  marked = c.loop-at.invariant.marked;
+  size = c.loop-at.invariant.size;
+}
 
-pub returns-clause-led : goal.returns-clause-led
-returns-clause-led c =
+pub returns : goal.returns
+returns c =
     let up : length c.loop-at.reach.places.items ≤ length c.loop-at.reach.marks.items = few c.loop-at.reach.places.items c.loop-at.reach.marks.items c.loop-at.invariant.marked in
-    led-all c.args.levels.now c.args.base c.loop-at.reach.places.items c.loop-at.reach.marks.items c.loop-at.at (omega (arith, up, c.loop-at.invariant.size, c.loop-at-test.false)) c.loop-at.invariant
+    record {
+      led = led-all c.args.levels.now c.args.base c.loop-at.reach.places.items c.loop-at.reach.marks.items c.loop-at.at (omega (arith, up, c.loop-at.invariant.size, c.loop-at-test.false)) c.loop-at.invariant;
+      marked = c.loop-at.invariant.marked;
+      size = c.loop-at.invariant.size;
+    }
 
 pub bounds-levels-number : goal.bounds-levels-number
 bounds-levels-number c =
