@@ -14,4 +14,11 @@ pub mod Structured
 pub mod Nested
 pub mod Alike
 -- what the answer to a program tells of the bytes
+pub mod ReadSome
+pub mod Flowing
 pub mod Answering
+-- a plain program has no fault of flow
+pub mod PlainFlow
+-- one answer is due, but for the trail
+pub mod Ranges
+pub mod OneAnswer

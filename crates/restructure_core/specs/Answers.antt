@@ -1,8 +1,11 @@
 -- What each answer says of the bytes.
 use Rattle.std.specs.Prelude.{ℕ, ◌≡◌, ◌≢◌, ◌⊎◌, List, Result, Ok, Err}
+use Rattle.cob_base.specs.declared.limit.Limit.{Limit}
 use Rattle.cob_tree.specs.declared.program.Program.{Program}
 use Rattle.cob_tree.specs.Structured.{IsStructured}
 use Rattle.meanings.specs.Same.{SameBehaviour}
+use Rattle.flow_paths.specs.declared.trail.Trail.{Trail}
+use Rattle.pending_returns.specs.Summary.{IsWithin}
 use Rattle.cobol_read.specs.declared.refusal.ReadRefusal.{ReadRefusal}
 use Rattle.cobol_read.specs.declared.refusal.ReadRefusal.TheVariants as read
 use Rattle.cobol_read.specs.Reading as reading
@@ -14,6 +17,7 @@ use Rattle.restructure_core.specs.declared.fault.Refused.{Refused}
 use Rattle.restructure_core.specs.declared.fault.Refused.TheVariants as refused
 use Rattle.restructure_core.specs.Plain.{IsPlain}
 use Rattle.restructure_core.specs.Control.{ComesBack}
+use Rattle.restructure_core.specs.Flow.{PassesRanges, HasFlowFault, IsFaultless, IsFaultyBy}
 use Rattle.restructure_core.specs.Refusals.{of_read_refusal}
 use Rattle.restructure_core.specs.Rendered.{rendered}
 use Rattle.restructure_core.specs.Laws.{IsStraight}
@@ -25,15 +29,33 @@ pub record IsUnread (bytes : List ℕ) (refusal : Refused) : Type 0 where
   pub cause : reading.HasCause bytes why
   pub is : refusal ≡ of_read_refusal why
 
+-- the bytes are a program that names too many ranges
+pub record IsPastRanges (bytes : List ℕ) (limit : Limit) : Type 0 where
+  pub program : Program
+  pub reads : Reads bytes program
+  pub past : PassesRanges program limit
+
+-- the bytes are this program, a flow path of which comes to a fault
+pub record IsFaultySource (bytes : List ℕ) (program : Program) : Type 0 where
+  pub reads : Reads bytes program
+  pub within : IsWithin program
+  pub faulty : HasFlowFault program
+
+-- the same, and this trail shows it
+pub record IsFaultySourceBy (bytes : List ℕ) (program : Program) (trail : Trail) : Type 0 where
+  pub reads : Reads bytes program
+  pub faulty : IsFaultyBy program trail
+
 -- why a program isn't restructured yet: it isn't plain, or comes to a paragraph a second time
 abbrev pub IsLater : Program → Later → Type 0
 IsLater program Form = IsPlain program → ⊥
 IsLater program Loop = IsPlain program × ComesBack program
 
--- the bytes are a program that isn't restructured yet
+-- the bytes are a program without a fault of flow that isn't restructured yet
 pub record IsNotYet (bytes : List ℕ) (why : Later) : Type 0 where
   pub program : Program
   pub reads : Reads bytes program
+  pub faultless : IsFaultless program
   pub cause : IsLater program why
 
 -- the bytes are a plain program that comes to no paragraph a second time
@@ -55,7 +77,7 @@ pub record IsTextOf (program : Program) (text : List ℕ) : Type 0 where
   pub straight : IsStraight program
   pub written : text ≡ printed (rendered program)
 
--- what is answered of a program
+-- what is answered of a program without a fault of flow
 abbrev pub IsAnswerTo : Program → Result (List ℕ) Refused → Type 0
 IsAnswerTo program (Ok text) = IsTextOf program text
 IsAnswerTo program (Err (refused.NotYet why)) = IsLater program why
@@ -65,10 +87,17 @@ IsAnswerTo program (Err _) = ⊥
 -- the cause of each refusal; want of memory may come at any place
 abbrev pub HasCause : List ℕ → Refused → Type 0
 HasCause bytes (refused.NotSubset why) = IsUnread bytes (refused.NotSubset why)
+HasCause bytes (refused.Flow program trail) = IsFaultySourceBy bytes program trail
 HasCause bytes (refused.NotYet why) = IsNotYet bytes why
-HasCause bytes (refused.Limit limit) = IsUnread bytes (refused.Limit limit)
+HasCause bytes (refused.Limit limit) =
+    IsUnread bytes (refused.Limit limit) ⊎ IsPastRanges bytes limit
 HasCause bytes refused.NoMemory = Unit {0}
 
 -- this refusal, unless memory is wanted
 abbrev pub IsRefusedBy : {T : Type 0} → Refused → Result T Refused → Type 0
 IsRefusedBy refusal result = (result ≡ Err refusal) ⊎ (result ≡ Err refused.NoMemory)
+
+-- the refusal of this program by a trail, unless memory is wanted
+abbrev pub IsRefusedByTrail : {T : Type 0} → Program → Result T Refused → Type 0
+IsRefusedByTrail program result = ((trail : Trail) × (result ≡ Err (refused.Flow program trail)))
+    ⊎ (result ≡ Err refused.NoMemory)

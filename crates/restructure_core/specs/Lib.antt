@@ -4,6 +4,8 @@ pub mod Plain
 -- the way of control, and what is written of it
 pub mod Control
 pub mod Rendered
+-- what control comes to, whatever the data
+pub mod Flow
 pub mod Laws
 -- what each answer says of the bytes
 pub mod Refusals

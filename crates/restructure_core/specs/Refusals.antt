@@ -1,4 +1,6 @@
 -- The refusal that a part's fault becomes.
+use Rattle.cob_tree.specs.declared.fault.SplitFault.{SplitFault}
+use Rattle.cob_tree.specs.declared.fault.SplitFault.TheVariants as split
 use Rattle.cobol_read.specs.declared.refusal.ReadRefusal.{ReadRefusal}
 use Rattle.cobol_read.specs.declared.refusal.ReadRefusal.TheVariants as read
 use Rattle.restructure_core.specs.declared.fault.FollowFault.{FollowFault}
@@ -12,6 +14,10 @@ abbrev pub of_read_refusal : ReadRefusal → Refused
 of_read_refusal (read.Limit limit) = Limit limit
 of_read_refusal read.NoMemory = NoMemory
 of_read_refusal other = NotSubset other
+
+abbrev pub of_split_fault : SplitFault → Refused
+of_split_fault (split.Limit limit) = Limit limit
+of_split_fault split.NoMemory = NoMemory
 
 abbrev pub of_follow_fault : FollowFault → Refused
 of_follow_fault follow.ComesBack = NotYet Loop

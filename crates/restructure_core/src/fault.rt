@@ -1,7 +1,9 @@
 //! Why a source isn't restructured.
 
 use cob_base::{Limit, NoMemory};
+use cob_tree::{Program, SplitFault};
 use cobol_read::ReadRefusal;
+use flow_paths::Trail;
 use thiserror::Error;
 
 /// What isn't restructured yet.
@@ -19,6 +21,9 @@ pub enum Refused {
     /// The bytes are no program; never for a limit or want of memory, which have their own.
     #[error("{0}")]
     NotSubset(ReadRefusal),
+    /// The bytes are this program, and a flow path of it comes to a fault, which the trail shows.
+    #[error("a fault of flow")]
+    Flow(Program, Trail),
     #[error("not yet: {0:?}")]
     NotYet(Later),
     #[error("past a limit: {0:?}")]
@@ -49,6 +54,20 @@ impl From<ReadRefusal> for Refused {
             ReadRefusal::Limit(limit) => Refused::Limit(limit),
             ReadRefusal::NoMemory => Refused::NoMemory,
             other => Refused::NotSubset(other),
+        }
+    }
+}
+
+impl From<SplitFault> for Refused {
+    ghost use Rattle.std.specs.Prelude.{◌≡◌};
+    ghost use Rattle.restructure_core.specs.Refusals.{of_split_fault};
+
+    ghost from_gives = { λ fault e. e ≡ of_split_fault fault };
+
+    fn from(fault: SplitFault) -> Refused {
+        match fault {
+            SplitFault::Limit(limit) => Refused::Limit(limit),
+            SplitFault::NoMemory => Refused::NoMemory,
         }
     }
 }

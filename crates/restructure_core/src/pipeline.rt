@@ -1,12 +1,15 @@
 //! Bytes of a source to bytes of the result.
 
 ghost use Rattle.std.specs.Prelude.{◌≡◌, ◌⊎◌, ◌<◌, ◌^◌, length, IsOk, IfOk, IfErr, Err};
+ghost use Rattle.cob_base.specs.declared.limit.Limit as limits;
+ghost use Rattle.cob_tree.specs.declared.program.Program as tree;
 ghost use Rattle.restructure_core.specs.declared.fault.Later as later;
 ghost use Rattle.restructure_core.specs.declared.fault.Refused as answers;
 ghost use Rattle.restructure_core.specs.Rendered.{one_paragraph};
-ghost use Rattle.restructure_core.specs.Answers.{IsUnread, IsNotYet, IsStraightSource, IsRestructured, IsAnswerTo, HasCause, IsRefusedBy};
+ghost use Rattle.restructure_core.specs.Answers.{IsUnread, IsPastRanges, IsFaultySource, IsNotYet, IsStraightSource, IsRestructured, IsAnswerTo, HasCause, IsRefusedBy, IsRefusedByTrail};
 
 use crate::fault::{Later, Refused};
+use crate::flow::flow_of;
 use crate::follow::follow;
 use crate::plain::is_plain;
 use cob_base::{Items, NoMemory, Text};
@@ -25,8 +28,9 @@ pub struct Done {
 /// Restructures a source whose program is of the plain form.
 ///
 /// A program of the plain form has no files and no data; its paragraphs have names and are in no
-/// section, and their statements are DISPLAY of literals in quotation marks, GO TO and STOP RUN. The errors are those of reading, then
-/// another form, then control that comes to a paragraph a second time.
+/// section, and their statements are DISPLAY of literals in quotation marks, GO TO and STOP RUN. The
+/// errors are those of reading, then too many ranges, then a fault of flow, then another form, then
+/// control that comes to a paragraph a second time.
 pub fn restructure(alloc: Global, bytes: &[u8]) -> Result<Done, Refused>
     // what each answer tells
     ensures done { IfOk result (λ done. IsRestructured bytes.now done.text) }
@@ -35,16 +39,34 @@ pub fn restructure(alloc: Global, bytes: &[u8]) -> Result<Done, Refused>
     // and where it comes
     ensures unread { (refusal : answers.Refused) →
         IsUnread bytes.now refusal → IsRefusedBy refusal result }
+    ensures ranges { (limit : limits.Limit) →
+        IsPastRanges bytes.now limit → IsRefusedBy (Refused.Limit limit) result }
+    ensures faulty { (program : tree.Program) →
+        IsFaultySource bytes.now program → IsRefusedByTrail program result }
     ensures later { (why : later.Later) →
         IsNotYet bytes.now why → IsRefusedBy (Refused.NotYet why) result }
     ensures straight { IsStraightSource bytes.now → IsOk result ⊎ (result ≡ Err Refused.NoMemory) }
 {
-    let program = read(alloc, bytes)?;
-    let text = restructure_program(alloc, &program)?;
-    Ok(Done { text })
+    restructured(alloc, bytes)
 }
 
-// The text of what is rendered of a program.
+// The same, by what each answer tells.
+#[tactic(auto, using(crate::proofs::ReadSome::read_some, crate::proofs::Answering::restructured, crate::proofs::Answering::refused_unread, crate::proofs::Answering::refused_flow, crate::proofs::Answering::refused_by_trail, crate::proofs::Answering::refused_later))]
+fn restructured(alloc: Global, bytes: &[u8]) -> Result<Done, Refused>
+    ensures done { IfOk result (λ done. IsRestructured bytes.now done.text) }
+    ensures refused { IfErr result (HasCause bytes.now) }
+{
+    let program = read(alloc, bytes)?;
+    match flow_of(alloc, &program)? {
+        Some(trail) => Err(Refused::Flow(program, trail)),
+        None => {
+            let text = restructure_program(alloc, &program)?;
+            Ok(Done { text })
+        }
+    }
+}
+
+// The text of what is rendered of a program without a fault of flow.
 fn restructure_program(alloc: Global, program: &Program) -> Result<Text, Refused>
     requires { length program.now.paragraphs < 2 ^ 31 }
     ensures { IsAnswerTo program.now result }

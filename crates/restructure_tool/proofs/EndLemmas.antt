@@ -9,7 +9,7 @@ use Rattle.restructure_core.specs.declared.fault.Refused.TheVariants as refused
 use Rattle.cobol_read.specs.declared.refusal.ReadRefusal.TheVariants as rd
 use Rattle.cobol_read.specs.Limit.{source_limit, past_source}
 use Rattle.restructure_core.specs.Refusals.{of_read_refusal}
-use Rattle.restructure_core.specs.Answers.{IsUnread, IsNotYet, IsRestructured, HasCause}
+use Rattle.restructure_core.specs.Answers.{IsUnread, IsPastRanges, IsFaultySourceBy, IsNotYet, IsRestructured, HasCause}
 use Rattle.restructure_tool.proofs.LengthLemmas.{short-read, short-either}
 use Rattle.restructure_tool.specs.declared.ask.Ask.{Ask}
 use Rattle.restructure_tool.specs.declared.ask.Ask.TheVariants.{Restructure}
@@ -66,8 +66,10 @@ module _ (source : SourceCall) (text : List ℕ) (read : IsRead source text) whe
 
   gives-refused : (why : Refused) → HasCause text why → Gives (Some Restructure) source (Err (of_refused why))
   gives-refused (refused.NotSubset why) h = answered (Err (refusal.Refused (refused.NotSubset why))) ((λ e. cc), unread (refused.NotSubset why) h)
+  gives-refused (refused.Flow program trail) h = answered (Err (refusal.Refused (refused.Flow program trail))) ((λ e. cc), short (λ b. IsFaultySourceBy b program trail) (short-read text program h.reads) h)
   gives-refused (refused.NotYet why) h = answered (Err (refusal.Refused (refused.NotYet why))) ((λ e. cc), short (λ b. IsNotYet b why) (short-read text h.program h.reads) h)
-  gives-refused (refused.Limit limit) h = answered (Err (refusal.Refused (refused.Limit limit))) ((λ e. cc), unread (refused.Limit limit) h)
+  gives-refused (refused.Limit limit) (inl h) = answered (Err (refusal.Refused (refused.Limit limit))) ((λ e. cc), inl (unread (refused.Limit limit) h))
+  gives-refused (refused.Limit limit) (inr h) = answered (Err (refusal.Refused (refused.Limit limit))) ((λ e. cc), inr (short (λ b. IsPastRanges b limit) (short-read text h.program h.reads) h))
   gives-refused refused.NoMemory h = within
 
   pub gives-made : (why : Refused) (r : Refusal) → r ≡ of_refused why → HasCause text why → Gives (Some Restructure) source (Err r)
@@ -91,6 +93,7 @@ never-starved (Some Restructure) bytes h = h.0 refl
 noted-ends : (ask : Option Ask) (source : SourceCall) (out notes : SinkCall) (r : Refusal) → Gives ask source (Err r) → Keeps out → Takes (line_of r) notes → Ends ask source out notes (status_of r)
 noted-ends ask source out notes refusal.Usage h kept noted = record { refusal = refusal.Usage; answered = h; status = refl; kept = kept; noted = noted }
 noted-ends ask source out notes (refusal.Refused (refused.NotSubset why)) h kept noted = record { refusal = refusal.Refused (refused.NotSubset why); answered = h; status = refl; kept = kept; noted = noted }
+noted-ends ask source out notes (refusal.Refused (refused.Flow program trail)) h kept noted = record { refusal = refusal.Refused (refused.Flow program trail); answered = h; status = refl; kept = kept; noted = noted }
 noted-ends ask source out notes (refusal.Refused (refused.NotYet what)) h kept noted = record { refusal = refusal.Refused (refused.NotYet what); answered = h; status = refl; kept = kept; noted = noted }
 noted-ends ask source out notes (refusal.Refused (refused.Limit limit)) h kept noted = record { refusal = refusal.Refused (refused.Limit limit); answered = h; status = refl; kept = kept; noted = noted }
 noted-ends ask source out notes (refusal.Refused refused.NoMemory) h kept noted = absurd (never-starved ask h.bytes h.due)

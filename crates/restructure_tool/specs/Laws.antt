@@ -1,11 +1,15 @@
 -- What follows of how a call ends.
-use Rattle.std.specs.Prelude.{ℕ, ◌≡◌, ◌≤◌, ◌↔◌, List, [], ◌∷◌, length, Option, Some, None, Ok, Err, codes}
+use Rattle.std.specs.Prelude.{ℕ, ◌≡◌, ◌≤◌, ◌↔◌, ◌⊎◌, List, [], ◌∷◌, length, Option, Some, None, Ok, Err, codes}
 use Rattle.cob_base.specs.Source.{SourceCall}
 use Rattle.cob_base.specs.Sink.{SinkCall}
+use Rattle.cob_tree.specs.declared.program.Program.{Program}
+use Rattle.flow_paths.specs.declared.trail.Trail.{Trail}
 use Rattle.cobol_read.specs.Limit.{source_limit}
+use Rattle.restructure_core.specs.declared.fault.Refused.TheVariants as refused
 use Rattle.restructure_core.specs.Answers.{IsStraightSource}
 use Rattle.restructure_tool.specs.declared.ask.Ask.{Ask}
 use Rattle.restructure_tool.specs.declared.ask.Ask.TheVariants.{Restructure}
+use Rattle.restructure_tool.specs.declared.refusal.Refusal.TheVariants as refusal
 use Rattle.restructure_tool.specs.declared.status.Status.{Status}
 use Rattle.restructure_tool.specs.declared.status.Status.TheVariants as status
 use Rattle.restructure_tool.specs.Ask.{ask_of, reads}
@@ -20,11 +24,19 @@ abbrev pub RestructureIsOneWord : Type 0
 RestructureIsOneWord =
     (words : List (List ℕ)) → (ask_of words ≡ Some Restructure) ↔ (words ≡ codes "restructure" ∷ [])
 
--- at most one answer is due to an ask and bytes
+abbrev pub trail_answer : Program → Trail → Answer
+trail_answer program trail = Err (refusal.Refused (refused.Flow program trail))
+
+-- the same answer, or the refusal of one program by two trails
+abbrev pub AreAlike : Answer → Answer → Type 0
+AreAlike one other = (one ≡ other) ⊎ ((program : Program) × (first : Trail) × (second : Trail)
+    × (one ≡ trail_answer program first) × (other ≡ trail_answer program second))
+
+-- at most one answer is due to an ask and bytes, but for the trail of a program
 abbrev pub OneAnswerIsDue : Type 0
 OneAnswerIsDue =
     (ask : Option Ask) (bytes : List ℕ) (one other : Answer) →
-    IsDue ask bytes one → IsDue ask bytes other → one ≡ other
+    IsDue ask bytes one → IsDue ask bytes other → AreAlike one other
 
 -- the statuses with which a call ends where this answer is due
 abbrev pub statuses_of : Answer → List Status

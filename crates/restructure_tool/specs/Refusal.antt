@@ -1,4 +1,4 @@
--- The status of each refusal, and the line that tells it.
+-- The status of each refusal, and the line or lines that tell it.
 use Rattle.std.specs.Prelude.{ℕ, List, [], ◌∷◌, ◌++◌, codes}
 use Rattle.cob_base.specs.Bytes.{line_feed}
 use Rattle.cob_base.specs.Limit.{limit_text}
@@ -7,6 +7,7 @@ use Rattle.restructure_core.specs.declared.fault.Later.TheVariants as later
 use Rattle.restructure_core.specs.declared.fault.Refused.{Refused}
 use Rattle.restructure_core.specs.declared.fault.Refused.TheVariants as refused
 use Rattle.cobol_read.specs.declared.refusal.ReadRefusal.{ReadRefusal}
+use Rattle.trail_notes.specs.Trail.{trail_text}
 use Rattle.restructure_tool.specs.Kind.{kind_at}
 use Rattle.restructure_tool.specs.declared.status.Status.{Status}
 use Rattle.restructure_tool.specs.declared.status.Status.TheVariants as status
@@ -16,12 +17,14 @@ use Rattle.restructure_tool.specs.declared.refusal.Refusal.TheVariants as refusa
 -- the refusal that a refused source becomes
 abbrev pub of_refused : Refused → Refusal
 of_refused (refused.NotSubset why) = refusal.Refused (refused.NotSubset why)
+of_refused (refused.Flow program trail) = refusal.Refused (refused.Flow program trail)
 of_refused (refused.NotYet what) = refusal.Refused (refused.NotYet what)
 of_refused (refused.Limit limit) = refusal.Refused (refused.Limit limit)
 of_refused refused.NoMemory = refusal.NoMemory
 
 abbrev pub refused_status : Refused → Status
 refused_status (refused.NotSubset why) = status.NotSubset
+refused_status (refused.Flow program trail) = status.Flow
 refused_status (refused.NotYet what) = status.NotSubset
 refused_status (refused.Limit limit) = status.Limit
 refused_status refused.NoMemory = status.NoMemory
@@ -42,6 +45,7 @@ not_subset_text why = codes "NOT SUBSET " ++ kind_at why
 
 abbrev pub refused_text : Refused → List ℕ
 refused_text (refused.NotSubset why) = not_subset_text why
+refused_text (refused.Flow program trail) = trail_text program.paragraphs trail
 refused_text (refused.NotYet what) = later_text what
 refused_text (refused.Limit limit) = limit_text limit
 refused_text refused.NoMemory = codes "NO MEMORY"
@@ -53,6 +57,6 @@ refusal_text refusal.ReadFault = codes "READ FAULT"
 refusal_text refusal.WriteFault = codes "WRITE FAULT"
 refusal_text refusal.NoMemory = codes "NO MEMORY"
 
--- the text, and a line feed
+-- the text, of one line or of several, and a line feed
 abbrev pub line_of : Refusal → List ℕ
 line_of refusal = refusal_text refusal ++ line_feed ∷ []

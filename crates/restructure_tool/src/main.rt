@@ -34,10 +34,11 @@ use std::process::ExitCode;
 use writing::{note, write_text};
 
 /// Does what the words ask: with the one word `restructure` the source is read to its end, and the
-/// result is written to `out`. Where that isn't done, `notes` gets a line that says why.
+/// result is written to `out`. Where that isn't done, `notes` gets a line that says why, or the lines
+/// of a trail.
 ///
 /// The order of the refusals is that of their causes: words, a fault of the source, those of
-/// reading, the form, a loop. Both sinks have room before the first byte of the result is
+/// reading, too many ranges, a fault of flow, the form, a loop. Both sinks have room before the first byte of the result is
 /// written. A failure of `notes` changes no status; want of room in it makes the status NoMemory.
 pub fn tool<S: Source, K: Sink, N: Sink>(
     alloc: Global,

@@ -23,10 +23,11 @@ usage: restructure_tool restructure < SOURCE > RESULT
 
 Reads a COBOL-85 program from standard input and writes a structured program
 that behaves the same to standard output. Where it can't, standard error has a
-line that says why, and standard output stays empty, but at WRITE FAULT.
+line that says why, and standard output stays empty, but at WRITE FAULT. At FLOW
+further lines show the way to the fault.
 
 Exit statuses: 0 done, 1 USAGE, 2 NOT SUBSET, NOT YET FORM or NOT YET LOOP,
-4 LIMIT, 5 READ FAULT, 6 WRITE FAULT, 10 NO MEMORY.
+3 FLOW, 4 LIMIT, 5 READ FAULT, 6 WRITE FAULT, 10 NO MEMORY.
 ";
 
 const VERSION: &str = "restructure_tool 0.1.0\n";

@@ -12,6 +12,7 @@ use cob_base::{Limit, NoMemory, Text};
 use cobol_read::ReadRefusal;
 use restructure_core::{Later, Refused};
 use std::alloc::Global;
+use trail_notes::trail_text;
 
 /// Why an ask isn't done.
 #[derive(Debug, Drop)]
@@ -65,7 +66,7 @@ impl Refusal {
         }
     }
 
-    /// The line that tells it, with its line feed.
+    /// The line that tells it, or the lines of a trail, with the last line feed.
     pub fn line(&self, alloc: Global) -> Result<Text, NoMemory>
         ensures { Makes (line_of self.now) result }
     {
@@ -92,6 +93,7 @@ fn refused_status(refused: &Refused) -> Status
 {
     match refused {
         Refused::NotSubset(_) => Status::NotSubset,
+        Refused::Flow(_, _) => Status::Flow,
         Refused::NotYet(_) => Status::NotSubset,
         Refused::Limit(_) => Status::Limit,
         Refused::NoMemory => Status::NoMemory,
@@ -103,6 +105,7 @@ fn refused_text(alloc: Global, refused: &Refused) -> Result<Text, NoMemory>
 {
     match refused {
         Refused::NotSubset(why) => not_subset_text(alloc, why),
+        Refused::Flow(program, trail) => trail_text(alloc, program.paragraphs.as_slice(), trail),
         Refused::NotYet(Later::Form) => told(alloc, b"NOT YET FORM"),
         Refused::NotYet(Later::Loop) => told(alloc, b"NOT YET LOOP"),
         Refused::Limit(limit) => limit_text(alloc, limit),

@@ -55,7 +55,45 @@ const PERFORMING: &str = "       IDENTIFICATION DIVISION.
        PROGRAM-ID. T.
        PROCEDURE DIVISION.
        A.
+           PERFORM B.
+           STOP RUN.
+       B.
+           DISPLAY \"B\".
+";
+
+const REENTERING: &str = "       IDENTIFICATION DIVISION.
+       PROGRAM-ID. T.
+       PROCEDURE DIVISION.
+       A.
            PERFORM A.
+";
+
+const OVERLAPPING: &str = "       IDENTIFICATION DIVISION.
+       PROGRAM-ID. T.
+       DATA DIVISION.
+       WORKING-STORAGE SECTION.
+       01 N PIC 9 VALUE 0.
+       PROCEDURE DIVISION.
+           PERFORM A THRU C.
+           STOP RUN.
+       A.
+           PERFORM E.
+           IF N = 1 PERFORM D.
+       B.
+           DISPLAY \"B\".
+       C.
+           DISPLAY \"C\".
+       D.
+           GO TO C.
+       E.
+           DISPLAY \"E\".
+";
+
+const OVERLAPPING_NOTES: &str = "FLOW OVERLAP C
+RETURN 0 E THRU E:
+IN MAIN: INTO
+IN A THRU C: OVER 0 ARM 1 INTO
+IN D THRU D:
 ";
 
 /// What stands before the data of a program in `KINDS`.
@@ -255,6 +293,20 @@ fn each_answer_comes_with_its_line(rt: HostRuntime) -> Result<(), Fail> {
             status: Status::NotSubset,
             out: "",
             notes: "NOT YET FORM\n",
+            ..PLAIN
+        },
+        Case {
+            source: REENTERING,
+            status: Status::Flow,
+            out: "",
+            notes: "FLOW REENTRY A\nIN MAIN: INTO\nIN A THRU A:\n",
+            ..PLAIN
+        },
+        Case {
+            source: OVERLAPPING,
+            status: Status::Flow,
+            out: "",
+            notes: OVERLAPPING_NOTES,
             ..PLAIN
         },
         Case {

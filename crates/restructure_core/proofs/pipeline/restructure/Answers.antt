@@ -1,6 +1,17 @@
-use Rattle.restructure_core.proofs.Answering.{restructured}
+use Rattle.restructure_core.proofs.OneAnswer.{comes-unread, comes-past, comes-faulty, comes-later, comes-done}
 use Rattle.restructure_core.proofs.pipeline.restructure.Goals as goal
 
-pub returns-clause-done : goal.returns-clause-done
-returns-clause-done c =
-    restructured c.args.bytes.now c.in_ok-text.text c.in_ok-program.program c.in_ok-program.ensures.found c.in_ok-text.ensures
+pub returns-clause-unread : goal.returns-clause-unread
+returns-clause-unread c = comes-unread c.args.bytes.now c.restructured.result c.restructured.ensures.done c.restructured.ensures.refused
+
+pub returns-clause-ranges : goal.returns-clause-ranges
+returns-clause-ranges c = comes-past c.args.bytes.now c.restructured.result c.restructured.ensures.done c.restructured.ensures.refused
+
+pub returns-clause-faulty : goal.returns-clause-faulty
+returns-clause-faulty c = comes-faulty c.args.bytes.now c.restructured.result c.restructured.ensures.done c.restructured.ensures.refused
+
+pub returns-clause-later : goal.returns-clause-later
+returns-clause-later c = comes-later c.args.bytes.now c.restructured.result c.restructured.ensures.done c.restructured.ensures.refused
+
+pub returns-clause-straight : goal.returns-clause-straight
+returns-clause-straight c = comes-done c.args.bytes.now c.restructured.result c.restructured.ensures.done c.restructured.ensures.refused

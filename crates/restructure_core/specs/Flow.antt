@@ -1,0 +1,41 @@
+-- What control of a program comes to, whatever the data.
+use Rattle.cob_base.specs.declared.limit.Limit.{Limit}
+use Rattle.cob_tree.specs.declared.fault.SplitFault.TheVariants as split
+use Rattle.cob_tree.specs.declared.program.Program.{Program}
+use Rattle.language.specs.Control.{control_of}
+use Rattle.flow_paths.specs.Flow.{IsFaulty}
+use Rattle.flow_paths.specs.declared.trail.Trail.{Trail}
+use Rattle.flow_numbers.specs.Kinds.{never_first_of}
+use Rattle.pending_returns.specs.Summary.{IsWithin, IsPast}
+use Rattle.trail_finding.specs.Finding.{IsFound}
+use Rattle.restructure_core.specs.declared.fault.Refused.{Refused}
+use Rattle.restructure_core.specs.declared.fault.Refused.TheVariants as refused
+
+-- its PERFORM statements name more distinct ranges than there may be
+abbrev pub PassesRanges : Program → Limit → Type 0
+PassesRanges program limit = IsPast program (split.Limit limit)
+
+-- some flow path comes to a fault
+abbrev pub HasFlowFault : Program → Type 0
+HasFlowFault program = IsFaulty (never_first_of program.files) (control_of program)
+
+-- the trail is accepted, with no range twice among its lemmas or among its hops
+abbrev pub IsTrailOf : Program → Trail → Type 0
+IsTrailOf program trail = IsFound (never_first_of program.files) (control_of program) trail
+
+-- no flow path comes to a fault
+pub record IsFaultless (program : Program) : Type 0 where
+  pub within : IsWithin program
+  pub never : HasFlowFault program → ⊥
+
+-- one does, and this trail shows it
+pub record IsFaultyBy (program : Program) (trail : Trail) : Type 0 where
+  pub within : IsWithin program
+  pub faulty : HasFlowFault program
+  pub shown : IsTrailOf program trail
+
+-- why neither is told: too many ranges, or want of memory
+abbrev pub IsFlowRefusal : Program → Refused → Type 0
+IsFlowRefusal program (refused.Limit limit) = PassesRanges program limit
+IsFlowRefusal program refused.NoMemory = Unit {0}
+IsFlowRefusal program _ = ⊥
