@@ -51,7 +51,7 @@ pub fn restructure(alloc: Global, bytes: &[u8]) -> Result<Done, Refused>
 }
 
 // The same, by what each answer tells.
-#[tactic(auto, using(crate::proofs::ReadSome::read_some, crate::proofs::Answering::restructured, crate::proofs::Answering::refused_unread, crate::proofs::Answering::refused_flow, crate::proofs::Answering::refused_by_trail, crate::proofs::Answering::refused_later))]
+#[tactic(auto, using(crate::proofs::ReadSome::read_some, crate::proofs::Answering::refused_unread, crate::proofs::Answering::refused_flow, crate::proofs::Answering::refused_by_trail, crate::proofs::Answering::refused_later))]
 fn restructured(alloc: Global, bytes: &[u8]) -> Result<Done, Refused>
     ensures done { IfOk result (λ done. IsRestructured bytes.now done.text) }
     ensures refused { IfErr result (HasCause bytes.now) }
