@@ -1,0 +1,2 @@
+-- What is made of named parts is named.
+pub mod Made
