@@ -1,5 +1,5 @@
 -- What the makers of forms give, each law written as the form is.
-use Rattle.std.proofs.Common.{◌≡◌, ℕ, zero, suc, Bool, true, false, if◌then◌else◌, List, [], ◌∷◌, ◌++◌, length, Option, Some, None, refl, sym, ap, subst, ◌∙◌}
+use Rattle.std.proofs.Common.{◌≡◌, ℕ, zero, suc, Bool, true, false, if◌then◌else◌, List, [], ◌∷◌, ◌++◌, length, map, Option, Some, None, refl, sym, ap, subst, ◌∙◌}
 use Rattle.cobol_lex.specs.declared.token.Token.{Token}
 use Rattle.cobol_lex.specs.declared.token.TokenKind.{TokenKind}
 use Rattle.grammar_forms.specs.declared.note.Note.{Note}
@@ -11,7 +11,10 @@ use Rattle.grammar_forms.specs.Form.{Input, with_fault, behind_fault, noted_befo
 use Rattle.grammar_forms.specs.Part as parts
 use Rattle.grammar_forms.proofs.Lawful.{Lawful, IsEnd, got_is, then_got}
 use Rattle.grammar_forms.proofs.MakerLaws.{Law}
-use Rattle.named_forms.specs.Giving.{Each, is_filled, AreOf, Gives}
+use Rattle.language.specs.All.{all}
+use Rattle.named_programs.specs.Part.{is_filled}
+use Rattle.named_programs.proofs.Made.{both, all-added, filled-added}
+use Rattle.named_forms.specs.Giving.{AreOf, Gives}
 
 -- where no fault is the earlier one of two, neither is any
 none_of : (early late : Option Note) → earliest early late ≡ None → (early ≡ None) × (late ≡ None)
@@ -101,11 +104,15 @@ clear {A = A} {f = f} F p a q e n = go p.fault refl
 
 module _ {Kind : TokenKind → Type 0} where
   -- what follows from what a form gives
-  pub to : {A : Type 0} {f : Form A} {P Q : A → Type 0} → ((a : A) → P a → Q a) → Gives Kind f P → Gives Kind f Q
-  to h F = record {
+  pub hence : {A : Type 0} {f : Form A} {P Q : A → Type 0} → ((a : A) → P a → Q a) → Gives Kind f P → Gives Kind f Q
+  hence h F = record {
     keeps = F.keeps;
     gives = λ p a q e k n. let s = F.gives p a q e k n in (s.0, h a s.1);
   }
+
+  -- the same, whatever is known before
+  pub still : {A : Type 0} {f : Form A} {P : A → Type 0} {X : Type 0} → Gives Kind f P → Gives Kind f (λ a. X → P a)
+  still F = hence (λ a h _. h) F
 
   pub any : {A : Type 0} {b : Bool} {f : Form A} → Law b f → Gives Kind f (λ _. Unit {0})
   any {f = f} F = record {
@@ -147,7 +154,7 @@ module _ {Kind : TokenKind → Type 0} where
   infixl 10 ◌>>◌
   pub ◌>>◌ : {A B : Type 0} {f : Form A} {g : Form B} {P : A → Type 0} {Q : B → Type 0} →
       Gives Kind f P → Gives Kind g (λ b. ((a : A) × P a) → Q b) → Gives Kind (form.◌>>◌ f g) Q
-  F >> G = F >>= (λ a. to (λ b h k. h (a, k)) G)
+  F >> G = F >>= (λ a. hence (λ b h k. h (a, k)) G)
 
   -- ---- one token, and by the next one
 
@@ -198,29 +205,34 @@ module _ {Kind : TokenKind → Type 0} where
 
 -- ---- lists
 
-pub each_added : {A : Type 0} (P : A → Type 0) (front : List A) (x : A) → Each P front → P x → Each P (front ++ x ∷ [])
-each_added P [] x h k = (k, tt)
-each_added P (y ∷ front) x h k = (h.0, each_added P front x h.1 k)
+-- one item at least, each of which passes a test
+abbrev pub Full : {A : Type 0} → (A → Bool) → List A → Type 0
+Full test list = (is_filled list ≡ true) × (all (map test list) ≡ true)
 
-pub filled_added : {A : Type 0} (front : List A) (x : A) → is_filled (front ++ x ∷ []) ≡ true
-filled_added [] x = refl
-filled_added (y ∷ front) x = refl
+pub full-added : {A : Type 0} (test : A → Bool) (front : List A) (x : A) → all (map test front) ≡ true → test x ≡ true → Full test (front ++ x ∷ [])
+full-added test front x f e = (filled-added front x, all-added test front x f e)
+
+pub full-one : {A : Type 0} (test : A → Bool) (x : A) → test x ≡ true → Full test (x ∷ [])
+full-one test x e = (refl, both e refl)
 
 module _ {Kind : TokenKind → Type 0} where
+  pub added : {A : Type 0} {item : Form A} (test : A → Bool) (front : List A) → Gives Kind item (λ x. test x ≡ true) →
+      Gives Kind (form.added item front) (λ list. all (map test front) ≡ true → Full test list)
+  added test front F = F >>= (λ x. pure (λ e f. full-added test front x f e))
+
   -- items behind those before
-  pub items : {A : Type 0} {begin : TokenKind → Bool} {item : Form A} {front : List A} {P : A → Type 0} → Gives Kind item P →
-      Gives Kind (form.loop begin (form.added item) front)
-      (λ list. Each P front × (is_filled front ≡ true) → Each P list × (is_filled list ≡ true))
-  items {P = P} F =
-      loop {P = λ list. Each P list × (is_filled list ≡ true)}
-      (λ front. F >>= (λ x. pure (λ k h. (each_added P front x h.0 k, filled_added front x))))
+  pub items_all : {A : Type 0} {begin : TokenKind → Bool} {item : Form A} {front : List A} (test : A → Bool) → Gives Kind item (λ x. test x ≡ true) →
+      Gives Kind (form.loop begin (form.added item) front) (λ list. all (map test front) ≡ true → all (map test list) ≡ true)
+  items_all test F =
+      loop {P = λ list. all (map test list) ≡ true} (λ front. hence (λ list h f. (h f).1) (added test front F))
 
-  pub many : {A : Type 0} {begin : TokenKind → Bool} {item : Form A} {P : A → Type 0} → Gives Kind item P → Gives Kind (form.many begin item) (Each P)
-  many {P = P} F = to (λ list h. h tt) (loop {P = Each P} (λ front. F >>= (λ x. pure (λ k h. each_added P front x h k))))
+  pub items : {A : Type 0} {begin : TokenKind → Bool} {item : Form A} {front : List A} (test : A → Bool) → Gives Kind item (λ x. test x ≡ true) →
+      Gives Kind (form.loop begin (form.added item) front) (λ list. Full test front → Full test list)
+  items test F = loop {P = Full test} (λ front. hence (λ list h f. h f.1) (added test front F))
 
-  pub some : {A : Type 0} {begin : TokenKind → Bool} {item : Form A} {P : A → Type 0} → Gives Kind item P →
-      Gives Kind (form.some begin item) (λ list. Each P list × (is_filled list ≡ true))
-  some {P = P} F = F >>= (λ x. to (λ list h k. h ((k, tt), refl)) (items F))
+  pub some : {A : Type 0} {begin : TokenKind → Bool} {item : Form A} (test : A → Bool) → Gives Kind item (λ x. test x ≡ true) →
+      Gives Kind (form.some begin item) (Full test)
+  some test F = F >>= (λ x. hence (λ list h e. h (full-one test x e)) (items test F))
 
   -- ---- parts that are one token
 

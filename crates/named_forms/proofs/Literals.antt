@@ -15,7 +15,7 @@ use Rattle.named_programs.specs.Part.{Counts, are_digits, number_named, operand_
 use Rattle.named_programs.proofs.Made.{both, made-Number-operand, made-Text-operand, made-Figure-operand}
 use Rattle.named_forms.specs.Giving.{Gives}
 use Rattle.named_forms.specs.Numbered.{IsNumbered, literal_step, is_literal}
-use Rattle.named_forms.proofs.Giving.{any, pure, valued, where_next, to, ◌>>=◌}
+use Rattle.named_forms.proofs.Giving.{any, pure, valued, where_next, hence, ◌>>=◌}
 
 digits_are : (kind : TokenKind) (digits : List ℕ) → IsNumbered kind → part.digits_of kind ≡ Some digits → are_digits digits ≡ true
 digits_are (kinds.Digits found) digits k e = subst (λ d. are_digits d ≡ true) (some_is e) k
@@ -87,4 +87,4 @@ literal-given =
     (any (laws.valued constants.figure_of) >>= (λ found. pure (λ _. figure-literal found.0)))))
 
 pub literal : Gives IsNumbered constants.literal (λ found. is_literal found.0 ≡ true)
-literal = to (λ found h. h.0) literal-given
+literal = hence (λ found h. h.0) literal-given

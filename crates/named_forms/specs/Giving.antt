@@ -1,5 +1,5 @@
 -- What a form gives where no name fault is noted: each value that is read has a property.
-use Rattle.std.specs.Prelude.{◌≡◌, Bool, true, false, List, [], ◌∷◌, Option, None}
+use Rattle.std.specs.Prelude.{◌≡◌, List, [], ◌∷◌, Option, None}
 use Rattle.cobol_lex.specs.declared.token.Token.{Token}
 use Rattle.cobol_lex.specs.declared.token.TokenKind.{TokenKind}
 use Rattle.grammar_forms.specs.Form.{Input, Got, Form}
@@ -8,11 +8,6 @@ use Rattle.grammar_forms.specs.Form.{Input, Got, Form}
 abbrev pub Each : {A : Type 0} → (A → Type 0) → List A → Type 0
 Each P [] = Unit {0}
 Each P (x ∷ xs) = P x × Each P xs
-
--- there is one at least
-abbrev pub is_filled : {A : Type 0} → List A → Bool
-is_filled [] = false
-is_filled (x ∷ xs) = true
 
 -- tokens of these kinds
 abbrev pub AreOf : (TokenKind → Type 0) → List Token → Type 0

@@ -1,0 +1,2 @@
+-- Statements that hold no others.
+pub mod Simple

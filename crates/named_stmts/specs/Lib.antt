@@ -1,0 +1,2 @@
+-- What the parts of statements are to give.
+pub mod Parts
