@@ -7,7 +7,8 @@ use Rattle.cond_forms.specs.Condition.{whole_cond}
 use Rattle.named_programs.specs.Part.{Counts}
 use Rattle.named_programs.specs.Beside.{cond_named}
 use Rattle.named_forms.specs.Giving.{Gives}
-use Rattle.named_exprs.specs.Sides.{IsNumbered, AreDeclared, is_reference, what_named}
+use Rattle.named_forms.specs.Numbered.{IsNumbered}
+use Rattle.named_exprs.specs.Sides.{AreDeclared, is_reference, what_named}
 
 -- where no fault is noted, what they name is there and their numbers are numbers
 pub record SidesGive (names : Names) (counts : Counts) : Type 0 where

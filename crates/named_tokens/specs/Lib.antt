@@ -1,0 +1,2 @@
+-- What holds of the tokens of a text.
+pub mod Laws
