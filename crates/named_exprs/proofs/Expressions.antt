@@ -134,7 +134,7 @@ module _ (counts : Counts) where
   unfolding eithers.subs_of
   subs_of-named either e = subs_with-named either.base either.subs e.base e.subs
 
-  digits_side-named : (found : List ℕ) (position : Position) → are_digits found ≡ true → Named (sides.digits_side found position)
+  pub digits_side-named : (found : List ℕ) (position : Position) → are_digits found ≡ true → Named (sides.digits_side found position)
   unfolding sides.literal_side
   digits_side-named found position d = (whole-literal found d).1 counts
 

@@ -1,0 +1,2 @@
+-- What the PROCEDURE DIVISION gives.
+pub mod Laws
