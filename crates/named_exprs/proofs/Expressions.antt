@@ -317,15 +317,14 @@ module _ (counts : Counts) where
     digits_front = digits >>= (λ found. pure (λ d. number_either-named found.0 found.1 d))
 
     sum_front : (side : Side × ℕ) → Gives IsNumbered (front_forms.sum_front side) (λ front. Named side.0 → FrontNamed front)
-    unfolding front_forms.sum_front
     sum_front side = pure (λ s. (refl, s))
 
     plus_front : {inner : Inner} → InnerGives inner → (count : ℕ) → Gives IsNumbered (front_forms.plus_front names inner count) FrontNamed
-    unfolding front_forms.plus_front front_forms.sum_front sides.sum_side
+    unfolding front_forms.plus_front sides.sum_side
     plus_front I count = mark plus_sign >>= (λ position. where_next (still digits_front) (unsigned I count >>= (λ side. pure (λ s _. (refl, expr-named side.0.what s)))))
 
     name_front : {inner : Inner} → InnerGives inner → (count : ℕ) → Gives IsNumbered (front_forms.name_front names inner count) FrontNamed
-    unfolding front_forms.name_front front_forms.sum_front
+    unfolding front_forms.name_front
     name_front I count = do
       first ← any words.name
       of ← any law.qualifiers

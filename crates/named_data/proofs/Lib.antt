@@ -1,0 +1,2 @@
+-- What the divisions give.
+pub mod Data
