@@ -1,8 +1,11 @@
 -- What holds of named programs.
-use Rattle.std.specs.Prelude.{IsTrue}
+use Rattle.std.specs.Prelude.{◌≤◌, ◌^◌, length}
 use Rattle.cob_tree.specs.declared.program.Program.{Program}
-use Rattle.named_programs.specs.Part.{is_filled}
+use Rattle.language.specs.OwnItems.{NamesOwnItems}
 use Rattle.named_programs.specs.Named.{NamesItsOwn}
 
+-- with no more entries than that, each item number in its statements is below 2^31
 abbrev pub NameOwnItems : Type 0
-NameOwnItems = (program : Program) → NamesItsOwn program → IsTrue (is_filled program.paragraphs)
+NameOwnItems =
+    (program : Program) → length program.entries ≤ 2 ^ 31 → NamesItsOwn program →
+    NamesOwnItems program

@@ -1,0 +1,4 @@
+-- Forms that take the same tokens.
+pub mod Alike
+-- What names don't change.
+pub mod Laws
