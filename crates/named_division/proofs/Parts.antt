@@ -1,10 +1,11 @@
 -- What the parts of statements give in a program with these names, entries and procedures.
-use Rattle.std.proofs.Common.{◌≡◌, ℕ, ◌≤◌, ◌<◌, Bool, true, false, if◌then◌else◌, List, [], ◌∷◌, length, map, Option, Some, None, refl, sym, ◌∙◌, subst, arith, cond}
+use Rattle.std.proofs.Common.{◌≡◌, ℕ, ◌≤◌, ◌<◌, Bool, true, false, if◌then◌else◌, List, [], ◌∷◌, length, map, Option, Some, None, refl, ap, sym, ◌∙◌, subst, arith, cond}
 use Rattle.std.specs.Prelude.{position, slice_get, nat_lt}
 use Rattle.std.specs.List.{position_or_len}
 use Rattle.std.specs.Str.{bytes_eq}
 use Rattle.std.proofs.lemmas.Bool.{lt-ltb, ltb-true}
 use Rattle.cob_tree.specs.declared.entry.Entry.{Entry}
+use Rattle.cob_tree.specs.declared.place.Place.{out-roll-Place}
 use Rattle.cobol_lex.specs.declared.token.Token.{Token}
 use Rattle.grammar_forms.specs.declared.note.Position.{Position}
 use Rattle.data_names.specs.declared.name.Found.{Found}
@@ -100,7 +101,10 @@ module _ (counts : Counts) where
 
   record_name : (names : Names) (entries : List Entry) → length entries ≤ counts.items → Gives IsNumbered (names_of.record_name names entries) (λ side. item_named counts (uses.entry_of side.what) ≡ true)
   unfolding names_of.record_name sides.ref_side
-  record_name names entries le = any words.name >>= (λ word. note >> pure (λ n _. record_fine entries le (look names word.0 []) word.1 n.1))
+  record_name names entries le = any words.name >>= (λ word. note >> pure (λ n _.
+      let kept = names_of.as_record entries (look names word.0 []) in
+      ap (λ place. item_named counts place.item) (out-roll-Place (record { item = item_of kept; of = []; subs = []; window = None }))
+      ∙ record_fine entries le (look names word.0 []) word.1 n.1))
 
   -- ---- procedures
 
@@ -121,13 +125,13 @@ module _ (counts : Counts) where
 pub parts : (names : Names) (entries : List Entry) (tokens : List Token) (from : ℕ) (counts : Counts) → AreCounted names entries (procedures_of tokens from) counts →
     PartsGive counts (parts_of names entries (procedures_of tokens from))
 parts names entries tokens from counts counted = record {
-  operand = hence (λ side h. operand-named counts side.what h) (exprs.data_operand counts names counted.names);
-  reference = hence (λ side h. (place-named counts side.what h.0 h.1, operand-named counts side.what h.0)) (exprs.data_reference counts names counted.names);
-  reference_behind = λ first position. hence (λ side h. operand-named counts side.what h.0) (exprs.data_reference_behind counts names counted.names first position);
+  operand = hence (λ side h. operand-named counts side.what h) (exprs.data_operand counts names counted.declared);
+  reference = hence (λ side h. (place-named counts side.what h.0 h.1, operand-named counts side.what h.0)) (exprs.data_reference counts names counted.declared);
+  reference_behind = λ first position. hence (λ side h. operand-named counts side.what h.0) (exprs.data_reference_behind counts names counted.declared first position);
   digits_side = λ digits position d. operand-named counts (sides.digits_side digits position).what (exprs.digits_side-named counts digits position d);
-  expr = hence (λ side h. exprs.expr-named counts side.what h) (exprs.whole_expr counts names counted.names);
-  cond = whole_cond counts names counted.names;
-  file = file counts names counted.names;
-  record_name = record_name counts names entries counted.entries;
-  procedure_of = procedure_fine counts tokens from counted.paragraphs;
+  expr = hence (λ side h. exprs.expr-named counts side.what h) (exprs.whole_expr counts names counted.declared);
+  cond = whole_cond counts names counted.declared;
+  file = file counts names counted.declared;
+  record_name = record_name counts names entries counted.items;
+  procedure_of = procedure_fine counts tokens from counted.told;
 }

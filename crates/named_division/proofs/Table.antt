@@ -1,5 +1,5 @@
 -- The paragraphs that headers name are among those that are counted.
-use Rattle.std.proofs.Common.{◌≡◌, ℕ, zero, suc, ◌+◌, ◌-◌, ◌≤◌, ◌<◌, Bool, true, false, if◌then◌else◌, List, [], ◌∷◌, ◌++◌, length, Option, Some, None, refl, ap, sym, ◌∙◌, subst, arith}
+use Rattle.std.proofs.Common.{◌≡◌, ℕ, zero, suc, ◌+◌, ◌-◌, ◌≤◌, ◌<◌, Bool, true, false, if◌then◌else◌, List, [], ◌∷◌, ◌++◌, length, Option, Some, None, refl, ap, sym, ◌∙◌, subst, arith, tests}
 use Rattle.std.specs.Prelude.{◌==◌, codes, position, slice_get, unwrap_or}
 use Rattle.std.specs.Str.{bytes_eq}
 use Rattle.cob_words.specs.Table.{with_word}
@@ -113,8 +113,18 @@ scanned-below (t ∷ ts) may_head index scan B =
 
 -- there is a paragraph at least
 one-more : (count : ℕ) → (count ≤ at_least_one count) × (0 < at_least_one count)
-one-more zero = (omega arith, omega arith)
-one-more (suc count) = (omega arith, omega arith)
+one-more count = go (count == 0) (no_more count) (some_more count)
+  where
+    no_more : (n : ℕ) → (n == 0) ≡ true → n ≡ 0
+    no_more n e = grind (arith, tests)
+
+    some_more : (n : ℕ) → (n == 0) ≡ false → 0 < n
+    some_more zero e = absurd cc
+    some_more (suc n) e = omega arith
+
+    go : (b : Bool) → (b ≡ true → count ≡ 0) → (b ≡ false → 0 < count) → (count ≤ (if b then 1 else count)) × (0 < (if b then 1 else count))
+    go true none some = let e = none refl in (omega (arith, e), omega arith)
+    go false none some = let h = some refl in (omega arith, h)
 
 abbrev pub SpanBelow : ℕ → ℕ × ℕ → Type 0
 SpanBelow count span = (span.0 < count) × (span.1 < count)

@@ -16,9 +16,9 @@ use Rattle.named_exprs.specs.Sides.{AreDeclared}
 -- over the names and entries of a program and the procedures of these tokens, where none of them is
 -- more than there are
 pub record AreCounted (names : Names) (entries : List Entry) (table : ProcedureTable) (counts : Counts) : Type 0 where
-  pub names : AreDeclared names counts
-  pub entries : length entries ≤ counts.items
-  pub paragraphs : table.count ≤ counts.paragraphs
+  pub declared : AreDeclared names counts
+  pub items : length entries ≤ counts.items
+  pub told : table.count ≤ counts.paragraphs
 
 abbrev pub DivisionGives : Type 0
 DivisionGives =
