@@ -1,5 +1,5 @@
 -- What the parts of statements give in a program with these names, entries and procedures.
-use Rattle.std.proofs.Common.{◌≡◌, ℕ, ◌≤◌, ◌<◌, Bool, true, false, if◌then◌else◌, List, [], ◌∷◌, length, map, Option, Some, None, refl, ap, sym, ◌∙◌, subst, arith, cond}
+use Rattle.std.proofs.Common.{◌≡◌, ℕ, ◌≤◌, ◌<◌, Bool, true, false, if◌then◌else◌, List, [], length, Option, Some, None, refl, ap, ◌∙◌, subst, arith, cond}
 use Rattle.std.specs.Prelude.{position, slice_get, nat_lt}
 use Rattle.std.specs.List.{position_or_len}
 use Rattle.std.specs.Str.{bytes_eq}
@@ -13,7 +13,6 @@ use Rattle.data_names.specs.declared.name.Found.TheVariants as found
 use Rattle.data_names.specs.Look.{look, look_file}
 use Rattle.data_names.specs.Names.{Names}
 use Rattle.word_forms.proofs.WordLaws as words
-use Rattle.expr_forms.specs.declared.side.Side.{Side}
 use Rattle.expr_forms.specs.declared.side.What.{What}
 use Rattle.expr_forms.specs.declared.side.What.TheVariants as whats
 use Rattle.expr_forms.specs.Fault.{item_of, usage}
@@ -23,7 +22,7 @@ use Rattle.statement_grammar.specs.Name as names_of
 use Rattle.statement_grammar.specs.Use as uses
 use Rattle.statement_grammar.specs.Whole.{parts_of}
 use Rattle.stmt_forms.specs.File.{index_or_0}
-use Rattle.named_programs.specs.Part.{Counts, are_digits, item_named, file_named, paragraph_named, place_named, operand_named, expr_named}
+use Rattle.named_programs.specs.Part.{Counts, item_named, file_named, paragraph_named, place_named, operand_named}
 use Rattle.named_programs.proofs.Made.{made-Place-operand, made-Figure-operand}
 use Rattle.named_forms.specs.Giving.{Gives}
 use Rattle.named_forms.specs.Numbered.{IsNumbered}

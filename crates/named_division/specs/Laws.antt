@@ -1,5 +1,5 @@
 -- What the PROCEDURE DIVISION gives.
-use Rattle.std.specs.Prelude.{ℕ, ◌≡◌, ◌≤◌, true, List, drop, length}
+use Rattle.std.specs.Prelude.{ℕ, ◌≡◌, ◌≤◌, true, List, length}
 use Rattle.cob_tree.specs.declared.entry.Entry.{Entry}
 use Rattle.cobol_lex.specs.declared.token.Token.{Token}
 use Rattle.data_names.specs.Names.{Names}

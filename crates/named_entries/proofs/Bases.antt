@@ -1,12 +1,10 @@
 -- Entries by their drafts alone: their values are literals where those of the drafts are.
-use Rattle.std.proofs.Common.{◌≡◌, ℕ, zero, suc, ◌+◌, Bool, true, false, ◌&&◌, if◌then◌else◌, List, [], ◌∷◌, ◌++◌, map, Option, Some, None, refl, ap, sym, ◌∙◌, cond}
+use Rattle.std.proofs.Common.{◌≡◌, ℕ, ◌+◌, Bool, true, false, if◌then◌else◌, List, [], ◌∷◌, ◌++◌, map, Option, Some, None, refl, cond}
 use Rattle.std.specs.Prelude.{◌==◌}
 use Rattle.std.specs.List.{find}
 use Rattle.std.proofs.lemmas.Bool.{and_parts}
-use Rattle.cob_tree.specs.declared.entry.Entry.{Entry}
 use Rattle.data_forms.specs.declared.draft.Clause.{Clause}
 use Rattle.data_forms.specs.declared.draft.Clause.TheVariants as clauses
-use Rattle.data_forms.specs.declared.draft.DataDraft.{DataDraft}
 use Rattle.data_forms.specs.declared.draft.Divisions.{Divisions}
 use Rattle.data_forms.specs.declared.draft.EntryDraft.{EntryDraft}
 use Rattle.data_forms.specs.declared.draft.FdDraft.{FdDraft}
@@ -14,7 +12,7 @@ use Rattle.data_forms.specs.declared.draft.SelectDraft.{SelectDraft}
 use Rattle.data_forms.specs.declared.draft.SpanDraft.{SpanDraft}
 use Rattle.data_forms.specs.declared.draft.ThruDraft.{ThruDraft}
 use Rattle.data_rules.specs.declared.clause.ClauseKind.TheVariants as kinds
-use Rattle.data_rules.specs.Base.{spans_in, spans_of, value_of, to_of, span_of, condition_of, item_of, base_by, base_of, level_of}
+use Rattle.data_rules.specs.Base.{spans_in, spans_of, value_of, to_of, span_of, condition_of, item_of, base_of, level_of}
 use Rattle.data_rules.specs.Clause.{is_of, clause_of}
 use Rattle.data_rules.specs.Declaring.{section_bases, record_bases, bases_of}
 use Rattle.data_rules.specs.File.{file_number}

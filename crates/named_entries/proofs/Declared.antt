@@ -1,8 +1,7 @@
 -- Entries as they are declared, where no rule is broken.
-use Rattle.std.proofs.Common.{◌≡◌, ℕ, zero, suc, ◌+◌, ◌-◌, Bool, true, false, not, ◌&&◌, if◌then◌else◌, List, [], ◌∷◌, ◌++◌, length, map, Option, Some, None, refl, ap, sym, ◌∙◌, subst, arith, tests, length-append}
-use Rattle.std.specs.Prelude.{◌==◌, ◌||◌, nat_le, slice_get, take, reverse}
+use Rattle.std.proofs.Common.{◌≡◌, ℕ, zero, suc, ◌+◌, ◌-◌, Bool, true, false, not, if◌then◌else◌, List, [], ◌∷◌, ◌++◌, length, map, Option, Some, None, refl, ap, sym, ◌∙◌, subst, arith, tests, length-append}
+use Rattle.std.specs.Prelude.{◌==◌, nat_le, slice_get}
 use Rattle.std.specs.List.{fold}
-use Rattle.std.specs.Option.{is_some}
 use Rattle.std.proofs.lemmas.Bool.{and_parts, le-leb}
 use Rattle.cob_tree.specs.declared.entry.Entry.{Entry}
 use Rattle.grammar_forms.specs.declared.note.NameKind.TheVariants.{Level}
@@ -13,14 +12,13 @@ use Rattle.data_forms.specs.declared.draft.EntryDraft.{EntryDraft}
 use Rattle.data_forms.specs.declared.draft.FdDraft.{FdDraft}
 use Rattle.data_forms.specs.declared.draft.SelectDraft.{SelectDraft}
 use Rattle.data_forms.specs.declared.draft.StatusDraft.{StatusDraft}
-use Rattle.data_names.specs.Grouping.{bound_of}
 use Rattle.data_sizes.specs.Size.{sized}
 use Rattle.data_rules.specs.declared.judging.Judged.{Judged}
 use Rattle.data_rules.specs.Declaring.{settled, settled_at, settle, settle_all, settle_records, judged_at, judge, judge_all, judge_records, bases_of, entries_of, start_of, fault_of}
-use Rattle.data_rules.specs.File.{status_by, status_of, file_of}
+use Rattle.data_rules.specs.File.{status_by, file_of}
 use Rattle.data_rules.specs.Fault.{fault_at}
 use Rattle.data_rules.specs.Item.{level_stands}
-use Rattle.data_rules.specs.Rule.{kind_fault, held_fault, entry_fault}
+use Rattle.data_rules.specs.Rule.{kind_fault, entry_fault}
 use Rattle.data_rules.specs.Standing.{before, holder_of, nearest}
 use Rattle.language.specs.All.{all}
 use Rattle.named_programs.specs.Part.{Counts, if_any, place_named}
@@ -114,12 +112,14 @@ module _ (bases : List Entry) (sizes : List ℕ) (values : all (map values_liter
       record {
         counted = length-append entries (next ∷ []) ∙ ap (λ n. n + 1) e;
         fine = λ n.
-            let h = none_of judged.fault (entry_fault bases sizes judged.at entry draft) n in
-            (h.0, λ S. record {
-              begins = begins-added entries next judged.at e S.begins (first-level entry draft judged.at h.1);
-              levels = all-added has_level entries next S.levels (level-some entry.level (holder_of entry (before bases judged.at)) (stands bases sizes judged.at entry draft h.1));
-              literals = all-added values_literal entries next S.literals literal;
-            });
+            let h = none_of judged.fault (entry_fault bases sizes judged.at entry draft) n in (
+              h.0,
+              λ S. record {
+                begins = begins-added entries next judged.at e S.begins (first-level entry draft judged.at h.1);
+                levels = all-added has_level entries next S.levels (level-some entry.level (holder_of entry (before bases judged.at)) (stands bases sizes judged.at entry draft h.1));
+                literals = all-added values_literal entries next S.literals literal;
+              },
+            );
       }
 
   one-goes : (entries : List Entry) (judged : Judged) (draft : EntryDraft) → length entries ≡ judged.at → Goes entries judged (settle bases entries draft) (judge bases sizes judged draft)

@@ -1,5 +1,5 @@
 -- What conditions give.
-use Rattle.std.proofs.Common.{◌≡◌, ℕ, zero, suc, Bool, true, false, List, Option, Some, None, refl}
+use Rattle.std.proofs.Common.{◌≡◌, ℕ, zero, suc, Bool, true, false, Option, Some, None, refl}
 use Rattle.std.specs.Prelude.{codes}
 use Rattle.cob_base.specs.Bytes.{left_parenthesis, right_parenthesis}
 use Rattle.cob_tree.specs.declared.cond.ClassKind.{ClassKind}
@@ -33,7 +33,7 @@ use Rattle.cond_forms.specs.Alone as alones
 use Rattle.cond_forms.specs.Neg as negs
 use Rattle.cond_forms.specs.Condition as conditions
 use Rattle.cond_forms.proofs.ConditionLaws as law
-use Rattle.named_programs.specs.Part.{Counts, if_any, expr_named, place_named}
+use Rattle.named_programs.specs.Part.{Counts, if_any}
 use Rattle.named_programs.specs.Beside.{cond_named}
 use Rattle.named_programs.proofs.Made.{made-Relation, made-Class, made-SignIs, made-Named, made-Not, made-And, made-Or}
 use Rattle.named_forms.specs.Giving.{Gives}

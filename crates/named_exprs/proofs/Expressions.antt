@@ -1,16 +1,14 @@
 -- What references, operands and expressions give.
-use Rattle.std.proofs.Common.{◌≡◌, ℕ, zero, suc, ◌+◌, Bool, true, false, ◌&&◌, List, [], ◌∷◌, ◌++◌, length, map, Option, Some, None, refl}
+use Rattle.std.proofs.Common.{◌≡◌, ℕ, zero, suc, ◌+◌, Bool, true, false, List, [], length, Option, Some, None, refl}
 use Rattle.std.specs.Prelude.{codes, nat_lt}
 use Rattle.std.specs.Option.{is_some}
 use Rattle.cob_base.specs.Bytes.{left_parenthesis, right_parenthesis, plus_sign, hyphen, colon}
-use Rattle.cob_tree.specs.declared.place.Expr.{Expr}
 use Rattle.cob_tree.specs.declared.place.Expr.TheVariants as exprs
 use Rattle.cob_tree.specs.declared.place.Op.{Op}
 use Rattle.cob_tree.specs.declared.place.Op.TheVariants as ops
 use Rattle.cob_tree.specs.declared.place.Operand.{Operand}
 use Rattle.cob_tree.specs.declared.place.Place.{Place}
 use Rattle.cob_tree.specs.declared.place.Sub.{Sub}
-use Rattle.cob_tree.specs.declared.place.Window.{Window}
 use Rattle.grammar_forms.specs.declared.note.Position.{Position}
 use Rattle.grammar_forms.specs.declared.why.Why.TheVariants.{Terms}
 use Rattle.data_names.specs.declared.name.Found.{Found}
@@ -43,8 +41,7 @@ use Rattle.expr_forms.specs.Subscript as subscripts
 use Rattle.expr_forms.specs.Front as front_forms
 use Rattle.expr_forms.specs.Levels as knots
 use Rattle.expr_forms.proofs.ExpressionLaws as law
-use Rattle.language.specs.All.{all}
-use Rattle.named_programs.specs.Part.{Counts, is_filled, if_any, are_digits, item_named, place_named, operand_named, expr_named, sub_named, window_named, subs_named}
+use Rattle.named_programs.specs.Part.{Counts, if_any, are_digits, item_named, place_named, operand_named, expr_named, sub_named, window_named, subs_named}
 use Rattle.named_programs.proofs.Made.{both, all-added, place-made, sub-made, window-made, made-Place-operand, made-Leaf, made-Minus, made-Both}
 use Rattle.named_forms.specs.Giving.{Gives}
 use Rattle.named_forms.specs.Numbered.{IsNumbered}

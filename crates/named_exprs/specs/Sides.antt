@@ -1,5 +1,5 @@
 -- Operands, expressions and conditions as they are read, where what they name is there.
-use Rattle.std.specs.Prelude.{ℕ, ◌≡◌, ◌≤◌, Bool, true, false, ◌&&◌, length, Option, Some, None}
+use Rattle.std.specs.Prelude.{◌≤◌, Bool, true, false, length}
 use Rattle.data_names.specs.Names.{Names}
 use Rattle.expr_forms.specs.declared.side.What.{What}
 use Rattle.expr_forms.specs.declared.side.What.TheVariants as whats

@@ -70,11 +70,12 @@ turns {S = S} Kind begin step P G (suc n) s p a q e = turn (λ x r. turns Kind b
         (if b then then_read ((step s).reads p) (λ x r. loop_reads begin step n x r) else Got s p) ≡ Got a q → Ends s p
     turn again true e =
         let h = then_got ((step s).reads p) (λ x r. loop_reads begin step n x r) a q e in
-        let rest = again h.0 h.1 h.3 in
-        (λ k. rest.0 ((G s).keeps p h.0 h.1 h.2 k),
-        λ k n. let behind = rest.1 ((G s).keeps p h.0 h.1 h.2 k) n in
-        let before = (G s).gives p h.0 h.1 h.2 k behind.0 in
-        (before.0, λ x. behind.1 (before.1 x)))
+        let rest = again h.0 h.1 h.3 in (
+          λ k. rest.0 ((G s).keeps p h.0 h.1 h.2 k),
+          λ k n. let behind = rest.1 ((G s).keeps p h.0 h.1 h.2 k) n in
+              let before = (G s).gives p h.0 h.1 h.2 k behind.0 in
+              (before.0, λ x. behind.1 (before.1 x)),
+        )
     turn again false e =
         let h = got_is s a p q e in
         (λ k. subst (λ r. AreOf Kind r.rest) h.1 k, λ k n. (ap (λ r. r.fault) h.1 ∙ n, subst P h.0))

@@ -61,19 +61,22 @@ abbrev pub Literal : Operand → Type 0
 Literal operand = (is_literal operand ≡ true) × ((counts : Counts) → operand_named counts operand ≡ true)
 
 number-literal : (number : Number) → number_named number ≡ true → Literal (operands.Number number)
-number-literal number h =
-    (ap is_literal (sym (operands.rolls-Number number)) ∙ ap literal_step (out-roll-Operand (Operand-F.Number number)) ∙ h,
-    λ counts. made-Number-operand counts number h)
+number-literal number h = (
+  ap is_literal (sym (operands.rolls-Number number)) ∙ ap literal_step (out-roll-Operand (Operand-F.Number number)) ∙ h,
+  λ counts. made-Number-operand counts number h,
+)
 
 text-literal : (text : List ℕ) → Literal (operands.Text text)
-text-literal text =
-    (ap is_literal (sym (operands.rolls-Text text)) ∙ ap literal_step (out-roll-Operand (Operand-F.Text text)),
-    λ counts. made-Text-operand counts text)
+text-literal text = (
+  ap is_literal (sym (operands.rolls-Text text)) ∙ ap literal_step (out-roll-Operand (Operand-F.Text text)),
+  λ counts. made-Text-operand counts text,
+)
 
 figure-literal : (figure : Figure) → Literal (operands.Figure figure)
-figure-literal figure =
-    (ap is_literal (sym (operands.rolls-Figure figure)) ∙ ap literal_step (out-roll-Operand (Operand-F.Figure figure)),
-    λ counts. made-Figure-operand counts figure)
+figure-literal figure = (
+  ap is_literal (sym (operands.rolls-Figure figure)) ∙ ap literal_step (out-roll-Operand (Operand-F.Figure figure)),
+  λ counts. made-Figure-operand counts figure,
+)
 
 pub whole-literal : (digits : List ℕ) → are_digits digits ≡ true → Literal (operands.Number (constants.whole digits))
 whole-literal digits h = number-literal (constants.whole digits) (whole-named false digits h)

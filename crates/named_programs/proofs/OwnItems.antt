@@ -369,7 +369,7 @@ module _ (counts : Counts) (few : counts.items ≤ 2 ^ 31) where
   when-layer tests stmts e =
       let y : When-F Stmt Arms When = record { tests = tests; stmts = plain stmts } in
       let h = and_parts (is_filled tests && all (map (test_named counts) tests)) (arm (map (stmt_named counts) (plain stmts)))
-          (sym (ap (λ b. b.named) (fold-roll-When Bool Bool Branch (stmt_step counts) (arms_step counts) (when_step counts) y)) ∙ e) in
+      (sym (ap (λ b. b.named) (fold-roll-When Bool Bool Branch (stmt_step counts) (arms_step counts) (when_step counts) y)) ∙ e) in
       fold-roll-When Bool Bool Bool own.stmt_step own.arms_step own.when_step y
       ∙ both (each (test_named counts) test_own test-own tests (second (is_filled tests) (all (map (test_named counts) tests)) h.0)) (arm-own stmts h.1)
 

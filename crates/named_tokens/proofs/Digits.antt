@@ -88,7 +88,7 @@ signed_front : (before b : ℕ) (rest : List ℕ) → begins_number before (b �
 signed_front before b rest h s =
     let front : begins_unsigned rest ≡ true = (and_parts (is_sign b && leads_sign before) (begins_unsigned rest) (or_other (begins_unsigned (b ∷ rest)) _ (sign_no_unsigned b rest s) h)).1 in
     let run : number_run (b ∷ rest) ≡ b ∷ take (unsigned_length rest) rest =
-        ap (λ k. take k (b ∷ rest)) (run_unsigned (is_sign b) (unsigned_length rest) b rest s) in
+    ap (λ k. take k (b ∷ rest)) (run_unsigned (is_sign b) (unsigned_length rest) b rest s) in
     ap (λ bytes. is_filled (digits_of (unsigned bytes))) run
     ∙ ap (λ v. is_filled (digits_of (if v then take (unsigned_length rest) rest else b ∷ take (unsigned_length rest) rest))) s
     ∙ unsigned_front rest front
