@@ -1,5 +1,5 @@
-use Rattle.std.proofs.Common.{◌<◌, ◌≤◌, ℕ, List, length, Some, slice_get, true, refl, ap, sym, ◌∙◌, subst, arith}
-use Rattle.std.proofs.lemmas.Option.{slice_get_within, slice_get_read}
+use Rattle.std.proofs.Common.{length, refl, arith}
+use Rattle.std.proofs.lemmas.Option.{slice_get_read}
 use Rattle.fault_finding.proofs.Led.{there-below}
 use Rattle.fault_finding.proofs.Standing.{fine-more, fine-all}
 use Rattle.fault_finding.proofs.clash.clash_below.Goals as goal

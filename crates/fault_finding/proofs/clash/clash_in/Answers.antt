@@ -1,4 +1,4 @@
-use Rattle.std.proofs.Common.{List, subst, ap}
+use Rattle.std.proofs.Common.{List, subst}
 use Rattle.language.specs.Control.{control_of}
 use Rattle.flow_paths.specs.Flow.{IsFaulty}
 use Rattle.flow_numbers.specs.Kinds.{never_first_of}

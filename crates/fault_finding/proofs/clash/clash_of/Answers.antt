@@ -1,4 +1,4 @@
-use Rattle.std.proofs.Common.{ℕ, Option, MatchOption, length, subst, arith}
+use Rattle.std.proofs.Common.{ℕ, Option, MatchOption, subst, arith}
 use Rattle.fault_finding.specs.declared.clash.Clash.{Clash}
 use Rattle.fault_finding.specs.Clashing.{HasClash, NoneFrom}
 use Rattle.fault_finding.proofs.Standing.{clear-more, clear-all}

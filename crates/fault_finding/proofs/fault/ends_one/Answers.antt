@@ -1,4 +1,4 @@
-use Rattle.std.proofs.Common.{length, get_or, refl, sym, arith}
+use Rattle.std.proofs.Common.{length, get_or, refl, sym}
 use Rattle.std.proofs.lemmas.Option.{slice_get-get_or, slice_get_read}
 use Rattle.fault_finding.proofs.Standing.{ends-is, ends-more, ends-all}
 use Rattle.fault_finding.proofs.fault.ends_one.Goals as goal
