@@ -19,7 +19,8 @@ use Rattle.data_rules.specs.File.{status_by, file_of}
 use Rattle.data_rules.specs.Fault.{fault_at}
 use Rattle.data_rules.specs.Item.{level_stands}
 use Rattle.data_rules.specs.Rule.{kind_fault, entry_fault}
-use Rattle.data_rules.specs.Standing.{before, holder_of, nearest}
+use Rattle.data_rules.specs.Standing.{before, holder_of}
+use Rattle.data_names.specs.Nesting.{nearest}
 use Rattle.language.specs.All.{all}
 use Rattle.named_programs.specs.Part.{Counts, if_any, place_named}
 use Rattle.named_programs.proofs.Made.{both, all-added}
