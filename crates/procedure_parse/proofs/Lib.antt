@@ -1,1 +1,2 @@
 mod DivisionEnds
+mod Begun

@@ -2,3 +2,5 @@
 pub mod Answer
 -- What is left of a form behind its first parts.
 pub mod Step
+-- What a statement is made of.
+pub mod Draft

@@ -1,37 +1,24 @@
 //! Statements that hold others, and lists of statements.
 
-ghost use Rattle.std.specs.Prelude.{◌≡◌};
-ghost use Rattle.cob_base.specs.Answers.{Makes};
 ghost use Rattle.grammar_forms.specs.Reading.{Reads};
 ghost use Rattle.stmt_forms.specs.Arms as arms;
 ghost use Rattle.stmt_forms.specs.Choice as choice;
 ghost use Rattle.stmt_forms.specs.Loop as loops;
 ghost use Rattle.stmt_forms.specs.Stmt as all;
+ghost use Rattle.procedure_parse.specs.Step as steps;
 
 use crate::ended::{ended, pushed, work_ended};
-use act_parse::{Parts, at_arithmetic, at_choice, at_simple, at_stmt, simple_stmts};
-use cob_base::{Items, NoMemory};
+use crate::made::{
+    Begun, Draft, added, begin_arithmetic, begin_evaluate, begin_if, begin_perform, boxed_place,
+    loop_closed, read_and_next, simple,
+};
+use act_parse::{Parts, at_arithmetic, at_choice, at_simple, at_stmt};
+use cob_base::{Boxed, Items};
 use cob_tree::{Arms, Cond, Control, Place, Stmt, Subject, Test, When};
 use grammar_forms::{Cursor, Unread, Why};
-use head_parse::{
-    arithmetic_work, evaluate_head, first_phrase, first_tests, if_head, loop_end, not_phrase,
-    perform_head, read_head, when_head,
-};
+use head_parse::{first_phrase, first_tests, not_phrase, read_head, when_head};
 use std::alloc::Global;
-use stmt_forms::{NotPhrase, PerformHead, Phrase, ReadHead, Scope, Whens};
-
-/// READ without arms, and NEXT SENTENCE behind it.
-fn read_and_next(found: Items<Stmt>, file: u32) -> Result<Items<Stmt>, NoMemory>
-    ensures { Makes (arms.read_and_next found file) result }
-{
-    let arms = Arms {
-        first: None,
-        second: None,
-    };
-    let into = None;
-    let found = pushed(found, Stmt::Read { file, into, arms })?;
-    pushed(found, Stmt::NextSentence)
-}
+use stmt_forms::{NotPhrase, Phrase, ReadHead, Scope, Whens};
 
 /// The statements that a statement holds.
 #[cycle(stmt)]
@@ -168,16 +155,16 @@ fn arithmetic_stmt<P: Parts>(
     cursor: &mut Cursor<'_>,
     scope: Scope,
     levels: u32,
-) -> Result<(Stmt, bool), Unread>
+) -> Result<(Draft, bool), Unread>
     ensures { Reads
         ((arms.arithmetic_stmt (P.parts parts.now)
         (all.level (P.parts parts.now) levels) scope).reads cursor.old)
         result cursor.new }
 {
-    let (verb, (calc, into)) = arithmetic_work(parts, alloc, cursor)?;
+    let (verb, (calc, into)) = begin_arithmetic(parts, alloc, cursor)?;
     match arms(parts, alloc, cursor, scope, levels, Phrase::Size) {
         Ok((arms, not_read)) => {
-            work_ended(cursor, verb, Stmt::Arith { calc, into, arms }, not_read)
+            work_ended(cursor, verb, Draft::arith(calc, into, arms), not_read)
         }
         Err(stop) => {
             drop(calc);
@@ -197,7 +184,7 @@ fn read_arms<P: Parts>(
     levels: u32,
     found: Items<Stmt>,
     file: u32,
-    into: Option<Place>,
+    into: Option<Boxed<Place>>,
 ) -> Result<(Items<Stmt>, bool), Unread>
     ensures { Reads
         ((arms.read_arms
@@ -206,7 +193,7 @@ fn read_arms<P: Parts>(
 {
     match arms(parts, alloc, cursor, scope, levels, Phrase::End) {
         Ok((arms, not_read)) => {
-            let found = pushed(found, Stmt::Read { file, into, arms })?;
+            let found = added(found, Draft::read(file, into, arms))?;
             ended(cursor, b"END-READ", found, not_read)
         }
         Err(stop) => {
@@ -237,9 +224,13 @@ fn read_by<P: Parts>(
             let found = read_and_next(found, file)?;
             Ok((found, false))
         }
-        ReadHead::Open { file, into } => read_arms(
-            parts, alloc, cursor, scope, levels, found, file, into,
-        ),
+        ReadHead::Open { file, into } => match boxed_place(alloc, into) {
+            Ok(into) => read_arms(parts, alloc, cursor, scope, levels, found, file, into),
+            Err(fault) => {
+                drop(found);
+                Err(Unread::from(fault))
+            }
+        },
     }
 }
 
@@ -296,15 +287,15 @@ fn if_ended<P: Parts>(
     cursor: &mut Cursor<'_>,
     scope: Scope,
     levels: u32,
-    cond: Cond,
+    cond: Boxed<Cond>,
     yes: Items<Stmt>,
-) -> Result<(Stmt, bool), Unread>
+) -> Result<(Draft, bool), Unread>
     ensures { Reads
         ((choice.if_ended (all.level (P.parts parts.now) levels) scope cond yes).reads cursor.old)
         result cursor.new }
 {
     match else_part(parts, alloc, cursor, scope, levels) {
-        Ok((no, not_read)) => ended(cursor, b"END-IF", Stmt::If { cond, yes, no }, not_read),
+        Ok((no, not_read)) => ended(cursor, b"END-IF", Draft::choice(cond, yes, no), not_read),
         Err(stop) => {
             drop(cond);
             drop(yes);
@@ -321,9 +312,9 @@ fn if_behind<P: Parts>(
     cursor: &mut Cursor<'_>,
     scope: Scope,
     levels: u32,
-    cond: Cond,
+    cond: Boxed<Cond>,
     first: (Items<Stmt>, bool),
-) -> Result<(Stmt, bool), Unread>
+) -> Result<(Draft, bool), Unread>
     ensures { Reads
         ((choice.if_behind
         (all.level (P.parts parts.now) levels) scope cond first).reads cursor.old)
@@ -332,7 +323,7 @@ fn if_behind<P: Parts>(
     let (yes, not_read) = first;
     if not_read {
         let no = Items::new(alloc);
-        Ok((Stmt::If { cond, yes, no }, true))
+        Ok((Draft::choice(cond, yes, no), true))
     } else {
         if_ended(parts, alloc, cursor, scope, levels, cond, yes)
     }
@@ -346,13 +337,13 @@ fn if_stmt<P: Parts>(
     cursor: &mut Cursor<'_>,
     scope: Scope,
     levels: u32,
-) -> Result<(Stmt, bool), Unread>
+) -> Result<(Draft, bool), Unread>
     ensures { Reads
         ((choice.if_stmt (P.parts parts.now)
         (all.level (P.parts parts.now) levels) scope).reads cursor.old)
         result cursor.new }
 {
-    let cond = if_head(parts, alloc, cursor, levels)?;
+    let cond = begin_if(parts, alloc, cursor, levels)?;
     match held(parts, alloc, cursor, scope, levels) {
         Ok(first) => if_behind(parts, alloc, cursor, scope, levels, cond, first),
         Err(stop) => {
@@ -545,9 +536,9 @@ fn evaluated<P: Parts>(
     cursor: &mut Cursor<'_>,
     scope: Scope,
     levels: u32,
-    subject: Subject,
+    subject: Boxed<Subject>,
     state: Whens,
-) -> Result<(Stmt, bool), Unread>
+) -> Result<(Draft, bool), Unread>
     ensures { Reads
         ((choice.evaluated
         (all.level (P.parts parts.now) levels) scope subject state).reads cursor.old)
@@ -556,12 +547,8 @@ fn evaluated<P: Parts>(
     match other_part(parts, alloc, cursor, scope, levels, &state) {
         Ok((other, not_read)) => {
             let Whens { whens, .. } = state;
-            let stmt = Stmt::Evaluate {
-                subject,
-                whens,
-                other,
-            };
-            ended(cursor, b"END-EVALUATE", stmt, not_read)
+            let draft = Draft::evaluate(subject, whens, other);
+            ended(cursor, b"END-EVALUATE", draft, not_read)
         }
         Err(stop) => {
             drop(subject);
@@ -579,13 +566,13 @@ fn evaluate_stmt<P: Parts>(
     cursor: &mut Cursor<'_>,
     scope: Scope,
     levels: u32,
-) -> Result<(Stmt, bool), Unread>
+) -> Result<(Draft, bool), Unread>
     ensures { Reads
         ((choice.evaluate_stmt (P.parts parts.now)
         (all.level (P.parts parts.now) levels) scope).reads cursor.old)
         result cursor.new }
 {
-    let (subject, known) = evaluate_head(parts, alloc, cursor, levels)?;
+    let (subject, known) = begin_evaluate(parts, alloc, cursor, levels)?;
     match whens(parts, alloc, cursor, scope, levels, &known) {
         Ok(state) => {
             drop(known);
@@ -607,7 +594,7 @@ fn choice_stmt<P: Parts>(
     cursor: &mut Cursor<'_>,
     scope: Scope,
     levels: u32,
-) -> Result<(Stmt, bool), Unread>
+) -> Result<(Draft, bool), Unread>
     ensures { Reads
         ((choice.choice_stmt (P.parts parts.now)
         (all.level (P.parts parts.now) levels) scope).reads cursor.old)
@@ -628,8 +615,8 @@ fn loop_body<P: Parts>(
     cursor: &mut Cursor<'_>,
     scope: Scope,
     levels: u32,
-    control: Control,
-) -> Result<(Stmt, bool), Unread>
+    control: Boxed<Control>,
+) -> Result<(Draft, bool), Unread>
     ensures { Reads
         ((loops.loop_body (all.level (P.parts parts.now) levels) scope control).reads cursor.old)
         result cursor.new }
@@ -639,7 +626,15 @@ fn loop_body<P: Parts>(
         in_section: scope.in_section,
     };
     match held(parts, alloc, cursor, scope, levels) {
-        Ok(body) => loop_end(cursor, control, body),
+        Ok((body, not_read)) => {
+            if not_read {
+                drop(control);
+                drop(body);
+                Err(Unread::Stop(Why::Syntax))
+            } else {
+                loop_closed(cursor, control, body)
+            }
+        }
         Err(stop) => {
             drop(control);
             Err(stop)
@@ -648,41 +643,40 @@ fn loop_body<P: Parts>(
 }
 
 #[cycle(stmt)]
-#[tactic(auto, unfolding(stmt_forms::specs::Loop::perform_by))]
-fn perform_by<P: Parts>(
+fn perform_from<P: Parts>(
     parts: &P,
     alloc: Global,
     cursor: &mut Cursor<'_>,
     scope: Scope,
     levels: u32,
-    head: PerformHead,
-) -> Result<(Stmt, bool), Unread>
+    head: Begun,
+) -> Result<(Draft, bool), Unread>
     ensures { Reads
-        ((loops.perform_by (all.level (P.parts parts.now) levels) scope head).reads cursor.old)
+        ((steps.perform_from (all.level (P.parts parts.now) levels) scope head).reads cursor.old)
         result cursor.new }
 {
     match head {
-        PerformHead::Whole(stmt, not_read) => Ok((stmt, not_read)),
-        PerformHead::Inline(control) => loop_body(parts, alloc, cursor, scope, levels, control),
+        Begun::Whole(draft, not_read) => Ok((draft, not_read)),
+        Begun::Inline(control) => loop_body(parts, alloc, cursor, scope, levels, control),
     }
 }
 
 #[cycle(stmt)]
-#[tactic(auto, unfolding(stmt_forms::specs::Loop::perform_stmt))]
+#[tactic(auto, using(crate::proofs::Begun::goes_on), unfolding(stmt_forms::specs::Loop::perform_stmt))]
 fn perform_stmt<P: Parts>(
     parts: &P,
     alloc: Global,
     cursor: &mut Cursor<'_>,
     scope: Scope,
     levels: u32,
-) -> Result<(Stmt, bool), Unread>
+) -> Result<(Draft, bool), Unread>
     ensures { Reads
         ((loops.perform_stmt (P.parts parts.now)
         (all.level (P.parts parts.now) levels) scope).reads cursor.old)
         result cursor.new }
 {
-    let head = perform_head(parts, alloc, cursor, levels)?;
-    perform_by(parts, alloc, cursor, scope, levels, head)
+    let head = begin_perform(parts, alloc, cursor, levels)?;
+    perform_from(parts, alloc, cursor, scope, levels, head)
 }
 
 #[cycle(stmt)]
@@ -693,7 +687,7 @@ fn holding_stmt<P: Parts>(
     cursor: &mut Cursor<'_>,
     scope: Scope,
     levels: u32,
-) -> Result<(Stmt, bool), Unread>
+) -> Result<(Draft, bool), Unread>
     ensures { Reads
         ((all.holding_stmt (P.parts parts.now)
         (all.level (P.parts parts.now) levels) scope).reads cursor.old)
@@ -727,7 +721,7 @@ fn held_stmts<P: Parts>(
         read_stmt(parts, alloc, cursor, scope, levels, found)
     } else {
         match holding_stmt(parts, alloc, cursor, scope, levels) {
-            Ok((stmt, not_read)) => Ok((pushed(found, stmt)?, not_read)),
+            Ok((draft, not_read)) => Ok((added(found, draft)?, not_read)),
             Err(stop) => {
                 drop(found);
                 Err(stop)
@@ -737,30 +731,7 @@ fn held_stmts<P: Parts>(
 }
 
 #[cycle(stmt)]
-#[tactic(auto, unfolding(stmt_forms::specs::Stmt::stmt))]
-fn stmt<P: Parts>(
-    parts: &P,
-    alloc: Global,
-    cursor: &mut Cursor<'_>,
-    scope: Scope,
-    levels: u32,
-    found: Items<Stmt>,
-) -> Result<(Items<Stmt>, bool), Unread>
-    ensures { Reads
-        ((all.stmt (P.parts parts.now)
-        (all.level (P.parts parts.now) levels) scope found).reads cursor.old)
-        result cursor.new }
-{
-    if at_simple(cursor) {
-        let found = simple_stmts(parts, alloc, cursor, scope, found)?;
-        Ok((found, false))
-    } else {
-        held_stmts(parts, alloc, cursor, scope, levels, found)
-    }
-}
-
-#[cycle(stmt)]
-#[tactic(auto, unfolding(stmt_forms::specs::Stmt::stmts_turn))]
+#[tactic(auto, unfolding(stmt_forms::specs::Stmt::stmt, stmt_forms::specs::Stmt::stmts_turn))]
 fn stmts_turn<P: Parts>(
     parts: &P,
     alloc: Global,
@@ -778,8 +749,10 @@ fn stmts_turn<P: Parts>(
     if not_read {
         drop(stmts);
         Err(Unread::Stop(Why::Syntax))
+    } else if at_simple(cursor) {
+        simple(parts, alloc, cursor, scope, stmts)
     } else {
-        stmt(parts, alloc, cursor, scope, levels, stmts)
+        held_stmts(parts, alloc, cursor, scope, levels, stmts)
     }
 }
 
@@ -806,7 +779,7 @@ pub fn stmts_from<P: Parts>(
 
 /// Statements, one or more.
 #[cycle(stmt)]
-#[tactic(auto, unfolding(stmt_forms::specs::Stmt::stmts_with))]
+#[tactic(auto, unfolding(stmt_forms::specs::Stmt::stmt, stmt_forms::specs::Stmt::stmts_with))]
 pub fn stmts_with<P: Parts>(
     parts: &P,
     alloc: Global,
@@ -819,6 +792,11 @@ pub fn stmts_with<P: Parts>(
         (all.level (P.parts parts.now) levels) scope).reads cursor.old)
         result cursor.new }
 {
-    let first = stmt(parts, alloc, cursor, scope, levels, Items::new(alloc))?;
+    let none = Items::new(alloc);
+    let first = if at_simple(cursor) {
+        simple(parts, alloc, cursor, scope, none)?
+    } else {
+        held_stmts(parts, alloc, cursor, scope, levels, none)?
+    };
     stmts_from(parts, alloc, cursor, scope, levels, first)
 }

@@ -9,6 +9,7 @@
 mod answer;
 mod ended;
 mod held;
+mod made;
 mod paragraph;
 
 pub use answer::read_division;

@@ -82,8 +82,8 @@ decreases-choice_stmt g l = 15 * l.levels + 8
 abbrev pub decreases-loop_body : goal.decreases-loop_body
 decreases-loop_body g l = 15 * l.levels + 1
 
-abbrev pub decreases-perform_by : goal.decreases-perform_by
-decreases-perform_by g l = 15 * l.levels + 2
+abbrev pub decreases-perform_from : goal.decreases-perform_from
+decreases-perform_from g l = 15 * l.levels + 2
 
 abbrev pub decreases-perform_stmt : goal.decreases-perform_stmt
 decreases-perform_stmt g l = 15 * l.levels + 3
@@ -93,9 +93,6 @@ decreases-holding_stmt g l = 15 * l.levels + 9
 
 abbrev pub decreases-held_stmts : goal.decreases-held_stmts
 decreases-held_stmts g l = 15 * l.levels + 10
-
-abbrev pub decreases-stmt : goal.decreases-stmt
-decreases-stmt g l = 15 * l.levels + 11
 
 abbrev pub decreases-stmts_turn : goal.decreases-stmts_turn
 decreases-stmts_turn g l = 15 * l.levels + 12
