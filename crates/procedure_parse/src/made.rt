@@ -65,7 +65,12 @@ impl Model for Draft {
     ghost use Rattle.cob_tree.specs.declared.stmt.Stmt.{Stmt};
     ghost use Rattle.procedure_parse.specs.Draft.{stmt_of};
 
+    ghost use Rattle.cob_tree.specs.contracts.stmt.Stmt as rows;
+    ghost use Rattle.std.specs.Coded.{codes};
+
     ghost Value = { Stmt };
+
+    ghost coded = { Prim.hlevel (codes, rows.the_row.coded) };
 
     ghost view = { λ draft. stmt_of draft.parts };
 }
