@@ -1,14 +1,30 @@
 -- What is read of PERFORM goes on from its boxes as from itself.
-use Rattle.std.proofs.Common.{◌≡◌, refl}
+use Rattle.std.proofs.Common.{◌≡◌, refl, ap, ◌∙◌}
+use Rattle.grammar_forms.specs.Form.{Input, Outcome, Got, Stop, then_read}
 use Rattle.stmt_forms.specs.declared.head.PerformHead.{PerformHead}
 use Rattle.stmt_forms.specs.declared.head.PerformHead.TheVariants as heads
 use Rattle.stmt_forms.specs.declared.scope.Scope.{Scope}
-use Rattle.stmt_forms.specs.Arms.{Level}
-use Rattle.stmt_forms.specs.Loop.{perform_by}
-use Rattle.procedure_parse.specs.Step.{begun, perform_from}
+use Rattle.stmt_forms.specs.Arms.{Level, FoundOne}
+use Rattle.stmt_forms.specs.Loop.{perform_head, perform_by, perform_stmt}
+use Rattle.stmt_forms.specs.Part.{Parts}
+use Rattle.procedure_parse.specs.declared.made.Begun.{Begun}
+use Rattle.procedure_parse.specs.Step.{begun, perform_begun, perform_from}
 
-pub goes_on : (level : Level) (scope : Scope) (head : PerformHead) →
-    perform_from level scope (begun head) ≡ perform_by level scope head
+abbrev pub from_begun : Level → Scope → Outcome Begun → Outcome FoundOne
+from_begun level scope read = then_read read (λ head q. (perform_from level scope head).reads q)
+
+goes_on : (level : Level) (scope : Scope) (read : Outcome PerformHead) →
+    then_read read (λ head q. (perform_by level scope head).reads q)
+    ≡ from_begun level scope (then_read read (λ head q. Got (begun head) q))
 unfolding perform_by
-goes_on level scope (heads.Whole stmt not_read) = refl
-goes_on level scope (heads.Inline control) = refl
+goes_on level scope (Got (heads.Whole stmt not_read) q) = refl
+goes_on level scope (Got (heads.Inline control) q) = refl
+goes_on level scope (Stop why rest) = refl
+
+pub perform_read : {Side Known : Type 0} (parts : Parts Side Known) (level : Level)
+    (scope : Scope) (p : Input) (read : Outcome Begun) →
+    (perform_begun parts level.enter).reads p ≡ read →
+    (perform_stmt parts level scope).reads p ≡ from_begun level scope read
+unfolding perform_stmt
+perform_read parts level scope p read e =
+    goes_on level scope ((perform_head parts level.enter).reads p) ∙ ap (from_begun level scope) e

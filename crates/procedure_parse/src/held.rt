@@ -608,7 +608,7 @@ fn choice_stmt<P: Parts>(
 }
 
 #[cycle(stmt)]
-#[tactic(auto, unfolding(stmt_forms::specs::Loop::loop_body))]
+#[tactic(auto, unfolding(stmt_forms::specs::Loop::loop_body, stmt_forms::specs::Loop::loop_end))]
 fn loop_body<P: Parts>(
     parts: &P,
     alloc: Global,
@@ -662,7 +662,7 @@ fn perform_from<P: Parts>(
 }
 
 #[cycle(stmt)]
-#[tactic(auto, using(crate::proofs::Begun::goes_on), unfolding(stmt_forms::specs::Loop::perform_stmt))]
+#[tactic(auto, using(crate::proofs::Begun::perform_read))]
 fn perform_stmt<P: Parts>(
     parts: &P,
     alloc: Global,

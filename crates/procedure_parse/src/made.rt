@@ -283,6 +283,7 @@ pub fn begin_perform<P: Parts>(
 }
 
 /// The end of an inline PERFORM.
+#[tactic(auto, unfolding(stmt_forms::specs::Loop::loop_closed))]
 pub fn loop_closed(
     cursor: &mut Cursor<'_>,
     control: Boxed<Control>,
