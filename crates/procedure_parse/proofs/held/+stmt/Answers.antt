@@ -1,13 +1,29 @@
-use Rattle.std.proofs.Common.{◌≡◌, suc, ◌-◌, ap, subst, arith}
+use Rattle.std.proofs.Common.{◌≡◌, suc, ◌-◌, Bool, true, false, ap, sym, ◌∙◌, subst, arith}
 use Rattle.std.specs.Prelude.{codes}
 use Rattle.std.proofs.lemmas.Result.{err_from_is_err_and}
+use Rattle.grammar_forms.specs.declared.why.Why.TheVariants.{Syntax}
+use Rattle.grammar_forms.specs.Form.{Input, refuse, chosen, is_next}
 use Rattle.grammar_forms.specs.Part.{is_key}
 use Rattle.grammar_forms.specs.Reading.{Reads}
 use Rattle.grammar_forms.proofs.Loops.{goes_on, ends_err, is_done, shrinks}
+use Rattle.stmt_forms.specs.declared.scope.Scope.{Scope}
+use Rattle.stmt_forms.specs.Arms.{Level, Found}
+use Rattle.stmt_forms.specs.Part.{Parts}
 use Rattle.stmt_forms.specs.Stmt as all
-use Rattle.stmt_forms.specs.Verb.{begins_stmt}
+use Rattle.stmt_forms.specs.Verb.{begins_simple, begins_stmt}
 use Rattle.stmt_forms.proofs.HoldingLaws as laws
+use Rattle.procedure_parse.specs.Step as steps
 use Rattle.procedure_parse.proofs.held.+stmt.Goals as goal
+
+simple_turn : {Side Known : Type 0} (parts : Parts Side Known) (level : Level) (scope : Scope) (found : Found) (p : Input) → found.1 ≡ false → is_next begins_simple p ≡ true → (all.stmts_turn parts level scope found).reads p ≡ (steps.simple parts scope found.0).reads p
+unfolding all.stmts_turn all.stmt
+simple_turn parts level scope found p goes_on simple =
+    ap (λ (not_read : Bool). (chosen not_read (refuse Syntax) (all.stmt parts level scope found.0)).reads p) goes_on
+    ∙ ap (λ (is_simple : Bool). (chosen is_simple (steps.simple parts scope found.0) (all.held_stmts parts level scope found.0)).reads p) simple
+
+pub stmts_turn-returns-then-at_simple : goal.stmts_turn-returns-then-at_simple
+stmts_turn-returns-then-at_simple g t c =
+    subst (λ o. Reads o c.simple.result c.simple.new.cursor) (sym (simple_turn (g.P.Parts.parts c.args.parts.now) (all.level (g.P.Parts.parts c.args.parts.now) c.args.levels) c.args.scope c.args.found c.args.cursor.now c.if-not_read.false (sym c.at_simple.ensures ∙ c.if-at_simple.true))) c.simple.ensures
 
 pub whens_from-returns-in_err-state : goal.whens_from-returns-in_err-state
 whens_from-returns-in_err-state g t c =
