@@ -1,5 +1,4 @@
 -- The statement that a draft is of.
-use Rattle.std.specs.Prelude.{None, Some}
 use Rattle.cob_tree.specs.declared.stmt.Stmt.{Stmt}
 use Rattle.cob_tree.specs.declared.stmt.Stmt.TheVariants as stmts
 use Rattle.procedure_parse.specs.declared.made.DraftParts.{DraftParts}

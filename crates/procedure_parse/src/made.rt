@@ -64,7 +64,6 @@ pub struct Draft {
 impl Model for Draft {
     ghost use Rattle.cob_tree.specs.declared.stmt.Stmt.{Stmt};
     ghost use Rattle.procedure_parse.specs.Draft.{stmt_of};
-
     ghost use Rattle.cob_tree.specs.contracts.stmt.Stmt as rows;
     ghost use Rattle.std.specs.Coded.{codes};
 
