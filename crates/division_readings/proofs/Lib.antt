@@ -1,0 +1,2 @@
+-- The divisions, form by form.
+pub mod Divisions
