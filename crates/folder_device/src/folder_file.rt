@@ -25,8 +25,8 @@ pub struct FolderFile<F: Read + Write + Seek + Drop> {
     handle: Handle<F>,
     /// Where the next record begins, in bytes.
     at: u64,
-    /// Where the record that was read last begins.
-    last: u64,
+    /// Where the record that was read last begins; none where none was read.
+    last: Option<u64>,
 }
 
 fn for_input<R: Files>(alloc: Global, folder: &R, path: &str) -> IoResult<Handle<R::File>> {
@@ -116,7 +116,7 @@ impl<F: Read + Write + Seek + Drop> FolderFile<F> {
             name: text,
             handle: handle_for(alloc, folder, path, how)?,
             at: 0,
-            last: 0,
+            last: None,
         })
     }
 
@@ -129,20 +129,19 @@ impl<F: Read + Write + Seek + Drop> FolderFile<F> {
             Handle::InOut(file) => fill(file, into)?,
             Handle::Output(_) => return Err(Error::from(ErrorKind::InvalidInput)),
         };
-        self.last = self.at;
-        self.at = self.at.saturating_add(count as u64);
+        if count > 0 {
+            self.last = Some(self.at);
+            self.at = self.at.saturating_add(count as u64);
+        }
         Ok(count)
     }
 
-    /// Puts bytes behind those that were written.
+    /// Puts bytes behind those that were written. A file that is read takes none.
     pub fn write(&mut self, bytes: &[u8]) -> IoResult<()> {
         match &mut self.handle {
             Handle::Output(writer) => writer.write_all(bytes),
             Handle::Input(_) => Err(Error::from(ErrorKind::InvalidInput)),
-            Handle::InOut(file) => {
-                file.seek(SeekFrom::End(0))?;
-                file.write_all(bytes)
-            }
+            Handle::InOut(_) => Err(Error::from(ErrorKind::InvalidInput)),
         }
     }
 
@@ -151,9 +150,12 @@ impl<F: Read + Write + Seek + Drop> FolderFile<F> {
         let Handle::InOut(file) = &mut self.handle else {
             return Err(Error::from(ErrorKind::InvalidInput));
         };
-        file.seek(SeekFrom::Start(self.last))?;
+        let Some(last) = self.last else {
+            return Err(Error::from(ErrorKind::InvalidInput));
+        };
+        file.seek(SeekFrom::Start(last))?;
         file.write_all(bytes)?;
-        self.at = self.last.saturating_add(bytes.len() as u64);
+        self.at = last.saturating_add(bytes.len() as u64);
         Ok(())
     }
 

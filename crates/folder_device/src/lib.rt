@@ -18,8 +18,8 @@ use std::alloc::Global;
 use std::fs::Files;
 use std::io::{Error, ErrorKind, Result as IoResult};
 
-/// The files of one folder. Each error of the system, but a file that is missing and want of
-/// memory, counts as a failure. A name that is open already is opened anew.
+/// The files of one folder. Each error of the system counts as a failure, but at OPEN a file that is
+/// missing and want of memory. A name that is open already is closed, and then opened anew.
 #[derive(Drop)]
 pub struct FolderDevice<R: Files + Drop> {
     name: Text,
@@ -72,8 +72,8 @@ impl<R: Files + Drop> FolderDevice<R> {
         ensures name { self.new.name ≡ self.old.name }
         ensures count { self.new.count ≡ self.old.count }
     {
-        self.try_close(file)?;
         self.files.reserve(1)?;
+        self.try_close(file)?;
         let alloc = *self.files.allocator();
         let opened = FolderFile::open(alloc, &self.folder, file, how)?;
         self.files.push(opened)?;

@@ -22,6 +22,7 @@ fn a_file_is_written_read_and_put_back(rt: HostRuntime) -> Result<(), Fail> {
     assert!(rt; device.write_next(file, b"en") == Put::Done);
     assert!(rt; device.close_file(file) == Put::Done);
     assert!(rt; device.open_file(file, How::InOut) == Opened::Ready);
+    assert!(rt; device.rewrite_last(file, b"none") == Put::Failed);
     assert!(rt; device.read_next(file, &mut record) == Got::Bytes(4));
     assert!(rt; device.read_next(file, &mut record) == Got::Bytes(4));
     assert!(rt; device.rewrite_last(file, b"2222") == Put::Done);
@@ -32,9 +33,9 @@ fn a_file_is_written_read_and_put_back(rt: HostRuntime) -> Result<(), Fail> {
     let mut whole = [0u8; 20];
     assert!(rt; device.read_next(file, &mut whole) == Got::Bytes(10));
     assert!(rt; &whole[..10] == b"one 2222en".as_slice());
-    assert!(rt; device.faults() == 0);
-    assert!(rt; device.write_next(file, b"x") == Put::Failed);
     assert!(rt; device.faults() == 1);
+    assert!(rt; device.write_next(file, b"x") == Put::Failed);
+    assert!(rt; device.faults() == 2);
     assert!(rt; device.close_file(file) == Put::Done);
     fs::remove_file(&rt, NAME)?;
     Ok(())
