@@ -4,7 +4,8 @@
     python3 tools/mutate.py PROGRAM COUNT [SEED]
 
 Each run takes one of the examples, cuts it at a random place or changes, drops, doubles or moves some of its
-bytes, words or lines, and looks at the answer: 0 with a result and no note, or 2 or 4 with one note alone."""
+bytes, words or lines, and looks at the answer: 0 with a result and no note, 2 or 4 with one note alone, or 3
+with the lines of a trail alone."""
 import collections
 import glob
 import os
@@ -55,11 +56,13 @@ def fault(program, source):
     except subprocess.TimeoutExpired:
         return "no answer in ten seconds", None
     took = time.monotonic() - begun
-    one_note = run.stderr.endswith(b"\n") and run.stderr.count(b"\n") == 1
+    notes = run.stderr.split(b"\n")
+    one_note = len(notes) == 2 and notes[0] != b"" and notes[1] == b""
+    a_trail = len(notes) > 2 and notes[0].startswith(b"FLOW ") and notes[-1] == b"" and b"" not in notes[:-1]
     if run.returncode == 0:
         good = run.stdout != b"" and run.stderr == b""
     else:
-        good = run.returncode in (2, 4) and run.stdout == b"" and one_note
+        good = run.stdout == b"" and (a_trail if run.returncode == 3 else run.returncode in (2, 4) and one_note)
     if not good:
         return f"status {run.returncode}, {len(run.stdout)} bytes, {run.stderr[:80]!r}", run.returncode
     return (f"{took:.1f} seconds" if took > 1 else None), run.returncode
