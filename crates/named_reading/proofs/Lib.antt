@@ -1,0 +1,4 @@
+-- Divisions have no more entries than tokens.
+pub mod Few
+-- What a whole program gives.
+pub mod Whole

@@ -1,0 +1,11 @@
+-- What holds of programs that are read.
+use Rattle.std.specs.Prelude.{ℕ, List}
+use Rattle.cob_tree.specs.declared.program.Program.{Program}
+use Rattle.cobol_read.specs.Reading.{Reads}
+use Rattle.language.specs.OwnItems.{NamesOwnItems}
+use Rattle.named_reading.specs.Named.{NamesItems}
+
+abbrev pub ProgramsThatAreReadNameTheirItems : Type 0
+ProgramsThatAreReadNameTheirItems =
+    (bytes : List ℕ) (program : Program) → Reads bytes program →
+    ((told : ℕ) × NamesItems program told) × NamesOwnItems program
