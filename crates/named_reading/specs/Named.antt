@@ -1,4 +1,4 @@
--- Programs whose items and files are named, whatever paragraphs their headers tell.
+-- Programs whose items and files are named, however many paragraphs their headers tell.
 use Rattle.std.specs.Prelude.{ℕ, ◌≡◌, ◌≤◌, true, length, map}
 use Rattle.cob_tree.specs.declared.program.Program.{Program}
 use Rattle.language.specs.All.{all}
