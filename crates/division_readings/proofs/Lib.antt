@@ -1,2 +1,4 @@
 -- The divisions, form by form.
 pub mod Divisions
+-- Where paragraphs begin.
+pub mod Begin

@@ -1,9 +1,14 @@
 -- What names don't change.
-use Rattle.std.specs.Prelude.{List}
+use Rattle.std.specs.Prelude.{ℕ, ◌≡◌, List, drop}
 use Rattle.cob_tree.specs.declared.entry.Entry.{Entry}
+use Rattle.cobol_lex.specs.declared.token.Token.{Token}
 use Rattle.data_forms.specs.Divisions.{divisions}
 use Rattle.data_names.specs.Names.{Names}
+use Rattle.grammar_forms.specs.Form.{Input, Got}
+use Rattle.grammar_forms.specs.Reading.{start}
 use Rattle.status_readings.specs.Alike.{Alike}
+use Rattle.cobol_read.specs.declared.program.ProgramDraft.{ProgramDraft}
+use Rattle.cobol_read.specs.Program.{nameless, statements_at, declarations_of, paragraphs, program}
 use Rattle.cobol_read.specs.Status.{status}
 use Rattle.division_readings.specs.Same.{SameDivisions}
 
@@ -11,3 +16,16 @@ abbrev pub DivisionsReadTheSame : Type 0
 DivisionsReadTheSame =
     (names others : Names) (entries more : List Entry) →
     Alike (divisions (status names entries)) (divisions (status others more)) SameDivisions
+
+-- an input behind so many of all tokens, at which these paragraphs are read
+pub record AreReadAt (tokens : List Token) (draft : ProgramDraft) (end : Input) (from : ℕ) : Type 0 where
+  pub input : Input
+  pub taken : input.taken ≡ from
+  pub rest : input.rest ≡ drop from tokens
+  pub reads : (paragraphs (declarations_of tokens)).reads input ≡ Got draft.paragraphs end
+
+abbrev pub ParagraphsAreReadWhereCounted : Type 0
+ParagraphsAreReadWhereCounted =
+    (tokens : List Token) (draft : ProgramDraft) (end : Input) →
+    (program (declarations_of tokens)).reads (start tokens) ≡ Got draft end →
+    AreReadAt tokens draft end (statements_at tokens (nameless tokens))
