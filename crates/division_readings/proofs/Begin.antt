@@ -20,7 +20,7 @@ use Rattle.cobol_read.specs.Program.{nameless, statements_at, declarations_of, b
 use Rattle.cobol_read.specs.StatusLaws as status_laws
 use Rattle.status_readings.specs.Alike.{AlikeOutcomes}
 use Rattle.division_readings.specs.Same.{SameDivisions}
-use Rattle.division_readings.specs.Laws.{AreReadAt}
+use Rattle.division_readings.specs.Laws.{AreReadThere}
 use Rattle.division_readings.proofs.Divisions.{read-same}
 
 -- ---- the header takes three tokens
@@ -86,7 +86,7 @@ module _ (tokens : List Token) (draft : ProgramDraft) (end : Input) where
       ((read-same (names_of [] []) known.names [] known.entries).alike (start tokens) (start tokens) (record { rest = refl; taken = refl }))
 
   at-header : (before : Divisions) (mid : Input) (u : Unit {0}) (p : Input) → (before_procedures known).reads (start tokens) ≡ Got before mid → forms.header.reads mid ≡ Got u p →
-      (forms.paragraphs known).reads p ≡ Got draft.paragraphs end → AreReadAt tokens draft end (statements_at tokens (nameless tokens))
+      (forms.paragraphs known).reads p ≡ Got draft.paragraphs end → AreReadThere tokens draft end
   at-header before mid u p d h e =
       let D = (division_laws.divisions (status_laws.status known.names known.entries)).lawful in
       let before_it : mid.taken + length mid.rest ≡ 0 + length tokens = D.counted (start tokens) before mid d in
@@ -94,9 +94,9 @@ module _ (tokens : List Token) (draft : ProgramDraft) (end : Input) where
       let all : p.taken + length p.rest ≡ length tokens = omega (arith, before_it, behind_it) in
       let is_end = end_then tokens mid.rest p.rest (ends D (start tokens) before mid d) (ends header_law.lawful mid u p h) in
       let from = begins-at tokens (nameless tokens) before mid p.taken (same-place before mid d) (header-taken mid u p h) (omega (arith, all)) in
-      record { input = p; taken = from; rest = rest-is tokens p.rest p.taken is_end all ∙ ap (λ n. drop n tokens) from; reads = e }
+      record { input = p; taken = from; rest = rest-is tokens p.rest p.taken is_end all; reads = e }
 
-  read-here : (forms.program known).reads (start tokens) ≡ Got draft end → AreReadAt tokens draft end (statements_at tokens (nameless tokens))
+  read-here : (forms.program known).reads (start tokens) ≡ Got draft end → AreReadThere tokens draft end
   unfolding forms.program forms.procedure_division
   read-here e =
       let s = then_got ((before_procedures known).reads (start tokens)) _ draft end e in
@@ -106,5 +106,5 @@ module _ (tokens : List Token) (draft : ProgramDraft) (end : Input) where
       let found : t.0 ≡ draft.paragraphs = ap (λ d. d.paragraphs) last.0 in
       at-header s.0 s.1 u.0 u.1 s.2 u.2 (u.3 ∙ (ap (λ a. Got a t.1) found ∙ ap (λ r. Got draft.paragraphs r) last.1))
 
-pub read-where-counted : (tokens : List Token) (draft : ProgramDraft) (end : Input) → (forms.program (declarations_of tokens)).reads (start tokens) ≡ Got draft end → AreReadAt tokens draft end (statements_at tokens (nameless tokens))
+pub read-where-counted : (tokens : List Token) (draft : ProgramDraft) (end : Input) → (forms.program (declarations_of tokens)).reads (start tokens) ≡ Got draft end → AreReadThere tokens draft end
 read-where-counted tokens draft end e = read-here tokens draft end e

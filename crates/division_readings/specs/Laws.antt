@@ -1,5 +1,5 @@
 -- What names don't change.
-use Rattle.std.specs.Prelude.{ℕ, ◌≡◌, List, drop}
+use Rattle.std.specs.Prelude.{◌≡◌, List, drop}
 use Rattle.cob_tree.specs.declared.entry.Entry.{Entry}
 use Rattle.cobol_lex.specs.declared.token.Token.{Token}
 use Rattle.data_forms.specs.Divisions.{divisions}
@@ -17,15 +17,15 @@ DivisionsReadTheSame =
     (names others : Names) (entries more : List Entry) →
     Alike (divisions (status names entries)) (divisions (status others more)) SameDivisions
 
--- an input behind so many of all tokens, at which these paragraphs are read
-pub record AreReadAt (tokens : List Token) (draft : ProgramDraft) (end : Input) (from : ℕ) : Type 0 where
+-- where headers are counted among all tokens, these paragraphs are read
+pub record AreReadThere (tokens : List Token) (draft : ProgramDraft) (end : Input) : Type 0 where
   pub input : Input
-  pub taken : input.taken ≡ from
-  pub rest : input.rest ≡ drop from tokens
+  pub taken : input.taken ≡ statements_at tokens (nameless tokens)
+  pub rest : input.rest ≡ drop input.taken tokens
   pub reads : (paragraphs (declarations_of tokens)).reads input ≡ Got draft.paragraphs end
 
 abbrev pub ParagraphsAreReadWhereCounted : Type 0
 ParagraphsAreReadWhereCounted =
     (tokens : List Token) (draft : ProgramDraft) (end : Input) →
     (program (declarations_of tokens)).reads (start tokens) ≡ Got draft end →
-    AreReadAt tokens draft end (statements_at tokens (nameless tokens))
+    AreReadThere tokens draft end
