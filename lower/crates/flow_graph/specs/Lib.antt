@@ -1,0 +1,2 @@
+-- the graph of a range, as lowering has it
+pub mod Lowered

@@ -1,0 +1,169 @@
+-- The machine's parts as those of the source machine.
+use Rattle.std.proofs.Common.{◌≡◌, ℕ, zero, suc, ◌+◌, ◌<◌, ◌≤◌, ◌==◌, false, List, [], ◌∷◌, drop, get_or, length, Option, Some, None, is_some, slice_get, Result, Ok, Err, arith, refl, ap, sym, ◌∙◌, subst}
+use Rattle.std.specs.Prelude.{if◌then◌else◌, IfOk}
+use Rattle.std.proofs.Math.Seq.{drop-cons}
+use Rattle.std.proofs.lemmas.Option.{slice_get-get_or, slice_get_past}
+use Rattle.cob_base.specs.declared.memory.NoMemory.{NoMemory}
+use Rattle.cob_tree.specs.declared.program.Paragraph.{Paragraph}
+use Rattle.cob_tree.specs.declared.program.Program.{Program}
+use Rattle.file_model.specs.World.{World}
+use Rattle.control.specs.Outcome.{Trace}
+use Rattle.control.specs.Source as source
+use Rattle.language.specs.Control.{control_of, section_last, seen_paragraph, seen_paragraphs}
+use Rattle.language.specs.Items.{Item, Pending, ends_at, items_of}
+use Rattle.language.specs.Language as language
+use Rattle.runs.specs.Run.{Going}
+use Rattle.cobol_meaning.specs.Acting.{Memory}
+use Rattle.cobol_meaning.specs.Runs.{State, doing_in, files_left}
+use Rattle.cobol_run.specs.declared.frame.Frame.{Frame}
+use Rattle.cobol_run.specs.declared.held.Plan.{Plan}
+use Rattle.cobol_run.specs.declared.machine.Machine.{Machine}
+use Rattle.cobol_run.specs.declared.machine.Step.{Step}
+use Rattle.cobol_run.specs.Frames.{last_in, last_of, pending_of, rest_of, sentences_before}
+use Rattle.control.specs.Items.{item_way}
+use Rattle.cobol_run.specs.declared.held.Held.{Held}
+use Rattle.cobol_run.specs.declared.way.Way as ways
+use Rattle.cobol_run.specs.Machine.{Follows, ends_by, falls_by, goes_by, rest_in, state_in, state_with, steps_by}
+use Rattle.cobol_run.specs.Plain.{PlainAct, PlainPicker, PlainState}
+use Rattle.language.specs.Own.{OwnTest}
+use Rattle.cobol_run.specs.Standing as standing
+use Rattle.cobol_run.specs.Plan.{declared_by, memory_in}
+use Rattle.cobol_run.specs.Ways.{KeepsPending, way_seen}
+use Rattle.cobol_run.proofs.FrameLemmas.{sentences_items}
+
+-- ---- paragraphs
+
+pub next_last : (paragraphs : List Paragraph) (last : ℕ) (next : Paragraph) → last + 1 < length paragraphs → is_some (get_or paragraphs (last + 1) next).section ≡ false → last_in paragraphs (last + 1) ≡ last_in paragraphs last
+next_last paragraphs last next within none =
+    let one : suc last ≡ last + 1 = omega arith in
+    let inside : suc last < length paragraphs = omega (arith, within) in
+    ap (last_in paragraphs) (sym one)
+    ∙ sym (ap (section_last last) (drop-cons paragraphs (suc last) next inside)
+    ∙ ap (λ n. section_last last (get_or paragraphs n next ∷ drop (suc (suc last)) paragraphs)) one
+    ∙ ap (λ b. if b then last else section_last (suc last) (drop (suc (suc last)) paragraphs)) none)
+
+abbrev sentences-of : ℕ → Option Paragraph → language.Paragraph
+sentences-of last None = []
+sentences-of last (Some paragraph) = seen_paragraph last paragraph
+
+seen-at : (from : ℕ) (paragraphs : List Paragraph) (number : ℕ) →
+    language.unless_absent (slice_get (seen_paragraphs from paragraphs) number) ≡ sentences-of (section_last (from + number) (drop (suc number) paragraphs)) (slice_get paragraphs number)
+seen-at from [] number = refl
+seen-at from (paragraph ∷ others) zero =
+    let e : from + 0 ≡ from = omega arith in
+    ap (λ n. seen_paragraph (section_last n others) paragraph) (sym e)
+seen-at from (paragraph ∷ others) (suc number) =
+    let e : suc from + number ≡ from + suc number = omega arith in
+    seen-at (suc from) others number ∙ ap (λ n. sentences-of (section_last n (drop (suc number) others)) (slice_get others number)) e
+
+rest-at : (program : Program) (number : ℕ) → source.rest_of (control_of program) number ≡ items_of (sentences-of (last_of program number) (slice_get program.paragraphs number))
+rest-at program number =
+    let e : 0 + number ≡ number = omega arith in
+    ap items_of (seen-at 0 program.paragraphs number ∙ ap (λ n. sentences-of (section_last n (drop (suc number) program.paragraphs)) (slice_get program.paragraphs number)) e)
+
+pub rest_there : (program : Program) (number : ℕ) (paragraph : Paragraph) → slice_get program.paragraphs number ≡ Some paragraph → sentences_before (last_of program number) paragraph.sentences [] ≡ source.rest_of (control_of program) number
+rest_there program number paragraph here =
+    sentences_items (last_of program number) paragraph.sentences
+    ∙ sym (rest-at program number ∙ ap (λ p. items_of (sentences-of (last_of program number) p)) here)
+
+pub rest_found : (program : Program) (number : ℕ) (paragraphs : List Paragraph) (other : Paragraph) → paragraphs ≡ program.paragraphs → number < length paragraphs → sentences_before (last_of program number) (get_or paragraphs number other).sentences [] ≡ source.rest_of (control_of program) number
+rest_found program number paragraphs other same within =
+    rest_there program number (get_or paragraphs number other) (ap (λ list. slice_get list number) (sym same) ∙ slice_get-get_or paragraphs number other within)
+
+pub rest_past : (program : Program) (number : ℕ) → length program.paragraphs ≤ number → [] ≡ source.rest_of (control_of program) number
+rest_past program number past =
+    sym (rest-at program number ∙ ap (λ p. items_of (sentences-of (last_of program number) p)) (slice_get_past program.paragraphs number past))
+
+seen-length : (from : ℕ) (paragraphs : List Paragraph) → length (seen_paragraphs from paragraphs) ≡ length paragraphs
+seen-length from [] = refl
+seen-length from (paragraph ∷ others) = ap suc (seen-length (suc from) others)
+
+-- ---- going on
+
+-- the machine went to a paragraph
+pub gone : (old new : Machine) (number : ℕ) (rest : List Item) (world : World) (trace : Trace) →
+    new.plan ≡ old.plan → new.held ≡ old.held → new.paragraph ≡ number → KeepsPending old.frames new.frames →
+    rest_of (last_of old.plan.program.now number) new.frames ≡ source.rest_of (control_of old.plan.program.now) number →
+    source.goes_to (doing_in (declared_by old.plan)) files_left (control_of old.plan.program.now) number (state_with old rest (memory_in old.held.store world) trace) ≡ state_in new world trace
+gone old new number rest world trace plan held paragraph pending there =
+    rw (plan, held, paragraph, pending old.plan.program.now, there) refl
+
+pub falls_on : (old new : Machine) (rest : List Item) (world : World) (trace : Trace) →
+    old.paragraph + 1 < length old.plan.program.now.paragraphs →
+    new.plan ≡ old.plan → new.held ≡ old.held → new.paragraph ≡ old.paragraph + 1 → KeepsPending old.frames new.frames →
+    rest_of (last_of old.plan.program.now (old.paragraph + 1)) new.frames ≡ source.rest_of (control_of old.plan.program.now) (old.paragraph + 1) →
+    falls_by old.plan old.paragraph (state_with old rest (memory_in old.held.store world) trace) ≡ state_in new world trace
+falls_on old new rest world trace within plan held paragraph pending there =
+    let one : suc old.paragraph ≡ old.paragraph + 1 = omega arith in
+    let same : length (control_of old.plan.program.now).paragraphs ≡ length old.plan.program.now.paragraphs = seen-length 0 old.plan.program.now.paragraphs in
+    let inside : suc old.paragraph < length (control_of old.plan.program.now).paragraphs = omega (arith, within, same) in
+    ap (λ next. source.falls (doing_in (declared_by old.plan)) files_left (control_of old.plan.program.now) next (state_with old rest (memory_in old.held.store world) trace)) (slice_get-get_or (control_of old.plan.program.now).paragraphs (suc old.paragraph) [] inside)
+    ∙ ap (λ n. source.goes_to (doing_in (declared_by old.plan)) files_left (control_of old.plan.program.now) n (state_with old rest (memory_in old.held.store world) trace)) one
+    ∙ gone old new (old.paragraph + 1) rest world trace plan held paragraph pending there
+
+-- there is no next paragraph
+pub falls_past : (plan : Plan) (paragraph : ℕ) (state : State) → length plan.program.now.paragraphs ≤ paragraph + 1 →
+    falls_by plan paragraph state ≡ source.falls (doing_in (declared_by plan)) files_left (control_of plan.program.now) None state
+falls_past plan paragraph state past =
+    let same : length (control_of plan.program.now).paragraphs ≡ length plan.program.now.paragraphs = seen-length 0 plan.program.now.paragraphs in
+    let behind : length (control_of plan.program.now).paragraphs ≤ suc paragraph = omega (arith, past, same) in
+    ap (λ next. source.falls (doing_in (declared_by plan)) files_left (control_of plan.program.now) next state) (slice_get_past (control_of plan.program.now).paragraphs (suc paragraph) behind)
+
+-- ---- the end of a paragraph
+
+-- no return is pending
+pub ends_falling : (old : Machine) (frames : List Frame) (new : Machine) (result : Result Step NoMemory) →
+    pending_of old.plan.program.now old.frames ≡ [] → frames ≡ [] →
+    IfOk result (λ step. (world : World) (trace : Trace) (rest : List Item) → Follows step new world trace (falls_by old.plan old.paragraph (state_with (record old { frames = frames }) rest (memory_in old.held.store world) trace))) →
+    IfOk result (λ step. (world : World) (trace : Trace) (rest : List Item) → Follows step new world trace (ends_by old.plan (pending_of old.plan.program.now old.frames) (state_with old rest (memory_in old.held.store world) trace)))
+ends_falling old frames new result none empty h = rw none (subst (λ (list : List Frame). IfOk result (λ step. (world : World) (trace : Trace) (rest : List Item) → Follows step new world trace (falls_by old.plan old.paragraph (state_with (record old { frames = list }) rest (memory_in old.held.store world) trace)))) empty h)
+
+-- a return is pending that isn't made here
+pub ends_passing : (old : Machine) (frames : List Frame) (new : Machine) (result : Result Step NoMemory) (top : Pending) (others : List Pending) →
+    pending_of old.plan.program.now old.frames ≡ top ∷ others → pending_of old.plan.program.now frames ≡ top ∷ others →
+    (top.end == old.paragraph) ≡ false → ends_at old.paragraph others ≡ false →
+    IfOk result (λ step. (world : World) (trace : Trace) (rest : List Item) → Follows step new world trace (falls_by old.plan old.paragraph (state_with (record old { frames = frames }) rest (memory_in old.held.store world) trace))) →
+    IfOk result (λ step. (world : World) (trace : Trace) (rest : List Item) → Follows step new world trace (ends_by old.plan (pending_of old.plan.program.now old.frames) (state_with old rest (memory_in old.held.store world) trace)))
+ends_passing old frames new result top others before after here deeper h =
+    rw (before, here, deeper) (subst (λ (list : List Pending). IfOk result (λ step. (world : World) (trace : Trace) (rest : List Item) → Follows step new world trace (falls_by old.plan old.paragraph (record (state_with old rest (memory_in old.held.store world) trace) { pending = list })))) after h)
+
+-- ---- a step
+
+abbrev mid : Machine → List Frame → Held → Machine
+mid old frames held = record old { frames = frames; held = held }
+
+-- the next state of the source machine, with this rest and these returns
+abbrev stepped : Machine → List Item → List Pending → World → Trace → State
+stepped old rest pending world trace =
+    source.rest_step (doing_in (declared_by old.plan)) files_left (control_of old.plan.program.now) rest
+    (record {
+      paragraph = old.paragraph;
+      rest = rest;
+      pending = pending;
+      memory = memory_in old.held.store world;
+      run = record { trace = trace; standing = Going };
+    })
+
+pub steps_ending : (old : Machine) (frames : List Frame) (shown : List ℕ) (new : Machine) (result : Result Step NoMemory) →
+    rest_in old ≡ [] → pending_of old.plan.program.now frames ≡ pending_of old.plan.program.now old.frames →
+    IfOk result (λ step. (world : World) (trace : Trace) (rest : List Item) → Follows step new world trace (ends_by old.plan (pending_of old.plan.program.now frames) (state_with (mid old frames (record old.held { shown = shown })) rest (memory_in old.held.store world) trace))) →
+    IfOk result (λ step. (world : World) (trace : Trace) → PlainState (state_in old world trace) → Follows step new world trace (steps_by old.plan (state_in old world trace)))
+steps_ending old frames shown new (Err e) none same h = tt
+steps_ending old frames shown new (Ok step) none same h = λ world trace plain.
+    subst (λ rest. Follows step new world trace (stepped old rest (pending_of old.plan.program.now old.frames) world trace)) (sym none)
+    (subst (λ pending. Follows step new world trace (stepped old [] pending world trace)) same (h world trace []))
+
+pub steps_going : (old : Machine) (frames : List Frame) (held : Held) (new : Machine) (result : Result Step NoMemory) (item : Item) (rest : List Item) (way : ways.Way) →
+    rest_in old ≡ item ∷ rest → pending_of old.plan.program.now frames ≡ pending_of old.plan.program.now old.frames →
+    ((world : World) → standing.ItemHas PlainAct OwnTest PlainPicker item →
+    way_seen (last_of old.plan.program.now old.paragraph) way held.shown (memory_in held.store world) (rest_of (last_of old.plan.program.now old.paragraph) frames)
+    ≡ item_way (doing_in (declared_by old.plan)) item rest (memory_in old.held.store world)) →
+    IfOk result (λ step. (world : World) (trace : Trace) (rest : List Item) (memory : Memory) → Follows step new world trace (goes_by old.plan (way_seen (last_of old.plan.program.now old.paragraph) way held.shown (memory_in held.store world) (rest_in (mid old frames held))) (state_with (mid old frames held) rest memory trace))) →
+    IfOk result (λ step. (world : World) (trace : Trace) → PlainState (state_in old world trace) → Follows step new world trace (steps_by old.plan (state_in old world trace)))
+steps_going old frames held new (Err e) item rest way there same meant h = tt
+steps_going old frames held new (Ok step) item rest way there same meant h = λ world trace plain.
+    subst (λ list. Follows step new world trace (stepped old list (pending_of old.plan.program.now old.frames) world trace)) (sym there)
+    (subst (λ pending. Follows step new world trace (stepped old (item ∷ rest) pending world trace)) same
+    (subst (λ w. Follows step new world trace (goes_by old.plan w (state_with (mid old frames held) (item ∷ rest) (memory_in old.held.store world) trace)))
+    (meant world (subst (standing.ItemsHave PlainAct OwnTest PlainPicker) there plain.0).0)
+    (h world trace (item ∷ rest) (memory_in old.held.store world))))

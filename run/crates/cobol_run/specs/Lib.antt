@@ -1,0 +1,14 @@
+-- what a program declares and stores
+pub mod Plan
+-- what is still to do, as the theory of control has it
+pub mod Frames
+-- what holds of each part that stands in a program
+pub mod Standing
+-- programs whose runs need no device
+pub mod Plain
+-- what the head of the rest comes to
+pub mod Ways
+-- the machine as a state of the source machine
+pub mod Machine
+-- what a run comes to
+pub mod Running

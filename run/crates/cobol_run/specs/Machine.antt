@@ -1,0 +1,86 @@
+-- The machine as a state of the source machine.
+use Rattle.std.specs.Prelude.{ℕ, suc, ◌≡◌, ◌<◌, ◌^◌, List, [], ◌∷◌, ◌++◌, length, slice_get}
+use Rattle.file_model.specs.World.{World}
+use Rattle.runs.specs.Run.{Going, Over}
+use Rattle.control.specs.Outcome.{Trace, Normally, Overlap, Reentry, Stopped, Faulted}
+use Rattle.control.specs.Outcome as outcome
+use Rattle.control.specs.Items as control
+use Rattle.control.specs.Source.{end_step, falls, goes, performs}
+use Rattle.cob_tree.specs.declared.ending.FlowFault.{FlowFault}
+use Rattle.cob_tree.specs.declared.ending.FlowFault.TheVariants as flow
+use Rattle.language.specs.Control.{control_of}
+use Rattle.language.specs.Items.{Item, Pending}
+use Rattle.cobol_meaning.specs.Acting.{Memory, abend_number}
+use Rattle.cobol_meaning.specs.Runs.{Files, State, doing_in, files_left, step_in}
+use Rattle.cobol_run.specs.declared.held.Plan.{Plan}
+use Rattle.cobol_run.specs.declared.machine.Ending.{Ending}
+use Rattle.cobol_run.specs.declared.machine.Ending.TheVariants as ending
+use Rattle.cobol_run.specs.declared.machine.Step.{Step}
+use Rattle.cobol_run.specs.declared.machine.Step.TheVariants as step
+use Rattle.cobol_run.specs.declared.machine.Machine.{Machine}
+use Rattle.cobol_run.specs.Frames.{last_of, pending_of, rest_of}
+use Rattle.cobol_run.specs.Plan.{declared_by, memory_in}
+
+-- with this rest and this memory, having shown this
+abbrev pub state_with : Machine → List Item → Memory → Trace → State
+state_with machine rest memory trace = record {
+  paragraph = machine.paragraph;
+  rest = rest;
+  pending = pending_of machine.plan.program.now machine.frames;
+  memory = memory;
+  run = record { trace = trace; standing = Going };
+}
+
+-- the rest of its paragraph, by its frames
+abbrev pub rest_in : Machine → List Item
+rest_in machine = rest_of (last_of machine.plan.program.now machine.paragraph) machine.frames
+
+abbrev pub state_in : Machine → World → Trace → State
+state_in machine world trace =
+    state_with machine (rest_in machine) (memory_in machine.held.store world) trace
+
+-- ---- how it ends
+
+abbrev pub fault_seen : FlowFault → outcome.FlowFault
+fault_seen (flow.Overlap paragraph) = Overlap paragraph
+fault_seen (flow.Reentry paragraph) = Reentry paragraph
+
+abbrev pub ending_seen : Ending → Files → outcome.Ending Files
+ending_seen ending.Stopped left = Stopped Normally left
+ending_seen (ending.Abended abend) left = Stopped (outcome.Abend (abend_number abend)) left
+ending_seen (ending.Faulted fault) left = Faulted (fault_seen fault)
+
+-- the state is that of the machine, and goes on; or its run came to this end
+abbrev pub Follows : Step → Machine → World → Trace → State → Type 0
+Follows step.On machine world trace state = state ≡ state_in machine world trace
+Follows step.Shown machine world trace state =
+    state ≡ state_in machine world (trace ++ (0 ∷ machine.held.shown) ∷ [])
+Follows (step.Over ending) machine world trace state =
+    state.run ≡ record { trace = trace; standing = Over (ending_seen ending world.shelves) }
+
+-- ---- steps of the source machine, by what the machine plans
+
+abbrev pub goes_by : Plan → control.Way Memory → State → State
+goes_by plan way state =
+    goes (doing_in (declared_by plan)) files_left (control_of plan.program.now) way state
+
+abbrev pub performs_by : Plan → ℕ → ℕ → List Item → State → State
+performs_by plan entry exit rest state =
+    performs (doing_in (declared_by plan)) files_left (control_of plan.program.now) entry exit rest
+    state
+
+abbrev pub falls_by : Plan → ℕ → State → State
+falls_by plan paragraph state =
+    falls (doing_in (declared_by plan)) files_left (control_of plan.program.now)
+    (slice_get (control_of plan.program.now).paragraphs (suc paragraph)) state
+
+abbrev pub ends_by : Plan → List Pending → State → State
+ends_by plan pending state =
+    end_step (doing_in (declared_by plan)) files_left (control_of plan.program.now) pending state
+
+abbrev pub steps_by : Plan → State → State
+steps_by plan state = step_in plan.program.now (declared_by plan) state
+
+-- its numbers of paragraphs fit
+abbrev pub IsNumbered : Plan → Type 0
+IsNumbered plan = length plan.program.now.paragraphs < 2 ^ 32

@@ -1,0 +1,59 @@
+-- Programs whose runs need no device and no added item.
+use Rattle.std.specs.Prelude.{◌≡◌, ℕ, IsTrue, Option, Some, None}
+use Rattle.cob_tree.specs.declared.program.Program.{Program}
+use Rattle.cob_tree.specs.declared.stmt.Stmt.{Stmt, out-Stmt}
+use Rattle.cob_tree.specs.declared.stmt.Stmt.TheOpen.{Stmt-F}
+use Rattle.cob_act.specs.Acting.{is_inner}
+use Rattle.language.specs.Control.{always, control_of, seen}
+use Rattle.cob_tree.specs.declared.control.Control.{Control}
+use Rattle.cob_tree.specs.declared.control.Control.TheVariants.{Once, Times, Until, Varying}
+use Rattle.cobol_run.specs.declared.statement.Entered.{Entered}
+use Rattle.language.specs.Own.{OwnTest}
+use Rattle.language.specs.Language.{Act, Own, Test, Holds, Picker, If, By, ByCell, Chooser, Evaluate, Read, Arith, Depending}
+use Rattle.language.specs.Language as language
+use Rattle.cobol_run.specs.Standing as standing
+use Rattle.cobol_meaning.specs.Runs.{State}
+
+-- an act of the program's own, that needs no device
+abbrev pub PlainAct : Act → Type 0
+PlainAct (Own simple) = IsTrue (is_inner simple)
+PlainAct _ = ⊥
+
+abbrev pub PlainChooser : Chooser → Type 0
+PlainChooser (Read file into has_end) = ⊥
+PlainChooser _ = Unit {0}
+
+-- no inline PERFORM without a control, which control sees as IF zero is zero
+abbrev pub PlainPicker : Picker → Type 0
+PlainPicker (If test) = OwnTest test × (test ≡ Holds always → ⊥)
+PlainPicker (By chooser) = PlainChooser chooser
+PlainPicker (ByCell cell) = ⊥
+
+abbrev pub PlainStmt : language.Stmt → Type 0
+PlainStmt = standing.StmtHas PlainAct OwnTest PlainPicker
+
+abbrev pub PlainState : State → Type 0
+PlainState = standing.StateHas PlainAct OwnTest PlainPicker
+
+-- no statement on files stands in it, and no word on an added item
+abbrev pub IsPlain : Program → Type 0
+IsPlain program =
+    standing.ParagraphsHave PlainAct OwnTest PlainPicker (control_of program).paragraphs
+
+-- a PERFORM once
+abbrev pub once_by : ℕ → ℕ → Control → Option Entered
+once_by entry exit Once = Some (record { entry = entry; exit = exit })
+once_by entry exit (Times amount) = None
+once_by entry exit (Until after until) = None
+once_by entry exit (Varying after item from by until) = None
+
+abbrev pub once_of : Stmt → Option Entered
+once_of stmt =
+    elim (out-Stmt stmt) [
+      | Stmt-F.Perform entry exit control ↦ once_by entry exit control
+      | _ ↦ None
+    ]
+
+-- plain, and no PERFORM once
+abbrev pub ActsPlainly : Stmt → ℕ → Type 0
+ActsPlainly stmt last = PlainStmt (seen last stmt) × (once_of stmt ≡ None)

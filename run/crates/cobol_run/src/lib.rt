@@ -1,0 +1,22 @@
+//! A COBOL program, run step by step.
+//!
+//! A `Machine` keeps what is still to do as frames, one on another, that point into the program: the
+//! statements of a list, the sentences behind one, what is left of a loop, and the returns that are
+//! pending. `Machine::step` makes exactly the step of the source machine (`step_in` of
+//! `cobol_meaning`), in every world, for programs without statements on files: hold `state_in` in
+//! specs/Machine.antt against `SourceState`. `way` has what the head of the rest comes to, and
+//! `statement` what each statement does (ISO 1989:1985, PROCEDURE DIVISION).
+#![tactic(auto)]
+
+mod frame;
+mod frames;
+mod held;
+mod machine;
+mod running;
+mod statement;
+mod way;
+
+pub use frame::{Body, Frame, Turning};
+pub use held::{Held, Plan};
+pub use machine::{Ending, Machine, Step};
+pub use running::{Ran, run, start};

@@ -1,0 +1,214 @@
+//! A program as it runs, step by step.
+
+ghost use Rattle.std.specs.Prelude.{◌≡◌, ◌<◌, ◌^◌, [], ℕ, List, IfOk, length};
+ghost use Rattle.file_model.specs.World.{World};
+ghost use Rattle.cob_tree.specs.declared.program.Program.{Program};
+ghost use Rattle.control.specs.Outcome.{Trace};
+ghost use Rattle.control.specs.Source as source;
+ghost use Rattle.cobol_meaning.specs.Acting.{Memory};
+ghost use Rattle.language.specs.Control.{control_of};
+ghost use Rattle.language.specs.Items.{Item};
+ghost use Rattle.cobol_run.specs.Frames.{last_in, last_of, pending_of, rest_of};
+ghost use Rattle.cobol_run.specs.Machine.{Follows, IsNumbered, ends_by, falls_by, goes_by, performs_by, rest_in, state_in, state_with, steps_by};
+ghost use Rattle.cobol_run.specs.Plain.{PlainState};
+ghost use Rattle.cobol_run.specs.Plan.{memory_in};
+ghost use Rattle.cobol_run.specs.Ways.{KeepsPending, way_seen};
+
+use crate::frame::Frame;
+use crate::frames::{Head, is_pending, leave, next, push_sentences, take_return};
+use crate::held::{Held, Plan};
+use crate::statement::{performed_once, stmt_way};
+use crate::way::{Way, turning_way};
+use cob_base::{NoMemory, Text};
+use cob_store::Stack;
+use cob_tree::{Abend, FlowFault, Paragraph};
+
+/// How a run ends by itself.
+#[derive(Clone, Copy)]
+pub enum Ending {
+    Stopped,
+    Abended(Abend),
+    Faulted(FlowFault),
+}
+
+/// What a step comes to.
+#[derive(Clone, Copy)]
+pub enum Step {
+    On,
+    /// It goes on, and showed bytes.
+    Shown,
+    Over(Ending),
+}
+
+/// A program that runs.
+#[derive(Drop)]
+pub struct Machine<'a> {
+    pub plan: Plan<'a>,
+    /// What is still to do, the returns that are pending among it.
+    pub frames: Stack<Frame<'a>>,
+    pub paragraph: u32,
+    pub held: Held,
+}
+
+fn clear(shown: &mut Text)
+    ensures { shown.new ≡ [] }
+{
+    shown.bytes.clear();
+}
+
+// The last paragraph of the section that a paragraph is in.
+fn section_last(paragraphs: &[Paragraph], paragraph: u32) -> u32
+    requires few { length paragraphs.now < 2 ^ 32 }
+    ensures { result ≡ last_in paragraphs.now paragraph }
+{
+    let mut last = paragraph;
+    while (last as usize) + 1 < paragraphs.len() {
+        if paragraphs[last as usize + 1].section.is_some() {
+            return last;
+        }
+        last += 1;
+    }
+    last
+}
+
+impl<'a> Machine<'a> {
+    /// Goes to the front of a paragraph.
+    pub fn go_to(&mut self, number: u32) -> Result<(), NoMemory>
+        ensures rest { IfOk result (λ u. rest_of (last_of self.old.plan.program.now number)
+            self.new.frames ≡ source.rest_of (control_of self.old.plan.program.now) number) }
+        ensures pending { IfOk result (λ u. KeepsPending self.old.frames self.new.frames) }
+        ensures paragraph { IfOk result (λ u. self.new.paragraph ≡ number) }
+        ensures plan { self.new.plan ≡ self.old.plan }
+        ensures held { self.new.held ≡ self.old.held }
+    {
+        leave(&mut self.frames)?;
+        self.paragraph = number;
+        let paragraphs = self.plan.program.paragraphs.as_slice();
+        if (number as usize) < paragraphs.len() {
+            let sentences = paragraphs[number as usize].sentences.as_slice();
+            push_sentences(&mut self.frames, sentences)?;
+        }
+        Ok(())
+    }
+
+    // On to the next paragraph; past the last one the run stops.
+    fn fall(&mut self) -> Result<Step, NoMemory>
+        requires few { IsNumbered self.old.plan }
+        ensures step { IfOk result (λ step. (world : World) (trace : Trace) (rest : List Item) →
+            Follows step self.new world trace (falls_by self.old.plan self.old.paragraph
+            (state_with self.old rest (memory_in self.old.held.store world) trace))) }
+        ensures plan { self.new.plan ≡ self.old.plan }
+    {
+        if (self.paragraph as usize) + 1 < self.plan.program.paragraphs.len() {
+            self.go_to(self.paragraph + 1)?;
+            Ok(Step::On)
+        } else {
+            Ok(Step::Over(Ending::Stopped))
+        }
+    }
+
+    // The end of a paragraph.
+    fn end(&mut self) -> Result<Step, NoMemory>
+        requires few { IsNumbered self.old.plan }
+        ensures step { IfOk result (λ step. (world : World) (trace : Trace) (rest : List Item) →
+            Follows step self.new world trace (ends_by self.old.plan
+            (pending_of self.old.plan.program.now self.old.frames)
+            (state_with self.old rest (memory_in self.old.held.store world) trace))) }
+        ensures plan { self.new.plan ≡ self.old.plan }
+    {
+        match take_return(&mut self.frames) {
+            None => self.fall(),
+            Some(top) => {
+                if top.end == self.paragraph {
+                    self.paragraph = top.paragraph;
+                    return Ok(Step::On);
+                }
+                if is_pending(&self.frames, self.paragraph) {
+                    let fault = FlowFault::Overlap(self.paragraph);
+                    return Ok(Step::Over(Ending::Faulted(fault)));
+                }
+                self.frames.push(Frame::Return {
+                    end: top.end,
+                    paragraph: top.paragraph,
+                })?;
+                self.fall()
+            }
+        }
+    }
+
+    // A range is performed, and then what is to be done.
+    fn perform(&mut self, entry: u32, exit: u32) -> Result<Step, NoMemory>
+        ensures step { IfOk result (λ step. (world : World) (trace : Trace) (rest : List Item) →
+            Follows step self.new world trace (performs_by self.old.plan entry exit
+            (rest_in self.old)
+            (state_with self.old rest (memory_in self.old.held.store world) trace))) }
+        ensures plan { self.new.plan ≡ self.old.plan }
+    {
+        if is_pending(&self.frames, exit) {
+            let fault = FlowFault::Reentry(exit);
+            return Ok(Step::Over(Ending::Faulted(fault)));
+        }
+        self.frames.push(Frame::Return {
+            end: exit,
+            paragraph: self.paragraph,
+        })?;
+        self.go_to(entry)?;
+        Ok(Step::On)
+    }
+
+    // Goes the way that the head of the rest came to.
+    fn go(&mut self, way: Way) -> Result<Step, NoMemory>
+        requires few { IsNumbered self.old.plan }
+        ensures step { IfOk result (λ step. (world : World) (trace : Trace) (rest : List Item)
+            (memory : Memory) → Follows step self.new world trace (goes_by self.old.plan
+            (way_seen (last_of self.old.plan.program.now self.old.paragraph) way
+            self.old.held.shown (memory_in self.old.held.store world) (rest_in self.old))
+            (state_with self.old rest memory trace))) }
+        ensures plan { self.new.plan ≡ self.old.plan }
+    {
+        match way {
+            Way::On => Ok(Step::On),
+            Way::Shown => Ok(Step::Shown),
+            Way::Halts => Ok(Step::Over(Ending::Stopped)),
+            Way::Abends(abend) => Ok(Step::Over(Ending::Abended(abend))),
+            Way::To(number) => {
+                self.go_to(number)?;
+                Ok(Step::On)
+            }
+            Way::ToSectionEnd => {
+                let paragraphs = self.plan.program.paragraphs.as_slice();
+                let last = section_last(paragraphs, self.paragraph);
+                leave(&mut self.frames)?;
+                self.paragraph = last;
+                Ok(Step::On)
+            }
+        }
+    }
+
+    /// One step of a program without statements on files. Bytes that it shows are in `held.shown`.
+    pub fn step(&mut self) -> Result<Step, NoMemory>
+        requires few { IsNumbered self.old.plan }
+        ensures step { IfOk result (λ step. (world : World) (trace : Trace) →
+            PlainState (state_in self.old world trace) → Follows step self.new world trace
+            (steps_by self.old.plan (state_in self.old world trace))) }
+        ensures plan { self.new.plan ≡ self.old.plan }
+    {
+        clear(&mut self.held.shown);
+        match next(&mut self.frames)? {
+            Head::Nothing => self.end(),
+            Head::Stmt(stmt) => {
+                if let Some(range) = performed_once(stmt) {
+                    return self.perform(range.entry, range.exit);
+                }
+                let way = stmt_way(&self.plan, &mut self.frames, &mut self.held, stmt)?;
+                self.go(way)
+            }
+            Head::Enter { entry, exit } => self.perform(entry, exit),
+            Head::SentenceEnd => Ok(Step::On),
+            Head::Turn(turning, body) => {
+                let way = turning_way(&self.plan, &mut self.frames, &mut self.held, turning, body)?;
+                self.go(way)
+            }
+        }
+    }
+}

@@ -1,0 +1,125 @@
+//! What a statement comes to.
+
+ghost use Rattle.std.specs.Prelude.{◌≡◌, [], ℕ, None, IfOk, IfSome};
+ghost use Rattle.control.specs.Items.{item_way};
+ghost use Rattle.cobol_meaning.specs.Runs.{doing_in};
+ghost use Rattle.language.specs.Control.{seen};
+ghost use Rattle.language.specs.Items.{Do};
+ghost use Rattle.language.specs.Language.{Perform};
+ghost use Rattle.cobol_run.specs.Plain.{ActsPlainly, once_of};
+ghost use Rattle.cobol_run.specs.Plan.{declared_by};
+ghost use Rattle.cobol_run.specs.Ways.{KeepsPending, LeadsWhere};
+
+use crate::frame::{Body, Frame};
+use crate::frames::{leave, leave_loop, leave_sentence};
+use crate::held::{Held, Plan};
+use crate::way::{Way, arith_way, control_way, evaluate_way, go_depending_way, if_way, simple_way};
+use cob_act::has_arms;
+use cob_base::NoMemory;
+use cob_store::Stack;
+use cob_tree::{Control, Stmt};
+
+/// A range that is performed once.
+#[derive(Clone, Copy)]
+pub struct Entered {
+    pub entry: u32,
+    pub exit: u32,
+}
+
+/// The range of a PERFORM once.
+pub fn performed_once(stmt: &Stmt) -> Option<Entered>
+    ensures of { result ≡ once_of stmt.now }
+    ensures seen { IfSome result (λ range. (last : ℕ) → seen last stmt.now
+        ≡ Perform range.entry range.exit) }
+{
+    match stmt {
+        Stmt::Perform {
+            entry,
+            exit,
+            control,
+        } => match control {
+            Control::Once => Some(Entered {
+                entry: *entry,
+                exit: *exit,
+            }),
+            Control::Times(_) => None,
+            Control::Until { .. } => None,
+            Control::Varying { .. } => None,
+        },
+        _ => None,
+    }
+}
+
+/// What a statement comes to, but for a PERFORM once.
+pub fn stmt_way<'a>(
+    plan: &Plan,
+    frames: &mut Stack<Frame<'a>>,
+    held: &mut Held,
+    stmt: &'a Stmt,
+) -> Result<Way, NoMemory>
+    requires empty { held.old.shown ≡ [] }
+    ensures way { IfOk result (λ way. LeadsWhere (ActsPlainly stmt.now) way
+        frames.old frames.new held.old held.new
+        (λ last rest memory. item_way (doing_in (declared_by plan.now)) (Do (seen last stmt.now))
+        rest memory)) }
+    ensures pending { IfOk result (λ way. KeepsPending frames.old frames.new) }
+{
+    match stmt {
+        Stmt::Display { .. } => simple_way(plan, held, stmt),
+        Stmt::Move { .. } => simple_way(plan, held, stmt),
+        Stmt::Arith { calc, into, arms } => {
+            if has_arms(arms) {
+                arith_way(plan, frames, held, calc, into.as_slice(), arms)
+            } else {
+                simple_way(plan, held, stmt)
+            }
+        }
+        Stmt::SetTrue(_) => simple_way(plan, held, stmt),
+        Stmt::If { cond, yes, no } => {
+            if_way(plan, frames, held, cond, yes.as_slice(), no.as_slice())
+        }
+        Stmt::Evaluate {
+            subject,
+            whens,
+            other,
+        } => evaluate_way(plan, frames, held, subject, whens.as_slice(), other),
+        Stmt::Loop { control, body } => {
+            control_way(plan, frames, held, control, Body::Nested(body.as_slice()))
+        }
+        Stmt::Perform {
+            entry,
+            exit,
+            control,
+        } => {
+            let body = Body::Performed {
+                entry: *entry,
+                exit: *exit,
+            };
+            control_way(plan, frames, held, control, body)
+        }
+        Stmt::Go(to) => Ok(Way::To(*to)),
+        Stmt::GoDepending { to, on } => Ok(go_depending_way(plan, held, to.as_slice(), on)),
+        Stmt::NextSentence => {
+            leave_sentence(frames)?;
+            Ok(Way::On)
+        }
+        Stmt::StopRun => Ok(Way::Halts),
+        Stmt::Exit => simple_way(plan, held, stmt),
+        Stmt::ExitParagraph => {
+            leave(frames)?;
+            Ok(Way::On)
+        }
+        Stmt::ExitSection => Ok(Way::ToSectionEnd),
+        Stmt::ExitPerform { cycle } => {
+            leave_loop(frames, *cycle)?;
+            Ok(Way::On)
+        }
+        Stmt::Continue => simple_way(plan, held, stmt),
+        // A statement on files stands in no plain program.
+        Stmt::Opens(_) => Ok(Way::On),
+        Stmt::Closes(_) => Ok(Way::On),
+        Stmt::Read { .. } => Ok(Way::On),
+        Stmt::Write { .. } => Ok(Way::On),
+        Stmt::Rewrite { .. } => Ok(Way::On),
+    }
+}

@@ -1,0 +1,34 @@
+-- What a reading gives, and what it leaves of the source.
+use Rattle.std.specs.Prelude.{ℕ, ◌≡◌, ◌+◌, ◌<◌, ◌≤◌, List, take, drop, Option, Some, None}
+use Rattle.cob_base.specs.Faults.{Rose}
+use Rattle.cob_base.specs.Source.{SourceCall}
+use Rattle.restructure_core.specs.Answers.{source_limit}
+
+-- these are the bytes, where they are told
+abbrev pub Tells : Option (List ℕ) → List ℕ → Type 0
+Tells None bytes = Unit {0}
+Tells (Some told) bytes = told ≡ bytes
+
+-- what is told to be left behind so many bytes, where they are told
+abbrev pub left_after : ℕ → Option (List ℕ) → Option (List ℕ)
+left_after n None = None
+left_after n (Some bytes) = Some (drop n bytes)
+
+-- the text is all that was left, or the front of it up to the first byte past the limit
+pub record IsRead (source : SourceCall) (text : List ℕ) : Type 0 where
+  pub bytes : List ℕ
+  pub told : Tells source.told bytes
+  pub front : text ≡ take (source_limit + 1) bytes
+  pub left : source.left ≡ left_after (source_limit + 1) source.told
+
+-- at most so many bytes were read
+pub record IsReadWithin (most : ℕ) (source : SourceCall) : Type 0 where
+  pub count : ℕ
+  pub within : count ≤ most
+  pub left : source.left ≡ left_after count source.told
+
+-- the source failed, where an ask reads this many bytes at most
+pub record IsReadFault (most : ℕ) (source : SourceCall) : Type 0 where
+  pub asked : 0 < most
+  pub rose : Rose source.count source.count_now
+  pub read : IsReadWithin most source

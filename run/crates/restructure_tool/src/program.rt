@@ -1,0 +1,126 @@
+//! The command line: what the program answers itself, and its exit status.
+
+ghost use Rattle.std.specs.Prelude.{◌≡◌, map, string_bytes, true, false, None, is_some, IfOk, OnErr};
+ghost use Rattle.std.specs.Process.{exit_status};
+ghost use Rattle.cob_base.specs.Source.{source_call};
+ghost use Rattle.cob_base.specs.Sink.{sink_call};
+ghost use Rattle.restructure_tool.specs.Ask.{ask_of};
+ghost use Rattle.restructure_tool.specs.Status.{status_number};
+ghost use Rattle.restructure_tool.specs.Tool.{Ends};
+ghost use Rattle.restructure_tool.specs.Program.{is_page, is_page_word, ShowsPage};
+
+use crate::refusal::Refusal;
+use crate::status::Status;
+use crate::tool;
+use crate::writing::{note, write_text};
+use cob_base::{NoMemory, Sink, Source};
+use std::alloc::Global;
+use std::process::ExitCode;
+use std::{env, io};
+
+const HELP: &str = "\
+usage: restructure_tool restructure < SOURCE > RESULT
+
+Reads a COBOL program of the plain form from standard input and writes a
+structured program that behaves the same to standard output. Where it can't,
+standard output stays empty, and standard error has a line that says why.
+
+Exit statuses: 0 done, 1 USAGE, 2 NOT YET FORM or NOT YET LOOP, 4 LIMIT,
+5 READ FAULT, 6 WRITE FAULT, 10 NO MEMORY.
+";
+
+const VERSION: &str = "restructure_tool 0.1.0\n";
+
+/// Does what the command line asks, over any source and sinks: `--help` and `--version` show a
+/// page, and other words are those of `tool`.
+pub fn program<S: Source, K: Sink, N: Sink>(
+    alloc: Global,
+    words: Result<Vec<String>, NoMemory>,
+    source: &mut S,
+    out: &mut K,
+    notes: &mut N,
+) -> Status
+    ensures page { IfOk words (λ words. is_page (map string_bytes words.items) ≡ true →
+        ShowsPage (source_call S.left S.faults source.old source.new)
+        (sink_call K.held K.faults out.old out.new)
+        (sink_call N.held N.faults notes.old notes.new) result) }
+    ensures ask { IfOk words (λ words. is_page (map string_bytes words.items) ≡ false →
+        Ends (ask_of (map string_bytes words.items))
+        (source_call S.left S.faults source.old source.new)
+        (sink_call K.held K.faults out.old out.new)
+        (sink_call N.held N.faults notes.old notes.new) result) }
+
+    // where memory is wanted for the words
+    ensures wordless { OnErr words (result ≡ Status.NoMemory) }
+    ensures ends { OnErr words (Ends None (source_call S.left S.faults source.old source.new)
+        (sink_call K.held K.faults out.old out.new)
+        (sink_call N.held N.faults notes.old notes.new) result) }
+{
+    match words {
+        Ok(words) => serve(alloc, words.as_slice(), source, out, notes),
+        Err(NoMemory) => note(alloc, &Refusal::NoMemory, notes),
+    }
+}
+
+// Shows a page, or does what `tool` does.
+fn serve<S: Source, K: Sink, N: Sink>(
+    alloc: Global,
+    words: &[String],
+    source: &mut S,
+    out: &mut K,
+    notes: &mut N,
+) -> Status
+    ensures page { is_page (map string_bytes words.now) ≡ true →
+        ShowsPage (source_call S.left S.faults source.old source.new)
+        (sink_call K.held K.faults out.old out.new)
+        (sink_call N.held N.faults notes.old notes.new) result }
+    ensures ask { is_page (map string_bytes words.now) ≡ false →
+        Ends (ask_of (map string_bytes words.now))
+        (source_call S.left S.faults source.old source.new)
+        (sink_call K.held K.faults out.old out.new)
+        (sink_call N.held N.faults notes.old notes.new) result }
+{
+    match page_of(words) {
+        Some(page) => write_text(alloc, page.as_bytes(), out, notes),
+        None => tool(alloc, words, source, out, notes),
+    }
+}
+
+// The page that the words ask the program itself for.
+fn page_of(words: &[String]) -> Option<&'static str>
+    ensures { is_some result ≡ is_page (map string_bytes words.now) }
+{
+    match words {
+        [word] => page_of_word(word.as_str()),
+        _ => None,
+    }
+}
+
+// The page of one word.
+fn page_of_word(word: &str) -> Option<&'static str>
+    ensures { is_some result ≡ is_page_word word.now }
+{
+    if word == "--help" {
+        return Some(HELP);
+    }
+    if word == "--version" {
+        return Some(VERSION);
+    }
+    None
+}
+
+/// The words behind the program's name; none where they can't be had as text, which is no ask.
+pub fn arguments(rt: &HostRuntime) -> Result<Vec<String>, NoMemory> {
+    match env::args(rt) {
+        Ok(words) => Ok(words.skip(1).collect(rt.alloc())?),
+        Err(error) if error.kind() == io::ErrorKind::OutOfMemory => Err(NoMemory),
+        Err(_) => Ok(Vec::new(rt.alloc())),
+    }
+}
+
+/// The exit status is the number of the status.
+pub fn exit_code(status: Status) -> ExitCode
+    ensures { exit_status result ≡ status_number status }
+{
+    ExitCode::from(status.number())
+}
