@@ -10,14 +10,14 @@ ghost use Rattle.expr_parse.specs.Front as names_in_front;
 use crate::expression::{operated, turn, unary, unsigned};
 use crate::reference::{qualifiers, ref_behind};
 use crate::subscript::more_subs;
-use crate::window::{is_in_window, window_behind};
+use crate::window::window_behind;
 use cob_base::{Boxed, Items, Word};
 use cob_tree::Op;
 use data_names::{Found, NameTable};
 use expr_forms::{Either, Front, Suffix};
 use expr_sides::{
-    at_turn, chain_of, either_fault, finish, found_fault, number_either, operator, ref_either,
-    subs_of, sum_side, tally, with_number,
+    at_colon, at_turn, chain_of, either_fault, finish, found_fault, number_either, operator,
+    ref_either, subs_of, sum_side, tally, with_number,
 };
 use grammar_forms::{Cursor, Position, Unread};
 use std::alloc::Global;
@@ -424,7 +424,7 @@ pub fn front_end(
             Ok((Suffix::Window(Boxed::new(alloc, window)?), count))
         }
         Front::Either(either) => {
-            if is_in_window(cursor) {
+            if at_colon(cursor) {
                 let Either { chain, leaves, .. } = either;
                 let count = tally(cursor, count, leaves)?;
                 let first = finish(alloc, chain)?;

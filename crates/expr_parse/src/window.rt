@@ -1,9 +1,6 @@
 //! Windows.
 
 ghost use Rattle.std.specs.Prelude.{◌≡◌};
-ghost use Rattle.cob_base.specs.Bytes.{colon};
-ghost use Rattle.grammar_forms.specs.Form.{is_next};
-ghost use Rattle.grammar_forms.specs.Part.{is_mark};
 ghost use Rattle.grammar_forms.specs.Reading.{Reads};
 ghost use Rattle.expr_forms.specs.Window as windows;
 ghost use Rattle.expr_forms.specs.Levels.{inner};
@@ -42,13 +39,6 @@ fn length_part(
         cursor.note(whole_fault(&side));
         Ok((Some(expr_of(side.what)), count))
     }
-}
-
-/// Whether what stands behind a parenthesis is in a window: a colon is next.
-pub fn is_in_window(cursor: &Cursor<'_>) -> bool
-    ensures { result ≡ is_next (is_mark colon) cursor.now }
-{
-    cursor.sees_mark(b':')
 }
 
 /// Goes on behind the first expression of a window.

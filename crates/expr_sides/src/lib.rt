@@ -25,4 +25,4 @@ pub use side::{
     digits_side, enclosed, expr_of, literal_kind, literal_side, negated, number_of, place_of,
     ref_side, shape_of, sum_side,
 };
-pub use token::{at_of, at_operand, at_turn, operator};
+pub use token::{at_colon, at_of, at_operand, at_turn, operator};

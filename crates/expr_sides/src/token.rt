@@ -1,7 +1,9 @@
 //! What the next token is.
 
 ghost use Rattle.std.specs.Prelude.{◌≡◌};
+ghost use Rattle.cob_base.specs.Bytes.{colon};
 ghost use Rattle.grammar_forms.specs.Form as form;
+ghost use Rattle.grammar_forms.specs.Part.{is_mark};
 ghost use Rattle.grammar_forms.specs.Reading.{Reads};
 ghost use Rattle.expr_forms.specs.Token as tokens;
 
@@ -24,6 +26,13 @@ pub fn at_operand(cursor: &Cursor<'_>) -> bool
     ensures { result ≡ form.is_next tokens.begins_operand cursor.now }
 {
     sees_literal(cursor) || sees_name(cursor)
+}
+
+/// Whether a colon is next: what stands behind the parenthesis is in a window.
+pub fn at_colon(cursor: &Cursor<'_>) -> bool
+    ensures { result ≡ form.is_next (is_mark colon) cursor.now }
+{
+    cursor.sees_mark(b':')
 }
 
 fn op_of_byte(byte: u8) -> Option<Op>
