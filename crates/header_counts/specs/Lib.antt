@@ -1,0 +1,2 @@
+-- What headers tell.
+pub mod Laws
