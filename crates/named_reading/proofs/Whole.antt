@@ -1,5 +1,5 @@
 -- What a whole program gives, over what its own tokens declare.
-use Rattle.std.proofs.Common.{◌≡◌, ℕ, suc, ◌≤◌, Bool, true, false, if◌then◌else◌, List, [], ◌∷◌, length, map, drop, Option, Some, None, refl, ap, sym, ◌∙◌, subst, arith}
+use Rattle.std.proofs.Common.{◌≡◌, ℕ, suc, ◌≤◌, ◌^◌, Bool, true, false, if◌then◌else◌, List, [], ◌∷◌, length, map, drop, Option, Some, None, refl, ap, sym, ◌∙◌, subst, arith}
 use Rattle.std.specs.Prelude.{codes}
 use Rattle.cob_tree.specs.declared.entry.Entry.{Entry}
 use Rattle.cob_tree.specs.declared.file.FileEntry.{FileEntry}
@@ -26,12 +26,14 @@ use Rattle.cobol_read.specs.declared.program.ProgramDraft.{ProgramDraft}
 use Rattle.cobol_read.specs.Limit.{token_limit}
 use Rattle.cobol_read.specs.Program as forms
 use Rattle.cobol_read.specs.Program.{nameless, statements_at, declared_by, declarations_from, declarations_of, before_procedures, program_of}
-use Rattle.cobol_read.specs.Reading.{HasSyntax}
+use Rattle.cobol_read.specs.Reading.{HasSyntax, Reads}
 use Rattle.cobol_read.specs.Status as statuses
 use Rattle.cobol_read.specs.StatusLaws as status_laws
 use Rattle.cobol_read.proofs.ProgramLaws as program_laws
 use Rattle.named_programs.specs.Part.{Counts, is_filled, place_named}
-use Rattle.named_programs.specs.Named.{paragraphs_named}
+use Rattle.named_programs.specs.Named.{counts_of, paragraphs_named}
+use Rattle.named_programs.proofs.OwnItems.{paragraphs-own}
+use Rattle.language.specs.OwnItems.{NamesOwnItems}
 use Rattle.named_forms.specs.Giving.{Gives, AreOf}
 use Rattle.named_forms.specs.Numbered.{IsNumbered}
 use Rattle.named_forms.proofs.Giving.{any, still, pure, note, ◌>>=◌, ◌>>◌}
@@ -46,8 +48,10 @@ use Rattle.named_division.specs.Laws.{AreCounted}
 use Rattle.named_division.proofs.Parts as division_parts
 use Rattle.status_readings.specs.Alike.{AlikeOutcomes}
 use Rattle.division_readings.specs.Same.{selected_of, SameDivisions}
+use Rattle.division_readings.proofs.Begin.{read-where-counted}
 use Rattle.division_readings.proofs.Divisions.{read-same}
-use Rattle.named_reading.specs.Named.{counts_told, NamesItems}
+use Rattle.header_counts.proofs.Division.{counted-are-read}
+use Rattle.named_reading.specs.Named.{IsNamed}
 use Rattle.named_reading.proofs.Few.{few}
 
 none_of : (early late : Option Note) → earliest early late ≡ None → (early ≡ None) × (late ≡ None)
@@ -127,22 +131,26 @@ module _ (names : Names) (entries : List Entry) (fault : Option Note) (tokens : 
 
 -- ---- over what its own tokens declare
 
+-- headers tell as many paragraphs as are read
+all-told : (tokens : List Token) (draft : ProgramDraft) (q : Input) → (forms.program (declarations_of tokens)).reads (start tokens) ≡ Got draft q →
+    (declarations_of tokens).procedures.count ≡ length draft.paragraphs
+all-told tokens draft q e =
+    let here = read-where-counted tokens draft q e in
+    let known = declarations_of tokens in
+    let from = statements_at tokens (nameless tokens) in
+    ap (λ ts. (procedures_of ts from).count) (sym (here.rest ∙ ap (λ n. drop n tokens) here.taken))
+    ∙ counted-are-read known.names known.entries known.procedures here.input draft.paragraphs q from here.reads
+
 module _ (tokens : List Token) (few_tokens : length tokens ≤ token_limit) (are : AreOf IsNumbered tokens) (draft : ProgramDraft) (q : Input) (none : q.fault ≡ None) where
-  abbrev Named : Program → Type 0
-  Named program = (told : ℕ) × NamesItems program told
-
   module _ (found : Divisions) (behind : Input) (from : ℕ) (read : nameless tokens ≡ Got found behind) (fine : fault_of found ≡ None) (same : SameDivisions found draft.divisions) where
-    abbrev told : ℕ
-    told = (procedures_of (drop from tokens) from).count
-
     abbrev here : Declarations
     here = declarations_from tokens (declared_of found) from
 
     abbrev counts : Counts
-    counts = counts_told (program_of here draft) told
+    counts = counts_of (program_of here draft)
 
-    counted : AreCounted here.names here.entries here.procedures counts
-    counted =
+    counted : here.procedures.count ≡ length draft.paragraphs → AreCounted here.names here.entries here.procedures counts
+    counted told =
         let items : length here.names.items ≡ length here.entries = names-length (declared_of found).files [] (entries_of found) in
         let names : length here.names.files ≡ length (map file_of found.selects) = map-length (λ file. file.name) (map file_of found.selects) in
         let one : length (map file_of found.selects) ≡ length found.selects = map-length file_of found.selects in
@@ -151,15 +159,14 @@ module _ (tokens : List Token) (few_tokens : length tokens ≤ token_limit) (are
         record {
           declared = record { items = omega (arith, items); files = omega (arith, names, one, other, selects) };
           items = omega (arith);
-          told = omega (arith);
+          told = omega (arith, told);
         }
 
-    named-here : (forms.program here).reads (start tokens) ≡ Got draft q → NamesItems (program_of here draft) told
-    named-here e =
-        let g = ((program here.names here.entries here.fault (drop from tokens) from counts counted).gives (start tokens) draft q e are none).1 in
+    named-here : here.procedures.count ≡ length draft.paragraphs → (forms.program here).reads (start tokens) ≡ Got draft q → IsNamed (program_of here draft)
+    named-here told e =
+        let g = ((program here.names here.entries here.fault (drop from tokens) from counts (counted told)).gives (start tokens) draft q e are none).1 in
         record {
-          some = g.1.0;
-          statements = g.1.1;
+          own = record { some = g.1.0; statements = g.1.1 };
           files = declared.files counts draft.divisions.selects g.0.statuses;
           entries = declared.entries found (ap data_literal same.data_part ∙ g.0.values) fine;
           few =
@@ -177,20 +184,29 @@ module _ (tokens : List Token) (few_tokens : length tokens ≤ token_limit) (are
       let alike = (read-same (names_of [] []) k.names [] k.entries).alike (start tokens) (start tokens) (record { rest = refl; taken = refl }) in
       (d.0, subst (λ u. AlikeOutcomes SameDivisions o u) d.1 (subst (λ u. AlikeOutcomes SameDivisions u ((before_procedures k).reads (start tokens))) read alike))
 
-  named-by : (o : Outcome Divisions) → nameless tokens ≡ o → (known_by o).fault ≡ None → (forms.program (known_by o)).reads (start tokens) ≡ Got draft q → Named (program_of (known_by o) draft)
-  named-by (Got found behind) read fine e =
+  named-by : (o : Outcome Divisions) → nameless tokens ≡ o → (known_by o).fault ≡ None → (known_by o).procedures.count ≡ length draft.paragraphs →
+      (forms.program (known_by o)).reads (start tokens) ≡ Got draft q → IsNamed (program_of (known_by o) draft)
+  named-by (Got found behind) read fine told e =
       let h = same-divisions (Got found behind) read e in
-      (_, named-here found behind (statements_at tokens (Got found behind)) read fine h.1.0 e)
-  named-by (Stop why rest) read fine e = absurd (same-divisions (Stop why rest) read e).1
+      named-here found behind (statements_at tokens (Got found behind)) read fine h.1.0 told e
+  named-by (Stop why rest) read fine told e = absurd (same-divisions (Stop why rest) read e).1
 
-  named-program : (declarations_of tokens).fault ≡ None → (forms.program (declarations_of tokens)).reads (start tokens) ≡ Got draft q → Named (program_of (declarations_of tokens) draft)
-  named-program fine e = named-by (nameless tokens) refl fine e
+  named-program : (declarations_of tokens).fault ≡ None → (forms.program (declarations_of tokens)).reads (start tokens) ≡ Got draft q → IsNamed (program_of (declarations_of tokens) draft)
+  named-program fine e = named-by (nameless tokens) refl fine (all-told tokens draft q e) e
 
-pub named-read : (bytes : List ℕ) (found : Program) → HasSyntax bytes found None → (told : ℕ) × NamesItems found told
+named-read : (bytes : List ℕ) (found : Program) → HasSyntax bytes found None → IsNamed found
 named-read bytes found h =
     let words = h.has_words.has_few in
     let q = h.spelled.0 in
     let none = none_of (declarations_of h.tokens).fault h.noted (sym h.fault_is) in
     let read = (program_laws.program (declarations_of h.tokens)).lawful.complete (start h.tokens) h.draft q h.spelled.1 in
-    subst (λ program. (told : ℕ) × NamesItems program told) (sym h.is)
+    subst (λ program. IsNamed program) (sym h.is)
     (named-program h.tokens words.few (numbered words.has_tokens.text h.tokens words.has_tokens.lexed) h.draft q (h.spelled.3 ∙ none.1) none.0 read)
+
+few-below : (n : ℕ) → n ≤ token_limit → n ≤ 2 ^ 31
+few-below n h = omega (arith, h)
+
+pub read-named : (bytes : List ℕ) (program : Program) → Reads bytes program → IsNamed program × NamesOwnItems program
+read-named bytes program reads =
+    let named = named-read bytes program reads.has_room.has_syntax in
+    (named, paragraphs-own (counts_of program) (few-below (length program.entries) named.few) program.paragraphs named.own.statements)

@@ -3,9 +3,9 @@ use Rattle.std.specs.Prelude.{ℕ, List}
 use Rattle.cob_tree.specs.declared.program.Program.{Program}
 use Rattle.cobol_read.specs.Reading.{Reads}
 use Rattle.language.specs.OwnItems.{NamesOwnItems}
-use Rattle.named_reading.specs.Named.{NamesItems}
+use Rattle.named_reading.specs.Named.{IsNamed}
 
-abbrev pub ProgramsThatAreReadNameTheirItems : Type 0
-ProgramsThatAreReadNameTheirItems =
+abbrev pub ProgramsThatAreReadAreNamed : Type 0
+ProgramsThatAreReadAreNamed =
     (bytes : List ℕ) (program : Program) → Reads bytes program →
-    ((told : ℕ) × NamesItems program told) × NamesOwnItems program
+    IsNamed program × NamesOwnItems program

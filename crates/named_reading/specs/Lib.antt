@@ -1,4 +1,4 @@
--- Programs whose items are named.
+-- Programs that name what they have.
 pub mod Named
 -- What holds of programs that are read.
 pub mod Laws

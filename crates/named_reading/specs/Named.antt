@@ -1,25 +1,15 @@
--- Programs whose items and files are named, however many paragraphs their headers tell.
-use Rattle.std.specs.Prelude.{ℕ, ◌≡◌, ◌≤◌, true, length, map}
+-- Programs that name what they have, and whose entries and files are named.
+use Rattle.std.specs.Prelude.{◌≡◌, ◌≤◌, true, length, map}
 use Rattle.cob_tree.specs.declared.program.Program.{Program}
 use Rattle.language.specs.All.{all}
 use Rattle.cobol_read.specs.Limit.{token_limit}
-use Rattle.named_programs.specs.Part.{Counts, is_filled}
-use Rattle.named_programs.specs.Named.{paragraphs_named}
+use Rattle.named_programs.specs.Named.{counts_of, NamesItsOwn}
 use Rattle.named_entries.specs.Entries.{EntriesNamed, file_named}
 
--- the entries and files that a program has, and so many paragraphs
-abbrev pub counts_told : Program → ℕ → Counts
-counts_told program told = record {
-  items = length program.entries;
-  files = length program.files;
-  paragraphs = told;
-}
-
--- with this number of paragraphs
-pub record NamesItems (program : Program) (told : ℕ) : Type 0 where
-  pub some : is_filled program.paragraphs ≡ true
-  pub statements : paragraphs_named (counts_told program told) program.paragraphs ≡ true
-  pub files : all (map (file_named (counts_told program told)) program.files) ≡ true
+-- what its statements and files name is there
+pub record IsNamed (program : Program) : Type 0 where
+  pub own : NamesItsOwn program
+  pub files : all (map (file_named (counts_of program)) program.files) ≡ true
   pub entries : EntriesNamed program.entries
   -- no more than tokens
   pub few : length program.entries ≤ token_limit
