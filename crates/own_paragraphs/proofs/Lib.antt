@@ -1,0 +1,2 @@
+-- What is named names paragraphs of its own.
+pub mod OwnParagraphs

@@ -1,0 +1,8 @@
+-- What holds of named programs.
+use Rattle.cob_tree.specs.declared.program.Program.{Program}
+use Rattle.cobol_parts.specs.Named.{NamesOwnParagraphs}
+use Rattle.named_programs.specs.Named.{NamesItsOwn}
+
+-- each paragraph that its statements name is there, and each inline loop says how it turns
+abbrev pub NameOwnParagraphs : Type 0
+NameOwnParagraphs = (program : Program) → NamesItsOwn program → NamesOwnParagraphs program

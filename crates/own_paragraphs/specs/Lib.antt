@@ -1,0 +1,2 @@
+-- What holds of named programs.
+pub mod Laws
