@@ -43,6 +43,8 @@ use Rattle.named_exprs.proofs.Expressions as exprs
 use Rattle.named_data.specs.Drafts.{DivisionsNamed, data_literal}
 use Rattle.named_data.proofs.Data as data_forms
 use Rattle.named_entries.proofs.Declared as declared
+use Rattle.entry_bounds.specs.Bounds.{EntriesBound}
+use Rattle.entry_bounds.proofs.Bound.{bound}
 use Rattle.named_stmts.proofs.Paragraphs as paragraph_forms
 use Rattle.named_division.specs.Laws.{AreCounted}
 use Rattle.named_division.proofs.Parts as division_parts
@@ -149,15 +151,16 @@ module _ (tokens : List Token) (few_tokens : length tokens ≤ token_limit) (are
     abbrev counts : Counts
     counts = counts_of (program_of here draft)
 
+    -- as many files are declared as are read
+    as_many : length (map file_of found.selects) ≡ length (map file_of draft.divisions.selects)
+    as_many = map-length file_of found.selects ∙ (same-length found.selects draft.divisions.selects same.selects ∙ sym (map-length file_of draft.divisions.selects))
+
     counted : here.procedures.count ≡ length draft.paragraphs → AreCounted here.names here.entries here.procedures counts
     counted told =
         let items : length here.names.items ≡ length here.entries = names-length (declared_of found).files [] (entries_of found) in
         let names : length here.names.files ≡ length (map file_of found.selects) = map-length (λ file. file.name) (map file_of found.selects) in
-        let one : length (map file_of found.selects) ≡ length found.selects = map-length file_of found.selects in
-        let other : length (map file_of draft.divisions.selects) ≡ length draft.divisions.selects = map-length file_of draft.divisions.selects in
-        let selects : length found.selects ≡ length draft.divisions.selects = same-length found.selects draft.divisions.selects same.selects in
         record {
-          declared = record { items = omega (arith, items); files = omega (arith, names, one, other, selects) };
+          declared = record { items = omega (arith, items); files = omega (arith, names, as_many) };
           items = omega (arith);
           told = omega (arith, told);
         }
@@ -169,6 +172,7 @@ module _ (tokens : List Token) (few_tokens : length tokens ≤ token_limit) (are
           own = record { some = g.1.0; statements = g.1.1 };
           files = declared.files counts draft.divisions.selects g.0.statuses;
           entries = declared.entries found (ap data_literal same.data_part ∙ g.0.values) fine;
+          bound = subst (λ count. EntriesBound count here.entries) as_many (bound found (ap data_literal same.data_part ∙ g.0.values) fine);
           few =
               let k = few (status_laws.status (names_of [] []) []) (start tokens) found behind read in
               omega (arith, k, few_tokens);

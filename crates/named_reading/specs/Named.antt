@@ -5,11 +5,13 @@ use Rattle.language.specs.All.{all}
 use Rattle.cobol_read.specs.Limit.{token_limit}
 use Rattle.named_programs.specs.Named.{counts_of, NamesItsOwn}
 use Rattle.named_entries.specs.Entries.{EntriesNamed, file_named}
+use Rattle.entry_bounds.specs.Bounds.{EntriesBound}
 
 -- what its statements and files name is there
 pub record IsNamed (program : Program) : Type 0 where
   pub own : NamesItsOwn program
   pub files : all (map (file_named (counts_of program)) program.files) ≡ true
   pub entries : EntriesNamed program.entries
+  pub bound : EntriesBound (length program.files) program.entries
   -- no more than tokens
   pub few : length program.entries ≤ token_limit

@@ -1,0 +1,29 @@
+-- Entries whose files and redefined entries are there, and whose level 88s have values.
+use Rattle.std.specs.Prelude.{ℕ, ◌≡◌, ◌+◌, ◌==◌, nat_lt, Bool, true, ◌&&◌, ◌||◌, not, List, [], ◌∷◌, map, Option}
+use Rattle.cob_tree.specs.declared.entry.Entry.{Entry}
+use Rattle.language.specs.All.{all}
+use Rattle.named_programs.specs.Part.{is_filled, if_any}
+
+-- it is among the first so many, if there is one
+abbrev pub is_below : (count : ℕ) → Option ℕ → Bool
+is_below count number = if_any (λ n. nat_lt n count) number
+
+-- the file in whose FD it stands is one of so many
+abbrev pub file_there : (files : ℕ) → Entry → Bool
+file_there files entry = is_below files entry.file
+
+-- each redefines nothing, or an entry before it, where so many stand before all of them
+abbrev pub redefine_earlier : (before : ℕ) → List Entry → Bool
+redefine_earlier before [] = true
+redefine_earlier before (entry ∷ entries) =
+    is_below before entry.redefines && redefine_earlier (before + 1) entries
+
+-- a level 88 has a value
+abbrev pub has_values : Entry → Bool
+has_values entry = not (entry.level == 88) || is_filled entry.ranges
+
+-- in a program with so many files
+pub record EntriesBound (files : ℕ) (entries : List Entry) : Type 0 where
+  pub in_files : all (map (file_there files) entries) ≡ true
+  pub redefined : redefine_earlier 0 entries ≡ true
+  pub valued : all (map has_values entries) ≡ true
