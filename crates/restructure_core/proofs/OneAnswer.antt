@@ -1,6 +1,7 @@
 -- One answer is due to bytes, but for the trail.
 use Rattle.std.proofs.Common.{◌≡◌, ℕ, List, Option, Some, None, Result, Ok, Err, refl, ap, sym, ◌∙◌, subst, ◌⊎◌, inl, inr}
 use Rattle.std.specs.Prelude.{IsOk, IfOk, IfErr}
+use Rattle.std.proofs.lemmas.Option.{none-some}
 use Rattle.cob_base.specs.declared.limit.Limit.{Limit}
 use Rattle.cob_tree.specs.declared.program.Program.{Program}
 use Rattle.flow_paths.specs.declared.trail.Trail.{Trail}
@@ -17,7 +18,8 @@ use Rattle.restructure_core.specs.Flow.{PassesRanges, HasFlowFault, IsFaultless}
 use Rattle.restructure_core.specs.Laws.{IsStraight}
 use Rattle.restructure_core.specs.Refusals.{of_read_refusal}
 use Rattle.restructure_core.specs.Rendered.{rendered}
-use Rattle.restructure_core.specs.Answers.{IsUnread, IsPastRanges, IsFaultySource, IsLater, IsNotYet, IsStraightSource, IsRestructured, HasCause, IsRefusedBy, IsRefusedByTrail}
+use Rattle.restructure_core.specs.Limit.{result_limit}
+use Rattle.restructure_core.specs.Answers.{IsUnread, IsPastRanges, IsFaultySource, IsLater, IsNotYet, PassesAsResult, IsPastResult, IsStraightSource, IsRestructured, HasCause, IsRefusedBy, IsRefusedByTrail}
 use Rattle.restructure_core.proofs.PlainFlow.{plain-faultless}
 use Rattle.restructure_core.proofs.Ranges.{limits-same, within-past}
 
@@ -36,13 +38,17 @@ IsFaultyOf program outcome = (trail : Trail) × (outcome ≡ Err (refused.Flow p
 abbrev IsLaterOf : Program → Outcome → Type 0
 IsLaterOf program outcome = (why : Later) × (outcome ≡ Err (refused.NotYet why)) × IsFaultless program × IsLater program why
 
+abbrev IsLongOf : Program → Outcome → Type 0
+IsLongOf program outcome = (limit : Limit) × (outcome ≡ Err (refused.Limit limit)) × PassesAsResult program limit
+
 abbrev IsTextFor : Program → Outcome → Type 0
-IsTextFor program outcome = (outcome ≡ Ok (printed (rendered program))) × IsStraight program
+IsTextFor program outcome = (outcome ≡ Ok (printed (rendered program))) × IsStraight program × (result_limit (rendered program) ≡ None)
 
 pub data IsOf (program : Program) (outcome : Outcome) : Type 0 where
   past : IsPastOf program outcome → IsOf program outcome
   faulty : IsFaultyOf program outcome → IsOf program outcome
   later : IsLaterOf program outcome → IsOf program outcome
+  long : IsLongOf program outcome → IsOf program outcome
   text : IsTextFor program outcome → IsOf program outcome
 
 -- the same outcome, or the refusal of one program by two trails
@@ -66,22 +72,44 @@ straight-within program straight = (plain-faultless program straight.plain).with
 straight-never : (program : Program) → IsStraight program → HasFlowFault program → ⊥
 straight-never program straight = (plain-faultless program straight.plain).never
 
+-- a straight program names few ranges
+straight-past : (program : Program) (limit : Limit) → IsStraight program → PassesRanges program limit → ⊥
+straight-past program limit straight h = within-past program limit (straight-within program straight) h
+
+-- a result passes one limit first
+result-same : (program : Program) (one other : Limit) → PassesAsResult program one → PassesAsResult program other → one ≡ other
+result-same program one other h g = some-same one other (sym h.past ∙ g.past) where
+  some-same : (a b : Limit) → Some a ≡ Some b → a ≡ b
+  some-same a b e = cc
+
+within-result : (program : Program) (limit : Limit) → result_limit (rendered program) ≡ None → PassesAsResult program limit → ⊥
+within-result program limit within h = none-some limit (sym within ∙ h.past)
+
 alike-of : (program : Program) (one other : Outcome) → IsOf program one → IsOf program other → IsAlike one other
 alike-of program one other (past h) (past g) = inl (h.1 ∙ ap (λ l. Err (refused.Limit l)) (limits-same program h.0 g.0 h.2 g.2) ∙ sym g.1)
 alike-of program one other (past h) (faulty g) = absurd (within-past program h.0 g.2 h.2)
 alike-of program one other (past h) (later g) = absurd (within-past program h.0 g.2.within h.2)
-alike-of program one other (past h) (text g) = absurd (within-past program h.0 (straight-within program g.1) h.2)
+alike-of program one other (past h) (long g) = absurd (straight-past program h.0 g.2.straight h.2)
+alike-of program one other (past h) (text g) = absurd (straight-past program h.0 g.1 h.2)
 alike-of program one other (faulty h) (past g) = absurd (within-past program g.0 h.2 g.2)
 alike-of program one other (faulty h) (faulty g) = inr (program, h.0, g.0, h.1, g.1)
 alike-of program one other (faulty h) (later g) = absurd (g.2.never h.3)
+alike-of program one other (faulty h) (long g) = absurd (straight-never program g.2.straight h.3)
 alike-of program one other (faulty h) (text g) = absurd (straight-never program g.1 h.3)
 alike-of program one other (later h) (past g) = absurd (within-past program g.0 h.2.within g.2)
 alike-of program one other (later h) (faulty g) = absurd (h.2.never g.3)
 alike-of program one other (later h) (later g) = inl (h.1 ∙ ap (λ w. Err (refused.NotYet w)) (later-same program h.0 g.0 h.3 g.3) ∙ sym g.1)
+alike-of program one other (later h) (long g) = absurd (straight-later program h.0 g.2.straight h.3)
 alike-of program one other (later h) (text g) = absurd (straight-later program h.0 g.1 h.3)
-alike-of program one other (text h) (past g) = absurd (within-past program g.0 (straight-within program h.1) g.2)
+alike-of program one other (long h) (past g) = absurd (straight-past program g.0 h.2.straight g.2)
+alike-of program one other (long h) (faulty g) = absurd (straight-never program h.2.straight g.3)
+alike-of program one other (long h) (later g) = absurd (straight-later program g.0 h.2.straight g.3)
+alike-of program one other (long h) (long g) = inl (h.1 ∙ ap (λ l. Err (refused.Limit l)) (result-same program h.0 g.0 h.2 g.2) ∙ sym g.1)
+alike-of program one other (long h) (text g) = absurd (within-result program h.0 g.2 h.2)
+alike-of program one other (text h) (past g) = absurd (straight-past program g.0 h.1 g.2)
 alike-of program one other (text h) (faulty g) = absurd (straight-never program h.1 g.3)
 alike-of program one other (text h) (later g) = absurd (straight-later program g.0 h.1 g.3)
+alike-of program one other (text h) (long g) = absurd (within-result program g.0 h.2 g.2)
 alike-of program one other (text h) (text g) = inl (h.0 ∙ sym g.0)
 
 -- what is due to bytes
@@ -112,14 +140,15 @@ alike bytes one other (inr h) (inl g) = absurd (read-unread bytes h.0 g.0 h.1 g.
 alike bytes one other (inr h) (inr g) = alike-of g.0 one other (of-read bytes g.0 one g.1 h) g.2
 
 pub text-due : (bytes result : List ℕ) → IsRestructured bytes result → IsDueTo bytes (Ok result)
-text-due bytes result h = inr (h.source.program, h.source.reads, text (ap Ok h.written, h.source.straight))
+text-due bytes result h = inr (h.source.program, h.source.reads, text (ap Ok h.written, h.source.straight, h.source.within))
 
 pub cause-due : (bytes : List ℕ) (why : Refused) → HasCause bytes why → (why ≡ refused.NoMemory) ⊎ IsDueTo bytes (Err why)
 cause-due bytes (refused.NotSubset why) h = inr (inl (refused.NotSubset why, refl, h))
 cause-due bytes (refused.Flow program trail) h = inr (inr (program, h.reads, faulty (trail, refl, h.faulty.within, h.faulty.faulty)))
 cause-due bytes (refused.NotYet why) h = inr (inr (h.program, h.reads, later (why, refl, h.faultless, h.cause)))
 cause-due bytes (refused.Limit limit) (inl h) = inr (inl (refused.Limit limit, refl, h))
-cause-due bytes (refused.Limit limit) (inr h) = inr (inr (h.program, h.reads, past (limit, refl, h.past)))
+cause-due bytes (refused.Limit limit) (inr (inl h)) = inr (inr (h.program, h.reads, past (limit, refl, h.past)))
+cause-due bytes (refused.Limit limit) (inr (inr h)) = inr (inr (h.program, h.reads, long (limit, refl, h.passes)))
 cause-due bytes refused.NoMemory h = inl refl
 
 -- Where each answer comes.
@@ -169,7 +198,8 @@ module _ (bytes : List ℕ) (result : Result Done Refused) (done : IfOk result (
     from (past h) = outcome-err result (refused.Limit limit) (h.1 ∙ ap (λ l. Err (refused.Limit l)) (limits-same source.program h.0 limit h.2 source.past))
     from (faulty h) = absurd (within-past source.program limit h.2 source.past)
     from (later h) = absurd (within-past source.program limit h.2.within source.past)
-    from (text h) = absurd (within-past source.program limit (straight-within source.program h.1) source.past)
+    from (long h) = absurd (straight-past source.program limit h.2.straight source.past)
+    from (text h) = absurd (straight-past source.program limit h.1 source.past)
 
   pub comes-faulty : (program : Program) → IsFaultySource bytes program → IsRefusedByTrail program result
   comes-faulty program source = unless-memory ((trail : Trail) × (result ≡ Err (refused.Flow program trail))) (λ due. from (of-program program source.reads due)) where
@@ -177,6 +207,7 @@ module _ (bytes : List ℕ) (result : Result Done Refused) (done : IfOk result (
     from (past h) = absurd (within-past program h.0 source.within h.2)
     from (faulty h) = (h.0, outcome-err result (refused.Flow program h.0) h.1)
     from (later h) = absurd (h.2.never source.faulty)
+    from (long h) = absurd (straight-never program h.2.straight source.faulty)
     from (text h) = absurd (straight-never program h.1 source.faulty)
 
   pub comes-later : (why : Later) → IsNotYet bytes why → IsRefusedBy (refused.NotYet why) result
@@ -185,12 +216,23 @@ module _ (bytes : List ℕ) (result : Result Done Refused) (done : IfOk result (
     from (past h) = absurd (within-past source.program h.0 source.faultless.within h.2)
     from (faulty h) = absurd (source.faultless.never h.3)
     from (later h) = outcome-err result (refused.NotYet why) (h.1 ∙ ap (λ w. Err (refused.NotYet w)) (later-same source.program h.0 why h.3 source.cause))
+    from (long h) = absurd (straight-later source.program why h.2.straight source.cause)
     from (text h) = absurd (straight-later source.program why h.1 source.cause)
+
+  pub comes-long : (limit : Limit) → IsPastResult bytes limit → IsRefusedBy (refused.Limit limit) result
+  comes-long limit source = unless-memory (result ≡ Err (refused.Limit limit)) (λ due. from (of-program source.program source.reads due)) where
+    from : IsOf source.program (outcome_of result) → result ≡ Err (refused.Limit limit)
+    from (past h) = absurd (straight-past source.program h.0 source.passes.straight h.2)
+    from (faulty h) = absurd (straight-never source.program source.passes.straight h.3)
+    from (later h) = absurd (straight-later source.program h.0 source.passes.straight h.3)
+    from (long h) = outcome-err result (refused.Limit limit) (h.1 ∙ ap (λ l. Err (refused.Limit l)) (result-same source.program h.0 limit h.2 source.passes))
+    from (text h) = absurd (within-result source.program limit h.2 source.passes)
 
   pub comes-done : IsStraightSource bytes → IsOk result ⊎ (result ≡ Err refused.NoMemory)
   comes-done source = unless-memory (IsOk result) (λ due. from (of-program source.program source.reads due)) where
     from : IsOf source.program (outcome_of result) → IsOk result
-    from (past h) = absurd (within-past source.program h.0 (straight-within source.program source.straight) h.2)
+    from (past h) = absurd (straight-past source.program h.0 source.straight h.2)
     from (faulty h) = absurd (straight-never source.program source.straight h.3)
     from (later h) = absurd (straight-later source.program h.0 source.straight h.3)
+    from (long h) = absurd (within-result source.program h.0 source.within h.2)
     from (text h) = outcome-ok result (printed (rendered source.program)) h.0

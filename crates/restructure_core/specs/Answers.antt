@@ -1,5 +1,5 @@
 -- What each answer says of the bytes.
-use Rattle.std.specs.Prelude.{ℕ, ◌≡◌, ◌≢◌, ◌⊎◌, List, Result, Ok, Err}
+use Rattle.std.specs.Prelude.{ℕ, ◌≡◌, ◌≢◌, ◌⊎◌, List, Some, None, Result, Ok, Err}
 use Rattle.cob_base.specs.declared.limit.Limit.{Limit}
 use Rattle.cob_tree.specs.declared.program.Program.{Program}
 use Rattle.cob_tree.specs.Structured.{IsStructured}
@@ -20,6 +20,7 @@ use Rattle.restructure_core.specs.Control.{ComesBack}
 use Rattle.restructure_core.specs.Flow.{PassesRanges, HasFlowFault, IsFaultless, IsFaultyBy}
 use Rattle.restructure_core.specs.Refusals.{of_read_refusal}
 use Rattle.restructure_core.specs.Rendered.{rendered}
+use Rattle.restructure_core.specs.Limit.{result_limit}
 use Rattle.restructure_core.specs.Laws.{IsStraight}
 
 -- the bytes aren't read, for a cause that has this refusal
@@ -58,11 +59,24 @@ pub record IsNotYet (bytes : List ℕ) (why : Later) : Type 0 where
   pub faultless : IsFaultless program
   pub cause : IsLater program why
 
--- the bytes are a plain program that comes to no paragraph a second time
+-- what is rendered of a straight program passes this limit first
+pub record PassesAsResult (program : Program) (limit : Limit) : Type 0 where
+  pub straight : IsStraight program
+  pub past : result_limit (rendered program) ≡ Some limit
+
+-- the bytes are a program whose result passes a limit
+pub record IsPastResult (bytes : List ℕ) (limit : Limit) : Type 0 where
+  pub program : Program
+  pub reads : Reads bytes program
+  pub passes : PassesAsResult program limit
+
+-- the bytes are a plain program that comes to no paragraph a second time, and its result passes no
+-- limit
 pub record IsStraightSource (bytes : List ℕ) : Type 0 where
   pub program : Program
   pub reads : Reads bytes program
   pub straight : IsStraight program
+  pub within : result_limit (rendered program) ≡ None
 
 -- the text is that of the rendered program, which is structured and behaves as the plain program
 -- that the bytes are
@@ -72,15 +86,24 @@ pub record IsRestructured (bytes text : List ℕ) : Type 0 where
   pub structured : IsStructured (rendered source.program)
   pub same : SameBehaviour source.program (rendered source.program)
 
--- the text of a straight program
+-- the text of a straight program whose result passes no limit
 pub record IsTextOf (program : Program) (text : List ℕ) : Type 0 where
   pub straight : IsStraight program
+  pub within : result_limit (rendered program) ≡ None
   pub written : text ≡ printed (rendered program)
+
+-- the text of a result that passes no limit, or the limit that it passes first
+abbrev pub IsPrinted : Program → Result (List ℕ) Refused → Type 0
+IsPrinted result (Ok text) = (text ≡ printed result) × (result_limit result ≡ None)
+IsPrinted result (Err (refused.Limit limit)) = result_limit result ≡ Some limit
+IsPrinted result (Err refused.NoMemory) = Unit {0}
+IsPrinted result (Err _) = ⊥
 
 -- what is answered of a program without a fault of flow
 abbrev pub IsAnswerTo : Program → Result (List ℕ) Refused → Type 0
 IsAnswerTo program (Ok text) = IsTextOf program text
 IsAnswerTo program (Err (refused.NotYet why)) = IsLater program why
+IsAnswerTo program (Err (refused.Limit limit)) = PassesAsResult program limit
 IsAnswerTo program (Err refused.NoMemory) = Unit {0}
 IsAnswerTo program (Err _) = ⊥
 
@@ -90,7 +113,7 @@ HasCause bytes (refused.NotSubset why) = IsUnread bytes (refused.NotSubset why)
 HasCause bytes (refused.Flow program trail) = IsFaultySourceBy bytes program trail
 HasCause bytes (refused.NotYet why) = IsNotYet bytes why
 HasCause bytes (refused.Limit limit) =
-    IsUnread bytes (refused.Limit limit) ⊎ IsPastRanges bytes limit
+    IsUnread bytes (refused.Limit limit) ⊎ IsPastRanges bytes limit ⊎ IsPastResult bytes limit
 HasCause bytes refused.NoMemory = Unit {0}
 
 -- this refusal, unless memory is wanted

@@ -35,7 +35,8 @@ next_by count number (Jumps to) = Some to
 next_by count number Stops = None
 
 abbrev pub next_of : Program → ℕ → Option ℕ
-next_of program number = next_by (length program.paragraphs) number (leaving (stmts_at program number))
+next_of program number =
+    next_by (length program.paragraphs) number (leaving (stmts_at program number))
 
 abbrev pub next_after : Program → Option ℕ → Option ℕ
 next_after program None = None

@@ -7,6 +7,8 @@ pub mod Rendered
 -- what control comes to, whatever the data
 pub mod Flow
 pub mod Laws
+-- the limits of the result
+pub mod Limit
 -- what each answer says of the bytes
 pub mod Refusals
 pub mod Answers

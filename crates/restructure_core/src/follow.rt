@@ -38,7 +38,8 @@ fn unmarked(alloc: Global, count: usize) -> Result<Vec<bool>, NoMemory>
     Ok(vec![in alloc; false; count]?)
 }
 
-/// Adds the displays before control leaves the paragraph with this number, and says to which one it goes.
+/// Adds the displays before control leaves the paragraph with this number, and says to which one it
+/// goes.
 fn add_displays(
     alloc: Global,
     shown: &mut Items<Stmt>,

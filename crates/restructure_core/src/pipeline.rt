@@ -6,15 +6,15 @@ ghost use Rattle.cob_tree.specs.declared.program.Program as tree;
 ghost use Rattle.restructure_core.specs.declared.fault.Later as later;
 ghost use Rattle.restructure_core.specs.declared.fault.Refused as answers;
 ghost use Rattle.restructure_core.specs.Rendered.{one_paragraph};
-ghost use Rattle.restructure_core.specs.Answers.{IsUnread, IsPastRanges, IsFaultySource, IsNotYet, IsStraightSource, IsRestructured, IsAnswerTo, HasCause, IsRefusedBy, IsRefusedByTrail};
+ghost use Rattle.restructure_core.specs.Answers.{IsUnread, IsPastRanges, IsFaultySource, IsNotYet, IsPastResult, IsStraightSource, IsRestructured, IsAnswerTo, HasCause, IsRefusedBy, IsRefusedByTrail};
 
 use crate::fault::{Later, Refused};
 use crate::flow::flow_of;
 use crate::follow::follow;
+use crate::limit::print_result;
 use crate::plain::is_plain;
 use cob_base::{Items, NoMemory, Text};
 use cob_tree::{Paragraph, Program, Sentence, Stmt};
-use cobol_print::print;
 use cobol_read::read;
 use std::alloc::Global;
 
@@ -28,9 +28,9 @@ pub struct Done {
 /// Restructures a source whose program is of the plain form.
 ///
 /// A program of the plain form has no files and no data; its paragraphs have names and are in no
-/// section, and their statements are DISPLAY of literals in quotation marks, GO TO and STOP RUN. The
-/// errors are those of reading, then too many ranges, then a fault of flow, then another form, then
-/// control that comes to a paragraph a second time.
+/// section, and their statements are DISPLAY of literals in quotation marks, GO TO and STOP RUN.
+/// The errors are those of reading, then too many ranges, then a fault of flow, then another form,
+/// then control that comes to a paragraph a second time, then too many tokens or bytes of the result.
 pub fn restructure(alloc: Global, bytes: &[u8]) -> Result<Done, Refused>
     // what each answer tells
     ensures done { IfOk result (λ done. IsRestructured bytes.now done.text) }
@@ -45,6 +45,8 @@ pub fn restructure(alloc: Global, bytes: &[u8]) -> Result<Done, Refused>
         IsFaultySource bytes.now program → IsRefusedByTrail program result }
     ensures later { (why : later.Later) →
         IsNotYet bytes.now why → IsRefusedBy (Refused.NotYet why) result }
+    ensures past { (limit : limits.Limit) →
+        IsPastResult bytes.now limit → IsRefusedBy (Refused.Limit limit) result }
     ensures straight { IsStraightSource bytes.now → IsOk result ⊎ (result ≡ Err Refused.NoMemory) }
 {
     restructured(alloc, bytes)
@@ -76,8 +78,7 @@ fn restructure_program(alloc: Global, program: &Program) -> Result<Text, Refused
     }
     let shown = follow(alloc, program)?;
     let rendered = render(alloc, program, shown)?;
-    let text = print(alloc, &rendered)?;
-    Ok(text)
+    print_result(alloc, &rendered)
 }
 
 // One paragraph, with the first one's name, of these statements and STOP RUN.

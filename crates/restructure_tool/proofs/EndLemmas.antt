@@ -9,7 +9,7 @@ use Rattle.restructure_core.specs.declared.fault.Refused.TheVariants as refused
 use Rattle.cobol_read.specs.declared.refusal.ReadRefusal.TheVariants as rd
 use Rattle.cobol_read.specs.Limit.{source_limit, past_source}
 use Rattle.restructure_core.specs.Refusals.{of_read_refusal}
-use Rattle.restructure_core.specs.Answers.{IsUnread, IsPastRanges, IsFaultySourceBy, IsNotYet, IsRestructured, HasCause}
+use Rattle.restructure_core.specs.Answers.{IsUnread, IsPastRanges, IsFaultySourceBy, IsNotYet, IsPastResult, IsRestructured, HasCause}
 use Rattle.restructure_tool.proofs.LengthLemmas.{short-read, short-either}
 use Rattle.restructure_tool.specs.declared.ask.Ask.{Ask}
 use Rattle.restructure_tool.specs.declared.ask.Ask.TheVariants.{Restructure}
@@ -69,7 +69,8 @@ module _ (source : SourceCall) (text : List ℕ) (read : IsRead source text) whe
   gives-refused (refused.Flow program trail) h = answered (Err (refusal.Refused (refused.Flow program trail))) ((λ e. cc), short (λ b. IsFaultySourceBy b program trail) (short-read text program h.reads) h)
   gives-refused (refused.NotYet why) h = answered (Err (refusal.Refused (refused.NotYet why))) ((λ e. cc), short (λ b. IsNotYet b why) (short-read text h.program h.reads) h)
   gives-refused (refused.Limit limit) (inl h) = answered (Err (refusal.Refused (refused.Limit limit))) ((λ e. cc), inl (unread (refused.Limit limit) h))
-  gives-refused (refused.Limit limit) (inr h) = answered (Err (refusal.Refused (refused.Limit limit))) ((λ e. cc), inr (short (λ b. IsPastRanges b limit) (short-read text h.program h.reads) h))
+  gives-refused (refused.Limit limit) (inr (inl h)) = answered (Err (refusal.Refused (refused.Limit limit))) ((λ e. cc), inr (inl (short (λ b. IsPastRanges b limit) (short-read text h.program h.reads) h)))
+  gives-refused (refused.Limit limit) (inr (inr h)) = answered (Err (refusal.Refused (refused.Limit limit))) ((λ e. cc), inr (inr (short (λ b. IsPastResult b limit) (short-read text h.program h.reads) h)))
   gives-refused refused.NoMemory h = within
 
   pub gives-made : (why : Refused) (r : Refusal) → r ≡ of_refused why → HasCause text why → Gives (Some Restructure) source (Err r)

@@ -64,7 +64,8 @@ WithinLimitAllIsRead =
     (bytes : List ℕ) → length bytes ≤ source_limit →
     left_after (reads (Some Restructure)) (Some bytes) ≡ Some []
 
--- a text is due to the bytes of a plain program in which control comes to no paragraph twice
+-- a text is due to the bytes of a plain program in which control comes to no paragraph twice, and
+-- whose result passes no limit
 abbrev pub StraightSourceHasText : Type 0
 StraightSourceHasText =
     (bytes : List ℕ) → IsStraightSource bytes →

@@ -38,8 +38,9 @@ use writing::{note, write_text};
 /// of a trail.
 ///
 /// The order of the refusals is that of their causes: words, a fault of the source, those of
-/// reading, too many ranges, a fault of flow, the form, a loop. Both sinks have room before the first byte of the result is
-/// written. A failure of `notes` changes no status; want of room in it makes the status NoMemory.
+/// reading, too many ranges, a fault of flow, the form, a loop, the result's tokens and bytes. Both
+/// sinks have room before the first byte of the result is written. A failure of `notes` changes no
+/// status; want of room in it makes the status NoMemory.
 pub fn tool<S: Source, K: Sink, N: Sink>(
     alloc: Global,
     words: &[String],

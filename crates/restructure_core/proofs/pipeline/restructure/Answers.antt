@@ -1,4 +1,4 @@
-use Rattle.restructure_core.proofs.OneAnswer.{comes-unread, comes-past, comes-faulty, comes-later, comes-done}
+use Rattle.restructure_core.proofs.OneAnswer.{comes-unread, comes-past, comes-faulty, comes-later, comes-long, comes-done}
 use Rattle.restructure_core.proofs.pipeline.restructure.Goals as goal
 
 pub returns-clause-unread : goal.returns-clause-unread
@@ -12,6 +12,9 @@ returns-clause-faulty c = comes-faulty c.args.bytes.now c.restructured.result c.
 
 pub returns-clause-later : goal.returns-clause-later
 returns-clause-later c = comes-later c.args.bytes.now c.restructured.result c.restructured.ensures.done c.restructured.ensures.refused
+
+pub returns-clause-past : goal.returns-clause-past
+returns-clause-past c = comes-long c.args.bytes.now c.restructured.result c.restructured.ensures.done c.restructured.ensures.refused
 
 pub returns-clause-straight : goal.returns-clause-straight
 returns-clause-straight c = comes-done c.args.bytes.now c.restructured.result c.restructured.ensures.done c.restructured.ensures.refused

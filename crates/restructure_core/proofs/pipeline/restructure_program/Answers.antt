@@ -1,7 +1,7 @@
-use Rattle.restructure_core.proofs.Answering.{text-of}
+use Rattle.restructure_core.proofs.Answering.{answer-of}
 use Rattle.restructure_core.proofs.pipeline.restructure_program.Goals as goal
 
 pub returns : goal.returns
 returns c =
-    text-of c.args.program.now c.in_ok-rendered.rendered c.in_ok-shown.shown c.in_ok-text.text (c.is_plain.ensures.0 c.if-not-is_plain.false)
-    c.in_ok-shown.ensures.onward c.in_ok-shown.ensures.shown c.in_ok-rendered.ensures c.in_ok-text.ensures
+    answer-of c.args.program.now c.in_ok-rendered.rendered c.in_ok-shown.shown c.print_result.result (c.is_plain.ensures.0 c.if-not-is_plain.false)
+    c.in_ok-shown.ensures.onward c.in_ok-shown.ensures.shown c.in_ok-rendered.ensures c.print_result.ensures

@@ -1,0 +1,37 @@
+-- The limits of the result. One that is rendered of a plain program can pass no others: no statement
+-- of it holds another, and it has no data, no conditions and no expressions.
+use Rattle.std.specs.Prelude.{ℕ, true, nat_lt, if◌then◌else◌, List, length, Option, Some, None}
+use Rattle.cob_base.specs.declared.limit.Limit.{Limit}
+use Rattle.cob_base.specs.declared.limit.LimitKind.{LimitKind}
+use Rattle.cob_base.specs.declared.limit.LimitKind.TheVariants as limits
+use Rattle.cob_tree.specs.declared.program.Program.{Program}
+use Rattle.program_units.specs.Division.{program_units}
+use Rattle.cobol_read.specs.Limit.{token_limit}
+use Rattle.cobol_print.specs.Unit.{all_tokens}
+use Rattle.cobol_print.specs.Program.{printed}
+
+-- how many bytes the written text may have
+abbrev pub byte_limit : ℕ
+byte_limit = 4194304
+
+abbrev pub past : LimitKind → (counted limit : ℕ) → Limit
+past kind counted limit =
+    record { kind = kind; of_result = true; counted = counted; limit = limit }
+
+-- the tokens of what is printed of a program
+abbrev pub token_count : Program → ℕ
+token_count program = length (all_tokens (program_units program))
+
+abbrev pub byte_count : Program → ℕ
+byte_count program = length (printed program)
+
+-- the first of the two limits that is passed, each by its exact count
+abbrev pub first_past : (tokens bytes : ℕ) → Option Limit
+first_past tokens bytes =
+    if nat_lt token_limit tokens then Some (past limits.Tokens tokens token_limit)
+    else if nat_lt byte_limit bytes then Some (past limits.Bytes bytes byte_limit)
+    else None
+
+-- the first limit that the result passes
+abbrev pub result_limit : Program → Option Limit
+result_limit result = first_past (token_count result) (byte_count result)

@@ -1,0 +1,74 @@
+//! The text of the result, within its limits.
+
+ghost use Rattle.std.specs.Prelude.{◌≡◌, length};
+ghost use Rattle.cob_base.specs.Answers.{Makes};
+ghost use Rattle.cobol_print.specs.Unit.{all_tokens};
+ghost use Rattle.restructure_core.specs.Limit as limits;
+ghost use Rattle.restructure_core.specs.Answers.{IsPrinted};
+
+use crate::fault::Refused;
+use cob_base::{Limit, LimitKind, NoMemory, Text};
+use cob_tree::Program;
+use cobol_print::{PrintUnit, print_units};
+use program_units::program_units;
+use std::alloc::Global;
+
+/// How many tokens the result may have.
+const TOKEN_LIMIT: usize = 500_000;
+
+/// How many bytes its text may have.
+const BYTE_LIMIT: usize = 4_194_304;
+
+/// The text of a program that is the result, or the first limit that it passes.
+pub fn print_result(alloc: Global, program: &Program) -> Result<Text, Refused>
+    ensures { IsPrinted program.now result }
+{
+    let units = program_units(alloc, program)?;
+    let tokens = token_count(units.as_slice())?;
+    let text = print_units(alloc, units.as_slice())?;
+    match first_past(tokens, text.len()) {
+        None => Ok(text),
+        Some(limit) => {
+            drop(text);
+            Err(Refused::Limit(limit))
+        }
+    }
+}
+
+/// How many tokens the units have. More than a number counts are more than memory holds.
+fn token_count(units: &[PrintUnit]) -> Result<usize, NoMemory>
+    ensures { Makes (length (all_tokens units.now)) result }
+{
+    let mut count: usize = 0;
+    for unit in units {
+        match count.checked_add(unit.tokens.len()) {
+            None => return Err(NoMemory),
+            Some(more) => count = more,
+        }
+    }
+    Ok(count)
+}
+
+/// The first of the two limits that is passed.
+fn first_past(tokens: usize, bytes: usize) -> Option<Limit>
+    ensures { result ≡ limits.first_past tokens bytes }
+{
+    if tokens > TOKEN_LIMIT {
+        return Some(past(LimitKind::Tokens, tokens, TOKEN_LIMIT));
+    }
+    if bytes > BYTE_LIMIT {
+        return Some(past(LimitKind::Bytes, bytes, BYTE_LIMIT));
+    }
+    None
+}
+
+fn past(kind: LimitKind, counted: usize, limit: usize) -> Limit
+    ensures { result ≡ limits.past kind counted limit }
+{
+    Limit {
+        kind,
+        of_result: true,
+        counted: counted as u64,
+        limit: limit as u64,
+    }
+}
