@@ -661,26 +661,10 @@ fn perform_from<P: Parts>(
     }
 }
 
+// PERFORM is read by two calls here, without one between: Rattle's own compiler builds the first
+// calls of a function into it, up to a size, and the frame of a head would be held with them.
 #[cycle(stmt)]
-#[tactic(auto, using(crate::proofs::Begun::perform_read))]
-fn perform_stmt<P: Parts>(
-    parts: &P,
-    alloc: Global,
-    cursor: &mut Cursor<'_>,
-    scope: Scope,
-    levels: u32,
-) -> Result<(Draft, bool), Unread>
-    ensures { Reads
-        ((loops.perform_stmt (P.parts parts.now)
-        (all.level (P.parts parts.now) levels) scope).reads cursor.old)
-        result cursor.new }
-{
-    let head = begin_perform(parts, alloc, cursor, levels)?;
-    perform_from(parts, alloc, cursor, scope, levels, head)
-}
-
-#[cycle(stmt)]
-#[tactic(auto, unfolding(stmt_forms::specs::Stmt::holding_stmt))]
+#[tactic(auto, using(crate::proofs::Begun::holding_read), unfolding(stmt_forms::specs::Stmt::holding_stmt))]
 fn holding_stmt<P: Parts>(
     parts: &P,
     alloc: Global,
@@ -698,7 +682,8 @@ fn holding_stmt<P: Parts>(
     } else if at_choice(cursor) {
         choice_stmt(parts, alloc, cursor, scope, levels)
     } else {
-        perform_stmt(parts, alloc, cursor, scope, levels)
+        let head = begin_perform(parts, alloc, cursor, levels)?;
+        perform_from(parts, alloc, cursor, scope, levels, head)
     }
 }
 

@@ -85,9 +85,6 @@ decreases-loop_body g l = 15 * l.levels + 1
 abbrev pub decreases-perform_from : goal.decreases-perform_from
 decreases-perform_from g l = 15 * l.levels + 2
 
-abbrev pub decreases-perform_stmt : goal.decreases-perform_stmt
-decreases-perform_stmt g l = 15 * l.levels + 3
-
 abbrev pub decreases-holding_stmt : goal.decreases-holding_stmt
 decreases-holding_stmt g l = 15 * l.levels + 9
 
