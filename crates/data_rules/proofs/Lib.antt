@@ -1,4 +1,8 @@
 -- Steps of loops over entries, the last first.
 pub mod BackLemmas
--- Steps of loops over clauses, SELECTs, FDs and records.
+-- Steps of loops over clauses, records and lists that are folded.
 pub mod StepLemmas
+-- The rules on files, by their names alone.
+pub mod FileLemmas
+-- What entries are judged by, in tables.
+pub mod TableLemmas

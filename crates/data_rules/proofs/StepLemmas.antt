@@ -1,18 +1,16 @@
--- Steps of loops over clauses, SELECTs, FDs and records.
-use Rattle.std.proofs.Common.{◌≡◌, ℕ, ◌+◌, ◌<◌, List, [], ◌∷◌, ◌++◌, length, get_or, take, drop, Option, Some, refl, sym, ap, ◌∙◌, if◌then◌else◌}
+-- Steps of loops over clauses, records and lists that are folded.
+use Rattle.std.proofs.Common.{◌≡◌, ℕ, ◌+◌, ◌<◌, List, [], ◌∷◌, ◌++◌, length, get_or, take, drop, Some, refl, sym, ap, ◌∙◌, if◌then◌else◌}
 use Rattle.std.proofs.lemmas.List.{append_assoc, drop_more, take_more}
 use Rattle.std.specs.List.{fold, list_any}
 use Rattle.cob_tree.specs.declared.entry.Entry.{Entry}
 use Rattle.data_forms.specs.declared.draft.Clause.{Clause}
 use Rattle.data_forms.specs.declared.draft.FdDraft.{FdDraft}
 use Rattle.data_forms.specs.declared.draft.SelectDraft.{SelectDraft}
-use Rattle.grammar_forms.specs.Note.{earliest}
 use Rattle.grammar_forms.specs.declared.note.NameKind.TheVariants.{Usage}
-use Rattle.grammar_forms.specs.declared.note.Note.{Note}
 use Rattle.data_rules.specs.Clause.{again_from, is_of, kind_of, position_of}
 use Rattle.data_rules.specs.Declaring.{record_bases, section_bases}
 use Rattle.data_rules.specs.Fault.{fault_at}
-use Rattle.data_rules.specs.File.{fd_fault, fds_from, file_number, select_fault, selects_from}
+use Rattle.data_rules.specs.File.{file_number}
 
 -- one element more, of those to come and of those before
 pub drop_step : {X : Type 0} (xs : List X) (at : ℕ) (x : X) → at < length xs → x ≡ get_or xs at x → drop at xs ≡ x ∷ drop (at + 1) xs
@@ -23,12 +21,6 @@ take_step xs at x h e = take_more xs at x h ∙ ap (λ y. take at xs ++ y ∷ []
 
 pub again_from_step : (clauses : List Clause) (at : ℕ) (x : Clause) → at < length clauses → x ≡ get_or clauses at x → again_from (take at clauses) (drop at clauses) ≡ (if list_any (is_of (kind_of x)) (take at clauses) then fault_at Usage (position_of x) else again_from (take (at + 1) clauses) (drop (at + 1) clauses))
 again_from_step clauses at x h e = rw (drop_step clauses at x h e, take_step clauses at x h e) refl
-
-pub selects_from_step : (fds : List FdDraft) (fault : Option Note) (selects : List SelectDraft) (at : ℕ) (x : SelectDraft) → at < length selects → x ≡ get_or selects at x → selects_from fds fault (take at selects) (drop at selects) ≡ selects_from fds (earliest fault (select_fault fds (take at selects) x)) (take (at + 1) selects) (drop (at + 1) selects)
-selects_from_step fds fault selects at x h e = rw (drop_step selects at x h e, take_step selects at x h e) refl
-
-pub fds_from_step : (selects : List SelectDraft) (fault : Option Note) (fds : List FdDraft) (at : ℕ) (x : FdDraft) → at < length fds → x ≡ get_or fds at x → fds_from selects fault (take at fds) (drop at fds) ≡ fds_from selects (earliest fault (fd_fault selects (take at fds) x)) (take (at + 1) fds) (drop (at + 1) fds)
-fds_from_step selects fault fds at x h e = rw (drop_step fds at x h e, take_step fds at x h e) refl
 
 pub record_bases_step : (bases : List Entry) (selects : List SelectDraft) (fds : List FdDraft) (at : ℕ) (x : FdDraft) → at < length fds → x ≡ get_or fds at x → bases ++ record_bases selects at (drop at fds) ≡ (bases ++ section_bases (Some (file_number selects x at)) x.entries) ++ record_bases selects (at + 1) (drop (at + 1) fds)
 record_bases_step bases selects fds at x h e =

@@ -14,9 +14,13 @@ pub mod Item
 pub mod Value
 -- What an entry redefines.
 pub mod Redefining
+-- What entries are judged by, in tables.
+pub mod Tables
 -- The rules on an entry.
 pub mod Rule
 -- The rules on files.
 pub mod File
+-- The rules on files, by their names alone.
+pub mod FileNames
 -- What drafts declare, and their first fault.
 pub mod Declaring

@@ -1,40 +1,18 @@
 //! The rules on files.
 
-ghost use Rattle.std.specs.Prelude.{◌≡◌, ◌+◌, ◌<◌, ◌^◌, length, map, position, slice_get, IfSome};
-ghost use Rattle.std.specs.List.{list_any};
+ghost use Rattle.std.specs.Prelude.{◌≡◌, ◌<◌, ◌^◌, None, length, map};
 ghost use Rattle.cob_base.specs.Answers.{Makes};
 ghost use Rattle.data_rules.specs.File as files;
+ghost use Rattle.data_rules.specs.FileNames as named;
 
 use crate::fault::{fault_at, first_of, unless};
-use cob_base::{Copied, Items, NoMemory, Word};
+use crate::file_names::FileNames;
+use cob_base::{Copied, Items, NoMemory};
 use cob_tree::{FileEntry, Place};
 use data_forms::{FdDraft, SelectDraft, StatusDraft};
 use grammar_forms::{NameKind, Note};
 use std::alloc::Global;
-
-fn is_selected(name: &Word, select: &SelectDraft) -> bool
-    ensures { result ≡ files.is_selected name.now select.now }
-{
-    select.name == *name
-}
-
-fn is_described(name: &Word, fd: &FdDraft) -> bool
-    ensures { result ≡ files.is_described name.now fd.now }
-{
-    fd.name == *name
-}
-
-fn has_select(selects: &[SelectDraft], name: &Word) -> bool
-    ensures { result ≡ list_any (files.is_selected name.now) selects.now }
-{
-    selects.iter().any(|select| is_selected(name, select))
-}
-
-fn has_fd(fds: &[FdDraft], name: &Word) -> bool
-    ensures { result ≡ list_any (files.is_described name.now) fds.now }
-{
-    fds.iter().any(|fd| is_described(name, fd))
-}
+use word_places::WordPlaces;
 
 fn again_fault(statuses: &[StatusDraft]) -> Option<Note>
     ensures { result ≡ files.again_fault statuses.now }
@@ -45,55 +23,55 @@ fn again_fault(statuses: &[StatusDraft]) -> Option<Note>
     }
 }
 
-fn named_fault(fds: &[FdDraft], before: &[SelectDraft], select: &SelectDraft) -> Option<Note>
-    ensures { result ≡ files.named_fault fds.now before.now select.now }
+fn named_fault(names: &FileNames, at: usize, select: &SelectDraft) -> Option<Note>
+    ensures { result ≡ named.named_fault names.now at select.now }
 {
-    if has_select(before, &select.name) {
+    if names.selects.has_before(&select.name, at) {
         fault_at(NameKind::Duplicate, select.at)
     } else {
-        unless(has_fd(fds, &select.name), NameKind::Usage, select.at)
+        unless(names.fds.has(&select.name), NameKind::Usage, select.at)
     }
 }
 
-fn select_fault(fds: &[FdDraft], before: &[SelectDraft], select: &SelectDraft) -> Option<Note>
-    ensures { result ≡ files.select_fault fds.now before.now select.now }
+fn select_fault(names: &FileNames, at: usize, select: &SelectDraft) -> Option<Note>
+    ensures { result ≡ named.select_fault names.now at select.now }
 {
     first_of(
-        named_fault(fds, before, select),
+        named_fault(names, at, select),
         again_fault(select.statuses.as_slice()),
     )
 }
 
 /// The first fault of the SELECTs: each file has one, and an FD.
-#[tactic(auto, using(crate::proofs::StepLemmas::selects_from_step))]
-pub fn selects_fault(fds: &[FdDraft], selects: &[SelectDraft]) -> Option<Note>
-    ensures { result ≡ files.selects_fault fds.now selects.now }
+#[tactic(auto, using(crate::proofs::FileLemmas::selects_from_step))]
+pub fn selects_fault(names: &FileNames, selects: &[SelectDraft]) -> Option<Note>
+    ensures { result ≡ named.selects_from names.now None 0 selects.now }
 {
     let mut fault = None;
     for (at, select) in selects.iter().enumerate() {
-        fault = first_of(fault, select_fault(fds, &selects[..at], select));
+        fault = first_of(fault, select_fault(names, at, select));
     }
     fault
 }
 
-fn fd_fault(selects: &[SelectDraft], before: &[FdDraft], fd: &FdDraft) -> Option<Note>
-    ensures { result ≡ files.fd_fault selects.now before.now fd.now }
+fn fd_fault(names: &FileNames, at: usize, fd: &FdDraft) -> Option<Note>
+    ensures { result ≡ named.fd_fault names.now at fd.now }
 {
-    if has_fd(before, &fd.name) {
+    if names.fds.has_before(&fd.name, at) {
         fault_at(NameKind::Duplicate, fd.at)
     } else {
-        unless(has_select(selects, &fd.name), NameKind::Usage, fd.at)
+        unless(names.selects.has(&fd.name), NameKind::Usage, fd.at)
     }
 }
 
 /// The first fault of the FDs: each file has one, and a SELECT.
-#[tactic(auto, using(crate::proofs::StepLemmas::fds_from_step))]
-pub fn fds_fault(selects: &[SelectDraft], fds: &[FdDraft]) -> Option<Note>
-    ensures { result ≡ files.fds_fault selects.now fds.now }
+#[tactic(auto, using(crate::proofs::FileLemmas::fds_from_step))]
+pub fn fds_fault(names: &FileNames, fds: &[FdDraft]) -> Option<Note>
+    ensures { result ≡ named.fds_from names.now None 0 fds.now }
 {
     let mut fault = None;
     for (at, fd) in fds.iter().enumerate() {
-        fault = first_of(fault, fd_fault(selects, &fds[..at], fd));
+        fault = first_of(fault, fd_fault(names, at, fd));
     }
     fault
 }
@@ -129,21 +107,15 @@ pub fn files_of(alloc: Global, selects: &[SelectDraft]) -> Result<Items<FileEntr
     Ok(files)
 }
 
-fn place_of(selects: &[SelectDraft], name: &Word) -> Option<usize>
-    ensures value { result ≡ position (files.is_selected name.now) selects.now }
-    ensures within { IfSome result (λ at. at < length selects.now) }
-{
-    selects.iter().position(|select| is_selected(name, select))
-}
-
 /// The number of an FD's file; of one without SELECT a number that no file has.
-pub fn file_number(selects: &[SelectDraft], fd: &FdDraft, at: usize) -> usize
+pub fn file_number(selects: &[SelectDraft], names: &WordPlaces, fd: &FdDraft, at: usize) -> usize
     requires selects { length selects.now < 2 ^ 31 }
+    requires names { names.now ≡ named.selected selects.now }
     requires at { at < 2 ^ 31 }
     ensures value { result ≡ files.file_number selects.now fd.now at }
     ensures short { result < 2 ^ 32 }
 {
-    match place_of(selects, &fd.name) {
+    match names.first(&fd.name) {
         None => selects.len() + at,
         Some(number) => number,
     }

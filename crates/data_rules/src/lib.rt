@@ -11,12 +11,14 @@ mod clause;
 mod declaring;
 mod fault;
 mod file;
+mod file_names;
 mod item;
 mod judging;
 mod literal;
 mod redefining;
 mod rule;
 mod standing;
+mod table;
 mod value;
 
 pub use declaring::{Declared, declared_of};

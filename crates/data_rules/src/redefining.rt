@@ -1,47 +1,21 @@
 //! What an entry redefines.
 
-ghost use Rattle.std.specs.Prelude.{◌≡◌, ◌<◌, ◌^◌, length, reverse, slice_get, Some, IfSome};
+ghost use Rattle.std.specs.Prelude.{◌≡◌, ◌<◌, length, slice_get, Some, IfSome, if◌then◌else◌};
 ghost use Rattle.std.specs.List.{list_any};
+ghost use Rattle.std.specs.Str.{bytes_eq};
+ghost use Rattle.grammar_forms.specs.declared.note.NameKind.TheVariants.{Redefines, Unknown};
+ghost use Rattle.data_rules.specs.Fault.{fault_at};
 ghost use Rattle.data_rules.specs.Redefining as redefining;
+ghost use Rattle.data_rules.specs.Tables.{alikes_of, tables_of};
 
 use crate::clause::{ClauseKind, clause_of};
 use crate::fault::{fault_at, unless};
-use crate::standing::before;
+use crate::table::{Tables, alike_at};
 use cob_base::Word;
 use cob_tree::Entry;
 use data_forms::Clause;
-use data_names::{bound_of, holds, same_file};
 use grammar_forms::{NameKind, Note, Position};
-
-fn is_alike(entry: &Entry, other: &Entry) -> bool
-    ensures { result ≡ redefining.is_alike entry.now other.now }
-{
-    other.level == entry.level && !other.redefines.is_some()
-}
-
-/// The last entry before that has this entry's level and group and redefines nothing.
-#[tactic(auto, using(crate::proofs::BackLemmas::last_alike_step, crate::proofs::BackLemmas::last_alike_none))]
-fn last_alike(entry: &Entry, before: &[Entry]) -> Option<usize>
-    ensures value { result ≡ redefining.last_alike entry.now (reverse before.now) }
-    ensures within { IfSome result (λ number. number < length before.now) }
-{
-    let bound = bound_of(entry.level);
-    let mut at = before.len();
-    while at > 0 {
-        at -= 1;
-        let other = &before[at];
-        if !same_file(entry.file, other.file) {
-            return None;
-        }
-        if holds(bound, other) {
-            return None;
-        }
-        if is_alike(entry, other) {
-            return Some(at);
-        }
-    }
-    None
-}
+use word_places::WordPlaces;
 
 fn is_called(name: &Word, entry: &Entry) -> bool
     ensures { result ≡ redefining.is_called name.now entry.now }
@@ -75,26 +49,28 @@ fn if_meant(name: &Word, entry: &Entry, number: usize, bases: &[Entry]) -> Optio
 }
 
 /// The entry that is redefined, where it may be.
-fn redefined(bases: &[Entry], at: usize, entry: &Entry, name: &Word) -> Option<usize>
+fn redefined(
+    bases: &[Entry],
+    alikes: &[Option<usize>],
+    at: usize,
+    entry: &Entry,
+    name: &Word,
+) -> Option<usize>
+    requires table { alikes.now ≡ alikes_of bases.now }
+    requires own { slice_get bases.now at ≡ Some entry.now }
     ensures value { result ≡ redefining.redefined bases.now at entry.now name.now }
     ensures within { IfSome result (λ number. number < length bases.now) }
 {
-    match last_alike(entry, before(bases, at)) {
+    match alike_at(alikes, at) {
         None => None,
         Some(number) => if_meant(name, entry, number, bases),
     }
 }
 
-fn has_name(bases: &[Entry], name: &Word) -> bool
-    ensures { result ≡ list_any (redefining.is_called name.now) bases.now }
+fn name_fault(names: &WordPlaces, name: &Word, at: Position) -> Option<Note>
+    ensures { result ≡ (if list_any (bytes_eq name.now) names.now then fault_at Redefines at else fault_at Unknown at) }
 {
-    bases.iter().any(|entry| is_called(name, entry))
-}
-
-fn name_fault(bases: &[Entry], name: &Word, at: Position) -> Option<Note>
-    ensures { result ≡ redefining.name_fault bases.now name.now at }
-{
-    if has_name(bases, name) {
+    if names.has(name) {
         fault_at(NameKind::Redefines, at)
     } else {
         fault_at(NameKind::Unknown, at)
@@ -120,15 +96,18 @@ fn is_short(sizes: &[u64], at: usize, entry: &Entry, item: usize) -> bool
 fn redefined_fault(
     bases: &[Entry],
     sizes: &[u64],
+    tables: &Tables,
     at: usize,
     entry: &Entry,
     name: &Word,
     name_at: Position,
 ) -> Option<Note>
+    requires table { tables.now ≡ tables_of bases.now }
+    requires own { slice_get bases.now at ≡ Some entry.now }
     ensures { result ≡ redefining.redefined_fault bases.now sizes.now at entry.now name.now name_at }
 {
-    match redefined(bases, at, entry, name) {
-        None => name_fault(bases, name, name_at),
+    match redefined(bases, tables.alikes.as_slice(), at, entry, name) {
+        None => name_fault(&tables.names, name, name_at),
         Some(item) => unless(
             is_short(sizes, at, entry, item),
             NameKind::Redefines,
@@ -141,27 +120,38 @@ fn redefined_fault(
 pub fn redefines_fault(
     bases: &[Entry],
     sizes: &[u64],
+    tables: &Tables,
     at: usize,
     entry: &Entry,
     clauses: &[Clause],
 ) -> Option<Note>
+    requires table { tables.now ≡ tables_of bases.now }
+    requires own { slice_get bases.now at ≡ Some entry.now }
     ensures { result ≡ redefining.redefines_fault bases.now sizes.now at entry.now clauses.now }
 {
     match clause_of(ClauseKind::Redefines, clauses) {
         Some(Clause::Redefines { name, name_at, .. }) => {
-            redefined_fault(bases, sizes, at, entry, name, *name_at)
+            redefined_fault(bases, sizes, tables, at, entry, name, *name_at)
         }
         _ => None,
     }
 }
 
 /// What an entry redefines by its clause.
-pub fn redefined_in(bases: &[Entry], at: usize, entry: &Entry, clauses: &[Clause]) -> Option<usize>
+pub fn redefined_in(
+    bases: &[Entry],
+    alikes: &[Option<usize>],
+    at: usize,
+    entry: &Entry,
+    clauses: &[Clause],
+) -> Option<usize>
+    requires table { alikes.now ≡ alikes_of bases.now }
+    requires own { slice_get bases.now at ≡ Some entry.now }
     ensures value { result ≡ redefining.redefined_in bases.now at entry.now clauses.now }
     ensures within { IfSome result (λ number. number < length bases.now) }
 {
     match clause_of(ClauseKind::Redefines, clauses) {
-        Some(Clause::Redefines { name, .. }) => redefined(bases, at, entry, name),
+        Some(Clause::Redefines { name, .. }) => redefined(bases, alikes, at, entry, name),
         _ => None,
     }
 }

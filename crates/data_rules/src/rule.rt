@@ -4,6 +4,7 @@ ghost use Rattle.std.specs.Prelude.{◌≡◌, ◌<◌, ◌^◌, Some, length, s
 ghost use Rattle.std.specs.Option.{option_copied};
 ghost use Rattle.data_names.specs.Nesting.{nestings_of};
 ghost use Rattle.data_rules.specs.Rule as rules;
+ghost use Rattle.data_rules.specs.Tables.{tables_of};
 
 use crate::base::spans_of;
 use crate::clause::{again_fault, other_fault};
@@ -12,6 +13,7 @@ use crate::item::{level_stands, occurs_fault, picture_fault, sign_fault};
 use crate::literal::Target;
 use crate::redefining::{redefines_fault, size_at};
 use crate::standing::{Standing, standing_of};
+use crate::table::Tables;
 use crate::value::{missing_fault, spans_fault, value_fault};
 use cob_tree::Entry;
 use data_forms::EntryDraft;
@@ -109,36 +111,37 @@ fn clauses_fault(
 fn item_fault(
     bases: &[Entry],
     sizes: &[u64],
-    nestings: &[Nesting],
+    tables: &Tables,
     at: usize,
     entry: &Entry,
     draft: &EntryDraft,
 ) -> Option<Note>
     requires short { length bases.now < 2 ^ 31 }
-    requires table { nestings.now ≡ nestings_of bases.now }
+    requires table { tables.now ≡ tables_of bases.now }
     requires own { slice_get bases.now at ≡ Some entry.now }
     ensures { result ≡ rules.item_fault bases.now sizes.now at entry.now draft.now }
 {
+    let nestings = tables.nestings.as_slice();
     let nesting = nesting_at(nestings, at);
     let target = target_by(nesting.group, sizes, at, entry);
     let standing = standing_of(bases, nestings, nesting.holder);
     first_of(
         clauses_fault(entry, target, standing, draft),
-        redefines_fault(bases, sizes, at, entry, draft.clauses.as_slice()),
+        redefines_fault(bases, sizes, tables, at, entry, draft.clauses.as_slice()),
     )
 }
 
 fn held_fault(
     bases: &[Entry],
     sizes: &[u64],
-    nestings: &[Nesting],
+    tables: &Tables,
     at: usize,
     entry: &Entry,
     draft: &EntryDraft,
     holder: Option<usize>,
 ) -> Option<Note>
     requires short { length bases.now < 2 ^ 31 }
-    requires table { nestings.now ≡ nestings_of bases.now }
+    requires table { tables.now ≡ tables_of bases.now }
     requires own { slice_get bases.now at ≡ Some entry.now }
     ensures { result ≡ rules.held_fault bases.now sizes.now at entry.now draft.now holder }
 {
@@ -146,9 +149,9 @@ fn held_fault(
         return fault_at(NameKind::Level, draft.at);
     }
     if entry.level == 88 {
-        condition_fault(bases, sizes, nestings, draft, holder)
+        condition_fault(bases, sizes, tables.nestings.as_slice(), draft, holder)
     } else {
-        item_fault(bases, sizes, nestings, at, entry, draft)
+        item_fault(bases, sizes, tables, at, entry, draft)
     }
 }
 
@@ -156,16 +159,16 @@ fn held_fault(
 pub fn entry_fault(
     bases: &[Entry],
     sizes: &[u64],
-    nestings: &[Nesting],
+    tables: &Tables,
     at: usize,
     entry: &Entry,
     draft: &EntryDraft,
 ) -> Option<Note>
     requires short { length bases.now < 2 ^ 31 }
-    requires table { nestings.now ≡ nestings_of bases.now }
+    requires table { tables.now ≡ tables_of bases.now }
     requires own { slice_get bases.now at ≡ Some entry.now }
     ensures { result ≡ rules.entry_fault bases.now sizes.now at entry.now draft.now }
 {
-    let holder = nesting_at(nestings, at).holder;
-    held_fault(bases, sizes, nestings, at, entry, draft, holder)
+    let holder = nesting_at(tables.nestings.as_slice(), at).holder;
+    held_fault(bases, sizes, tables, at, entry, draft, holder)
 }

@@ -16,17 +16,6 @@ pub struct Standing {
     pub barred: bool,
 }
 
-/// The entries before one.
-pub fn before(entries: &[Entry], at: usize) -> &[Entry]
-    ensures { result.now ≡ standings.before entries.now at }
-{
-    if at < entries.len() {
-        &entries[..at]
-    } else {
-        entries
-    }
-}
-
 /// The entries behind one.
 pub fn behind(entries: &[Entry], at: usize) -> &[Entry]
     ensures { result.now ≡ standings.behind entries.now at }

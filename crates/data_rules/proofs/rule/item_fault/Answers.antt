@@ -3,19 +3,20 @@ use Rattle.std.proofs.lemmas.Option.{slice_get_within}
 use Rattle.data_names.specs.declared.nesting.Nesting.{Nesting}
 use Rattle.data_names.specs.Names.{is_group}
 use Rattle.data_names.proofs.NestingLemmas.{found_nesting, found_within, own_groups, own_within}
+use Rattle.data_rules.specs.declared.table.Tables.{Tables}
 use Rattle.data_rules.specs.Rule.{clauses_fault, target_by, target_of}
 use Rattle.data_rules.specs.Standing.{before, standing_in, standing_of}
 use Rattle.data_rules.proofs.rule.item_fault.Goals as goal
 
 pub nesting_at-nesting-requires : goal.nesting_at-nesting-requires
-nesting_at-nesting-requires c = found_within c.args.bases.now c.args.nestings.now c.args.at c.args.entry.now c.requires.table c.requires.own
+nesting_at-nesting-requires c = found_within c.args.bases.now c.as_slice-nestings.result.now c.args.at c.args.entry.now (c.as_slice-nestings.ensures ∙ ap (λ (t : Tables). t.nestings) c.requires.table) c.requires.own
 
 pub standing_of-standing-requires-clause-within : goal.standing_of-standing-requires-clause-within
 standing_of-standing-requires-clause-within c =
     let bases = c.args.bases.now in
     let entry = c.args.entry.now in
     let within = slice_get_within bases c.args.at entry c.requires.own in
-    let m = found_nesting bases c.args.nestings.now c.args.at entry c.nesting_at-nesting.result c.requires.table c.requires.own c.nesting_at-nesting.ensures in
+    let m = found_nesting bases c.as_slice-nestings.result.now c.args.at entry c.nesting_at-nesting.result (c.as_slice-nestings.ensures ∙ ap (λ (t : Tables). t.nestings) c.requires.table) c.requires.own c.nesting_at-nesting.ensures in
     omega (arith, within, own_within bases c.args.at entry c.nesting_at-nesting.result (omega (arith, within)) m)
 
 pub returns : goal.returns
@@ -26,7 +27,7 @@ returns c =
     let entry = c.args.entry.now in
     let draft = c.args.draft.now in
     let within = slice_get_within bases at entry c.requires.own in
-    let m = found_nesting bases c.args.nestings.now at entry c.nesting_at-nesting.result c.requires.table c.requires.own c.nesting_at-nesting.ensures in
+    let m = found_nesting bases c.as_slice-nestings.result.now at entry c.nesting_at-nesting.result (c.as_slice-nestings.ensures ∙ ap (λ (t : Tables). t.nestings) c.requires.table) c.requires.own c.nesting_at-nesting.ensures in
     let group : c.nesting_at-nesting.result.group ≡ is_group entry (drop (at + 1) bases) = ap (λ (m : Nesting). m.group) m in
     let groups = own_groups bases at entry c.nesting_at-nesting.result (omega (arith, within)) m in
     let target : c.target_by-target.result ≡ target_of bases sizes at entry = c.target_by-target.ensures ∙ ap (λ b. target_by b sizes at entry) group in

@@ -17,11 +17,11 @@ loop-at-preserved c =
     record {
       within = omega (arith, c.loop-at.invariant.within);
       firsts = λ word.
-        let s = rw one at (from_step (bytes_eq word) words n x within c.index-words-at.is) in
-        c.in_ok-put.ensures word
-        ∙ ap (cond (bytes_eq x word) (Some n)) (c.loop-at.invariant.firsts word)
-        ∙ ap (λ b. cond b (Some n) (position_from (bytes_eq word) at (drop at words))) (bytes_eq_sym x word)
-        ∙ sym s;
+          let s = rw one at (from_step (bytes_eq word) words n x within c.index-words-at.is) in
+          c.in_ok-put.ensures word
+          ∙ ap (cond (bytes_eq x word) (Some n)) (c.loop-at.invariant.firsts word)
+          ∙ ap (λ b. cond b (Some n) (position_from (bytes_eq word) at (drop at words))) (bytes_eq_sym x word)
+          ∙ sym s;
     }
 
 pub returns : goal.returns

@@ -1,11 +1,11 @@
 use Rattle.std.proofs.Common.{◌≡◌, ◌≤◌, length, reverse, take}
 use Rattle.data_rules.specs.Redefining.{last_alike}
-use Rattle.data_rules.proofs.redefining.last_alike.Given as goal
+use Rattle.data_rules.proofs.table.last_alike.Given as goal
 
 abbrev pub invariant-loop-at : goal.invariant-loop-at
 invariant-loop-at l = record {
-  within : l.at ≤ length l.before;
-  same : last_alike l.entry (reverse (take l.at l.before)) ≡ last_alike l.entry (reverse l.before);
+  within : l.at ≤ length l.alikes;
+  same : last_alike l.entry (reverse (take l.at l.entries)) ≡ last_alike l.entry (reverse (take (length l.alikes) l.entries));
 }
 
 abbrev pub decreases-loop-at : goal.decreases-loop-at
