@@ -13,6 +13,7 @@ use grammar_forms::{Cursor, Note, Unread};
 use procedure_names::ProcedureTable;
 use procedure_parse::division;
 use statement_parts::PartReader;
+use statement_uses::Records;
 use std::alloc::Global;
 
 /// What a program declares: names of data and files, entries with the first fault of their rules and
@@ -63,10 +64,11 @@ fn paragraphs(
 ) -> Result<Items<Paragraph>, Unread>
     ensures { Reads ((forms.paragraphs known.now).reads cursor.old) result cursor.new }
 {
+    let records = Records::of(alloc, known.entries.as_slice())?;
     let parts = PartReader {
         alloc,
         names: &known.names,
-        entries: known.entries.as_slice(),
+        records: &records,
         procedures: &known.procedures,
     };
     division(&parts, alloc, cursor)

@@ -6,7 +6,7 @@ ghost use Rattle.statement_grammar.proofs.PartLaws as laws;
 
 use act_parse::Parts;
 use cob_base::{Text, Word};
-use cob_tree::{Cond, Entry, Expr, Operand, Place};
+use cob_tree::{Cond, Expr, Operand, Place};
 use cond_parse::whole_cond;
 use data_names::NameTable;
 use expr_forms::Side;
@@ -18,15 +18,16 @@ use grammar_forms::{Cursor, Note, Position, Unread};
 use procedure_names::ProcedureTable;
 use statement_grammar::Known;
 use statement_uses as uses;
+use statement_uses::Records;
 use std::alloc::Global;
 use word_forms::sees_name;
 
-/// Reads the parts of the statements of a program with these names, entries and procedures.
+/// Reads the parts of the statements of a program with these names, entries, which `records` has, and procedures.
 #[derive(Drop)]
 pub struct PartReader<'a> {
     pub alloc: Global,
     pub names: &'a NameTable,
-    pub entries: &'a [Entry],
+    pub records: &'a Records<'a>,
     pub procedures: &'a ProcedureTable,
 }
 
@@ -35,9 +36,9 @@ impl<'a> Parts for PartReader<'a> {
 
     type Known = Known;
 
-    ghost parts = { λ r. parts_of r.names.now r.entries.now r.procedures.now };
+    ghost parts = { λ r. parts_of r.names.now r.records.now r.procedures.now };
 
-    ghost lawful = { λ r. laws.parts r.names.now r.entries.now r.procedures.now };
+    ghost lawful = { λ r. laws.parts r.names.now r.records.now r.procedures.now };
 
     fn at_operand(&self, cursor: &Cursor<'_>) -> bool {
         at_operand(cursor)
@@ -86,7 +87,7 @@ impl<'a> Parts for PartReader<'a> {
     }
 
     fn record_name(&self, alloc: Global, cursor: &mut Cursor<'_>) -> Result<Side, Unread> {
-        uses::record_name(alloc, cursor, self.names, self.entries)
+        uses::record_name(alloc, cursor, self.names, self.records.entries())
     }
 
     fn header_name(&self, cursor: &mut Cursor<'_>) -> Result<(Word, Position), Unread> {
@@ -146,7 +147,7 @@ impl<'a> Parts for PartReader<'a> {
     }
 
     fn into_fault(&self, file: Option<u32>, to: &Side) -> Option<Note> {
-        uses::into_fault(self.entries, file, to)
+        uses::into_fault(self.records, file, to)
     }
 
     fn subject_fault(&self, known: &Known, side: &Side) -> Option<Note> {

@@ -4,9 +4,9 @@ ghost use Rattle.std.specs.Prelude.{◌≡◌};
 ghost use Rattle.expr_forms.specs.Fault as faults;
 ghost use Rattle.statement_grammar.specs.Use as uses;
 
-use crate::kind::{item_kind, kind_of};
+use crate::record::Records;
 use cob_base::Items;
-use cob_tree::{Entry, Figure, Operand, Place};
+use cob_tree::{Figure, Operand, Place};
 use expr_forms::{Make, Side, ValueKind, What};
 use expr_sides::whole_fault_at;
 use grammar_forms::{NameKind, Note, Position};
@@ -131,39 +131,13 @@ pub fn known_of(side: &Side) -> Known
     }
 }
 
-fn is_of_file(file: u32, other: Option<u32>) -> bool
-    ensures { result ≡ uses.is_of_file file other }
-{
-    match other {
-        None => false,
-        Some(other) => other == file,
-    }
-}
-
-// What a file's first record holds.
-fn record_kind(entries: &[Entry], file: u32) -> ValueKind
-    ensures { result ≡ uses.record_kind entries.now file }
-{
-    let mut rest = entries;
-    'entries: while let [entry, behind @ ..] = rest {
-        if is_of_file(file, entry.file) {
-            return item_kind(kind_of(entry, behind));
-        }
-        rest = behind;
-    }
-    ValueKind::Unknown
-}
-
 /// The fault of a move of a file's first record.
-pub fn into_fault(entries: &[Entry], file: Option<u32>, to: &Side) -> Option<Note>
-    ensures { result ≡ uses.into_fault entries.now file to.now }
+pub fn into_fault(records: &Records<'_>, file: Option<u32>, to: &Side) -> Option<Note>
+    ensures { result ≡ uses.into_fault records.now file to.now }
 {
     match file {
         None => None,
-        Some(file) => {
-            let kind = record_kind(entries, file);
-            moved_fault(Make::Item, kind, to.kind, to.position)
-        }
+        Some(file) => moved_fault(Make::Item, records.kind(file), to.kind, to.position),
     }
 }
 

@@ -1,6 +1,6 @@
 use Rattle.std.proofs.Common.{◌≡◌, length}
 use Rattle.statement_grammar.specs.Use.{record_kind}
-use Rattle.statement_uses.proofs.part.record_kind.Given as goal
+use Rattle.statement_uses.proofs.record.record_kind.Given as goal
 
 abbrev pub invariant-entries : goal.invariant-entries
 invariant-entries l = record_kind l.entries l.file ≡ record_kind l.rest l.file
