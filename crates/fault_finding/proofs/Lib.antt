@@ -1,6 +1,6 @@
 -- what stands where in a list
-mod Standing
+pub mod Standing
 -- where calls lead
-mod Led
+pub mod Led
 -- a program is faulty exactly where there is a clash
 mod Clashes

@@ -14,7 +14,7 @@ get-below [] at x e = absurd (let k : ⊥ = cc in k)
 get-below (y ∷ xs) zero x e = omega arith
 get-below (y ∷ xs) (suc at) x e = (let less : at < length xs = get-below xs at x e in omega arith)
 
-in-at : (range : Range) (ranges : List Range) → IsIn range ranges → (at : ℕ) × (slice_get ranges at ≡ Some range)
+pub in-at : (range : Range) (ranges : List Range) → IsIn range ranges → (at : ℕ) × (slice_get ranges at ≡ Some range)
 in-at range [] h = absurd h
 in-at range (other ∷ ranges) (inl same) = (0, ap (λ (r : Range). Some r) same)
 in-at range (other ∷ ranges) (inr more) = (let found = in-at range ranges more in (suc found.0, found.1))

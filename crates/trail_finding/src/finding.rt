@@ -6,13 +6,14 @@ ghost use Rattle.flow_paths.specs.Flow.{IsFaulty};
 ghost use Rattle.flow_paths.specs.Accepted.{IsAccepted, NoneTwice, lemma_ranges, hop_ranges};
 ghost use Rattle.flow_numbers.specs.Kinds.{never_first_of};
 ghost use Rattle.pending_returns.specs.Summary.{IsSummary};
+ghost use Rattle.fault_finding.specs.Clashing.{HasClash};
 ghost use Rattle.trail_finding.specs.Finding.{IsFound};
 
 use crate::chain::chain_of;
-use crate::hops::{drafts_of, hops_of};
-use crate::lemmas::lemmas_of;
+use crate::hops::hops_of;
+use crate::known::{Known, known_of};
 use crate::once::all_once;
-use crate::turns::turns_of;
+use crate::short::shortened;
 use cob_base::NoMemory;
 use cob_tree::{Program, Range};
 use fault_finding::{Clash, clash_in};
@@ -20,34 +21,31 @@ use flow_paths::{Hop, Lemma, Trail};
 use flow_table::table_of;
 use named_ranges::ranges_of;
 use overlap_trail::check;
-use pending_returns::{RangeFacts, Summary};
+use pending_returns::Summary;
 use std::alloc::Global;
 
-/// A trail that shows the clash, where one is found.
+/// A trail that shows the clash, with a lemma for each range that returns.
 pub fn found(
     alloc: Global,
     program: &Program,
-    levels: &[RangeFacts],
+    summary: &Summary,
     clash: Clash,
-) -> Result<Option<Trail>, NoMemory> {
-    let chain = chain_of(alloc, levels, clash)?;
+) -> Result<Trail, NoMemory>
+    requires summary { IsSummary (never_first_of program.now.files) (control_of program.now) summary.now }
+    requires clash { HasClash summary.now.ranges clash }
+    ensures { IfOk result (λ trail.
+        IsFound (never_first_of program.now.files) (control_of program.now) trail) }
+{
+    let chain = chain_of(alloc, summary.ranges.as_slice(), clash)?;
     let ranges = ranges_of(alloc, program)?;
     let table = table_of(alloc, program, ranges)?;
-    let turns = turns_of(alloc, &table)?;
-    let drafts = match drafts_of(alloc, &table, &turns, &chain)? {
-        Some(drafts) => drafts,
-        None => return Ok(None),
-    };
-    let needed = match lemmas_of(alloc, &table, &turns, drafts.as_slice())? {
-        Some(needed) => needed,
-        None => return Ok(None),
-    };
-    let hops = hops_of(alloc, drafts.as_slice(), needed.ranks.as_slice())?;
-    Ok(Some(Trail {
+    let Known { lemmas, numbers } = known_of(alloc, &table)?;
+    let hops = hops_of(alloc, &table, numbers.as_slice(), &chain)?;
+    Ok(Trail {
         fault: chain.fault,
-        lemmas: needed.lemmas,
+        lemmas,
         hops,
-    }))
+    })
 }
 
 /// The ranges of lemmas.
@@ -83,26 +81,18 @@ pub fn accepted(alloc: Global, program: &Program, trail: &Trail) -> Result<bool,
 }
 
 /// A trail exactly where the program is faulty. Err where memory is wanted.
-///
-/// Err too where what was found isn't accepted, which would be a mistake of the search: no program is
-/// known for which it is.
 pub fn find(alloc: Global, program: &Program, summary: &Summary) -> Result<Option<Trail>, NoMemory>
     requires { IsSummary (never_first_of program.now.files) (control_of program.now) summary.now }
     ensures { IfOk result (λ found. MatchOption found
         (IsFaulty (never_first_of program.now.files) (control_of program.now) → ⊥)
         (λ trail. IsFound (never_first_of program.now.files) (control_of program.now) trail)) }
 {
-    let clash = match clash_in(alloc, program, summary)? {
-        Some(clash) => clash,
-        None => return Ok(None),
-    };
-    let trail = match found(alloc, program, summary.ranges.as_slice(), clash)? {
-        Some(trail) => trail,
-        None => return Err(NoMemory),
-    };
-    if accepted(alloc, program, &trail)? {
-        Ok(Some(trail))
-    } else {
-        Err(NoMemory)
+    match clash_in(alloc, program, summary)? {
+        Some(clash) => {
+            let trail = found(alloc, program, summary, clash)?;
+            let short = shortened(alloc, &trail)?;
+            Ok(Some(short))
+        }
+        None => Ok(None),
     }
 }

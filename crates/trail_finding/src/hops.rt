@@ -1,75 +1,75 @@
-//! A trail's hops, which step over ranges by their turns.
+//! A trail's hops, which step over ranges by their lemmas.
 
+ghost use Rattle.std.specs.Prelude.{[], ◌∷◌, ◌++◌, ◌≡◌, ◌<◌, ◌≤◌, ℕ, true, false, length, slice_get, Some, IfOk};
+ghost use Rattle.cob_tree.specs.declared.program.Range.{Range};
+ghost use Rattle.flow_paths.specs.declared.trail.Move.TheVariants.{Into};
+ghost use Rattle.flow_places.specs.Table.{IsTidy};
+ghost use Rattle.trail_finding.specs.Aims.{IsMetSomewhere};
+ghost use Rattle.trail_finding.specs.Routes.{flags_of};
+ghost use Rattle.trail_finding.specs.Hopping.{aim_at, into_of, HopsCome};
+
+use crate::aim::{Aim, Found, route_to};
 use crate::chain::Chain;
-use crate::lemmas::renumbered;
-use crate::route::{Aim, route_to};
-use crate::turns::Turns;
 use cob_base::{Items, NoMemory};
-use cob_tree::Range;
 use flow_paths::{FlowFault, Hop, Move};
 use flow_places::Table;
 use std::alloc::Global;
 
-/// A level with moves that step over ranges by their turns.
-#[derive(Debug, Drop)]
-pub struct Draft {
-    pub range: Range,
-    pub moves: Items<Move>,
-}
-
-/// What the level that isn't the last, or the last one, is followed to.
-fn aim_of(chain: &Chain, number: usize) -> Aim {
-    match chain.ranges.get(number.wrapping_add(1)) {
+/// What the level with this number is followed to.
+fn aim_of(chain: &Chain, number: usize) -> Aim
+    requires { number < length chain.now.ranges.items }
+    ensures { result ≡ aim_at chain.now.ranges.items chain.now.fault number }
+{
+    match chain.ranges.get(number + 1) {
         Some(later) => Aim::Enter(*later),
-        None => match chain.called {
-            Some(called) => Aim::Enter(called),
-            None => match chain.fault {
-                FlowFault::Overlap(paragraph) => Aim::End(paragraph),
-                FlowFault::Reentry(paragraph) => Aim::Ending(paragraph),
-            },
+        None => match chain.fault {
+            FlowFault::Overlap(paragraph) => Aim::End(paragraph),
+            FlowFault::Reentry(paragraph) => Aim::Ending(paragraph),
         },
     }
 }
 
-/// The levels of the chain's ranges. None where one of them doesn't come to where it is to.
-pub fn drafts_of(
+/// The moves, and into a range then if there is one more.
+fn entering(moves: Items<Move>, more: bool) -> Result<Items<Move>, NoMemory>
+    ensures on { more ≡ true → IfOk result (λ made. made ≡ moves ++ Into ∷ []) }
+    ensures off { more ≡ false → IfOk result (λ made. made ≡ moves) }
+{
+    let mut made = moves;
+    if more {
+        made.push(Move::Into)?;
+    }
+    Ok(made)
+}
+
+/// The levels of the chain's ranges: each to where it performs the next, and the last to the fault.
+pub fn hops_of(
     alloc: Global,
     table: &Table,
-    turns: &Turns,
+    numbers: &[Option<u32>],
     chain: &Chain,
-) -> Result<Option<Vec<Draft>>, NoMemory> {
-    let mut drafts = Vec::new(alloc);
+) -> Result<Items<Hop>, NoMemory>
+    requires tidy { IsTidy table.now }
+    requires known { length table.now.ranges ≤ length numbers.now }
+    requires comes { (number : ℕ) (range : Range) →
+        slice_get chain.now.ranges.items number ≡ Some range →
+        IsMetSomewhere table.now (flags_of numbers.now) range
+        (aim_at chain.now.ranges.items chain.now.fault number) }
+    ensures { IfOk result (λ hops.
+        HopsCome table.now numbers.now chain.now.ranges.items chain.now.fault hops) }
+{
+    let mut hops = Items::new(alloc);
     let count = chain.ranges.len();
     for number in 0..count {
         let range = chain.ranges[number];
         let aim = aim_of(chain, number);
-        let found = route_to(alloc, table, turns.numbers.as_slice(), u32::MAX, range, aim)?;
-        match found {
-            Some(mut moves) => {
-                if number + 1 < count {
-                    moves.push(Move::Into)?;
-                }
-                drafts.push(Draft { range, moves })?;
+        match route_to(alloc, table, numbers, range, aim)? {
+            Found::Moves(found) => {
+                let moves = entering(found, number + 1 < count)?;
+                hops.push(Hop { range, moves })?;
             }
-            None => return Ok(None),
+            // Each level comes to its aim.
+            Found::Nowhere(_) => return Ok(hops),
         }
-    }
-    Ok(Some(drafts))
-}
-
-/// The hops, where lemmas have these numbers, by turns.
-pub fn hops_of(
-    alloc: Global,
-    drafts: &[Draft],
-    ranks: &[Option<u32>],
-) -> Result<Items<Hop>, NoMemory> {
-    let mut hops = Items::new(alloc);
-    for draft in drafts {
-        let moves = renumbered(alloc, draft.moves.as_slice(), ranks)?;
-        hops.push(Hop {
-            range: draft.range,
-            moves,
-        })?;
     }
     Ok(hops)
 }

@@ -1,18 +1,19 @@
 //! A trail for a program that is faulty.
 //!
-//! `find` gives one exactly where some flow path comes to a fault: `fault_finding` decides that, and
-//! `chain`, `hops`, `turns`, `lemmas` and `route` look for a trail in the program's table. What they
-//! come to is proved safe and no more: `accepted` checks it by `check` of `overlap_trail`, and that
-//! the trail that is found is always accepted is tested alone.
+//! `find` gives one exactly where some flow path comes to a fault: `fault_finding` decides that.
+//! `chain` is the ranges whose levels stand one on the other then; `route` and `aim` follow one level,
+//! `known` all ranges that return, each behind those over which its level steps, and `hops` those of
+//! the chain. So the trail is accepted by its making; `short` leaves out what its hops don't need.
 #![tactic(auto)]
 
+mod aim;
 mod chain;
 mod finding;
 mod hops;
-mod lemmas;
+mod known;
 mod once;
 mod route;
-mod turns;
+mod short;
 
 pub use finding::{accepted, find};
 pub use once::{all_once, is_in, is_same};

@@ -1,229 +1,283 @@
-//! The moves by which a level comes to a place.
+//! The places that a level comes to, with the moves that lead there.
 
-use crate::once::is_same;
+ghost use Rattle.std.specs.Prelude.{[], ◌≡◌, ◌<◌, ◌≤◌, ℕ, Bool, List, Option, length, IfOk, OnOk};
+ghost use Rattle.flow_paths.specs.Step.{only};
+ghost use Rattle.flow_places.specs.declared.table.Place.TheVariants.{Ends};
+ghost use Rattle.flow_places.specs.Table.{AllBelow, IsTidy, IsTidyPlace};
+ghost use Rattle.flow_levels.specs.Reaching.{IsMarked, Adds, AddsNext, AddsAll, IsReach};
+ghost use Rattle.trail_finding.specs.Routes.{is_there, flags_of, arm_of, Tracks, ByWay, ByStep, TracesLevel, GoBack, TakenTo};
+
 use cob_base::{Items, NoMemory};
 use cob_tree::Range;
-use flow_levels::ends_at;
+use flow_levels::{Reach, ends_at};
 use flow_paths::Move;
 use flow_places::{Place, Table};
+use pending_returns::number_of;
 use std::alloc::Global;
 
-/// A place that was come to, the number of the visit before it, and the move that was taken there.
+/// How a place was come to: the number of the place before it, among those come to, and the move that
+/// was taken there.
 #[derive(Debug, Clone, Copy)]
-pub struct Visit {
-    pub place: u32,
+pub struct Came {
     pub before: u32,
     pub moved: Option<Move>,
 }
 
-/// What a level is followed to.
-#[derive(Debug, Clone, Copy)]
-pub enum Aim {
-    /// The end of this paragraph.
-    End(u32),
-    /// A PERFORM of this range.
-    Enter(Range),
-    /// A PERFORM of a range that ends with this paragraph.
-    Ending(u32),
-}
-
-/// The visits, in the order in which they were made, with a mark on each place that was come to.
+/// The places that were come to, with how each was.
 #[derive(Debug, Drop)]
 pub struct Route {
-    pub visits: Vec<Visit>,
-    pub marks: Vec<bool>,
+    pub reach: Reach,
+    pub came: Vec<Came>,
 }
 
-/// The move that takes the way with this number, from 0, of several.
-fn arm(several: bool, number: usize) -> Result<Option<Move>, NoMemory> {
-    if !several {
+/// The move that takes the way with this number, from 0.
+fn arm(alone: bool, number: usize) -> Result<Option<Move>, NoMemory>
+    ensures { IfOk result (λ moved. moved ≡ arm_of alone number) }
+{
+    if alone {
         return Ok(None);
     }
-    match u32::try_from(number) {
-        Ok(number) => {
-            if number == u32::MAX {
-                return Err(NoMemory);
-            }
-            Ok(Some(Move::Arm(number + 1)))
-        }
-        Err(_) => Err(NoMemory),
+    let number = number_of(number)?;
+    if number == u32::MAX {
+        return Err(NoMemory);
+    }
+    Ok(Some(Move::Arm(number + 1)))
+}
+
+/// Whether the way is there.
+pub fn is_way(way: Option<u32>) -> bool
+    ensures { result ≡ is_there way }
+{
+    match way {
+        Some(_) => true,
+        None => false,
     }
 }
 
-/// Whether more than one of the ways is there.
-fn are_several(ways: &[Option<u32>]) -> bool {
-    let mut one = false;
-    for way in ways {
-        if way.is_some() {
-            if one {
-                return true;
+/// Whether exactly one of the ways is there.
+fn is_alone(ways: &[Option<u32>]) -> bool
+    ensures { result ≡ is_there (only ways.now) }
+{
+    let mut found = false;
+    for number in 0..ways.len() {
+        if is_way(ways[number]) {
+            if found {
+                return false;
             }
-            one = true;
+            found = true;
         }
     }
-    false
+    found
 }
 
 impl Route {
-    /// No visit yet, of so many places.
-    pub fn new(alloc: Global, count: usize) -> Result<Route, NoMemory> {
-        let marks = vec![in alloc; false; count]?;
+    /// No place yet, of so many.
+    pub fn new(alloc: Global, count: usize) -> Result<Route, NoMemory>
+        ensures none { IfOk result (λ route. route.reach.places.items ≡ []) }
+        ensures marked { IfOk result
+            (λ route. IsMarked route.reach.places.items route.reach.marks.items) }
+        ensures marks { IfOk result (λ route. length route.reach.marks.items ≡ count) }
+        ensures came { IfOk result (λ route. route.came.items ≡ []) }
+    {
+        let reach = Reach::new(alloc, count)?;
         Ok(Route {
-            visits: Vec::new(alloc),
-            marks,
+            reach,
+            came: Vec::new(alloc),
         })
     }
 
     /// Comes to a place, unless it was come to.
-    pub fn visit(&mut self, place: u32, before: u32, moved: Option<Move>) -> Result<(), NoMemory> {
-        match self.marks.get_mut(place as usize) {
-            Some(mark) => {
-                if !*mark {
-                    *mark = true;
-                    self.visits.push(Visit {
-                        place,
-                        before,
-                        moved,
-                    })?;
-                }
-                Ok(())
-            }
-            None => Ok(()),
+    pub fn visit(&mut self, place: u32, came: Came) -> Result<(), NoMemory>
+        requires room { place < length self.old.reach.marks.items }
+        requires marked { IsMarked self.old.reach.places.items self.old.reach.marks.items }
+        requires size { length self.old.came.items ≡ length self.old.reach.places.items }
+        ensures adds { OnOk result
+            (Adds self.old.reach.places.items self.new.reach.places.items place) }
+        ensures marked { IsMarked self.new.reach.places.items self.new.reach.marks.items }
+        ensures marks { length self.new.reach.marks.items ≡ length self.old.reach.marks.items }
+        ensures tracks { OnOk result (Tracks (λ to how. (to ≡ place) × (how ≡ came))
+            self.old.reach.places.items self.new.reach.places.items
+            self.old.came.items self.new.came.items) }
+    {
+        self.reach.visit(place)?;
+        if self.came.len() < self.reach.places.len() {
+            self.came.push(came)?;
         }
+        Ok(())
     }
 
     /// Comes to all of these ways that are there.
-    pub fn visit_all(&mut self, ways: &[Option<u32>], before: u32) -> Result<(), NoMemory> {
-        let several = are_several(ways);
-        for (number, way) in ways.iter().enumerate() {
+    pub fn visit_all(&mut self, ways: &[Option<u32>], before: u32) -> Result<(), NoMemory>
+        requires marked { IsMarked self.old.reach.places.items self.old.reach.marks.items }
+        requires below { AllBelow (length self.old.reach.marks.items) ways.now }
+        requires size { length self.old.came.items ≡ length self.old.reach.places.items }
+        ensures adds { OnOk result
+            (AddsAll ways.now self.old.reach.places.items self.new.reach.places.items) }
+        ensures marked { IsMarked self.new.reach.places.items self.new.reach.marks.items }
+        ensures marks { length self.new.reach.marks.items ≡ length self.old.reach.marks.items }
+        ensures tracks { OnOk result (Tracks (λ to how. ByWay ways.now before to how)
+            self.old.reach.places.items self.new.reach.places.items
+            self.old.came.items self.new.came.items) }
+    {
+        let alone = is_alone(ways);
+        for number in 0..ways.len() {
+            let way = ways[number];
+            let moved = arm(alone, number)?;
             match way {
-                Some(to) => {
-                    let moved = arm(several, number)?;
-                    self.visit(*to, before, moved)?;
-                }
+                Some(to) => self.visit(to, Came { before, moved })?,
                 None => {}
             }
         }
         Ok(())
     }
 
-    /// Goes on from a place, over the ranges whose turn is before this one.
+    /// Goes on from a place, over the ranges that have lemmas.
     pub fn visit_next(
         &mut self,
         table: &Table,
-        turns: &[Option<u32>],
-        until: u32,
+        numbers: &[Option<u32>],
         range: Range,
         place: &Place,
         before: u32,
-    ) -> Result<(), NoMemory> {
+    ) -> Result<(), NoMemory>
+        requires marked { IsMarked self.old.reach.places.items self.old.reach.marks.items }
+        requires marks { length self.old.reach.marks.items ≡ length table.now.places }
+        requires tidy { IsTidy table.now }
+        requires tidy_place { IsTidyPlace table.now place.now }
+        requires known { length table.now.ranges ≤ length numbers.now }
+        requires size { length self.old.came.items ≡ length self.old.reach.places.items }
+        ensures adds { OnOk result (AddsNext table.now (flags_of numbers.now) range place.now
+            self.old.reach.places.items self.new.reach.places.items) }
+        ensures marked { IsMarked self.new.reach.places.items self.new.reach.marks.items }
+        ensures marks { length self.new.reach.marks.items ≡ length self.old.reach.marks.items }
+        ensures tracks { OnOk result
+            (Tracks (λ to how. ByStep table.now numbers.now range place.now before to how)
+            self.old.reach.places.items self.new.reach.places.items
+            self.old.came.items self.new.came.items) }
+    {
         match place {
-            Place::Goes(to) => self.visit(*to, before, None),
+            Place::Goes(to) => self.visit(
+                *to,
+                Came {
+                    before,
+                    moved: None,
+                },
+            ),
             Place::Chooses(ways) => self.visit_all(ways.as_slice(), before),
             Place::Calls {
                 range: called,
                 after,
-            } => match turns.get(*called as usize) {
-                Some(Some(turn)) => {
-                    if *turn < until {
-                        self.visit(*after, before, Some(Move::Over(*turn)))
-                    } else {
-                        Ok(())
-                    }
-                }
-                _ => Ok(()),
+            } => match numbers[*called as usize] {
+                Some(lemma) => self.visit(
+                    *after,
+                    Came {
+                        before,
+                        moved: Some(Move::Over(lemma)),
+                    },
+                ),
+                None => Ok(()),
             },
             Place::Stops => Ok(()),
-            Place::Ends(paragraph) => {
-                if ends_at(range.exit, *paragraph) {
-                    return Ok(());
-                }
-                match table.starts.get((*paragraph as usize).wrapping_add(1)) {
-                    Some(start) => self.visit(*start, before, None),
-                    None => Ok(()),
-                }
-            }
+            Place::Ends(paragraph) => self.visit_past(table, range, *paragraph, before),
+        }
+    }
+
+    /// Goes on past a paragraph's end, unless the range ends there.
+    fn visit_past(
+        &mut self,
+        table: &Table,
+        range: Range,
+        paragraph: u32,
+        before: u32,
+    ) -> Result<(), NoMemory>
+        requires marked { IsMarked self.old.reach.places.items self.old.reach.marks.items }
+        requires marks { length self.old.reach.marks.items ≡ length table.now.places }
+        requires tidy { IsTidy table.now }
+        requires paragraph { paragraph < length table.now.starts }
+        requires size { length self.old.came.items ≡ length self.old.reach.places.items }
+        ensures adds { OnOk result ((returns : List Bool) →
+            AddsNext table.now returns range (Ends paragraph)
+            self.old.reach.places.items self.new.reach.places.items) }
+        ensures marked { IsMarked self.new.reach.places.items self.new.reach.marks.items }
+        ensures marks { length self.new.reach.marks.items ≡ length self.old.reach.marks.items }
+        ensures tracks { OnOk result ((numbers : List (Option ℕ)) →
+            Tracks (λ to how. ByStep table.now numbers range (Ends paragraph) before to how)
+            self.old.reach.places.items self.new.reach.places.items
+            self.old.came.items self.new.came.items) }
+    {
+        if ends_at(range.exit, paragraph) {
+            return Ok(());
+        }
+        match table.starts.get(paragraph as usize + 1) {
+            Some(start) => self.visit(
+                *start,
+                Came {
+                    before,
+                    moved: None,
+                },
+            ),
+            None => Ok(()),
         }
     }
 }
 
-/// Whether the aim is met at a place.
-pub fn is_met(table: &Table, aim: Aim, place: &Place) -> bool {
-    match place {
-        Place::Calls { range, .. } => match table.ranges.get(*range as usize) {
-            Some(called) => match aim {
-                Aim::Enter(target) => is_same(*called, target),
-                Aim::Ending(paragraph) => ends_at(called.exit, paragraph),
-                Aim::End(_) => false,
-            },
-            None => false,
-        },
-        Place::Ends(paragraph) => match aim {
-            Aim::End(end) => *paragraph == end,
-            Aim::Enter(_) => false,
-            Aim::Ending(_) => false,
-        },
-        _ => false,
-    }
-}
-
-/// The moves that were taken up to this visit.
-pub fn moves_to(alloc: Global, visits: &[Visit], at: usize) -> Result<Items<Move>, NoMemory> {
-    let mut moves = Vec::new(alloc);
-    let mut here = at;
-    for _ in 0..visits.len() {
-        if here == 0 {
-            break;
-        }
-        match visits.get(here) {
-            Some(visit) => {
-                match visit.moved {
-                    Some(moved) => moves.push(moved)?,
-                    None => {}
-                }
-                here = visit.before as usize;
-            }
-            None => break,
-        }
-    }
-    moves.reverse();
-    Ok(Items::from_vec(moves))
-}
-
-/// The moves by which the range's level comes to where the aim is met, over the ranges whose turn is
-/// before this one.
-pub fn route_to(
+/// All places that the range's level comes to, over the ranges that have lemmas, in the order in
+/// which they are come to.
+pub fn followed(
     alloc: Global,
     table: &Table,
-    turns: &[Option<u32>],
-    until: u32,
+    numbers: &[Option<u32>],
     range: Range,
-    aim: Aim,
-) -> Result<Option<Items<Move>>, NoMemory> {
+) -> Result<Route, NoMemory>
+    requires tidy { IsTidy table.now }
+    requires known { length table.now.ranges ≤ length numbers.now }
+    ensures reach { IfOk result
+        (λ route. IsReach table.now (flags_of numbers.now) range route.reach.places.items) }
+    ensures traces { IfOk result (λ route.
+        TracesLevel table.now numbers.now range route.reach.places.items route.came.items) }
+{
     let mut route = Route::new(alloc, table.places.len())?;
     match table.starts.get(range.entry as usize) {
-        Some(start) => route.visit(*start, 0, None)?,
+        Some(start) => route.visit(
+            *start,
+            Came {
+                before: 0,
+                moved: None,
+            },
+        )?,
         None => {}
     }
     for at in 0..table.places.len() {
-        if at >= route.visits.len() {
-            return Ok(None);
+        if at >= route.reach.places.len() {
+            return Ok(route);
         }
-        let here = route.visits[at];
-        let before = match u32::try_from(at) {
-            Ok(number) => number,
-            Err(_) => return Err(NoMemory),
-        };
-        match table.places.get(here.place as usize) {
-            Some(place) => {
-                if is_met(table, aim, place) {
-                    let moves = moves_to(alloc, route.visits.as_slice(), at)?;
-                    return Ok(Some(moves));
-                }
-                route.visit_next(table, turns, until, range, place, before)?;
-            }
+        let before = number_of(at)?;
+        let number = route.reach.places[at] as usize;
+        let place = &table.places.as_slice()[number];
+        route.visit_next(table, numbers, range, place, before)?;
+    }
+    Ok(route)
+}
+
+/// The moves that were taken up to this place.
+pub fn moves_to(alloc: Global, came: &[Came], at: usize) -> Result<Items<Move>, NoMemory>
+    requires back { GoBack came.now }
+    requires there { at < length came.now }
+    ensures { IfOk result (λ moves. TakenTo came.now at moves) }
+{
+    let mut moves = Vec::new(alloc);
+    let mut here = at;
+    for _ in 0..came.len() {
+        if here == 0 {
+            break;
+        }
+        let Came { before, moved } = came[here];
+        match moved {
+            Some(moved) => moves.push(moved)?,
             None => {}
         }
+        here = before as usize;
     }
-    Ok(None)
+    moves.reverse();
+    Ok(Items::from_vec(moves))
 }
