@@ -1,0 +1,13 @@
+//! The rests of a program by place: the statements from there to the end of their list, and where
+//! control goes on behind them.
+//!
+//! One table serves all ranges: in it a paragraph's end is a return, in whose place a range puts
+//! where it goes on there.
+#![tactic(auto)]
+
+mod paragraphs;
+mod spot;
+mod statements;
+
+pub use paragraphs::spots_of;
+pub use spot::{Onward, Spot, ended_by};
