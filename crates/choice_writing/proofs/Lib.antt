@@ -1,0 +1,2 @@
+-- statements with arms, row by row
+pub mod ChoiceRows
