@@ -2,7 +2,7 @@
 -- ON SIZE ERROR continue; ELSE, NOT AT END and NOT ON SIZE ERROR go; WHEN OTHER and AT END continue
 -- where the source has them. GO TO DEPENDING has no WHEN OTHER, and neither has the choice of an
 -- exit, whose last arm is one in the result.
-use Rattle.std.specs.Prelude.{ℕ, zero, suc, Bool, true, false, if◌then◌else◌, ◌==◌, ◌&&◌, nat_lt, List, length, Option, Some, None}
+use Rattle.std.specs.Prelude.{ℕ, zero, suc, Bool, true, false, if◌then◌else◌, ◌==◌, ◌&&◌, nat_lt, length, Option, Some, None}
 use Rattle.cob_tree.specs.declared.stmt.Stmt.TheVariants.{Continue}
 use Rattle.language.specs.Language.{Range, Chooser, Evaluate, Read, Arith, Depending, Picker, If, By, ByCell, Stmts, none, also, Arms}
 use Rattle.rendering.specs.Rendering.{Empty, Continues, Goes, required, written_arm}
