@@ -3,4 +3,4 @@ pub mod Standing
 -- where calls lead
 pub mod Led
 -- a program is faulty exactly where there is a clash
-mod Clashes
+pub mod Clashes

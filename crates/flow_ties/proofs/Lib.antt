@@ -1,14 +1,14 @@
 -- what is uncounted, taken apart
-mod Uncounting
+pub mod Uncounting
 -- the ways of an item
-mod Ways
+pub mod Ways
 -- what an item does in the theory it does here
-mod Telling
+pub mod Telling
 -- what an item does here it does in the theory
-mod Backing
+pub mod Backing
 -- a level comes to the same points here and there
-mod SameLevels
+pub mod SameLevels
 -- what is faulty there is faulty here
-mod SameFaults
+pub mod SameFaults
 -- what is faulty here is faulty there
-mod Lifting
+pub mod Lifting

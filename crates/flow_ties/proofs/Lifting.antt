@@ -40,11 +40,11 @@ among-alike number (a ∷ ts) [] all = absurd all
 among-alike number (a ∷ ts) (b ∷ bs) all =
     ap (λ n. if nat_eq n number then true else ends_at number ts) all.0 ∙ ap (λ t. if nat_eq b.end number then true else t) (among-alike number ts bs all.3)
 
-abbrev lowered : List Pending → List language.Pending
+abbrev pub lowered : List Pending → List language.Pending
 lowered [] = []
 lowered (b ∷ bs) = record { end = b.end; paragraph = b.back.paragraph; rest = b.back.rest } ∷ lowered bs
 
-lowered-alike : (bs : List Pending) → AreAlike (lowered bs) bs
+pub lowered-alike : (bs : List Pending) → AreAlike (lowered bs) bs
 lowered-alike [] = tt
 lowered-alike (b ∷ bs) = (refl, refl, refl, lowered-alike bs)
 
@@ -72,14 +72,14 @@ pending-is one end paragraph rest e p r =
     ∙ ap (λ (z : List Item). let a : language.Pending = record { end = one.end; paragraph = one.paragraph; rest = z } in a) (sym r)
 
 module _ (told : Told) (program : Program) (source : IsSource told program) (some : SomeArmIsGiven told) where
-  abbrev stepped : Flow → Flow
+  abbrev pub stepped : Flow → Flow
   stepped f = source_step (free told) nothing_left program f
 
-  abbrev At : ℕ → List Item → List language.Pending → List ℕ → Flow
+  abbrev pub At : ℕ → List Item → List language.Pending → List ℕ → Flow
   At q rest pending ways = theory.flow q rest pending ways
 
   -- by some ways, whatever ways come after
-  abbrev Lifts : ℕ → List Item → List language.Pending → Type 0
+  abbrev pub Lifts : ℕ → List Item → List language.Pending → Type 0
   Lifts q rest pending = (ways : List ℕ) × (n : ℕ) × ((more : List ℕ) → iterate stepped n (At 0 (rest_of program 0) [] (ways ++ more)) ≡ At q rest pending more)
 
   -- one step more
@@ -94,7 +94,7 @@ module _ (told : Told) (program : Program) (source : IsSource told program) (som
         ∙ step more,
   )
 
-  abbrev LiftsAll : Point → List Pending → Type 0
+  abbrev pub LiftsAll : Point → List Pending → Type 0
   LiftsAll p pending = (rest : List Item) (stack : List language.Pending) → uncounted rest ≡ uncounted p.rest → AreAlike stack pending → Lifts p.paragraph rest stack
 
   back-lifts : (q : ℕ) (x : Item) (xs : List Item) (to : ℕ) (r : List Item) (stack : List language.Pending) → ((rest : List Item) → uncounted rest ≡ uncounted (x ∷ xs) → Lifts q rest stack) → Backs told program q x xs to r → Lifts to r stack
@@ -164,7 +164,7 @@ module _ (told : Told) (program : Program) (source : IsSource told program) (som
       (subst (λ n. Lifts n [] stack) (sym last.1) (all [] stack (ap uncounted (sym last.0)) alike))
       (fallen paragraph pending stack there.0 alike there.1 out clear))
 
-  lift : (p : Point) (pending : List Pending) → FlowPath told.never_first program p pending → LiftsAll p pending
+  pub lift : (p : Point) (pending : List Pending) → FlowPath told.never_first program p pending → LiftsAll p pending
   lift p pending (begins_flow) rest [] h alike = subst (λ r. Lifts 0 r []) (sym (whole 0 rest h)) ([], 0, λ more. refl)
   lift p pending (begins_flow) rest (a ∷ ts) h alike = absurd alike
   lift p pending (steps_flow from to before after path fine step) rest stack h alike = lift-step from before to after step fine path (lift from before path) rest stack h alike

@@ -1,0 +1,59 @@
+-- The plan of a program that isn't faulty, by flow paths.
+use Rattle.std.specs.Prelude.{ℕ, ◌≡◌, ◌<◌, true, List, [], ◌∷◌, length, map, drop, Option, Some, None}
+use Rattle.cob_tree.specs.declared.file.FileEntry.{FileEntry}
+use Rattle.cob_tree.specs.declared.program.Range as tree
+use Rattle.language.specs.Language.{Program, Range, Main, Part}
+use Rattle.lowering.specs.Told.{Told, IsSource}
+use Rattle.lowering.specs.Laws.{FreelyComes, IsPerformed}
+use Rattle.lowering.specs.flow.Paths.{IsFaulty, AreReturningByPath}
+use Rattle.graph_rules.specs.Walked.{In}
+use Rattle.headline.specs.Chain.{CallsStandLater}
+use Rattle.headline.specs.CallsReached.{GivesSome, CalledByPaths}
+use Rattle.cut_lists.specs.Told.{told_of, returns_by}
+use Rattle.pending_returns.specs.declared.facts.Summary.{Summary}
+use Rattle.pending_returns.specs.Summary.{IsSummary}
+use Rattle.range_plan.specs.Planned.{IsPlanOf}
+
+-- past the last paragraph each is its own end, so no such table names each range that returns by a
+-- path
+abbrev pub NoFiniteTableNamesWhatReturns : Type 0
+NoFiniteTableNamesWhatReturns =
+    (files : List FileEntry) (returning : List (List ℕ)) (program : Program) →
+    AreReturningByPath (told_of files returning) program → ⊥
+
+-- the range of the theory
+abbrev pub ending_at : ℕ → Option ℕ → Range
+ending_at entry None = Main
+ending_at entry (Some exit) = Part entry exit
+
+abbrev pub as_control : tree.Range → Range
+as_control range = ending_at range.entry range.exit
+
+-- the ranges that stand behind main
+abbrev pub others_of : List tree.Range → List Range
+others_of order = map as_control (drop 1 order)
+
+-- what a plan is by flow paths: main first, each range but main performed by a path of an earlier
+-- one's level, none twice, and each that is performed in a range's level behind it; the table names
+-- the ranges of the order that return, and no other range
+pub record IsPlannedByPaths (told : Told) (program : Program) (returning : List (List ℕ))
+    (order : List tree.Range) : Type 0 where
+  pub main : map as_control order ≡ Main ∷ others_of order
+  pub performed : (entry exit : ℕ) → In (Part entry exit) (Main ∷ others_of order) →
+      (entry < length program.paragraphs) × IsPerformed told program entry exit
+  pub later : CallsStandLater told program (Main ∷ others_of order)
+  pub called : CalledByPaths told program (Main ∷ others_of order)
+  pub names : (entry exit : ℕ) → In (Part entry exit) (Main ∷ others_of order) →
+      FreelyComes told program (Part entry exit) exit [] →
+      returns_by returning entry exit ≡ true
+  pub exact : (entry exit : ℕ) → returns_by returning entry exit ≡ true →
+      FreelyComes told program (Part entry exit) exit []
+
+-- a source that isn't faulty is planned so by its summary, whatever else is told of it
+abbrev pub PlansAreByPaths : Type 0
+PlansAreByPaths =
+    (told : Told) (program : Program) (summary : Summary) (returning : List (List ℕ))
+    (order : List tree.Range) → IsSource told program → GivesSome told →
+    0 < length program.paragraphs → (IsFaulty told program → ⊥) →
+    IsSummary told.never_first program summary → IsPlanOf summary.ranges returning order →
+    IsPlannedByPaths told program returning order

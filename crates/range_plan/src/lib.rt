@@ -1,0 +1,15 @@
+//! The plan of a program that isn't faulty, by the summary of its ranges: which ranges return, and
+//! in which order they stand as procedures.
+//!
+//! `plan_of` gives both: the table of returning ranges as lowering is told of them, and the ranges
+//! that are performed from main on, main first, then always the lowest all of whose callers stand.
+//! `specs/Planned.antt` says it by the summary, `specs/Laws.antt` by flow paths.
+#![tactic(auto)]
+
+mod laws;
+mod plan;
+mod returning;
+
+pub use laws::{no_finite_table_names_what_returns, orders_put_callers_first, plans_are_by_paths};
+pub use plan::{RangePlan, calls_by_number, plan_of, ranges_by};
+pub use returning::{add_exit, add_facts, lengthen, returning_of};
