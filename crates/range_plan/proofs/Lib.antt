@@ -12,3 +12,5 @@ pub mod Apart
 pub mod Numbers
 -- the plan by a summary is as flow paths ask
 pub mod ByPaths
+-- COBOL programs that aren't faulty are planned as flow paths ask
+pub mod CobolPlans

@@ -2,6 +2,9 @@
 use Rattle.std.specs.Prelude.{ℕ, ◌≡◌, ◌<◌, true, List, [], ◌∷◌, length, map, drop, Option, Some, None}
 use Rattle.cob_tree.specs.declared.file.FileEntry.{FileEntry}
 use Rattle.cob_tree.specs.declared.program.Range as tree
+use Rattle.cob_tree.specs.declared.program.Program as cobol
+use Rattle.language.specs.Control.{control_of}
+use Rattle.language.specs.OwnItems.{NamesOwnItems}
 use Rattle.language.specs.Language.{Program, Range, Main, Part}
 use Rattle.lowering.specs.Told.{Told, IsSource}
 use Rattle.lowering.specs.Laws.{FreelyComes, IsPerformed}
@@ -10,6 +13,9 @@ use Rattle.graph_rules.specs.Walked.{In}
 use Rattle.headline.specs.Chain.{CallsStandLater}
 use Rattle.headline.specs.CallsReached.{GivesSome, CalledByPaths}
 use Rattle.cut_lists.specs.Told.{told_of, returns_by}
+use Rattle.cobol_parts.specs.Named.{NamesOwnParagraphs}
+use Rattle.flow_paths.specs.Flow as flow
+use Rattle.flow_numbers.specs.Kinds.{never_first_of}
 use Rattle.pending_returns.specs.declared.facts.Summary.{Summary}
 use Rattle.pending_returns.specs.Summary.{IsSummary}
 use Rattle.range_plan.specs.Planned.{IsPlanOf}
@@ -57,3 +63,16 @@ PlansAreByPaths =
     0 < length program.paragraphs → (IsFaulty told program → ⊥) →
     IsSummary told.never_first program summary → IsPlanOf summary.ranges returning order →
     IsPlannedByPaths told program returning order
+
+-- so a COBOL program that names its own items and paragraphs and isn't faulty: no flow path of the
+-- theory faults either, and its plan is one by paths, for what lowering is told of it
+abbrev pub CobolPlansAreByPaths : Type 0
+CobolPlansAreByPaths =
+    (program : cobol.Program) (summary : Summary) (returning : List (List ℕ))
+    (order : List tree.Range) → NamesOwnItems program → NamesOwnParagraphs program →
+    0 < length (control_of program).paragraphs →
+    (flow.IsFaulty (never_first_of program.files) (control_of program) → ⊥) →
+    IsSummary (never_first_of program.files) (control_of program) summary →
+    IsPlanOf summary.ranges returning order →
+    (IsFaulty (told_of program.files returning) (control_of program) → ⊥)
+    × IsPlannedByPaths (told_of program.files returning) (control_of program) returning order

@@ -1,6 +1,6 @@
 //! Laws of plans.
 
-ghost use Rattle.range_plan.specs.Laws.{NoFiniteTableNamesWhatReturns, PlansAreByPaths};
+ghost use Rattle.range_plan.specs.Laws.{NoFiniteTableNamesWhatReturns, PlansAreByPaths, CobolPlansAreByPaths};
 ghost use Rattle.range_plan.specs.Ordered.{OrdersPutCallersFirst};
 
 /// No table of finitely many entries names each range that returns by a path: past the last
@@ -18,4 +18,9 @@ pub fn orders_put_callers_first()
 /// By its summary a source that isn't faulty is planned as its flow paths ask.
 pub fn plans_are_by_paths()
     ensures { PlansAreByPaths }
+{}
+
+/// So a COBOL program that names its own items and paragraphs and isn't faulty, by its summary.
+pub fn cobol_plans_are_by_paths()
+    ensures { CobolPlansAreByPaths }
 {}

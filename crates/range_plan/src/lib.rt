@@ -10,6 +10,9 @@ mod laws;
 mod plan;
 mod returning;
 
-pub use laws::{no_finite_table_names_what_returns, orders_put_callers_first, plans_are_by_paths};
+pub use laws::{
+    cobol_plans_are_by_paths, no_finite_table_names_what_returns, orders_put_callers_first,
+    plans_are_by_paths,
+};
 pub use plan::{RangePlan, calls_by_number, plan_of, ranges_by};
 pub use returning::{add_exit, add_facts, lengthen, returning_of};

@@ -1,0 +1,50 @@
+-- COBOL programs that aren't faulty are planned as flow paths ask.
+use Rattle.std.proofs.Common.{◌≡◌, ◌<◌, ℕ, false, if◌then◌else◌, List, length, Option, Some, None, slice_get, refl, ap, sym, subst}
+use Rattle.cob_tree.specs.declared.file.FileEntry.{FileEntry}
+use Rattle.cob_tree.specs.declared.program.Range as tree
+use Rattle.cob_tree.specs.declared.program.Program as cobol
+use Rattle.language.specs.Control.{control_of}
+use Rattle.language.specs.Language.{Chooser, Evaluate, Read, Arith, Depending}
+use Rattle.language.specs.OwnItems.{NamesOwnItems}
+use Rattle.statements.specs.Does.{declared_in}
+use Rattle.lowering.specs.flow.Paths as theory
+use Rattle.cut_lists.specs.Told.{status_missing, never_ends, told_of}
+use Rattle.cobol_parts.specs.Named.{NamesOwnParagraphs}
+use Rattle.cobol_parts.proofs.Sources.{source}
+use Rattle.cobol_parts.proofs.SomeArm.{gives-some}
+use Rattle.flow_paths.specs.Flow.{IsFaulty}
+use Rattle.flow_numbers.specs.Kinds.{has_no_status, never_first_of}
+use Rattle.flow_ties.proofs.SameFaults.{faulty-here}
+use Rattle.pending_returns.specs.declared.facts.Summary.{Summary}
+use Rattle.pending_returns.specs.Summary.{IsSummary}
+use Rattle.range_plan.specs.Planned.{IsPlanOf}
+use Rattle.range_plan.specs.Laws.{IsPlannedByPaths}
+use Rattle.range_plan.proofs.ByPaths.{planned}
+
+same-missing : (file : Option FileEntry) → has_no_status file ≡ status_missing file
+same-missing None = refl
+same-missing (Some file) = refl
+
+same-first : (files : List FileEntry) (chooser : Chooser) → never_first_of files chooser ≡ never_ends files chooser
+same-first files (Evaluate subject tests has_other) = refl
+same-first files (Read file into has_end) = ap (λ b. if has_end then false else b) (same-missing (slice_get files file))
+same-first files (Arith calc into) = refl
+same-first files (Depending on names) = refl
+
+-- flow and lowering are told the same
+same-told : (files : List FileEntry) → never_first_of files ≡ never_ends files
+same-told files = λ i chooser. same-first files chooser i
+
+module _ (program : cobol.Program) (summary : Summary) (returning : List (List ℕ)) (order : List tree.Range) (items : NamesOwnItems program) (paragraphs : NamesOwnParagraphs program) (some : 0 < length (control_of program).paragraphs)
+    (fine : IsFaulty (never_first_of program.files) (control_of program) → ⊥) where
+  no-fault : theory.IsFaulty (told_of program.files returning) (control_of program) → ⊥
+  no-fault faulty = fine (subst (λ never. IsFaulty never (control_of program)) (sym (same-told program.files))
+      (faulty-here (told_of program.files returning) (control_of program) (source (declared_in program) returning program items paragraphs) (gives-some (declared_in program) returning) faulty))
+
+  pub cobol-planned : IsSummary (never_first_of program.files) (control_of program) summary → IsPlanOf summary.ranges returning order →
+      (theory.IsFaulty (told_of program.files returning) (control_of program) → ⊥) × IsPlannedByPaths (told_of program.files returning) (control_of program) returning order
+  cobol-planned is plan = (
+    no-fault,
+    planned (told_of program.files returning) (control_of program) (source (declared_in program) returning program items paragraphs) (gives-some (declared_in program) returning) no-fault summary
+        (subst (λ never. IsSummary never (control_of program) summary) (same-told program.files) is) returning order plan,
+  )
