@@ -10,3 +10,5 @@ pub mod WayLemmas
 pub mod StatementLemmas
 -- the machine's parts as those of the source machine
 pub mod MachineLemmas
+-- what a run has come to so far
+pub mod RunningLemmas

@@ -10,3 +10,5 @@ pub mod Plain
 pub mod Ways
 -- the machine as a state of the source machine
 pub mod Machine
+-- what a run comes to
+pub mod Running

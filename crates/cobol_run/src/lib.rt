@@ -12,9 +12,11 @@ mod frame;
 mod frames;
 mod held;
 mod machine;
+mod running;
 mod statement;
 mod way;
 
 pub use frame::{Body, Frame, Turning};
 pub use held::{Held, Plan};
 pub use machine::{Ending, Machine, Step};
+pub use running::{Ran, run, start};

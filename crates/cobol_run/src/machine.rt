@@ -72,8 +72,8 @@ fn section_last(paragraphs: &[Paragraph], paragraph: u32) -> u32
 }
 
 impl<'a> Machine<'a> {
-    // Goes to the front of a paragraph.
-    fn go_to(&mut self, number: u32) -> Result<(), NoMemory>
+    /// Goes to the front of a paragraph.
+    pub fn go_to(&mut self, number: u32) -> Result<(), NoMemory>
         ensures rest { IfOk result (λ u. rest_of (last_of self.old.plan.program.now number)
             self.new.frames ≡ source.rest_of (control_of self.old.plan.program.now) number) }
         ensures pending { IfOk result (λ u. KeepsPending self.old.frames self.new.frames) }

@@ -1,0 +1,32 @@
+use Rattle.std.proofs.Common.{arith, refl, subst}
+use Rattle.sink_giving.specs.Giving.{Gained, Takes}
+use Rattle.cobol_run.proofs.RunningLemmas.{breaks_off, broke_within, ended, showed, went_on}
+use Rattle.cobol_run.proofs.running.make_turn.Goals as goal
+
+pub returns-in-Err-clause-turned : goal.returns-in-Err-clause-turned
+returns-in-Err-clause-turned g c = λ program done held count so_far steps files within plain.
+    breaks_off program c.args.machine.now done steps held (g.K.Sink.held c.args.out.now) count (g.K.Sink.faults c.args.out.now) so_far (omega (arith, within)) (g.K.Sink.held c.args.out.now) (g.K.Sink.faults c.args.out.now) refl files plain
+
+pub returns-in-Ok-On-clause-turned : goal.returns-in-Ok-On-clause-turned
+returns-in-Ok-On-clause-turned g c = λ program done held count so_far.
+    went_on program c.args.machine.now done 0 held (g.K.Sink.held c.args.out.now) count (g.K.Sink.faults c.args.out.now) so_far c.step.new.self c.in-Ok-On.ensures.plan c.in-Ok-On.field-0 c.in-Ok-On.ensures.step c.in-Ok-On.field-0-is
+
+pub returns-in-Ok-Over-clause-turned : goal.returns-in-Ok-Over-clause-turned
+returns-in-Ok-Over-clause-turned g c = λ program done held count so_far steps files within plain.
+    ended program c.args.machine.now done steps held (g.K.Sink.held c.args.out.now) count (g.K.Sink.faults c.args.out.now) so_far c.step.new.self c.in-Ok-Over.ensures.plan c.in-Ok-Over.field-0 c.in-Ok-Over.ensures.step c.in-Ok-Over.ending c.in-Ok-Over.field-0-is within files plain
+
+pub returns-then-is_err-clause-turned : goal.returns-then-is_err-clause-turned
+returns-then-is_err-clause-turned g c = λ program done held count so_far steps files within plain.
+    breaks_off program c.args.machine.now done steps held (g.K.Sink.held c.args.out.now) count (g.K.Sink.faults c.args.out.now) so_far (omega (arith, within)) (g.K.Sink.held c.ready.new.self) (g.K.Sink.faults c.ready.new.self) c.ready.ensures.kept files plain
+
+pub returns-then-give_all-clause-turned : goal.returns-then-give_all-clause-turned
+returns-then-give_all-clause-turned g c = λ program done held count so_far.
+    let counts = c.ready.ensures.count in
+    let later = c.give_all.ensures.later in
+    showed program c.args.machine.now done 0 held (g.K.Sink.held c.args.out.now) count (g.K.Sink.faults c.args.out.now) so_far c.step.new.self c.in-Ok-Shown.ensures.plan c.in-Ok-Shown.field-0 c.in-Ok-Shown.ensures.step c.in-Ok-Shown.field-0-is (g.K.Sink.held c.ready.new.self) (g.K.Sink.held c.give_all.new.sink) (g.K.Sink.faults c.give_all.new.sink) c.ready.ensures.kept (omega (arith, counts, later))
+    (subst (λ bytes. Gained bytes (g.K.Sink.held c.ready.new.self) (g.K.Sink.held c.give_all.new.sink)) c.as_slice-shown.ensures (c.give_all.ensures.all c.if-give_all.true))
+
+pub returns-else-give_all-clause-turned : goal.returns-else-give_all-clause-turned
+returns-else-give_all-clause-turned g c = λ program done held count so_far steps files within plain.
+    broke_within program c.args.machine.now done steps held (g.K.Sink.held c.args.out.now) count (g.K.Sink.faults c.args.out.now) so_far c.step.new.self c.in-Ok-Shown.ensures.plan c.in-Ok-Shown.field-0 c.in-Ok-Shown.ensures.step c.in-Ok-Shown.field-0-is within (g.K.Sink.held c.ready.new.self) (g.K.Sink.held c.give_all.new.sink) (g.K.Sink.faults c.ready.new.self) (g.K.Sink.faults c.give_all.new.sink) c.ready.ensures.kept
+    (subst (λ bytes. Takes bytes (record { held = g.K.Sink.held c.ready.new.self; now = g.K.Sink.held c.give_all.new.sink; count = g.K.Sink.faults c.ready.new.self; count_now = g.K.Sink.faults c.give_all.new.sink })) c.as_slice-shown.ensures c.give_all.ensures.front) files plain

@@ -1,0 +1,2 @@
+-- what was given piece by piece
+pub mod GivingLemmas

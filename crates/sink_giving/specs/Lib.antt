@@ -1,0 +1,2 @@
+-- what a sink gains
+pub mod Giving
