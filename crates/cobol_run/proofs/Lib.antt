@@ -2,6 +2,8 @@
 pub mod FrameLemmas
 -- what holds of each part of a program holds of what is still to do
 pub mod Standing
+-- what passes the test of the tree is plain
+pub mod PlainLemmas
 -- what MOVE and ADD of VARYING do
 pub mod HeldLemmas
 -- what the head of the rest comes to

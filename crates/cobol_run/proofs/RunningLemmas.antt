@@ -66,10 +66,6 @@ at_start program machine held count declared same begun = record {
   reached = λ files plain. ([], sym (begun files), gained-nothing held);
 }
 
--- out of memory before the first step
-pub breaks_at_start : (program : Program) (steps : ℕ) (held : Option (List ℕ)) (count : ℕ) (files : Files) → BreaksOff program files steps (record { held = held; now = held; count = count; count_now = count })
-breaks_at_start program steps held count files = (0, omega arith, gained-nothing held)
-
 pub one_more : (program : Program) (machine : Machine) (done : ℕ) (sink : SinkCall) → SoFar program machine (suc done) sink → SoFar program machine (done + 1) sink
 one_more program machine done sink = let e : suc done ≡ done + 1 = omega arith in subst (λ n. SoFar program machine n sink) e
 

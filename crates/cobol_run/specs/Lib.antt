@@ -6,6 +6,8 @@ pub mod Frames
 pub mod Standing
 -- programs whose runs need no device
 pub mod Plain
+-- the same as a test of the tree
+pub mod PlainTests
 -- what the head of the rest comes to
 pub mod Ways
 -- the machine as a state of the source machine

@@ -79,9 +79,3 @@ gained-all bytes held now count count_now g = record {
 pub given-whole : (bytes rest : List ℕ) (held now : Option (List ℕ)) (room count count_now : ℕ) → Given bytes rest held now room count count_now → rest ≡ [] → Gained bytes held now
 given-whole bytes rest held now room count count_now given is =
     subst (λ b. Gained b held now) (sym (given.whole ∙ ap (λ t. given.front ++ t) is ∙ append-nil given.front)) given.gained
-
--- the same of a sink that was made ready first
-pub front-from : (bytes line : List ℕ) (held mid now : Option (List ℕ)) (count count_mid count_now : ℕ) → Takes bytes (call mid now count_mid count_now) → bytes ≡ line → mid ≡ held → count_mid ≡ count → Takes line (call held now count count_now)
-front-from bytes line held mid now count count_mid count_now h is same counts =
-    subst (λ b. Takes b (call held now count count_now)) is
-    (subst (λ m. Takes bytes (call m now count count_now)) same (subst (λ n. Takes bytes (call mid now n count_now)) counts h))
