@@ -1,0 +1,2 @@
+-- what comes of a program comes of its source
+pub mod AnswerLemmas

@@ -1,0 +1,2 @@
+-- what comes of a source that is to run
+pub mod Answers
