@@ -6,6 +6,9 @@
 //! none, and `RunsAs` of `cobol_run` what its run comes to (ISO 1989:1985).
 #![tactic(auto)]
 
+#[cfg(test)]
+mod tests;
+
 ghost use Rattle.std.specs.Prelude.{◌≡◌};
 ghost use Rattle.cob_base.specs.Faults.{Rose};
 ghost use Rattle.cob_base.specs.Sink.{sink_call};
