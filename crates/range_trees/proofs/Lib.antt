@@ -1,0 +1,2 @@
+-- the trees of rests in a range
+pub mod NodeSteps

@@ -1,0 +1,60 @@
+use Rattle.std.proofs.Common.{◌≡◌, ◌/◌, ◌<◌, length, true, false, ap, sym, ◌∙◌, arith, subst}
+use Rattle.lowering.specs.Lower as lower
+use Rattle.lower_places.specs.Fall.{seen_range}
+use Rattle.rest_table.specs.Spots.{Fits, IsRest}
+use Rattle.range_trees.specs.Nodes.{node_in}
+use Rattle.range_trees.proofs.NodeSteps.{fit_at, graph_in, rest_at_index}
+use Rattle.range_trees.proofs.node.label_tree.Goals as goal
+
+pub returns-then-part-eq0 : goal.returns-then-part-eq0
+returns-then-part-eq0 c = λ program table.
+    let e : lower.point (c.args.label / 3) ≡ c.args.label = omega (arith, c.if-part-eq0.true) in
+    c.in_ok-tree.ensures program table ∙ ap (node_in c.args.telling.now program c.args.range) e
+
+pub turn_tree-requires-clause-fits : goal.turn_tree-requires-clause-fits
+turn_tree-requires-clause-fits c =
+    let telling = c.args.telling.now in
+    let layout = telling.layout.now in
+    let spots = c.args.spots.now in
+    let place = c.args.label / 3 in
+    let spot = c.index-spots-place.result in
+    let lt : place < length spots = omega (arith, c.requires.there) in
+    subst (λ n. Fits layout.end n spot) (omega arith) (fit_at layout.end 0 spots place spot lt c.index-spots-place.is c.requires.whole.fit)
+
+pub turn_tree-requires-2-clause-fits : goal.turn_tree-requires-2-clause-fits
+turn_tree-requires-2-clause-fits c =
+    let telling = c.args.telling.now in
+    let layout = telling.layout.now in
+    let spots = c.args.spots.now in
+    let place = c.args.label / 3 in
+    let spot = c.index-spots-place.result in
+    let lt : place < length spots = omega (arith, c.requires.there) in
+    subst (λ n. Fits layout.end n spot) (omega arith) (fit_at layout.end 0 spots place spot lt c.index-spots-place.is c.requires.whole.fit)
+
+pub returns-then-part-eq1 : goal.returns-then-part-eq1
+returns-then-part-eq1 c =
+    let telling = c.args.telling.now in
+    let layout = telling.layout.now in
+    let spots = c.args.spots.now in
+    let place = c.args.label / 3 in
+    let spot = c.index-spots-place.result in
+    let lt : place < length spots = omega (arith, c.requires.there) in
+    let e : lower.head (c.args.label / 3) ≡ c.args.label = omega (arith, c.if-part-eq1.true) in
+    λ program table.
+    let g = graph_in telling c.args.range program table.placed in
+    let rest : IsRest layout g place spot = subst (λ n. IsRest layout g n spot) (omega arith) (rest_at_index layout g 0 spots place spot lt c.index-spots-place.is (table.rests.rests (seen_range c.args.range) table.placed)) in
+    c.in_ok-tree-2.ensures program table.placed ∙ sym (rest.turn true) ∙ ap (node_in telling program c.args.range) e
+
+pub returns : goal.returns
+returns c =
+    let telling = c.args.telling.now in
+    let layout = telling.layout.now in
+    let spots = c.args.spots.now in
+    let place = c.args.label / 3 in
+    let spot = c.index-spots-place.result in
+    let lt : place < length spots = omega (arith, c.requires.there) in
+    let e : lower.third (c.args.label / 3) ≡ c.args.label = omega (arith, c.if-part-eq0.false, c.if-part-eq1.false) in
+    λ program table.
+    let g = graph_in telling c.args.range program table.placed in
+    let rest : IsRest layout g place spot = subst (λ n. IsRest layout g n spot) (omega arith) (rest_at_index layout g 0 spots place spot lt c.index-spots-place.is (table.rests.rests (seen_range c.args.range) table.placed)) in
+    c.in_ok-tree-3.ensures program table.placed ∙ sym (rest.turn false) ∙ ap (node_in telling program c.args.range) e

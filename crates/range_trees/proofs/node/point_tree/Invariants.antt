@@ -1,0 +1,13 @@
+use Rattle.std.proofs.Common.{◌≡◌, ◌+◌, ◌≤◌, ◌<◌, length}
+use Rattle.cob_tree.specs.declared.program.Program.{Program}
+use Rattle.lowering.specs.Lower as lower
+use Rattle.branch_tree.specs.Trees.{seen_body}
+use Rattle.lower_trees.specs.Loops.{before}
+use Rattle.range_trees.specs.Nodes.{IsTableOf, node_in}
+use Rattle.range_trees.proofs.node.point_tree.Given as goal
+
+abbrev pub invariant-loop-turn : goal.invariant-loop-turn
+invariant-loop-turn l =
+    (l.here < length l.spots) × (l.place + l._turn ≤ l.here)
+    × ((program : Program) → IsTableOf l.telling l.spots program →
+    before (seen_body l.body.items) (node_in l.telling program l.range (lower.point l.here)) ≡ node_in l.telling program l.range (lower.point l.place))

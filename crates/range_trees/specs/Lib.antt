@@ -1,0 +1,2 @@
+-- the nodes of ranges, by a table of rests
+pub mod Nodes

@@ -1,0 +1,83 @@
+-- The nodes of ranges, by a table of rests.
+use Rattle.std.specs.Prelude.{ℕ, ◌≡◌, ◌<◌, ◌^◌, Bool, true, false, List, length}
+use Rattle.cob_tree.specs.declared.program.Program.{Program}
+use Rattle.cob_tree.specs.declared.program.Range as code
+use Rattle.cob_tree.specs.declared.stmt.Stmt.{Stmt}
+use Rattle.language.specs.Control.{control_of, seen, seen_stmts}
+use Rattle.language.specs.Language as language
+use Rattle.control.specs.Graph as graph
+use Rattle.lowering.specs.Lowered.{lowered, place_in}
+use Rattle.lowering.specs.Told.{IsSource}
+use Rattle.branch_tree.specs.Trees.{seen_tree}
+use Rattle.branch_tree.specs.declared.tree.Tree as tree
+use Rattle.lower_places.specs.Fall.{seen_range}
+use Rattle.lower_places.specs.Layout.{IsLayout}
+use Rattle.lower_places.specs.Leaf.{seen_leaf}
+use Rattle.lower_places.specs.declared.leaf.Leaf.{Leaf}
+use Rattle.lower_stmts.specs.Along.{IsLeaving, told_by}
+use Rattle.lower_stmts.specs.declared.telling.Leaving.{Leaving}
+use Rattle.lower_stmts.specs.declared.telling.Telling.{Telling}
+use Rattle.rest_table.specs.Onward.{after_by, leaving_by}
+use Rattle.rest_table.specs.Paragraphs.{AreRestsOf, graph_of}
+use Rattle.rest_table.specs.Spots.{AllFit, turn_by}
+use Rattle.rest_table.specs.declared.spot.Onward.{Onward}
+use Rattle.rest_table.specs.declared.spot.Spot.{Spot}
+
+-- the places of a program are numbered so
+abbrev pub IsPlaced : Telling → Program → Type 0
+IsPlaced telling program =
+    IsLayout program telling.layout.now.places.items telling.layout.now.end
+
+-- the table of a program that can be lowered
+pub record IsTableOf (telling : Telling) (spots : List Spot) (program : Program) : Type 0 where
+  pub placed : IsPlaced telling program
+  pub rests : AreRestsOf telling program spots
+  pub source : IsSource (told_by telling) (control_of program)
+
+-- each rest has a place, and goes on within the table
+pub record IsWhole (telling : Telling) (spots : List Spot) : Type 0 where
+  pub count : length spots ≡ telling.layout.now.end
+  pub fit : AllFit telling.layout.now.end 0 spots
+  pub small : telling.layout.now.end < 2 ^ 30
+
+-- so control goes on in a range
+abbrev pub LeavesIn : Telling → code.Range → Onward → Leaving → Type 0
+LeavesIn telling range onward found =
+    (program : Program) (placed : IsPlaced telling program) →
+    IsLeaving found onward.last
+    (leaving_by telling.layout.now (graph_of telling program (seen_range range) placed) onward)
+
+abbrev pub GoesOnIn : Telling → code.Range → Onward → Leaf → Type 0
+GoesOnIn telling range onward found =
+    (program : Program) (placed : IsPlaced telling program) →
+    seen_leaf found
+    ≡ after_by telling.layout.now (graph_of telling program (seen_range range) placed) onward
+
+-- the tree at a label in a range
+abbrev pub node_in : Telling → Program → code.Range → graph.Label → graph.Tree
+node_in telling program range label =
+    (lowered (told_by telling) (control_of program)).node (seen_range range) label
+
+-- no loop with a body of its own
+abbrev pub is_no_loop : language.Stmt → Bool
+is_no_loop (language.Loop control (language.Nested body)) = false
+is_no_loop _ = true
+
+abbrev pub HoldsNoLoop : Stmt → Type 0
+HoldsNoLoop stmt = (last : ℕ) → is_no_loop (seen last stmt) ≡ true
+
+-- it is this tree, whatever the program
+abbrev pub IsNodeIn : Telling → List Spot → code.Range → graph.Label → tree.Tree → Type 0
+IsNodeIn telling spots range label made =
+    (program : Program) → IsTableOf telling spots program →
+    seen_tree made ≡ node_in telling program range label
+
+-- and at a label of the loop that a rest begins with
+abbrev pub IsTurnIn : Telling → Spot → code.Range → ℕ → Bool → tree.Tree → Type 0
+IsTurnIn telling spot range place is_head made =
+    (program : Program) (placed : IsPlaced telling program) →
+    seen_tree made
+    ≡ turn_by (told_by telling) (place_in (control_of program)) is_head
+    (seen_stmts spot.onward.last spot.stmts.now) place
+    (leaving_by telling.layout.now (graph_of telling program (seen_range range) placed) spot.onward)
+    (after_by telling.layout.now (graph_of telling program (seen_range range) placed) spot.onward)
