@@ -44,7 +44,8 @@ pub fn read_stmt(
     second: Items<Stmt>,
     has_end: bool,
 ) -> Result<Stmt, NoMemory>
-    ensures { IfOk result (λ made. IsRead file into has_end (seen_stmts 0 first) (seen_stmts 0 second) made) }
+    ensures { IfOk result
+        (λ made. IsRead file into has_end (seen_stmts 0 first) (seen_stmts 0 second) made) }
 {
     let first = kept(first, has_end)?;
     let second = kept(second, false)?;
