@@ -1,4 +1,4 @@
--- What becomes of an arm with nothing in it: it holds CONTINUE, or it goes. The arms of IF, WHEN and
+-- What becomes of an arm with nothing in it: it holds CONTINUE, or goes. The arms of IF, WHEN and
 -- ON SIZE ERROR continue; ELSE, NOT AT END and NOT ON SIZE ERROR go; WHEN OTHER and AT END continue
 -- where the source has them. GO TO DEPENDING has no WHEN OTHER, and neither has the choice of an
 -- exit, whose last arm is one in the result.

@@ -68,7 +68,7 @@ pub fn arith_stmt(
     Ok(Stmt::Arith { calc, into, arms })
 }
 
-/// PERFORM of the procedure at the place. A test by an added item is none of the program's own: Err.
+/// PERFORM of the procedure at the place. Err where it is tested by an added item.
 pub fn perform_stmt(place: u32, control: Control) -> Result<Stmt, NoMemory>
     ensures { IfOk result (λ made. IsOwnPerform place control made) }
 {
@@ -83,7 +83,7 @@ pub fn perform_stmt(place: u32, control: Control) -> Result<Stmt, NoMemory>
     }
 }
 
-/// PERFORM of statements. A test by an added item is none of the program's own: Err.
+/// PERFORM of statements. Err where it is tested by an added item.
 pub fn loop_stmt(control: Control, body: Items<Stmt>) -> Result<Stmt, NoMemory>
     ensures { IfOk result (λ made. IsOwnLoop control body made) }
 {

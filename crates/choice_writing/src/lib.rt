@@ -1,5 +1,5 @@
-//! Statements with arms, by the lists that their arms hold, as they stand in a structured program: an
-//! empty list that is required holds CONTINUE, and other empty arms are left out.
+//! Statements with arms, by the lists that their arms hold, as they stand in a structured program:
+//! an empty list that is required holds CONTINUE, and other empty arms are left out.
 //!
 //! `specs/Empties.antt` says which arms continue and which go. `specs/Written.antt` names what is
 //! written of statements, whatever the items of cells: it is the theory's `written_stmt`, in

@@ -15,8 +15,8 @@ fn is_before(placed: Placed, entry: u32, exit: u32) -> bool {
     placed.entry < entry || placed.entry == entry && placed.exit < exit
 }
 
-/// The place of the range's procedure. Where the ranges stand by entry and then by exit, it is found
-/// if it is there.
+/// The place of the range's procedure. Where the ranges stand by entry and then by exit, it is
+/// found if it is there.
 pub fn place_of(places: &[Placed], entry: u32, exit: u32) -> Option<u32>
     ensures { MatchOption result (Unit {0}) (λ place. IsPlace places.now entry exit place) }
 {
