@@ -107,7 +107,7 @@ struct Case {
     answer: &'static str,
 }
 
-fn case(source: &'static str, steps: u64, out: &'static str, answer: &'static str) -> Case {
+fn ends(source: &'static str, steps: u64, out: &'static str, answer: &'static str) -> Case {
     Case {
         source,
         steps,
@@ -134,19 +134,19 @@ fn check(rt: &impl Abort, alloc: Global, case: &Case) -> Result<(), AllocError> 
 #[test]
 fn each_program_ends_as_it_should(rt: HostRuntime) -> Result<(), Fail> {
     let cases = [
-        case(JUMPING, 6, "ONE\nTHREE\n", "stopped"),
-        case(JUMPING, 5, "ONE\nTHREE\n", "budget"),
-        case(JUMPING, 0, "", "budget"),
+        ends(JUMPING, 6, "ONE\nTHREE\n", "stopped"),
+        ends(JUMPING, 5, "ONE\nTHREE\n", "budget"),
+        ends(JUMPING, 0, "", "budget"),
         Case {
             write_fails: 3,
-            ..case(JUMPING, 6, "ONE\nTHRE", "write fault")
+            ..ends(JUMPING, 6, "ONE\nTHRE", "write fault")
         },
-        case(OVERLAPPING, 100, "A\nC\n", "overlap"),
-        case(COUNTING, 100, "2\n1\n", "stopped"),
-        case(UNDIGITAL, 100, "", "bad digits"),
-        case(OUTSIDE, 100, "", "out of range"),
-        case(READING, 100, "", "not yet"),
-        case("", 100, "", "refused"),
+        ends(OVERLAPPING, 100, "A\nC\n", "overlap"),
+        ends(COUNTING, 100, "2\n1\n", "stopped"),
+        ends(UNDIGITAL, 100, "", "bad digits"),
+        ends(OUTSIDE, 100, "", "out of range"),
+        ends(READING, 100, "", "not yet"),
+        ends("", 100, "", "refused"),
     ];
     for case in &cases {
         check(&rt, rt.alloc(), case)?;
