@@ -5,7 +5,7 @@
 
 Each program takes all pairs of some senders and receivers and shows the bytes of each result, so a
 line is a case. The cases are those on which the rules of docs/MEANING.md and GnuCOBOL agree; those
-left out stand in docs/DECISIONS.md."""
+left out stand in docs/MEANING.md."""
 import os
 import re
 import subprocess
