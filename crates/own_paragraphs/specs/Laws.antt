@@ -4,5 +4,5 @@ use Rattle.cobol_parts.specs.Named.{NamesOwnParagraphs}
 use Rattle.named_programs.specs.Named.{NamesItsOwn}
 
 -- each paragraph that its statements name is there, and each inline loop says how it turns
-abbrev pub NameOwnParagraphs : Type 0
-NameOwnParagraphs = (program : Program) → NamesItsOwn program → NamesOwnParagraphs program
+abbrev pub NamedProgramsNameOwnParagraphs : Type 0
+NamedProgramsNameOwnParagraphs = (program : Program) → NamesItsOwn program → NamesOwnParagraphs program

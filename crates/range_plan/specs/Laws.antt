@@ -41,7 +41,7 @@ others_of order = map as_control (drop 1 order)
 
 -- what a plan is by flow paths: main first, each range but main performed by a path of an earlier
 -- one's level, none twice, and each that is performed in a range's level behind it; the table names
--- the ranges of the order that return, and no other range
+-- the ranges of the order that return, and only ranges that return
 pub record IsPlannedByPaths (told : Told) (program : Program) (returning : List (List ℕ))
     (order : List tree.Range) : Type 0 where
   pub main : map as_control order ≡ Main ∷ others_of order
