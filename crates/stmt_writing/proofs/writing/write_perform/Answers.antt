@@ -1,0 +1,12 @@
+use Rattle.cob_tree.specs.declared.stmt.Stmt.TheVariants.{Perform}
+use Rattle.choice_writing.specs.Choices.{IsOwnPerform}
+use Rattle.choice_writing.specs.Written.{IsWritten}
+use Rattle.stmt_writing.proofs.OwnRows.{perform_row}
+use Rattle.stmt_writing.proofs.Results.{if_ok}
+use Rattle.stmt_writing.proofs.writing.write_perform.Goals as goal
+
+pub returns-in-Some : goal.returns-in-Some
+returns-in-Some c =
+    if_ok c.perform_stmt.result (IsOwnPerform c.in-Some.place c.args.control) (IsWritten c.args.places.now (Perform c.args.entry c.args.exit c.args.control))
+    (λ made h way placed. perform_row way c.args.control c.args.entry c.args.exit c.in-Some.place made h.0 (c.in-Some.ensures way.place placed) h.1)
+    c.perform_stmt.ensures

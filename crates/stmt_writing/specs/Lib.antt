@@ -1,0 +1,2 @@
+-- the arms of a statement, as they are written
+pub mod Arms

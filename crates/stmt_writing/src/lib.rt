@@ -1,0 +1,11 @@
+//! The program's own statements as they stand in a structured program: each PERFORM of paragraphs
+//! names its procedure, and empty arms are written by `choice_writing`.
+//!
+//! The definition that the contracts hold statements against is the theory's `written_stmt`, in
+//! `rendering/specs/Rendering.antt`. A statement that moves to, tests or chooses by an added item
+//! is none of the program's own: it is answered as if there were no memory for it.
+#![tactic(auto)]
+
+mod writing;
+
+pub use writing::{write_stmt, write_stmts};
