@@ -10,7 +10,7 @@ use Rattle.lowering.specs.Told.{Told, IsSource}
 use Rattle.lowering.specs.flow.Comes.{IsNoExit, entry_of, begins}
 use Rattle.lowering.specs.flow.Comes as theory
 use Rattle.lowering.specs.flow.Paths.{free}
-use Rattle.lowering.specs.Laws.{FreelyComes}
+use Rattle.lowering.specs.flow.Entered.{FreelyComes}
 use Rattle.lowering.proofs.rests.Wholes.{OwnItem}
 use Rattle.lowering.proofs.rests.Fits.{comes-fits, rest-fits}
 use Rattle.flow_paths.specs.Step.{Point, at, start, is_present, next, next_in, way_at}

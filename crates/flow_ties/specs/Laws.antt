@@ -3,7 +3,7 @@ use Rattle.std.specs.Prelude.{ℕ, List}
 use Rattle.language.specs.Language.{Chooser, Program, Range}
 use Rattle.language.specs.Items.{Item}
 use Rattle.lowering.specs.Told.{Told, MayGive, IsSource}
-use Rattle.lowering.specs.Laws.{FreelyComes}
+use Rattle.lowering.specs.flow.Entered.{FreelyComes}
 use Rattle.lowering.specs.flow.Paths as theory
 use Rattle.flow_paths.specs.Flow.{IsFaulty}
 use Rattle.flow_paths.specs.Levels.{Comes}

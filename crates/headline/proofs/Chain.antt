@@ -182,14 +182,14 @@ module _ {Memory Left : Type 0} (acting : Acting Memory) (left : Memory → Left
     range-sound Main here = numbered-sound acting left told program keep is_told source some plan.plan.returning fair plan.plan.reached numbers plan.apart Main (family-main-sound acting left told program keep is_told source some plan.plan.returning fair plan.plan.reached)
     range-sound (Part e x) here =
         numbered-sound acting left told program keep is_told source some plan.plan.returning fair plan.plan.reached numbers plan.apart (Part e x)
-        (family-part-sound acting left told program keep is_told source some plan.plan.returning fair plan.plan.reached e x (plan.plan.performed e x here).1)
+        (family-part-sound acting left told program keep is_told source some plan.plan.returning fair plan.plan.reached e x (plan.plan.entered e x here).1)
 
     graphs-sound : IsSound acting left (kinds_of graphs) (family_of graphs) order
     graphs-sound = (sound-by-steps acting left (kinds_of graphs) (family_of graphs) order graphs-fit).0 (λ range here start n. subst (λ family. IsSoundAt acting left family range) same (range-sound range here) start.memory n)
 
     closed-at : (range : Range) → In range order → IsClosed (graphs range)
     closed-at Main here = graphs-closed told program keep numbers added source Main some (plan.plan.just Main here)
-    closed-at (Part e x) here = graphs-closed told program keep numbers added source (Part e x) (plan.plan.performed e x here).0 (plan.plan.just (Part e x) here)
+    closed-at (Part e x) here = graphs-closed told program keep numbers added source (Part e x) (plan.plan.entered e x here).0 (plan.plan.just (Part e x) here)
 
     closed-before : AsBefore acting left graphs (all_closed order graphs) order
     closed-before = (closed-keeps acting left graphs order graphs-fit graphs-sound closed-at).0

@@ -1,9 +1,7 @@
 -- A plan of one small program.
-use Rattle.std.proofs.Common.{◌≡◌, ℕ, zero, suc, ◌<◌, true, false, if◌then◌else◌, ◌==◌, List, [], ◌∷◌, Some, None, refl, ap, sym, ◌∙◌, subst, arith, inl, inr}
+use Rattle.std.proofs.Common.{◌≡◌, ℕ, zero, suc, ◌<◌, true, false, ◌==◌, List, [], ◌∷◌, Some, None, refl, ap, sym, ◌∙◌, subst, arith, inl, inr}
 use Rattle.std.proofs.lemmas.Bool.Decides.{eqb_tells}
-use Rattle.runs.specs.Run.{Over}
 use Rattle.runs.specs.Machine.{iterate}
-use Rattle.control.specs.Outcome.{Normally, Stopped}
 use Rattle.language.specs.Language.{Go, Perform, Range, Main, Part}
 use Rattle.language.specs.Items.{Item, Do, SentenceEnd}
 use Rattle.control.specs.Items.{Way, On, Into, To, ToEnd, item_way}
@@ -15,59 +13,19 @@ use Rattle.lowering.specs.WellFormed.{AreJustReached}
 use Rattle.lowering.specs.flow.Comes.{begins, enters, goes_on, goes_to, goes_to_end, over, falls}
 use Rattle.lowering.specs.Lowered.{lowered}
 use Rattle.lowering.specs.Reached.{JumpsTo, IsReached, entered, jumped}
-use Rattle.lowering.specs.flow.Paths.{Flow, flow, free, free_step, alone_pending, nothing_left, IsFaulty, ReturnsByPath}
-use Rattle.lowering.specs.Laws.{FreelyComes}
+use Rattle.lowering.specs.flow.Paths.{Flow, flow, free, nothing_left, IsFaulty}
+use Rattle.lowering.specs.flow.Entered.{FreelyComes, IsEntered, main, performed}
 use Rattle.lowering.specs.flow.Called.{IsCalled}
 use Rattle.headline.specs.Chain.{IsNumberedPlan, lowered_graphs, CalledFromEarlier}
 use Rattle.headline.specs.PlanExample.{again, again_told, again_kept, same_numbers, no_added, APlanCanBeMade, ThePlanIsFollowed}
-use Rattle.agreement.proofs.Agreement.{same_number}
 use Rattle.headline.proofs.graphs.NamedCells.{counters-named}
 use Rattle.headline.proofs.SomeResult.{some-result-behaves}
 
 abbrev whole_rest : List Item
 whole_rest = Do (Go 0) ∷ SentenceEnd ∷ []
 
-abbrev steps : ℕ → Flow → Flow
-steps n state = iterate (free_step again_told again) n state
-
--- from the paragraph a path never leaves its beginning
-stuck : (exit n : ℕ) (ways : List ℕ) → steps n (flow 0 whole_rest (alone_pending again_told again exit) ways) ≡ flow 0 whole_rest (alone_pending again_told again exit) ways
-stuck exit zero ways = refl
-stuck exit (suc n) ways = stuck exit n ways
-
-abbrev stopped_at : ℕ → ℕ → List ℕ → Flow
-stopped_at number exit ways = record { paragraph = number; rest = []; pending = alone_pending again_told again exit; memory = ways; run = record { trace = []; standing = Over (Stopped Normally tt) } }
-
-stays : (number exit n : ℕ) (ways : List ℕ) → steps n (stopped_at number exit ways) ≡ stopped_at number exit ways
-stays number exit zero ways = refl
-stays number exit (suc n) ways = stays number exit n ways
-
--- past the paragraph it stops, but at its exit
-past : (e exit n : ℕ) (ways later : List ℕ) → (exit == suc e) ≡ false → steps n (flow (suc e) [] (alone_pending again_told again exit) ways) ≡ flow exit [] (alone_pending again_told again exit) later → ⊥
-past e exit zero ways later ne is =
-    let p : suc e ≡ exit = ap (λ (s : Flow). s.paragraph) is in
-    let q : (exit == exit) ≡ false = subst (λ x. (exit == x) ≡ false) p ne in
-    let k : true ≡ false = sym (same_number exit) ∙ q in
-    cc
-past e exit (suc n) ways later ne is =
-    elim (exit == suc e) as (λ b. b ≡ false → steps n (if b then flow 0 [] [] ways else stopped_at (suc e) exit ways) ≡ flow exit [] (alone_pending again_told again exit) later → ⊥) [
-      | true ↦ λ bad so. (let k : true ≡ false = bad in cc)
-      | false ↦ λ bad so. (let k = ap (λ (s : Flow). s.run.standing) (sym (stays (suc e) exit n ways) ∙ so) in cc)
-    ] ne is
-
-returning : (entry exit : ℕ) → ReturnsByPath again_told again entry exit → again_told.returning entry exit ≡ true
-returning zero exit r = absurd (let k = ap (λ (s : Flow). s.rest) (sym (stuck exit r.1 r.0) ∙ r.3) in cc)
-returning (suc e) exit r = elim (exit == suc e) as (λ b. (exit == suc e) ≡ b → b ≡ true) [
-  | true ↦ λ is. refl
-  | false ↦ λ is. absurd (past e exit r.1 r.0 r.2 is r.3)
-] refl
-
 exact : (entry exit : ℕ) → again_told.returning entry exit ≡ true → FreelyComes again_told again (Part entry exit) exit []
-exact zero exit is = absurd (let k : false ≡ true = is in cc)
-exact (suc e) exit is = elim (eqb_tells exit (suc e)) [
-  | inl h ↦ subst (λ x. FreelyComes again_told again (Part (suc e) exit) x []) (sym h.1) (enters (suc e) exit)
-  | inr h ↦ absurd (let k : true ≡ false = sym is ∙ h.0 in cc)
-]
+exact entry exit is = absurd (let k : false ≡ true = is in cc)
 
 main-label : (label : Label) → IsReached (lowered again_told again) Main label → label ≡ 0
 main-label l entered = refl
@@ -109,6 +67,15 @@ main-rest r n s (falls range number next found off c) is = absurd (let k : [] �
 none-called : (entry exit : ℕ) → IsCalled again_told again Main entry exit → ⊥
 none-called entry exit c = let k : Do (Perform entry exit) ∷ c.1 ≡ whole_rest = main-rest Main c.0 (Do (Perform entry exit) ∷ c.1) c.2 refl in cc
 
+-- main alone is entered
+main-alone : (range : Range) → IsEntered again_told again range → range ≡ Main
+main-alone range main = refl
+main-alone range (performed from number rest entry exit is c) =
+    absurd (none-called entry exit (number, rest, subst (λ r. FreelyComes again_told again r number (Do (Perform entry exit) ∷ rest)) (main-alone from is) c))
+
+returning : (entry exit : ℕ) → IsEntered again_told again (Part entry exit) → FreelyComes again_told again (Part entry exit) exit [] → again_told.returning entry exit ≡ true
+returning entry exit is c = absurd (let k : Part entry exit ≡ Main = main-alone (Part entry exit) is in cc)
+
 again-source : IsSource again_told again
 again-source = ((((let lt : 0 < 1 = omega arith in lt), tt), tt), tt)
 
@@ -131,7 +98,7 @@ again-plan = record {
     exact = exact;
     reached = reached;
     just = λ range here. just-of range here;
-    performed = λ entry exit here. absurd (let k : false ≡ true = here in cc);
+    entered = λ entry exit here. absurd (let k : false ≡ true = here in cc);
     order = (refl, (λ entry exit c. absurd (none-called entry exit c)), tt);
   };
   apart = λ range one other e. e;

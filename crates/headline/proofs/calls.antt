@@ -1,5 +1,3 @@
--- What a level comes to by any ways, it comes to by a free flow path; so a table by paths names what returns by any ways.
-pub mod FreePaths
 -- Where a free flow path of a range's level comes to a PERFORM, a reached node of the range performs that range.
 pub mod CallsReached
 -- An order in which each range is performed by a path of an earlier one is one in which a kept node of an earlier one performs it.

@@ -1,6 +1,6 @@
 -- Where a flow path comes to a PERFORM, a reached node performs that range: so an order by paths is
 -- one of the graphs.
-use Rattle.std.specs.Prelude.{ℕ, ◌≡◌, ◌<◌, ◌≤◌, Bool, true, List, [], ◌∷◌, length, Some, slice_get}
+use Rattle.std.specs.Prelude.{ℕ, ◌≡◌, ◌<◌, ◌≤◌, Bool, List, ◌∷◌, length, Some, slice_get}
 use Rattle.runs.specs.Machine.{meaning}
 use Rattle.language.specs.Language.{Picker, Chooser, Program, Range, Main, Part}
 use Rattle.control.specs.Doing.{Acting, Celled, alone}
@@ -13,8 +13,8 @@ use Rattle.control.specs.Graph.{Label}
 use Rattle.lowering.specs.Told.{Told, MayGive, IsTold, IsSource}
 use Rattle.lowering.specs.Lowered.{lowered}
 use Rattle.lowering.specs.Reached.{IsReached}
-use Rattle.lowering.specs.flow.Paths.{IsFaulty, AreReturningByPath}
-use Rattle.lowering.specs.Laws.{FreelyComes}
+use Rattle.lowering.specs.flow.Paths.{IsFaulty}
+use Rattle.lowering.specs.flow.Entered.{IsEntered, NamesWhatReturns}
 use Rattle.lowering.specs.WellFormed.{IsRangeOf}
 use Rattle.lowering.specs.flow.Called.{IsCalled}
 use Rattle.graph_rules.specs.Families.{Added}
@@ -25,17 +25,13 @@ abbrev pub GivesSome : Told → Type 0
 GivesSome told =
     (chooser : Chooser) → (arm : ℕ) × MayGive (told.width chooser) (told.never_first chooser) arm
 
--- the table names each range whose level comes to its end by a free flow path
-abbrev pub NamesWhatReturns : Told → Program → Type 0
-NamesWhatReturns told program = (entry exit : ℕ) →
-    FreelyComes told program (Part entry exit) exit [] → told.returning entry exit ≡ true
-
--- what a free flow path of a range's level performs, a reached node of the range performs
+-- what a free flow path performs in the level of a range that is entered, a reached node of the
+-- range performs
 abbrev pub WhatIsCalledStands : Type 0
 WhatIsCalledStands =
     (told : Told) (program : Program) → IsSource told program → GivesSome told →
-    AreReturningByPath told program →
-    (range : Range) → IsRangeOf program range → (entry exit : ℕ) →
+    NamesWhatReturns told program →
+    (range : Range) → IsRangeOf program range → IsEntered told program range → (entry exit : ℕ) →
     IsCalled told program range entry exit →
     (label : Label) × IsReached (lowered told program) range label
     × TreeCalls (Part entry exit) ((lowered told program).node range label)

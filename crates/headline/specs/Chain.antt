@@ -14,8 +14,9 @@ use Rattle.lowering.specs.Lower as lower
 use Rattle.lowering.specs.Lowered.{nodes_of, lowered}
 use Rattle.lowering.specs.Reached.{AreReached, kept_nodes}
 use Rattle.lowering.specs.Renamed.{tree_anew}
-use Rattle.lowering.specs.flow.Paths.{IsFaulty, AreReturningByPath}
-use Rattle.lowering.specs.Laws.{FreelyComes, IsPerformed, KeepsApart}
+use Rattle.lowering.specs.flow.Paths.{IsFaulty}
+use Rattle.lowering.specs.flow.Entered.{FreelyComes, IsEntered, NamesWhatReturns}
+use Rattle.lowering.specs.Laws.{KeepsApart}
 use Rattle.lowering.specs.WellFormed.{tree_count, AreJustReached}
 use Rattle.lowering.specs.flow.Called.{IsCalled}
 use Rattle.graph_rules.specs.Fits as fits
@@ -129,18 +130,17 @@ NamesItsCells graphs range = (label : Label) →
 -- stand, main first
 pub record IsPlan (told : Told) (program : Program) (keep : Range → Label → Bool)
     (others : List Range) : Type 0 where
-  -- the table names the ranges that return, and no other
-  pub returning : AreReturningByPath told program
+  -- the table names the ranges that are entered and return, and none that doesn't return
+  pub returning : NamesWhatReturns told program
   pub exact : (entry exit : ℕ) → told.returning entry exit ≡ true →
       FreelyComes told program (Part entry exit) exit []
   -- the nodes that are reached are kept, and in a range of the order no other
   pub reached : AreReached (lowered told program) keep
   pub just : (range : Range) → In range (Main ∷ others) →
       AreJustReached told program range (keep range)
-  -- each range of the order but main is performed by a free flow path, and performs later ones
-  -- alone
-  pub performed : (entry exit : ℕ) → In (Part entry exit) (Main ∷ others) →
-      (entry < length program.paragraphs) × IsPerformed told program entry exit
+  -- each range of the order is entered by a free flow path, and performs later ones alone
+  pub entered : (entry exit : ℕ) → In (Part entry exit) (Main ∷ others) →
+      (entry < length program.paragraphs) × IsEntered told program (Part entry exit)
   pub order : CallsStandLater told program (Main ∷ others)
 
 -- and its counters are numbered

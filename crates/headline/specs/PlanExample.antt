@@ -1,5 +1,5 @@
 -- A program of one paragraph that jumps to itself, and its plan.
-use Rattle.std.specs.Prelude.{ℕ, zero, suc, Bool, true, false, ◌==◌, ◌≡◌, List, [], ◌∷◌}
+use Rattle.std.specs.Prelude.{ℕ, Bool, true, false, ◌==◌, ◌≡◌, List, [], ◌∷◌}
 use Rattle.runs.specs.Machine.{meaning}
 use Rattle.language.specs.Language.{Picker, Go, none, also, Program, Range, Main, Part}
 use Rattle.control.specs.Doing.{Acting, Celled, alone}
@@ -18,16 +18,12 @@ use Rattle.headline.specs.Chain.{IsNumberedPlan, lowered_graphs, procedures_of}
 abbrev pub again : Program
 again = record { paragraphs = (also (Go 0) none ∷ []) ∷ [] }
 
--- only a range that begins and ends past the paragraph returns
-abbrev pub returns_past : ℕ → ℕ → Bool
-returns_past zero exit = false
-returns_past (suc entry) exit = exit == suc entry
-
--- a chooser gives one arm; none stands in the program
+-- no range is named, since none is performed; a chooser gives one arm, and none stands in the
+-- program
 abbrev pub again_told : Told
 again_told =
     record {
-      returning = returns_past;
+      returning = λ entry exit. false;
       skipped = λ simple. false;
       never_first = λ chooser. false;
       width = λ chooser. 1;

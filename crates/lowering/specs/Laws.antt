@@ -1,24 +1,24 @@
 -- What is said of lowering: what the source does the walk does, no walk is lost, and flow paths
 -- tell all that is asked.
-use Rattle.std.specs.Prelude.{ℕ, ◌≢◌, ◌<◌, length, [], ◌∷◌, ◌≡◌, true, Bool, List, ◌++◌}
+use Rattle.std.specs.Prelude.{ℕ, ◌≢◌, ◌<◌, length, [], ◌∷◌, ◌≡◌, true, Bool, List}
 use Rattle.runs.specs.Run.{Over, Going}
 use Rattle.runs.specs.Tied.{Tied}
 use Rattle.runs.specs.Machine.{meaning, iterate}
 use Rattle.control.specs.Outcome.{Faulted, FlowFault, Lost}
 use Rattle.language.specs.Language.{Program, Perform, Range, Main, Part, Stmt}
 use Rattle.control.specs.Doing.{Acting, alone, Celled}
-use Rattle.language.specs.Items.{Pending}
 use Rattle.control.specs.Source.{rest_of, source_machine, SourceState, source_step}
 use Rattle.control.specs.Graph.{Family, Label}
 use Rattle.control.specs.Walk.{main_machine, walk_machine}
 use Rattle.lowering.specs.Told.{Told, IsTold, IsSource, OwnStmt}
-use Rattle.lowering.specs.flow.Comes.{AreReturning, IsLowered, Comes}
+use Rattle.lowering.specs.flow.Comes.{AreReturning, IsLowered}
 use Rattle.language.specs.Items.{Do, Item}
 use Rattle.lowering.specs.Completes.{completes}
 use Rattle.lowering.specs.Lowered.{lowered}
 use Rattle.lowering.specs.Reached.{kept, AreReached}
 use Rattle.lowering.specs.Renamed.{numbered_anew}
-use Rattle.lowering.specs.flow.Paths.{flow, free, free_step, IsFaulty, AreReturningByPath}
+use Rattle.lowering.specs.flow.Paths.{IsFaulty}
+use Rattle.lowering.specs.flow.Entered.{FreelyComes, IsEntered, NamesWhatReturns}
 
 -- no run of the program meets a fault of its flow
 abbrev pub NoFlowFault : {Memory Left : Type 0} → Acting Memory → (Memory → Left) → Program → Type 0
@@ -83,14 +83,6 @@ LoweredMainIsSound Memory Left =
     NoFlowFault acting left program →
     IsSoundAt acting left family Main
 
--- some free flow path is about to perform the range
-abbrev pub IsPerformed : Told → Program → ℕ → ℕ → Type 0
-IsPerformed told program entry exit =
-    (ways : List ℕ) × (n : ℕ) × (number : ℕ) × (rest : List Item) × (pending : List Pending)
-    × ((more : List ℕ) →
-    iterate (free_step told program) n (flow 0 (rest_of program 0) [] (ways ++ more))
-    ≡ flow number (Do (Perform entry exit) ∷ rest) pending more)
-
 -- no run of a program that isn't faulty meets a fault of its flow
 abbrev pub NotFaultyHasNoFlowFault : Type 0 → Type 0 → Type 0
 NotFaultyHasNoFlowFault Memory Left =
@@ -104,21 +96,21 @@ LoweredFamilyKeepsMeaning Memory Left =
     (acting : Acting Memory) (left : Memory → Left) (told : Told) (program : Program)
     (keep : Range → Label → Bool) →
     IsTold told acting → IsSource told program → 0 < length program.paragraphs →
-    AreReturningByPath told program → (IsFaulty told program → ⊥) →
+    NamesWhatReturns told program → (IsFaulty told program → ⊥) →
     AreReached (lowered told program) keep →
     Tied (meaning (source_machine (alone acting) left program))
     (meaning (main_machine acting left (kept keep (lowered told program))))
 
--- and no walk of main, or of a range that is performed, is lost
+-- and no walk of a range that is entered is lost
 abbrev pub LoweredFamilyIsSound : Type 0 → Type 0 → Type 0
 LoweredFamilyIsSound Memory Left =
     (acting : Acting Memory) (left : Memory → Left) (told : Told) (program : Program)
     (keep : Range → Label → Bool) →
     IsTold told acting → IsSource told program → 0 < length program.paragraphs →
-    AreReturningByPath told program → (IsFaulty told program → ⊥) →
+    NamesWhatReturns told program → (IsFaulty told program → ⊥) →
     AreReached (lowered told program) keep →
     IsSoundAt acting left (kept keep (lowered told program)) Main
-    × ((entry exit : ℕ) → IsPerformed told program entry exit →
+    × ((entry exit : ℕ) → IsEntered told program (Part entry exit) →
     IsSoundAt acting left (kept keep (lowered told program)) (Part entry exit))
 
 -- a numbering of each range's cells, under which no two are one
@@ -132,20 +124,15 @@ NumberedFamilyKeepsMeaning Memory Left =
     (acting : Acting Memory) (left : Memory → Left) (told : Told) (program : Program)
     (keep : Range → Label → Bool) (numbers : Range → ℕ → ℕ) →
     IsTold told acting → IsSource told program → 0 < length program.paragraphs →
-    AreReturningByPath told program → (IsFaulty told program → ⊥) →
+    NamesWhatReturns told program → (IsFaulty told program → ⊥) →
     AreReached (lowered told program) keep → KeepsApart numbers →
     Tied (meaning (source_machine (alone acting) left program))
     (meaning (main_machine acting left
     (numbered_anew numbers (kept keep (lowered told program)))))
     × IsSoundAt acting left (numbered_anew numbers (kept keep (lowered told program))) Main
-    × ((entry exit : ℕ) → IsPerformed told program entry exit →
+    × ((entry exit : ℕ) → IsEntered told program (Part entry exit) →
     IsSoundAt acting left (numbered_anew numbers (kept keep (lowered told program)))
     (Part entry exit))
-
--- a free flow path of the program comes to this rest, in the level of this range
-abbrev pub FreelyComes : Told → Program → Range → ℕ → List Item → Type 0
-FreelyComes told program range number rest =
-    Comes (free told) program 0 (rest_of program 0) range number rest
 
 -- where the table names only ranges that return, a free flow path passes each statement that is
 -- said to complete

@@ -5,3 +5,6 @@ pub mod Comes
 -- What a range's level performs: each PERFORM in a node that is reached is come to by a free flow
 -- path of that level.
 pub mod Called
+-- The ranges that flow paths enter from main on, and what a table of returning ranges names of
+-- them.
+pub mod Entered

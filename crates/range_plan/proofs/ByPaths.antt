@@ -8,7 +8,7 @@ use Rattle.language.specs.Language.{Program, Range, Main, Part, Perform, same_ra
 use Rattle.language.specs.Items.{Do}
 use Rattle.control.proofs.Ranges.{same-self, same-range, range-tells}
 use Rattle.lowering.specs.Told.{Told, IsSource}
-use Rattle.lowering.specs.Laws.{FreelyComes, IsPerformed}
+use Rattle.lowering.specs.flow.Entered.{FreelyComes, IsEntered}
 use Rattle.lowering.specs.flow.Paths as theory
 use Rattle.lowering.specs.flow.Called.{IsCalled}
 use Rattle.lowering.proofs.flow.FreeFlow.{free-as-checked}
@@ -36,6 +36,7 @@ use Rattle.range_plan.specs.Planned.{calls_of, or_main, range_at, IsPlanOf}
 use Rattle.range_plan.specs.Ordered.{CalledStandLater, IsOrdered}
 use Rattle.range_plan.specs.Ordered as order
 use Rattle.range_plan.specs.Laws.{as_control, others_of, IsPlannedByPaths}
+use Rattle.range_plan.proofs.Entering.{entered-in, begins-below, entered-stands}
 use Rattle.range_plan.proofs.Ordering.{ordered}
 use Rattle.range_plan.proofs.Layers.{get-there, size-calls, calls-at, layered}
 use Rattle.range_plan.proofs.Apart.{one-number}
@@ -199,20 +200,6 @@ module _ (told : Told) (program : Program) (source : IsSource told program) (som
         calls-there (named m.0) m.1.0.range p.0 p.2 entry exit back comes p.4,
       )
 
-  performed-of : (entry exit : ℕ) → In (Part entry exit) (all_named numbers) → (entry < length program.paragraphs) × IsPerformed told program entry exit
-  performed-of entry exit h =
-      let here = from-in numbers (Part entry exit) h in
-      let f = facts-of here.0 (in-order.below here.0 here.1) in
-      let p = performs here.0 f.0 entry exit f.1 (part-here here.0 f.0 entry exit f.1 here.2) in
-      let first = next-calls told.never_first program p.0.paragraph p.0.rest entry exit p.2 p.4 in
-      elim (flows told.never_first program p.0 p.1 p.3) [
-        | inr faulty ↦ absurd (fine-here faulty)
-        | inl path ↦
-            let l : Lifts told program source some p.0.paragraph (Do (Perform entry exit) ∷ first.0) (lowered p.1) = subst (λ rest. Lifts told program source some p.0.paragraph rest (lowered p.1)) first.1 (lift told program source some p.0 p.1 path p.0.rest (lowered p.1) refl (lowered-alike p.1)) in
-            let own = own-path told program source some p.0 p.1 (Do (Perform entry exit)) first.0 path (ap uncounted (sym first.1)) in
-            (own.0, (l.0, l.1, p.0.paragraph, first.0, lowered p.1, λ more. sym (free-as-checked told program fine l.1 (l.0 ++ more)) ∙ l.2 more))
-      ]
-
   module _ (returning : List (List ℕ)) (stand : List tree.Range) (plan : IsPlanOf ranges returning stand) where
     names-of : (entry exit : ℕ) → In (Part entry exit) (all_named numbers) → FreelyComes told program (Part entry exit) exit [] → returns_by returning entry exit ≡ true
     names-of entry exit h c =
@@ -241,12 +228,23 @@ module _ (told : Told) (program : Program) (source : IsSource told program) (som
     whole : all_named numbers ≡ Main ∷ others_of stand
     whole = ap (λ (rs : List tree.Range). map as_control rs) (sym plan.stands) ∙ main-of
 
+    calls-later : CallsStandLater told program (Main ∷ others_of stand)
+    calls-later = subst (λ rs. CallsStandLater told program rs) whole (later-of numbers in-order.below in-order.later)
+
+    called-before : CalledByPaths told program (Main ∷ others_of stand)
+    called-before = subst (λ rs. CalledByPaths told program rs) whole called-of
+
+    entered-of : (entry exit : ℕ) → In (Part entry exit) (Main ∷ others_of stand) → (entry < length program.paragraphs) × IsEntered told program (Part entry exit)
+    entered-of entry exit h =
+        let here = entered-in told program (others_of stand) called-before (Part entry exit) h in
+        (begins-below told program source (Part entry exit) here, here)
+
     pub planned : IsPlannedByPaths told program returning stand
     planned = record {
       main = main-of;
-      performed = λ entry exit h. performed-of entry exit (subst (λ rs. In (Part entry exit) rs) (sym whole) h);
-      later = subst (λ rs. CallsStandLater told program rs) whole (later-of numbers in-order.below in-order.later);
-      called = subst (λ rs. CalledByPaths told program rs) whole called-of;
-      names = λ entry exit h c. names-of entry exit (subst (λ rs. In (Part entry exit) rs) (sym whole) h) c;
+      entered = entered-of;
+      later = calls-later;
+      called = called-before;
+      names = λ entry exit is c. names-of entry exit (subst (λ rs. In (Part entry exit) rs) (sym whole) (entered-stands told program (others_of stand) calls-later (Part entry exit) is)) c;
       exact = exact-of;
     }

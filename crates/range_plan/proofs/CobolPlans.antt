@@ -18,7 +18,7 @@ use Rattle.flow_ties.proofs.SameFaults.{faulty-here}
 use Rattle.pending_returns.specs.declared.facts.Summary.{Summary}
 use Rattle.pending_returns.specs.Summary.{IsSummary}
 use Rattle.range_plan.specs.Planned.{IsPlanOf}
-use Rattle.range_plan.specs.Laws.{IsPlannedByPaths}
+use Rattle.range_plan.specs.Laws.{IsPlannedByPaths, CobolProgramsHavePlans}
 use Rattle.range_plan.proofs.ByPaths.{planned}
 
 same-missing : (file : Option FileEntry) → has_no_status file ≡ status_missing file
@@ -48,3 +48,9 @@ module _ (program : cobol.Program) (summary : Summary) (returning : List (List �
     planned (told_of program.files returning) (control_of program) (source (declared_in program) returning program items paragraphs) (gives-some (declared_in program) returning) no-fault summary
         (subst (λ never. IsSummary never (control_of program) summary) (same-told program.files) is) returning order plan,
   )
+
+-- with the nodes that are reached, this is a plan
+pub has-plan : CobolProgramsHavePlans
+has-plan = λ program summary returning order keep items paragraphs some fine is plan reached just.
+    let p = cobol-planned program summary returning order items paragraphs some fine is plan in
+    (p.0, record { returning = p.1.names; exact = p.1.exact; reached = reached; just = just; entered = p.1.entered; order = p.1.later }, p.1.called)

@@ -1,5 +1,3 @@
--- no finite table names what returns
-pub mod Endless
 -- the table of returning ranges, as it grows
 pub mod Tabling
 -- in the order each number stands, before those that it calls
@@ -10,6 +8,8 @@ pub mod Layers
 pub mod Apart
 -- each stands before those that it calls
 pub mod Numbers
+-- what stands in an order by paths is entered, and what is entered stands in it
+pub mod Entering
 -- the plan by a summary is as flow paths ask
 pub mod ByPaths
 -- COBOL programs that aren't faulty are planned as flow paths ask

@@ -1,16 +1,20 @@
 -- The plan of a program that isn't faulty, by flow paths.
-use Rattle.std.specs.Prelude.{ℕ, ◌≡◌, ◌<◌, true, List, [], ◌∷◌, length, map, drop, Option, Some, None}
+use Rattle.std.specs.Prelude.{ℕ, Bool, ◌≡◌, ◌<◌, true, List, [], ◌∷◌, length, map, drop, Option, Some, None}
 use Rattle.cob_tree.specs.declared.file.FileEntry.{FileEntry}
 use Rattle.cob_tree.specs.declared.program.Range as tree
 use Rattle.cob_tree.specs.declared.program.Program as cobol
 use Rattle.language.specs.Control.{control_of}
 use Rattle.language.specs.OwnItems.{NamesOwnItems}
 use Rattle.language.specs.Language.{Program, Range, Main, Part}
+use Rattle.control.specs.Graph.{Label}
 use Rattle.lowering.specs.Told.{Told, IsSource}
-use Rattle.lowering.specs.Laws.{FreelyComes, IsPerformed}
-use Rattle.lowering.specs.flow.Paths.{IsFaulty, AreReturningByPath}
+use Rattle.lowering.specs.Lowered.{lowered}
+use Rattle.lowering.specs.Reached.{AreReached}
+use Rattle.lowering.specs.WellFormed.{AreJustReached}
+use Rattle.lowering.specs.flow.Entered.{FreelyComes, IsEntered}
+use Rattle.lowering.specs.flow.Paths.{IsFaulty}
 use Rattle.graph_rules.specs.Walked.{In}
-use Rattle.headline.specs.Chain.{CallsStandLater}
+use Rattle.headline.specs.Chain.{CallsStandLater, IsPlan}
 use Rattle.headline.specs.CallsReached.{GivesSome, CalledByPaths}
 use Rattle.cut_lists.specs.Told.{told_of, returns_by}
 use Rattle.cobol_parts.specs.Named.{NamesOwnParagraphs}
@@ -19,13 +23,6 @@ use Rattle.flow_numbers.specs.Kinds.{never_first_of}
 use Rattle.pending_returns.specs.declared.facts.Summary.{Summary}
 use Rattle.pending_returns.specs.Summary.{IsSummary}
 use Rattle.range_plan.specs.Planned.{IsPlanOf}
-
--- past the last paragraph each is its own end, so no such table names each range that returns by a
--- path
-abbrev pub NoFiniteTableNamesWhatReturns : Type 0
-NoFiniteTableNamesWhatReturns =
-    (files : List FileEntry) (returning : List (List ℕ)) (program : Program) →
-    AreReturningByPath (told_of files returning) program → ⊥
 
 -- the range of the theory
 abbrev pub ending_at : ℕ → Option ℕ → Range
@@ -41,15 +38,15 @@ others_of order = map as_control (drop 1 order)
 
 -- what a plan is by flow paths: main first, each range but main performed by a path of an earlier
 -- one's level, none twice, and each that is performed in a range's level behind it; the table names
--- the ranges of the order that return, and only ranges that return
+-- the ranges that are entered and return, and none that doesn't return
 pub record IsPlannedByPaths (told : Told) (program : Program) (returning : List (List ℕ))
     (order : List tree.Range) : Type 0 where
   pub main : map as_control order ≡ Main ∷ others_of order
-  pub performed : (entry exit : ℕ) → In (Part entry exit) (Main ∷ others_of order) →
-      (entry < length program.paragraphs) × IsPerformed told program entry exit
+  pub entered : (entry exit : ℕ) → In (Part entry exit) (Main ∷ others_of order) →
+      (entry < length program.paragraphs) × IsEntered told program (Part entry exit)
   pub later : CallsStandLater told program (Main ∷ others_of order)
   pub called : CalledByPaths told program (Main ∷ others_of order)
-  pub names : (entry exit : ℕ) → In (Part entry exit) (Main ∷ others_of order) →
+  pub names : (entry exit : ℕ) → IsEntered told program (Part entry exit) →
       FreelyComes told program (Part entry exit) exit [] →
       returns_by returning entry exit ≡ true
   pub exact : (entry exit : ℕ) → returns_by returning entry exit ≡ true →
@@ -76,3 +73,22 @@ CobolPlansAreByPaths =
     IsPlanOf summary.ranges returning order →
     (IsFaulty (told_of program.files returning) (control_of program) → ⊥)
     × IsPlannedByPaths (told_of program.files returning) (control_of program) returning order
+
+-- and with the nodes that are reached such a program has what the headline asks of its flow: it
+-- isn't faulty, this is a plan for it, and each range of the order is performed by an earlier one
+abbrev pub CobolProgramsHavePlans : Type 0
+CobolProgramsHavePlans =
+    (program : cobol.Program) (summary : Summary) (returning : List (List ℕ))
+    (order : List tree.Range) (keep : Range → Label → Bool) →
+    NamesOwnItems program → NamesOwnParagraphs program →
+    0 < length (control_of program).paragraphs →
+    (flow.IsFaulty (never_first_of program.files) (control_of program) → ⊥) →
+    IsSummary (never_first_of program.files) (control_of program) summary →
+    IsPlanOf summary.ranges returning order →
+    let told = told_of program.files returning in
+    let control = control_of program in
+    AreReached (lowered told control) keep →
+    ((range : Range) → In range (Main ∷ others_of order) →
+    AreJustReached told control range (keep range)) →
+    (IsFaulty told control → ⊥) × IsPlan told control keep (others_of order)
+    × CalledByPaths told control (Main ∷ others_of order)

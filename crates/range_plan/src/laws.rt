@@ -1,13 +1,7 @@
 //! Laws of plans.
 
-ghost use Rattle.range_plan.specs.Laws.{NoFiniteTableNamesWhatReturns, PlansAreByPaths, CobolPlansAreByPaths};
+ghost use Rattle.range_plan.specs.Laws.{PlansAreByPaths, CobolPlansAreByPaths, CobolProgramsHavePlans};
 ghost use Rattle.range_plan.specs.Ordered.{OrdersPutCallersFirst};
-
-/// No table of finitely many entries names each range that returns by a path: past the last
-/// paragraph each is its own end.
-pub fn no_finite_table_names_what_returns()
-    ensures { NoFiniteTableNamesWhatReturns }
-{}
 
 /// In the order of procedures each range stands, once, and before those that it calls, where none
 /// calls itself, directly or not.
@@ -23,4 +17,9 @@ pub fn plans_are_by_paths()
 /// So a COBOL program that names its own items and paragraphs and isn't faulty, by its summary.
 pub fn cobol_plans_are_by_paths()
     ensures { CobolPlansAreByPaths }
+{}
+
+/// So with the nodes that are reached such a program has what the headline asks of its flow.
+pub fn cobol_programs_have_plans()
+    ensures { CobolProgramsHavePlans }
 {}

@@ -11,7 +11,7 @@ mod plan;
 mod returning;
 
 pub use laws::{
-    cobol_plans_are_by_paths, no_finite_table_names_what_returns, orders_put_callers_first,
+    cobol_plans_are_by_paths, cobol_programs_have_plans, orders_put_callers_first,
     plans_are_by_paths,
 };
 pub use plan::{RangePlan, calls_by_number, plan_of, ranges_by};

@@ -10,6 +10,7 @@ use Rattle.lowering.specs.Lowered.{find, nodes_of, lowered}
 use Rattle.lowering.specs.Reached.{kept_nodes}
 use Rattle.lowering.specs.Renamed.{stmt_anew, stmts_anew, arms_anew, body_anew, end_anew, trees_anew, tree_anew}
 use Rattle.lowering.specs.WellFormed.{IsRangeOf}
+use Rattle.lowering.specs.flow.Entered.{IsEntered, main}
 use Rattle.graph_rules.specs.Families.{Added}
 use Rattle.graph_rules.specs.Walked.{is_in, In}
 use Rattle.rendering.specs.Procedures.{stmt_calls, stmts_call, arms_call, body_calls}
@@ -85,7 +86,11 @@ in-at (x ∷ xs) (suc n) r is = elim (same_range x r) as (λ b. (if b then true 
 module _ (told : Told) (program : Program) (keep : Range → Label → Bool) (numbers : Range → ℕ → ℕ) (added : Range → List Added) (others : List Range) (first : 0 < length program.paragraphs) (plan : IsNumberedPlan told program keep numbers added others) where
   of-program : (range : Range) → In range (Main ∷ others) → IsRangeOf program range
   of-program Main here = first
-  of-program (Part entry exit) here = (plan.plan.performed entry exit here).0
+  of-program (Part entry exit) here = (plan.plan.entered entry exit here).0
+
+  entered-in : (range : Range) → In range (Main ∷ others) → IsEntered told program range
+  entered-in Main here = main
+  entered-in (Part entry exit) here = (plan.plan.entered entry exit here).1
 
   node-calls : (range caller : Range) (label : Label) → keep caller label ≡ true → TreeCalls range ((lowered told program).node caller label) → NodesCall range (graph_nodes (numbers caller) (kept_nodes (keep caller) (nodes_of told program caller)))
   node-calls range caller label k h =
@@ -102,7 +107,8 @@ order-is-of-graphs = λ told program keep numbers added others source some first
       | Main ↦ λ is least. absurd (later-main others number plan.plan.order.0 is least)
       | Part e x ↦ λ is least.
           let c = called number e x is least in
-          let s = called-stands told program source some plan.plan.returning c.1 (of-program told program keep numbers added others first plan c.1 (in-at (Main ∷ others) c.0 c.1 c.3)) e x c.4 in
+          let here = in-at (Main ∷ others) c.0 c.1 c.3 in
+          let s = called-stands told program source some plan.plan.returning c.1 (of-program told program keep numbers added others first plan c.1 here) (entered-in told program keep numbers added others first plan c.1 here) e x c.4 in
           (c.0, c.1, c.2, c.3, node-calls told program keep numbers added others first plan (Part e x) c.1 s.0 (plan.plan.reached c.1 s.0 s.1) s.2)
     ])
 

@@ -17,15 +17,15 @@ use Rattle.lowering.specs.flow.Comes.{IsNoExit, begins, enters, goes_on, goes_to
 use Rattle.lowering.specs.Lowered.{place_in, lowered}
 use Rattle.lowering.specs.Reached.{JumpsTo, ArmsJumpTo, IsReached, entered, jumped}
 use Rattle.lowering.specs.flow.Paths.{next_way, is_first, is_below, not_dead, first_arm, arm_for, free_pick, free}
-use Rattle.lowering.specs.Laws.{FreelyComes}
+use Rattle.lowering.specs.flow.Entered.{FreelyComes, IsEntered, NamesWhatReturns}
 use Rattle.rendering.specs.Procedures.{stmt_calls, stmts_call, arms_call, body_calls}
 use Rattle.headline.specs.Chain.{TreeCalls, EndCalls, TreesCall}
-use Rattle.headline.specs.CallsReached.{GivesSome, NamesWhatReturns, WhatIsCalledStands}
+use Rattle.headline.specs.CallsReached.{GivesSome, WhatIsCalledStands}
 use Rattle.control.proofs.Ranges.{same-self}
 use Rattle.lowering.proofs.rests.Fits.{FitsIn, comes-fits, rest-fits}
 use Rattle.lowering.proofs.rests.Counters.{has-left, has-right, has-after, has-behind, has-turn, past-items, loop-items, items-from, items-uncut, has-uncut, built-uncut}
 use Rattle.lowering.proofs.graphs.Families.{lowered-is-lowered}
-use Rattle.headline.proofs.calls.FreePaths.{names-what-returns}
+use Rattle.lowering.proofs.flow.Paths.{freely-entered}
 
 split : (a b : Bool) → (if a then b else false) ≡ true → (a ≡ true) × (b ≡ true)
 split true b e = (refl, e)
@@ -539,25 +539,24 @@ module _ (told : Told) (program : Program) (source : IsSource told program) (som
   fit-here : (r : Range) (q : ℕ) (rest : List Item) → FreelyComes told program r q rest → FitsIn told program source rest
   fit-here r q rest c = comes-fits told program source (free told) 0 (rest_of program 0) (rest-fits told program source 0) r q rest c
 
-  come-good : (range : Range) (q : ℕ) (rest : List Item) → FreelyComes told program range q rest → entry_of range < length program.paragraphs → Good told program source some range q rest
-  come-good range q rest begins lt = paragraph-good told program source some Main 0 lt entered
-  come-good range q rest (enters e x) lt = paragraph-good told program source some (Part e x) e lt entered
-  come-good range q rest (goes_on r n item others m t after items c is) lt =
-      subst (Follows told program source some r n) is (good-next told program source some r n (item ∷ others) (come-good r n (item ∷ others) c lt) (fit-here r n (item ∷ others) c) m)
-  come-good range q rest (goes_to r n item others m t after to c is) lt =
-      let f = subst (Follows told program source some r n) is (good-next told program source some r n (item ∷ others) (come-good r n (item ∷ others) c lt) (fit-here r n (item ∷ others) c) m) in
+  come-good : (range : Range) (q : ℕ) (rest : List Item) → FreelyComes told program range q rest → entry_of range < length program.paragraphs → IsEntered told program range → Good told program source some range q rest
+  come-good range q rest begins lt here = paragraph-good told program source some Main 0 lt entered
+  come-good range q rest (enters e x) lt here = paragraph-good told program source some (Part e x) e lt entered
+  come-good range q rest (goes_on r n item others m t after items c is) lt here =
+      subst (Follows told program source some r n) is (good-next told program source some r n (item ∷ others) (come-good r n (item ∷ others) c lt here) (fit-here r n (item ∷ others) c) m)
+  come-good range q rest (goes_to r n item others m t after to c is) lt here =
+      let f = subst (Follows told program source some r n) is (good-next told program source some r n (item ∷ others) (come-good r n (item ∷ others) c lt here) (fit-here r n (item ∷ others) c) m) in
       paragraph-good told program source some r to f.1 f.0
-  come-good range q rest (goes_to_end r n item others m t after to c is) lt =
-      let f = subst (Follows told program source some r n) is (good-next told program source some r n (item ∷ others) (come-good r n (item ∷ others) c lt) (fit-here r n (item ∷ others) c) m) in
+  come-good range q rest (goes_to_end r n item others m t after to c is) lt here =
+      let f = subst (Follows told program source some r n) is (good-next told program source some r n (item ∷ others) (come-good r n (item ∷ others) c lt here) (fit-here r n (item ∷ others) c) m) in
       (Base rests.Over, refl, ((tt, f), tt))
-  come-good range q rest (over r n item others m e x items c is d) lt =
-      (subst (Follows told program source some r n) is (good-next told program source some r n (item ∷ others) (come-good r n (item ∷ others) c lt) (fit-here r n (item ∷ others) c) m)).1 (returning e x d)
-  come-good range q rest (falls r n found is out c) lt =
-      let e = good-next told program source some r n [] (come-good r n [] c lt) (fit-here r n [] c) in
+  come-good range q rest (over r n item others m e x items c is d) lt here =
+      (subst (Follows told program source some r n) is (good-next told program source some r n (item ∷ others) (come-good r n (item ∷ others) c lt here) (fit-here r n (item ∷ others) c) m)).1 (returning e x (freely-entered told program r n item others m e x items here c is) d)
+  come-good range q rest (falls r n found is out c) lt here =
+      let e = good-next told program source some r n [] (come-good r n [] c lt here) (fit-here r n [] c) in
       paragraph-good told program source some r (suc n) (below-found program.paragraphs (suc n) found is) (subst (FineEnd told program source some r) (ends-on program r n found is out) e)
 
 pub called-stands : WhatIsCalledStands
-called-stands = λ told program source some by_path range lt entry exit called.
-    let returning = names-what-returns told program source by_path in
-    (good-next told program source some range called.0 (Do (Perform entry exit) ∷ called.1) (come-good told program source some returning range called.0 (Do (Perform entry exit) ∷ called.1) called.2 lt)
+called-stands = λ told program source some returning range lt here entry exit called.
+    (good-next told program source some range called.0 (Do (Perform entry exit) ∷ called.1) (come-good told program source some returning range called.0 (Do (Perform entry exit) ∷ called.1) called.2 lt here)
     (fit-here told program source some returning range called.0 (Do (Perform entry exit) ∷ called.1) called.2) []).0

@@ -111,7 +111,7 @@ module _ (told : Told) (program : Program) (keep : Range → Label → Bool) (nu
 
   of-program : (range : Range) → In range (Main ∷ others) → IsRangeOf program range
   of-program Main here = some
-  of-program (Part entry exit) here = (plan.plan.performed entry exit here).0
+  of-program (Part entry exit) here = (plan.plan.entered entry exit here).0
 
   abbrev Reads : Range → ℕ → Type 0
   Reads = Has (kinds_of graphs)

@@ -131,7 +131,7 @@ module _ (naming : Naming) (kinds : Writable) (told : Told) (program : Program) 
 
   pub closed-at : (r : Range) → In r order → IsClosed (graphs r)
   closed-at Main here = graphs-closed told program keep numbers added source Main some (plan.plan.just Main here)
-  closed-at (Part e x) here = graphs-closed told program keep numbers added source (Part e x) (plan.plan.performed e x here).0 (plan.plan.just (Part e x) here)
+  closed-at (Part e x) here = graphs-closed told program keep numbers added source (Part e x) (plan.plan.entered e x here).0 (plan.plan.just (Part e x) here)
 
   module _ (r : Range) (here : In r order) where
     abbrev R : ℕ → Type 0

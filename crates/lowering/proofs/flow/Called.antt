@@ -16,7 +16,7 @@ use Rattle.lowering.specs.flow.Comes.{begins, enters, goes_to, falls, entry_of, 
 use Rattle.lowering.specs.Lowered.{place_in, lowered}
 use Rattle.lowering.specs.Reached.{JumpsTo, ArmsJumpTo, IsReached, entered, jumped}
 use Rattle.lowering.specs.flow.Paths.{free}
-use Rattle.lowering.specs.Laws.{FreelyComes}
+use Rattle.lowering.specs.flow.Entered.{FreelyComes}
 use Rattle.lowering.specs.flow.Called.{CallsStmt, CallsStmts, CallsArms, CallsEnd, CallsTrees, CallsTree}
 use Rattle.lowering.proofs.rests.Fits.{FitsIn, comes-fits, rest-fits}
 use Rattle.lowering.proofs.rests.Counters.{has-left, has-right, past-before, loop-before, items-from, items-uncut, has-uncut, built-uncut}

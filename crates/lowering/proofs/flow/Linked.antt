@@ -17,17 +17,19 @@ use Rattle.control.specs.Walk.{main_machine}
 use Rattle.lowering.specs.Told.{Told, IsTold, IsSource}
 use Rattle.lowering.specs.Lowered.{place_in, lowered}
 use Rattle.lowering.specs.Reached.{kept, AreReached}
-use Rattle.lowering.specs.flow.Paths.{Flow, flow, free, nothing_left, IsFaulty, AreReturningByPath}
-use Rattle.lowering.specs.Laws.{NoFlowFault, IsSoundAt, RangeHasNoFlowFault, IsPerformed, KeepsApart}
+use Rattle.lowering.specs.flow.Paths.{Flow, flow, free, nothing_left, IsFaulty}
+use Rattle.lowering.specs.flow.Entered.{IsEntered, NamesWhatReturns, main}
+use Rattle.lowering.specs.Laws.{NoFlowFault, IsSoundAt, RangeHasNoFlowFault, KeepsApart}
 use Rattle.lowering.specs.Renamed.{numbered_anew, as_before}
 use Rattle.lowering.proofs.graphs.Renumbered.{same-numbered}
 use Rattle.lowering.proofs.rests.Fits.{item_bulk, program_bulk, weight, FitsIn, Adds, item-adds, rest-fits}
 use Rattle.lowering.proofs.graphs.Families.{lowered-is-lowered}
 use Rattle.lowering.proofs.graphs.Pruned.{same-walks}
-use Rattle.lowering.proofs.flow.Paths.{returning-by-path}
+use Rattle.lowering.proofs.flow.Paths.{IsPerformed, entered-performs, comes-freely, calls-entered}
 use Rattle.lowering.proofs.flow.Faults.{PendingFit, frees}
 use Rattle.lowering.proofs.flow.Stacks.{bigger}
 use Rattle.lowering.proofs.flow.FreeFlow.{free-as-checked}
+use Rattle.lowering.proofs.rests.Joints.{CallsNamed, NamedReturn}
 use Rattle.lowering.proofs.steps.Linked.{source-walk-tied}
 use Rattle.lowering.proofs.steps.Sound.{lowered-main-sound, lowered-range-sound}
 
@@ -89,7 +91,7 @@ module _ (told : Told) (program : Program) (source : IsSource told program) (not
   -- a range that a flow path performs is one of the program's paragraphs
   performed-below : (e x : ℕ) → IsPerformed told program e x → (e < length program.paragraphs) × (x < length program.paragraphs)
   performed-below e x p =
-      let fit = subst FlowFits (free-as-checked told program not_faulty p.1 (p.0 ++ []) ∙ p.5 []) (steps-fit p.1 (flow 0 (rest_of program 0) [] (p.0 ++ [])) (rest-fits told program source 0, tt)) in
+      let fit = subst FlowFits (free-as-checked told program not_faulty p.3.1 (p.3.0 ++ []) ∙ p.3.2 []) (steps-fit p.3.1 (flow 0 (rest_of program 0) [] (p.3.0 ++ [])) (rest-fits told program source 0, tt)) in
       fit.0.0
 
   abbrev AnyFault : Flow → Type 0
@@ -100,18 +102,18 @@ module _ (told : Told) (program : Program) (source : IsSource told program) (not
       (iterate stepped n (flow (length program.paragraphs) (Do (Perform e x) ∷ []) [] ways)).run.standing ≡ Over (Faulted fault) → IsFaulty told program
   alone-faulty e x p zero ways fault f = let k : Going ≡ Over (Faulted fault) = f in cc
   alone-faulty e x p (suc n) ways fault f =
-      let number = p.2 in
-      let rest = p.3 in
-      let pending = p.4 in
+      let number = p.0 in
+      let rest = p.1 in
+      let pending = p.2 in
       let b = bigger told program x number rest pending n e (rest_of program e) [] ways [] fault f in
       let start = flow number (Do (Perform e x) ∷ rest) pending ways in
       let pushed = flow e (rest_of program e) (record { end = x; paragraph = number; rest = rest } ∷ pending) ways in
       let faulted = comes_to (free told) nothing_left program (Faulted (Reentry x)) start in
       let next : AnyFault (stepped start) = elim (ends_at x pending) as (λ c. AnyFault (if c then faulted else pushed)) [ true ↦ (0, Reentry x, refl) | false ↦ b ] in (
-        p.0 ++ ways,
-        p.1 + suc next.0,
+        p.3.0 ++ ways,
+        p.3.1 + suc next.0,
         next.1,
-        ap (λ s. s.run.standing) (iterate-add stepped p.1 (suc next.0) (flow 0 (rest_of program 0) [] (p.0 ++ ways)) ∙ ap (iterate stepped (suc next.0)) (free-as-checked told program not_faulty p.1 (p.0 ++ ways) ∙ p.5 ways)) ∙ next.2,
+        ap (λ s. s.run.standing) (iterate-add stepped p.3.1 (suc next.0) (flow 0 (rest_of program 0) [] (p.3.0 ++ ways)) ∙ ap (iterate stepped (suc next.0)) (free-as-checked told program not_faulty p.3.1 (p.3.0 ++ ways) ∙ p.3.2 ways)) ∙ next.2,
       )
 
   pub performed-fine : {Memory Left : Type 0} (acting : Acting Memory) (left : Memory → Left) → IsTold told acting → (e x : ℕ) → IsPerformed told program e x → RangeHasNoFlowFault acting left program e x
@@ -129,22 +131,36 @@ tied-same a b c same t = record {
 }
 
 module _ {Memory Left : Type 0} (acting : Acting Memory) (left : Memory → Left) (told : Told) (program : Program) (keep : Range → Label → Bool) (is_told : IsTold told acting) (source : IsSource told program)
-    (some : 0 < length program.paragraphs) (returning : AreReturningByPath told program) (not_faulty : IsFaulty told program → ⊥) (reached : AreReached (lowered told program) keep) where
+    (some : 0 < length program.paragraphs) (returning : NamesWhatReturns told program) (not_faulty : IsFaulty told program → ⊥) (reached : AreReached (lowered told program) keep) where
+  abbrev Named : ℕ → ℕ → Type 0
+  Named entry exit = IsEntered told program (Part entry exit)
+
+  abbrev place_of : ℕ → ℕ
+  place_of = place_in program
+
+  calls-named : CallsNamed acting told program place_of (lowered told program) 0 (rest_of program 0) Named
+  calls-named Main number item rest m entry exit items here c is = calls-entered acting told is_told program source Main number item rest m entry exit items main c is
+  calls-named (Part e x) number item rest m entry exit items here c is = calls-entered acting told is_told program source (Part e x) number item rest m entry exit items here c is
+
+  named-return : NamedReturn acting told program place_of (lowered told program) 0 (rest_of program 0) Named
+  named-return entry exit named c = returning entry exit named (comes-freely acting told is_told program source (Part entry exit) exit [] c)
+
   pub family-keeps : Tied (meaning (source_machine (alone acting) left program)) (meaning (main_machine acting left (kept keep (lowered told program))))
   family-keeps = tied-same (meaning (source_machine (alone acting) left program)) (meaning (main_machine acting left (lowered told program))) (meaning (main_machine acting left (kept keep (lowered told program))))
       (λ m n. same-walks acting left (lowered told program) keep reached Main (record { own = m; cells = λ range cell. 0 }) n)
-      (source-walk-tied acting left told program (place_in program) (lowered told program) is_told source some (lowered-is-lowered told program) (returning-by-path acting told is_told program source returning) (not-faulty-fine acting left told program is_told source not_faulty))
+      (source-walk-tied acting left told program (place_in program) (lowered told program) Named calls-named named-return is_told source some (lowered-is-lowered told program) (not-faulty-fine acting left told program is_told source not_faulty))
 
   pub family-main-sound : IsSoundAt acting left (kept keep (lowered told program)) Main
   family-main-sound m n lost =
-      lowered-main-sound acting left told program (place_in program) (lowered told program) is_told source some (lowered-is-lowered told program) (returning-by-path acting told is_told program source returning) (not-faulty-fine acting left told program is_told source not_faulty) m n
+      lowered-main-sound acting left told program (place_in program) (lowered told program) Named calls-named named-return is_told source some (lowered-is-lowered told program) (not-faulty-fine acting left told program is_told source not_faulty) m n
       (ap (λ r. r.standing) (sym (same-walks acting left (lowered told program) keep reached Main m n)) ∙ lost)
 
-  pub family-part-sound : (e x : ℕ) → IsPerformed told program e x → IsSoundAt acting left (kept keep (lowered told program)) (Part e x)
+  pub family-part-sound : (e x : ℕ) → IsEntered told program (Part e x) → IsSoundAt acting left (kept keep (lowered told program)) (Part e x)
   family-part-sound e x p m n lost =
-      let lt = performed-below told program source not_faulty e x p in
-      lowered-range-sound acting left told program (place_in program) (lowered told program) is_told source (lowered-is-lowered told program) (returning-by-path acting told is_told program source returning) e x lt.0 lt.1
-      (performed-fine told program source not_faulty acting left is_told e x p) m n
+      let way = entered-performs told program (Part e x) p in
+      let lt = performed-below told program source not_faulty e x way in
+      lowered-range-sound acting left told program (place_in program) (lowered told program) Named calls-named named-return is_told source (lowered-is-lowered told program) e x lt.0 lt.1 p
+      (performed-fine told program source not_faulty acting left is_told e x way) m n
       (ap (λ r. r.standing) (sym (same-walks acting left (lowered told program) keep reached (Part e x) m n)) ∙ lost)
 
   module _ (numbers : Range → ℕ → ℕ) (apart : KeepsApart numbers) where

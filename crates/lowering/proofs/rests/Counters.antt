@@ -11,7 +11,7 @@ use Rattle.lowering.specs.Completes.{cuts, leave_sentence, sizes}
 use Rattle.lowering.specs.Lower.{Leaving, Node, leaf, nodes, nodes_in}
 use Rattle.lowering.specs.Rests.{Rest, From, Sent, Turns, Cut, turning_of, items_in, rest_from, after_sentence, after_loop, at_loop, uncut, leaf_of, leaving_of, tree_of, Has, HasRest}
 use Rattle.lowering.specs.Rests as rests
-use Rattle.lowering.proofs.rests.Joints.{Joint, pending_of, CellsHold, Outside, Apart, Fresh, RestOk, Waits, end_at}
+use Rattle.lowering.proofs.rests.Joints.{Joint, pending_of, CellsHold, Outside, Apart, Fresh, RestOk, HasName, Waits, end_at}
 
 pub same-range-refl : (r : Range) → same_range r r ≡ true
 same-range-refl Main = refl
@@ -294,24 +294,24 @@ module _ (graph : Label → Tree) where
   has-turn told place_of end (Turns place control left reached body others) h = h
   has-turn told place_of end (Cut others) h = has-turn told place_of end others h
 
-module _ {Memory : Type 0} (acting : Acting Memory) (told : Told) (program : Program) (place_of : ℕ → ℕ) (family : Family) (first : ℕ) (first_rest : List Item) where
+module _ {Memory : Type 0} (acting : Acting Memory) (told : Told) (program : Program) (place_of : ℕ → ℕ) (family : Family) (first : ℕ) (first_rest : List Item) (Named : ℕ → ℕ → Type 0) where
   abbrev Wait : (Range → ℕ → ℕ) → Range → List Joint → Type 0
-  Wait cells range waiting = Waits acting told program place_of family first first_rest cells range waiting
+  Wait cells range waiting = Waits acting told program place_of family first first_rest Named cells range waiting
 
   abbrev Right : (Range → ℕ → ℕ) → Range → ℕ → Rest → Type 0
-  Right cells range q c = RestOk acting told program place_of family first first_rest cells range q c
+  Right cells range q c = RestOk acting told program place_of family first first_rest Named cells range q c
 
   pub ok-uncut : (cells : Range → ℕ → ℕ) (range : Range) (q : ℕ) (c : Rest) → Right cells range q c → Right cells range q (uncut c)
-  ok-uncut cells range q c h = (has-uncut told place_of (end_at acting told program place_of family first first_rest range q) (family.node range) c h.0, holds-uncut (cells range) c h.1, apart-uncut c h.2)
+  ok-uncut cells range q c h = (has-uncut told place_of (end_at acting told program place_of family first first_rest Named range q) (family.node range) c h.0, holds-uncut (cells range) c h.1, apart-uncut c h.2)
 
   pub ok-after : (cells : Range → ℕ → ℕ) (range : Range) (q : ℕ) (c : Rest) → Right cells range q c → Right cells range q (after_sentence c)
-  ok-after cells range q c h = (has-after (family.node range) told place_of (end_at acting told program place_of family first first_rest range q) c h.0, holds-after (cells range) c h.1, apart-after c h.2)
+  ok-after cells range q c h = (has-after (family.node range) told place_of (end_at acting told program place_of family first first_rest Named range q) c h.0, holds-after (cells range) c h.1, apart-after c h.2)
 
   pub ok-behind : (cells : Range → ℕ → ℕ) (range : Range) (q : ℕ) (c : Rest) → Right cells range q c → Right cells range q (after_loop c)
-  ok-behind cells range q c h = (has-behind (family.node range) told place_of (end_at acting told program place_of family first first_rest range q) c h.0, holds-behind (cells range) c h.1, apart-behind c h.2)
+  ok-behind cells range q c h = (has-behind (family.node range) told place_of (end_at acting told program place_of family first first_rest Named range q) c h.0, holds-behind (cells range) c h.1, apart-behind c h.2)
 
   pub ok-turn : (cells : Range → ℕ → ℕ) (range : Range) (q : ℕ) (c : Rest) → Right cells range q c → Right cells range q (at_loop c)
-  ok-turn cells range q c h = (has-turn (family.node range) told place_of (end_at acting told program place_of family first first_rest range q) c h.0, holds-turn (cells range) c h.1, apart-turn c h.2)
+  ok-turn cells range q c h = (has-turn (family.node range) told place_of (end_at acting told program place_of family first first_rest Named range q) c h.0, holds-turn (cells range) c h.1, apart-turn c h.2)
 
   -- a counter of a range that doesn't wait
   pub waits-put : (range : Range) (cell value : ℕ) (cells : Range → ℕ → ℕ) (inner : Range) (waiting : List Joint) → Fresh range waiting → Wait cells inner waiting → Wait (put_cells range cell value cells) inner waiting
@@ -319,13 +319,18 @@ module _ {Memory : Type 0} (acting : Acting Memory) (told : Told) (program : Pro
   waits-put range cell value cells Main (j ∷ js) fresh h = absurd h
   waits-put range cell value cells (Part e x) [] fresh h = absurd h
   waits-put range cell value cells (Part e x) (j ∷ js) fresh h =
-      (h.0, (h.1.0, holds-other range j.range cell value cells j.rest fresh.0 h.1.1, h.1.2), h.2, h.3, waits-put range cell value cells j.range js fresh.1 h.4)
+      (h.0, (h.1.0, holds-other range j.range cell value cells j.rest fresh.0 h.1.1, h.1.2), h.2, h.3, h.4, waits-put range cell value cells j.range js fresh.1 h.5)
 
   pub waits-fresh : (cells : Range → ℕ → ℕ) (range : Range) (waiting : List Joint) → Wait cells range waiting → Fresh range waiting
   waits-fresh cells Main [] h = tt
   waits-fresh cells Main (j ∷ js) h = absurd h
   waits-fresh cells (Part e x) [] h = absurd h
   waits-fresh cells (Part e x) (j ∷ js) h = h.3
+
+  pub waits-named : (cells : Range → ℕ → ℕ) (range : Range) (waiting : List Joint) → Wait cells range waiting → HasName acting told program place_of family first first_rest Named range
+  waits-named cells Main waiting h = tt
+  waits-named cells (Part e x) [] h = absurd h
+  waits-named cells (Part e x) (j ∷ js) h = h.4
 
   if-false : (a b : Bool) → (if a then true else b) ≡ false → (a ≡ false) × (b ≡ false)
   if-false true b h = cc
@@ -341,4 +346,4 @@ module _ {Memory : Type 0} (acting : Acting Memory) (told : Told) (program : Pro
   fresh-new e x cells (Part f y) [] h out = absurd h
   fresh-new e x cells (Part f y) (j ∷ js) h out =
       let o = if-false (nat_eq y x) (ends_at x (pending_of j.range js)) out in
-      (differs e x f y o.0, fresh-new e x cells j.range js h.4 o.1)
+      (differs e x f y o.0, fresh-new e x cells j.range js h.5 o.1)

@@ -7,6 +7,7 @@ use Rattle.language.specs.Language.{Control, Times, Until, Varying, Program, par
 use Rattle.control.specs.Doing.{Acting, alone}
 use Rattle.language.specs.Items.{Item}
 use Rattle.language.specs.Items.{Pending}
+use Rattle.control.specs.Items.{Into, item_way}
 use Rattle.control.specs.Source.{SourceState}
 use Rattle.control.specs.Graph.{Tree, End, Family}
 use Rattle.control.specs.Walk.{Level, Walk, walk_step}
@@ -108,7 +109,7 @@ abbrev pub Fresh : Range → List Joint → Type 0
 Fresh range [] = Unit {0}
 Fresh range (j ∷ js) = (same_range j.range range ≡ false) × Fresh range js
 
-module _ {Memory : Type 0} (acting : Acting Memory) (told : Told) (program : Program) (place_of : ℕ → ℕ) (family : Family) (first : ℕ) (first_rest : List Item) where
+module _ {Memory : Type 0} (acting : Acting Memory) (told : Told) (program : Program) (place_of : ℕ → ℕ) (family : Family) (first : ℕ) (first_rest : List Item) (Named : ℕ → ℕ → Type 0) where
   abbrev pub ComesTo : Range → ℕ → List Item → Type 0
   ComesTo range number rest = Comes (alone acting) program first first_rest range number rest
 
@@ -128,7 +129,20 @@ module _ {Memory : Type 0} (acting : Acting Memory) (told : Told) (program : Pro
   abbrev pub StandsAt : Joint → Type 0
   StandsAt j = Stands told (tree_in j.range j.paragraph j.rest) j.walk_end j.items j.walk_items
 
-  -- main alone waits for nobody; no range waits twice; who waits goes on where the performed range returns
+  abbrev pub HasName : Range → Type 0
+  HasName Main = Unit {0}
+  HasName (Part entry exit) = Named entry exit
+
+  -- what a named range's level performs is named too
+  abbrev pub CallsNamed : Type 0
+  CallsNamed = (range : Range) (number : ℕ) (item : Item) (rest : List Item) (memory : Memory) (entry exit : ℕ) (items : List Item) → HasName range → ComesTo range number (item ∷ rest) →
+      item_way (alone acting) item rest memory ≡ Into entry exit items → Named entry exit
+
+  -- the table has each named range whose level comes to its end
+  abbrev pub NamedReturn : Type 0
+  NamedReturn = (entry exit : ℕ) → Named entry exit → ComesTo (Part entry exit) exit [] → told.returning entry exit ≡ true
+
+  -- main alone waits for nobody; no range waits twice; who waits goes on where the performed range returns; each range that is performed is named
   abbrev pub Waits : (Range → ℕ → ℕ) → Range → List Joint → Type 0
   Waits cells Main [] = Unit {0}
   Waits cells Main (j ∷ js) = ⊥
@@ -138,6 +152,7 @@ module _ {Memory : Type 0} (acting : Acting Memory) (told : Told) (program : Pro
       × RestOk cells j.range j.paragraph j.rest
       × (ComesTo (Part entry exit) exit [] → ComesTo j.range j.paragraph (rest_at j))
       × Fresh (Part entry exit) (j ∷ js)
+      × Named entry exit
       × Waits cells j.range js
 
   abbrev pub Ok : Both Memory → Type 0
@@ -155,13 +170,13 @@ heft s = weight s.rest + waiting_heft s.pending
 abbrev pub IsFine : {Memory Left : Type 0} → SourceState Memory Left → Type 0
 IsFine s = (fault : FlowFault) → s.run.standing ≢ Over (Faulted fault)
 
-module _ {Memory Left : Type 0} (acting : Acting Memory) (left : Memory → Left) (told : Told) (program : Program) (place_of : ℕ → ℕ) (family : Family) (first : ℕ) (first_rest : List Item) where
+module _ {Memory Left : Type 0} (acting : Acting Memory) (left : Memory → Left) (told : Told) (program : Program) (place_of : ℕ → ℕ) (family : Family) (first : ℕ) (first_rest : List Item) (Named : ℕ → ℕ → Type 0) where
   pub record Met (s : SourceState Memory Left) (w : Walk Memory Left) : Type 0 where
     pub to : Both Memory
     pub sourced : s ≡ source_of to
     pub walked : w ≡ walk_of to
-    pub ok : Ok acting told program place_of family first first_rest to
-    pub comes : ComesTo acting told program place_of family first first_rest to.level.range to.level.paragraph (rest_at to.level)
+    pub ok : Ok acting told program place_of family first first_rest Named to
+    pub comes : ComesTo acting told program place_of family first first_rest Named to.level.range to.level.paragraph (rest_at to.level)
 
   -- both runs are over, and are the same
   abbrev pub Ended : SourceState Memory Left → Walk Memory Left → Type 0

@@ -15,10 +15,10 @@ use Rattle.control.specs.Source.{SourceState, rest_of, comes_to, goes_to, goes, 
 use Rattle.control.specs.Graph.{Family, body_of, end_of}
 use Rattle.control.specs.Walk.{Walk, walk_step, walk_begun, main_machine}
 use Rattle.lowering.specs.Told.{Told, IsTold, IsSource}
-use Rattle.lowering.specs.flow.Comes.{Comes, begins, AreReturning, IsLowered}
+use Rattle.lowering.specs.flow.Comes.{Comes, begins, IsLowered}
 use Rattle.lowering.specs.Laws.{NoFlowFault}
 use Rattle.lowering.proofs.rests.Fits.{item_bulk, program_bulk, weight_of, weight, FitsIn, Adds, item-adds, comes-fits, rest-light, rest-fits}
-use Rattle.lowering.proofs.rests.Joints.{Both, rest_at, pending_of, source_of, walk_at, walk_of, waiting_heft, heft, IsFine, Met, Together, Ok}
+use Rattle.lowering.proofs.rests.Joints.{Both, rest_at, pending_of, source_of, walk_at, walk_of, waiting_heft, heft, IsFine, Met, Together, Ok, CallsNamed, NamedReturn}
 use Rattle.lowering.proofs.steps.Moves.{arrives-whole}
 use Rattle.lowering.proofs.steps.Lowers.{moves-going}
 use Rattle.control.proofs.Grows.{source-grows, walk-grows}
@@ -83,9 +83,9 @@ module _ {Memory Left : Type 0} (acting : Acting Memory) (left : Memory → Left
       let e = goes-adds s x xs (item_way (alone acting) x xs m) fits.1 (omega arith) (item-adds told (length program.paragraphs) most (alone acting) x xs m fits.0 fits.1 fits.2) in
       omega (arith, e)
 
-module _ {Memory Left : Type 0} (acting : Acting Memory) (left : Memory → Left) (told : Told) (program : Program) (place_of : ℕ → ℕ) (family : Family) (first : ℕ) (first_rest : List Item)
-    (is_told : IsTold told acting) (source : IsSource told program) (lowered : IsLowered told program place_of family) (first_fits : FitsIn told program source first_rest)
-    (returning : AreReturning (alone acting) program first first_rest told.returning) where
+module _ {Memory Left : Type 0} (acting : Acting Memory) (left : Memory → Left) (told : Told) (program : Program) (place_of : ℕ → ℕ) (family : Family) (first : ℕ) (first_rest : List Item) (Named : ℕ → ℕ → Type 0)
+    (is_told : IsTold told acting) (source : IsSource told program) (lowered : IsLowered told program place_of family) (first_fits : FitsIn told program source first_rest) (names : CallsNamed acting told program place_of family first first_rest Named)
+    (returning : NamedReturn acting told program place_of family first first_rest Named) where
   abbrev Walking : Type 0
   Walking = Walk Memory Left
 
@@ -99,7 +99,7 @@ module _ {Memory Left : Type 0} (acting : Acting Memory) (left : Memory → Left
   sourced s = source_step (alone acting) left program s
 
   abbrev AtOne : From_ → Walking → Type 0
-  AtOne s w = Together acting left told program place_of family first first_rest s w
+  AtOne s w = Together acting left told program place_of family first first_rest Named s w
 
   -- no state that comes after is a fault
   abbrev pub NeverFaults : From_ → Type 0
@@ -119,9 +119,9 @@ module _ {Memory Left : Type 0} (acting : Acting Memory) (left : Memory → Left
   lighter after before bulk zero h light = omega (arith, light refl)
   lighter after before bulk (suc j) h light = omega (arith, h)
 
-  next-both : (b : Both Memory) → Ok acting told program place_of family first first_rest b → Comes (alone acting) program first first_rest b.level.range b.level.paragraph (rest_at b.level) → NeverFaults (source_of b) → Next (source_of b) (walk_of b)
+  next-both : (b : Both Memory) → Ok acting told program place_of family first first_rest Named b → Comes (alone acting) program first first_rest b.level.range b.level.paragraph (rest_at b.level) → NeverFaults (source_of b) → Next (source_of b) (walk_of b)
   next-both b ok came fine =
-      let m = moves-going acting left told program place_of family first first_rest is_told source lowered first_fits returning b ok came (fine 1) in
+      let m = moves-going acting left told program place_of family first first_rest Named is_told source lowered first_fits names returning b ok came (fine 1) in
       let a = step-adds acting left told program source b.level.paragraph (rest_at b.level) (pending_of b.level.range b.waiting) b.memory b.trace
       (comes-fits told program source (alone acting) first first_rest first_fits b.level.range b.level.paragraph (rest_at b.level) came) in
       (m.steps, record { together = m.together; fine = λ n. fine (suc n) }, m.few, lighter (heft (sourced (source_of b))) (heft {Memory = Memory} {Left = Left} (source_of b)) growth m.steps a m.light)
@@ -161,15 +161,16 @@ module _ {Memory Left : Type 0} (acting : Acting Memory) (left : Memory → Left
       simulated-tied a b Related (source-grows (alone acting) left program begun_s) (begun-simulates begun_s begun_w bound light together fine) (walk-grows acting left family begun_w)
 
 -- a source program and the walk of its lowered family
-pub source-walk-tied : {Memory Left : Type 0} (acting : Acting Memory) (left : Memory → Left) (told : Told) (program : Program) (place_of : ℕ → ℕ) (family : Family) →
-    IsTold told acting → IsSource told program → 0 < length program.paragraphs → IsLowered told program place_of family → AreReturning (alone acting) program 0 (rest_of program 0) told.returning → NoFlowFault acting left program →
+pub source-walk-tied : {Memory Left : Type 0} (acting : Acting Memory) (left : Memory → Left) (told : Told) (program : Program) (place_of : ℕ → ℕ) (family : Family) (Named : ℕ → ℕ → Type 0) →
+    CallsNamed acting told program place_of family 0 (rest_of program 0) Named → NamedReturn acting told program place_of family 0 (rest_of program 0) Named →
+    IsTold told acting → IsSource told program → 0 < length program.paragraphs → IsLowered told program place_of family → NoFlowFault acting left program →
     Tied (meaning (source_machine (alone acting) left program)) (meaning (main_machine acting left family))
-source-walk-tied {Memory} {Left} acting left told program place_of family is_told source some lowered returning fine =
+source-walk-tied {Memory} {Left} acting left told program place_of family Named names returning is_told source some lowered fine =
     let begin = rest_of program 0 in
     let cells : Range → ℕ → ℕ = λ r k. 0 in
-    begun-tied acting left told program place_of family 0 begin is_told source lowered (rest-fits told program source 0) returning
+    begun-tied acting left told program place_of family 0 begin Named is_told source lowered (rest-fits told program source 0) names returning
     (source_begun (alone acting) left program) (λ m. walk_begun acting left family Main (record { own = m; cells = cells })) (program_bulk program)
     (λ m. let e = rest-light told program source 0 in omega (arith, e))
-    (λ m. inl (subst (λ l. Met acting left told program place_of family 0 begin (source_begun (alone acting) left program m) (walk_at Main (before (body_of (family.node Main l)) []) (end_of (family.node Main l)) [] m cells [])) (sym (lowered.entry Main))
-    (arrives-whole acting left told program place_of family 0 begin is_told source lowered (rest-fits told program source 0) Main 0 [] m cells [] [] some refl tt begins)))
+    (λ m. inl (subst (λ l. Met acting left told program place_of family 0 begin Named (source_begun (alone acting) left program m) (walk_at Main (before (body_of (family.node Main l)) []) (end_of (family.node Main l)) [] m cells [])) (sym (lowered.entry Main))
+    (arrives-whole acting left told program place_of family 0 begin Named is_told source lowered (rest-fits told program source 0) names Main 0 [] m cells [] [] some refl tt begins)))
     (λ m n fault. fine m n fault)

@@ -20,10 +20,10 @@ use Rattle.lowering.specs.flow.Comes as come
 use Rattle.lowering.proofs.rests.Stands.{cut_item, whole_item, item_completes, Stands}
 use Rattle.lowering.proofs.rests.Wholes.{Alike, Behind, BehindWhere, item-alike}
 use Rattle.lowering.proofs.rests.Fits.{item_bulk, program_bulk, weight, FitsIn, Adds, item-adds, comes-fits}
-use Rattle.lowering.proofs.rests.Joints.{Joint, joint, both, pending_of, callers_of, source_at, walk_at, ComesTo, end_at, tree_in, whole_rest, RestOk, Waits, heft, IsFine, Met, Ended, Together, Reached, Moved}
-use Rattle.lowering.proofs.rests.Counters.{items-from, apart-from, holds-from, fresh-new}
+use Rattle.lowering.proofs.rests.Joints.{Joint, joint, both, pending_of, callers_of, source_at, walk_at, ComesTo, end_at, tree_in, whole_rest, RestOk, Waits, heft, IsFine, Met, Ended, Together, Reached, Moved, CallsNamed}
+use Rattle.lowering.proofs.rests.Counters.{items-from, apart-from, holds-from, fresh-new, waits-named}
 
-module _ {Memory Left : Type 0} (acting : Acting Memory) (left : Memory → Left) (told : Told) (program : Program) (place_of : ℕ → ℕ) (family : Family) (first : ℕ) (first_rest : List Item) where
+module _ {Memory Left : Type 0} (acting : Acting Memory) (left : Memory → Left) (told : Told) (program : Program) (place_of : ℕ → ℕ) (family : Family) (first : ℕ) (first_rest : List Item) (Named : ℕ → ℕ → Type 0) where
   abbrev pub S : Type 0
   S = SourceState Memory Left
 
@@ -31,31 +31,31 @@ module _ {Memory Left : Type 0} (acting : Acting Memory) (left : Memory → Left
   W = Walk Memory Left
 
   abbrev pub Reach : ℕ → S → W → Type 0
-  Reach most s w = Reached acting left told program place_of family first first_rest most s w
+  Reach most s w = Reached acting left told program place_of family first first_rest Named most s w
 
   abbrev pub Move : ℕ → ℕ → S → W → Type 0
-  Move most heavy s w = Moved acting left told program place_of family first first_rest most heavy s w
+  Move most heavy s w = Moved acting left told program place_of family first first_rest Named most heavy s w
 
   abbrev pub Meet : S → W → Type 0
-  Meet s w = Met acting left told program place_of family first first_rest s w
+  Meet s w = Met acting left told program place_of family first first_rest Named s w
 
   abbrev pub Come : Range → ℕ → List Item → Type 0
-  Come range q rest = ComesTo acting told program place_of family first first_rest range q rest
+  Come range q rest = ComesTo acting told program place_of family first first_rest Named range q rest
 
   abbrev pub Right : (Range → ℕ → ℕ) → Range → ℕ → Rest → Type 0
-  Right cells range q c = RestOk acting told program place_of family first first_rest cells range q c
+  Right cells range q c = RestOk acting told program place_of family first first_rest Named cells range q c
 
   abbrev pub Wait : (Range → ℕ → ℕ) → Range → List Joint → Type 0
-  Wait cells range waiting = Waits acting told program place_of family first first_rest cells range waiting
+  Wait cells range waiting = Waits acting told program place_of family first first_rest Named cells range waiting
 
   abbrev pub tree_here : Range → ℕ → Rest → Tree
-  tree_here range q c = tree_in acting told program place_of family first first_rest range q c
+  tree_here range q c = tree_in acting told program place_of family first first_rest Named range q c
 
   abbrev pub end_here : Range → ℕ → Leaving
-  end_here range q = end_at acting told program place_of family first first_rest range q
+  end_here range q = end_at acting told program place_of family first first_rest Named range q
 
   abbrev pub whole_from : ℕ → Rest
-  whole_from q = whole_rest acting told program place_of family first first_rest q
+  whole_from q = whole_rest acting told program place_of family first first_rest Named q
 
   abbrev pub step_s : S → S
   step_s s = source_step (alone acting) left program s
@@ -74,14 +74,14 @@ module _ {Memory Left : Type 0} (acting : Acting Memory) (left : Memory → Left
   pub met-now : (s : S) (w : W) → Meet s w → Reach 0 s w
   met-now s w m = record { steps = 0; few = omega arith; together = inl m }
 
-  pub ended-now : (s : S) (w : W) → Ended acting left told program place_of family first first_rest s w → Reach 0 s w
+  pub ended-now : (s : S) (w : W) → Ended acting left told program place_of family first first_rest Named s w → Reach 0 s w
   ended-now s w e = record { steps = 0; few = omega arith; together = inr e }
 
   pub reach-later : (most : ℕ) (s : S) (v w : W) → step_w v ≡ w → Reach most s w → Reach (suc most) s v
   reach-later most s v w e r = record {
     steps = suc r.steps;
     few = omega (arith, r.few);
-    together = subst (λ x. Together acting left told program place_of family first first_rest s (iterate step_w r.steps x)) (sym e) r.together;
+    together = subst (λ x. Together acting left told program place_of family first first_rest Named s (iterate step_w r.steps x)) (sym e) r.together;
   }
 
   pub reach-more : (most higher : ℕ) (s : S) (w : W) → most ≤ higher → Reach most s w → Reach higher s w
@@ -90,7 +90,7 @@ module _ {Memory Left : Type 0} (acting : Acting Memory) (left : Memory → Left
   pub move-after : (most heavy : ℕ) (s : S) (v w : W) → step_w v ≡ w → Reach most s w → Move (suc most) heavy s v
   move-after most heavy s v w e r =
       let l = reach-later most s v w e r in
-      record { steps = suc r.steps; few = omega (arith, r.few); together = subst (λ x. Together acting left told program place_of family first first_rest s (iterate step_w r.steps x)) (sym e) r.together; light = λ z. absurd (omega arith) }
+      record { steps = suc r.steps; few = omega (arith, r.few); together = subst (λ x. Together acting left told program place_of family first first_rest Named s (iterate step_w r.steps x)) (sym e) r.together; light = λ z. absurd (omega arith) }
 
   pub move-now : (heavy : ℕ) (s : S) (w : W) → Meet s w → heft s + 1 ≤ heavy → Move 0 heavy s w
   move-now heavy s w m le = record { steps = 0; few = omega arith; together = inl m; light = λ z. le }
@@ -102,7 +102,7 @@ module _ {Memory Left : Type 0} (acting : Acting Memory) (left : Memory → Left
   move-later most heavy s v w e r = record {
     steps = suc r.steps;
     few = omega (arith, r.few);
-    together = subst (λ x. Together acting left told program place_of family first first_rest s (iterate step_w r.steps x)) (sym e) r.together;
+    together = subst (λ x. Together acting left told program place_of family first first_rest Named s (iterate step_w r.steps x)) (sym e) r.together;
     light = λ z. absurd (omega arith);
   }
 
@@ -119,7 +119,7 @@ module _ {Memory Left : Type 0} (acting : Acting Memory) (left : Memory → Left
         comes = subst (Come range q) is came;
       }
 
-  module _ (is_told : IsTold told acting) (source : IsSource told program) (lowered : IsLowered told program place_of family) (first_fits : FitsIn told program source first_rest) where
+  module _ (is_told : IsTold told acting) (source : IsSource told program) (lowered : IsLowered told program place_of family) (first_fits : FitsIn told program source first_rest) (names : CallsNamed acting told program place_of family first first_rest Named) where
     pub here-fits : (range : Range) (q : ℕ) (rest : List Item) → Come range q rest → FitsIn told program source rest
     here-fits range q rest came = comes-fits told program source (alone acting) first first_rest first_fits range q rest came
 
@@ -179,10 +179,11 @@ module _ {Memory Left : Type 0} (acting : Acting Memory) (left : Memory → Left
           elim (ends_at y (pending_of range waiting)) as (λ b. ends_at y (pending_of range waiting) ≡ b → IsFine (if b then faulted else pushed) → Move 1 heavy (if b then faulted else pushed) v) [
             | true ↦ λ is fine. absurd (fine (Reentry y) refl)
             | false ↦ λ is fine.
-                let fresh = fresh-new acting told program place_of family first first_rest e y cells range waiting waits is in
+                let fresh = fresh-new acting told program place_of family first first_rest Named e y cells range waiting waits is in
+                let called = names range q x rest m e y (ys ++ items_in c) (waits-named acting told program place_of family first first_rest Named cells range waiting waits) came way in
                 move-after 0 heavy pushed v at_entry (walked ∙ entered) (met-now pushed at_entry
                 (arrives-whole (Part e y) e (j ∷ waiting) m cells tr tr lt refl
-                (h, ok, (λ back. over range q x rest m e y (ys ++ items_in c) came way back), fresh, waits) (come.enters e y)))
+                (h, ok, (λ back. over range q x rest m e y (ys ++ items_in c) came way back), fresh, called, waits) (come.enters e y)))
           ] refl
 
       abbrev Same : Way Memory → Way (Celled Memory) → Type 0

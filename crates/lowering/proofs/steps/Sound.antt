@@ -16,11 +16,11 @@ use Rattle.control.specs.Walk.{Level, Walk, walk_goes, picked, picks, tree_at, r
 use Rattle.lowering.specs.Told.{Told, IsTold, IsSource}
 use Rattle.lowering.specs.Lower.{end_leaf}
 use Rattle.lowering.specs.Rests as rests
-use Rattle.lowering.specs.flow.Comes.{Comes, begins, enters, goes_on, AreReturning, IsLowered}
+use Rattle.lowering.specs.flow.Comes.{Comes, begins, enters, goes_on, IsLowered}
 use Rattle.lowering.specs.flow.Comes as come
 use Rattle.lowering.specs.Laws.{before_range, RangeHasNoFlowFault, NoFlowFault}
 use Rattle.lowering.proofs.rests.Fits.{program_bulk, rest-light, rest-fits}
-use Rattle.lowering.proofs.rests.Joints.{joint, both, walk_at, Met}
+use Rattle.lowering.proofs.rests.Joints.{joint, both, walk_at, Met, CallsNamed, NamedReturn}
 use Rattle.lowering.proofs.steps.Moves.{arrives-whole}
 use Rattle.lowering.proofs.steps.Linked.{begun-tied}
 
@@ -170,18 +170,80 @@ tied-not-lost {World} doing left program b begun fresh tied world n lost =
     let c = (tied.covers world n k (omega arith)).ends over in
     source-not-lost doing left program k (begun world) (fresh world) (ap (λ r. r.standing) c ∙ lost)
 
-pub lowered-range-sound : {Memory Left : Type 0} (acting : Acting Memory) (left : Memory → Left) (told : Told) (program : Program) (place_of : ℕ → ℕ) (family : Family) →
-    IsTold told acting → IsSource told program → IsLowered told program place_of family → AreReturning (alone acting) program 0 (rest_of program 0) told.returning →
-    (entry exit : ℕ) → entry < length program.paragraphs → exit < length program.paragraphs → RangeHasNoFlowFault acting left program entry exit →
+-- Where the range alone is to be performed, main's level performs it and nothing else.
+
+past-end : (ps : List Paragraph) (found : Paragraph) → slice_get ps (suc (length ps)) ≡ Some found → ⊥
+past-end [] found is = absurd (let k : ⊥ = cc in k)
+past-end (p ∷ ps) found is = past-end ps found is
+
+module _ {Memory : Type 0} (doing : Doing Memory) (program : Program) (e x : ℕ) where
+  abbrev alone_rest : List Item
+  alone_rest = Do (Perform e x) ∷ []
+
+  -- this is before the range or behind it
+  abbrev Beside : Range → ℕ → List Item → Type 0
+  Beside Main q rest = (q ≡ length program.paragraphs) × ((rest ≡ alone_rest) ⊎ (rest ≡ []))
+  Beside (Part f y) q rest = Unit {0}
+
+  -- what stands there enters the range
+  abbrev Enters : List Item → Way Memory → Type 0
+  Enters rest (Into f y items) = (f ≡ e) × (y ≡ x) × (items ≡ rest)
+  Enters rest (On t m items) = ⊥
+  Enters rest (Halts t how m) = ⊥
+  Enters rest (To t m to) = ⊥
+  Enters rest (ToEnd t m to) = ⊥
+
+  head-enters : (r : Range) (q : ℕ) (item : Item) (rest : List Item) (m : Memory) → r ≡ Main → Beside r q (item ∷ rest) → Enters [] (item_way doing item rest m)
+  head-enters Main q item rest m is h = elim h.1 [
+    | inl one ↦
+        let first : item ≡ Do (Perform e x) = cc in
+        let none : rest ≡ [] = cc in
+        subst (λ i. Enters [] (item_way doing i rest m)) (sym first) (refl, refl, none)
+    | inr one ↦ absurd (let k : ⊥ = cc in k)
+  ]
+  head-enters (Part f y) q item rest m is h = absurd (let k : ⊥ = cc in k)
+
+  stays-beside : (r : Range) (q : ℕ) (rest : List Item) → Comes doing program (length program.paragraphs) alone_rest r q rest → Beside r q rest
+  stays-beside r q rest begins = (refl, inl refl)
+  stays-beside r q rest (enters f y) = tt
+  stays-beside r q rest (goes_on Main n item others m t after items c is) = absurd (subst (Enters []) is (head-enters Main n item others m refl (stays-beside Main n (item ∷ others) c)))
+  stays-beside r q rest (goes_on (Part f y) n item others m t after items c is) = tt
+  stays-beside r q rest (come.goes_to Main n item others m t after to c is) = absurd (subst (Enters []) is (head-enters Main n item others m refl (stays-beside Main n (item ∷ others) c)))
+  stays-beside r q rest (come.goes_to (Part f y) n item others m t after to c is) = tt
+  stays-beside r q rest (come.goes_to_end Main n item others m t after to c is) = absurd (subst (Enters []) is (head-enters Main n item others m refl (stays-beside Main n (item ∷ others) c)))
+  stays-beside r q rest (come.goes_to_end (Part f y) n item others m t after to c is) = tt
+  stays-beside r q rest (come.over Main n item others m f y items c is d) =
+      let before = stays-beside Main n (item ∷ others) c in
+      (before.0, inr (subst (Enters []) is (head-enters Main n item others m refl before)).2)
+  stays-beside r q rest (come.over (Part g z) n item others m f y items c is d) = tt
+  stays-beside r q rest (come.falls Main n next is out c) =
+      let before = stays-beside Main n [] c in
+      absurd (past-end program.paragraphs next (subst (λ k. slice_get program.paragraphs (suc k) ≡ Some next) before.0 is))
+  stays-beside r q rest (come.falls (Part f y) n next is out c) = tt
+
+-- so where the range is named, all that is performed there is
+names-behind : {Memory : Type 0} (acting : Acting Memory) (told : Told) (program : Program) (place_of : ℕ → ℕ) (family : Family) (Named : ℕ → ℕ → Type 0) → CallsNamed acting told program place_of family 0 (rest_of program 0) Named →
+    (e x : ℕ) → Named e x → CallsNamed acting told program place_of family (length program.paragraphs) (Do (Perform e x) ∷ []) Named
+names-behind acting told program place_of family Named names e x named Main q item rest m f y items here c is =
+    let h = subst (Enters (alone acting) program e x []) is (head-enters (alone acting) program e x Main q item rest m refl (stays-beside (alone acting) program e x Main q (item ∷ rest) c)) in
+    subst (λ g. Named g y) (sym h.0) (subst (λ z. Named e z) (sym h.1) named)
+names-behind acting told program place_of family Named names e x named (Part g z) q item rest m f y items here c is =
+    names (Part g z) q item rest m f y items here (comes-anywhere (alone acting) program (length program.paragraphs) 0 (Do (Perform e x) ∷ []) (rest_of program 0) (Part g z) q (item ∷ rest) tt c) is
+
+pub lowered-range-sound : {Memory Left : Type 0} (acting : Acting Memory) (left : Memory → Left) (told : Told) (program : Program) (place_of : ℕ → ℕ) (family : Family) (Named : ℕ → ℕ → Type 0) →
+    CallsNamed acting told program place_of family 0 (rest_of program 0) Named → NamedReturn acting told program place_of family 0 (rest_of program 0) Named →
+    IsTold told acting → IsSource told program → IsLowered told program place_of family →
+    (entry exit : ℕ) → entry < length program.paragraphs → exit < length program.paragraphs → Named entry exit → RangeHasNoFlowFault acting left program entry exit →
     (c : Celled Memory) (n : ℕ) → (meaning (walk_machine acting left family (Part entry exit)) c n).standing ≢ Over Lost
-lowered-range-sound {Memory} {Left} acting left told program place_of family is_told source lowered returning e x lt_e lt_x fine c n lost =
+lowered-range-sound {Memory} {Left} acting left told program place_of family Named names returning is_told source lowered e x lt_e lt_x named fine c n lost =
     let first = length program.paragraphs in
     let rest = Do (Perform e x) ∷ [] in
     let end0 = end_leaf place_of program Main first in
     let begun_w : Celled Memory → Walk Memory Left = λ c. walk_at Main rest end0 [] c.own c.cells [] in
     let bottom : Level = record { range = Main; items = []; end = end0 } in
-    let tied = begun-tied acting left told program place_of family first rest is_told source lowered ((lt_e, lt_x), omega arith, tt)
-    (λ f y k. returning f y (comes-anywhere (alone acting) program first 0 rest (rest_of program 0) (Part f y) y [] tt k))
+    let tied = begun-tied acting left told program place_of family first rest Named is_told source lowered ((lt_e, lt_x), omega arith, tt)
+    (names-behind acting told program place_of family Named names e x named)
+    (λ f y k at_end. returning f y k (comes-anywhere (alone acting) program first 0 rest (rest_of program 0) (Part f y) y [] tt at_end))
     (λ c. before_range program e x c.own) begun_w 2 (λ c. omega arith)
     (λ c. inl (record { to = both (joint Main first rest rests.Over rest end0) [] c.own c.cells []; sourced = refl; walked = refl; ok = ((refl, refl, λ k. (refl, refl)), (tt, tt, tt), tt); comes = begins }))
     (λ c n fault. fine c.own n fault) in
@@ -189,15 +251,16 @@ lowered-range-sound {Memory} {Left} acting left told program place_of family is_
     let below = lost-same acting left family bottom (iterate (walk_step acting left family) n (walk_begun acting left family (Part e x) c)) (iterate (walk_step acting left family) (suc n) (begun_w c)) same lost in
     tied-not-lost (alone acting) left program (λ c n. (iterate (walk_step acting left family) n (begun_w c)).run) (λ c. before_range program e x c.own) (λ c e. cc) tied c (suc n) below
 
-pub lowered-main-sound : {Memory Left : Type 0} (acting : Acting Memory) (left : Memory → Left) (told : Told) (program : Program) (place_of : ℕ → ℕ) (family : Family) →
-    IsTold told acting → IsSource told program → 0 < length program.paragraphs → IsLowered told program place_of family → AreReturning (alone acting) program 0 (rest_of program 0) told.returning → NoFlowFault acting left program →
+pub lowered-main-sound : {Memory Left : Type 0} (acting : Acting Memory) (left : Memory → Left) (told : Told) (program : Program) (place_of : ℕ → ℕ) (family : Family) (Named : ℕ → ℕ → Type 0) →
+    CallsNamed acting told program place_of family 0 (rest_of program 0) Named → NamedReturn acting told program place_of family 0 (rest_of program 0) Named →
+    IsTold told acting → IsSource told program → 0 < length program.paragraphs → IsLowered told program place_of family → NoFlowFault acting left program →
     (c : Celled Memory) (n : ℕ) → (meaning (walk_machine acting left family Main) c n).standing ≢ Over Lost
-lowered-main-sound {Memory} {Left} acting left told program place_of family is_told source some lowered returning fine c n lost =
+lowered-main-sound {Memory} {Left} acting left told program place_of family Named names returning is_told source some lowered fine c n lost =
     let rest = rest_of program 0 in
-    let tied = begun-tied acting left told program place_of family 0 rest is_told source lowered (rest-fits told program source 0) returning
+    let tied = begun-tied acting left told program place_of family 0 rest Named is_told source lowered (rest-fits told program source 0) names returning
     (λ c. source_begun (alone acting) left program c.own) (λ c. walk_begun acting left family Main c) (program_bulk program)
     (λ c. let e = rest-light told program source 0 in omega (arith, e))
-    (λ c. inl (subst (λ l. Met acting left told program place_of family 0 rest (source_begun (alone acting) left program c.own) (walk_at Main (before (body_of (family.node Main l)) []) (end_of (family.node Main l)) [] c.own c.cells [])) (sym (lowered.entry Main))
-    (arrives-whole acting left told program place_of family 0 rest is_told source lowered (rest-fits told program source 0) Main 0 [] c.own c.cells [] [] some refl tt begins)))
+    (λ c. inl (subst (λ l. Met acting left told program place_of family 0 rest Named (source_begun (alone acting) left program c.own) (walk_at Main (before (body_of (family.node Main l)) []) (end_of (family.node Main l)) [] c.own c.cells [])) (sym (lowered.entry Main))
+    (arrives-whole acting left told program place_of family 0 rest Named is_told source lowered (rest-fits told program source 0) names Main 0 [] c.own c.cells [] [] some refl tt begins)))
     (λ c n fault. fine c.own n fault) in
     tied-not-lost (alone acting) left program (λ c n. (iterate (walk_step acting left family) n (walk_begun acting left family Main c)).run) (λ c. source_begun (alone acting) left program c.own) (λ c e. cc) tied c n lost

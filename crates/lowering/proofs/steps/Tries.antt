@@ -42,7 +42,7 @@ pub tried-no-into : {Memory Value : Type 0} (a : Tried Memory Value) (f : Value 
 tried-no-into (Got trace value now) f h = after-no-into trace (f value now) (h value now)
 tried-no-into (Ends trace kind now) f h = tt
 
-module _ {Memory Left : Type 0} (acting : Acting Memory) (left : Memory → Left) (told : Told) (program : Program) (place_of : ℕ → ℕ) (family : Family) (first : ℕ) (first_rest : List Item)
+module _ {Memory Left : Type 0} (acting : Acting Memory) (left : Memory → Left) (told : Told) (program : Program) (place_of : ℕ → ℕ) (family : Family) (first : ℕ) (first_rest : List Item) (Named : ℕ → ℕ → Type 0)
     (range : Range) (q : ℕ) (x : Item) (rest : List Item) (waiting : List Joint) (m : Memory) (cells : Range → ℕ → ℕ) where
   abbrev State : Type 0
   State = SourceState Memory Left
@@ -51,13 +51,13 @@ module _ {Memory Left : Type 0} (acting : Acting Memory) (left : Memory → Left
   Walking = Walk Memory Left
 
   abbrev Reaching : ℕ → State → Walking → Type 0
-  Reaching most s w = Reach acting left told program place_of family first first_rest most s w
+  Reaching most s w = Reach acting left told program place_of family first first_rest Named most s w
 
   abbrev Moving : ℕ → ℕ → State → Walking → Type 0
-  Moving most heavy s w = Move acting left told program place_of family first first_rest most heavy s w
+  Moving most heavy s w = Move acting left told program place_of family first first_rest Named most heavy s w
 
   abbrev stepped : Walking → Walking
-  stepped w = step_w acting left told program place_of family first first_rest w
+  stepped w = step_w acting left told program place_of family first first_rest Named w
 
   -- the source before the step, whatever it showed
   abbrev pub start : Trace → State
@@ -69,10 +69,10 @@ module _ {Memory Left : Type 0} (acting : Acting Memory) (left : Memory → Left
   -- control comes to what the way goes on with
   abbrev pub Leads : Way Memory → Type 0
   Leads way =
-      ((t : Trace) (now : Memory) (items : List Item) → way ≡ On t now items → Come acting left told program place_of family first first_rest range q items)
-      × ((t : Trace) (now : Memory) (to : ℕ) → way ≡ To t now to → Come acting left told program place_of family first first_rest range to (rest_of program to))
+      ((t : Trace) (now : Memory) (items : List Item) → way ≡ On t now items → Come acting left told program place_of family first first_rest Named range q items)
+      × ((t : Trace) (now : Memory) (to : ℕ) → way ≡ To t now to → Come acting left told program place_of family first first_rest Named range to (rest_of program to))
 
-  pub leads-step : Come acting left told program place_of family first first_rest range q (x ∷ rest) → (way : Way Memory) → item_way (alone acting) x rest m ≡ way → Leads way
+  pub leads-step : Come acting left told program place_of family first first_rest Named range q (x ∷ rest) → (way : Way Memory) → item_way (alone acting) x rest m ≡ way → Leads way
   leads-step came way is = ((λ t now items e. goes_on range q x rest m t now items came (is ∙ e)), (λ t now to e. goes_to range q x rest m t now to came (is ∙ e)))
 
   leads-after : (t : Trace) (way : Way Memory) → Leads (way_after t way) → Leads way
@@ -97,13 +97,13 @@ module _ {Memory Left : Type 0} (acting : Acting Memory) (left : Memory → Left
   try-move m1 P (Got t value now) f k tr v most heavy plain leads gives walked ends go =
       let s = goes_from (way_after t (f value now)) tr in
       let w = k (Got t value (record { own = now; cells = cells })) in
-      move-after acting left told program place_of family first first_rest most heavy s v w walked
+      move-after acting left told program place_of family first first_rest Named most heavy s v w walked
       (subst (λ u. Reaching most u w) (sym (goes-after tr t (f value now) (plain value now))) (go t value now gives (leads-after t (f value now) leads)))
   try-move m1 P (Ends t kind now) f k tr v most heavy plain leads gives walked ends go =
       let s = goes_from (Halts t (Abend kind) now) tr in
       let w = k (Ends t kind (record { own = now; cells = cells })) in
-      move-more acting left told program place_of family first first_rest 1 (suc most) heavy s v (omega arith)
-      (move-after acting left told program place_of family first first_rest 0 heavy s v w walked (ended-now acting left told program place_of family first first_rest s w (sym (ends t kind now), λ e. cc)))
+      move-more acting left told program place_of family first first_rest Named 1 (suc most) heavy s v (omega arith)
+      (move-after acting left told program place_of family first first_rest Named 0 heavy s v w walked (ended-now acting left told program place_of family first first_rest Named s w (sym (ends t kind now), λ e. cc)))
 
   pub reach-of : (most heavy : ℕ) (s : State) (w : Walking) → Moving most heavy s w → Reaching most s w
   reach-of most heavy s w r = record { steps = r.steps; few = r.few; together = r.together }
@@ -122,13 +122,13 @@ module _ {Memory Left : Type 0} (acting : Acting Memory) (left : Memory → Left
 
   -- a test of the source in a choice
   pub test-move : (m1 : Memory) (test : Test) (holds fails : Tree) (f : Bool → Memory → Way Memory) (tr : Trace) (most heavy : ℕ) → OwnTest test → ((ended : Bool) (now : Memory) → NoInto (f ended now)) → Leads (tried (alone_test acting test m1) f) →
-      ((t : Trace) (ended : Bool) (now : Memory) → Leads (f ended now) → Reaching most (goes_from (f ended now) (tr ++ t)) (at_tree acting left told program place_of family first first_rest range (if ended then holds else fails) waiting now cells (tr ++ t))) →
-      Moving (suc most) heavy (goes_from (tried (alone_test acting test m1) f) tr) (at_tree acting left told program place_of family first first_rest range (by_test test holds fails) waiting m1 cells tr)
+      ((t : Trace) (ended : Bool) (now : Memory) → Leads (f ended now) → Reaching most (goes_from (f ended now) (tr ++ t)) (at_tree acting left told program place_of family first first_rest Named range (if ended then holds else fails) waiting now cells (tr ++ t))) →
+      Moving (suc most) heavy (goes_from (tried (alone_test acting test m1) f) tr) (at_tree acting left told program place_of family first first_rest Named range (by_test test holds fails) waiting m1 cells tr)
   test-move m1 test holds fails f tr most heavy own plain leads go =
-      let v : Walking = at_tree acting left told program place_of family first first_rest range (by_test test holds fails) waiting m1 cells tr in
+      let v : Walking = at_tree acting left told program place_of family first first_rest Named range (by_test test holds fails) waiting m1 cells tr in
       let k : Tried (Celled Memory) Bool → Walking = λ b. picks acting left family (more holds (more fails no_more)) (giving arm_of b) v in
       try-move m1 (λ u. Unit {0}) (alone_test acting test m1) f k tr v most heavy plain leads (any (alone_test acting test m1))
       (ap k (celled-tests acting range test (record { own = m1; cells = cells }) own))
       (λ t kind now. refl)
-      (λ t ended now p h. (elim ended as (λ b. Reaching most (goes_from (f b now) (tr ++ t)) (at_tree acting left told program place_of family first first_rest range (if b then holds else fails) waiting now cells (tr ++ t)) →
+      (λ t ended now p h. (elim ended as (λ b. Reaching most (goes_from (f b now) (tr ++ t)) (at_tree acting left told program place_of family first first_rest Named range (if b then holds else fails) waiting now cells (tr ++ t)) →
       Reaching most (goes_from (f b now) (tr ++ t)) (k (Got t b (record { own = now; cells = cells })))) [ true ↦ λ r. r | false ↦ λ r. r ]) (go t ended now h))

@@ -9,7 +9,7 @@ use Rattle.lowering.specs.Told.{Told, IsSource}
 use Rattle.lowering.specs.Lowered.{lowered}
 use Rattle.lowering.specs.Reached.{IsReached}
 use Rattle.lowering.specs.WellFormed.{IsRangeOf}
-use Rattle.lowering.specs.Laws.{FreelyComes}
+use Rattle.lowering.specs.flow.Entered.{FreelyComes}
 
 module _ (told : Told) (program : Program) (range : Range) where
   -- a free flow path of the range's level performs the other range

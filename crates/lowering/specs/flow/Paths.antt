@@ -1,14 +1,14 @@
 -- Flow paths: the source machine itself, in which a list of ways stands in place of the memory.
 use Rattle.std.specs.Prelude.{ℕ, zero, suc, ◌≡◌, Bool, true, false, if◌then◌else◌, ◌==◌, List, [], ◌∷◌, slice_get}
 use Rattle.runs.specs.Run.{Going, Over}
-use Rattle.runs.specs.Machine.{iterate, meaning}
+use Rattle.runs.specs.Machine.{meaning}
 use Rattle.control.specs.Outcome.{Tried, Got, Faulted, FlowFault, Standing}
 use Rattle.language.specs.Language.{Picker, If, By, ByCell, Program}
 use Rattle.control.specs.Doing.{Doing, arm_of}
 use Rattle.language.specs.Items.{Item}
 use Rattle.control.specs.Items.{Way, On, Halts, Into, To, ToEnd, item_way}
 use Rattle.language.specs.Items.{Pending}
-use Rattle.control.specs.Source.{SourceState, rest_of, goes_to, goes, falls, source_machine}
+use Rattle.control.specs.Source.{SourceState, goes_to, goes, falls, source_machine}
 use Rattle.lowering.specs.Told.{Told}
 
 -- the next way; where none is given, the first
@@ -121,19 +121,3 @@ module _ (told : Told) (program : Program) where
 
   abbrev pub free_step : Flow → Flow
   free_step state = free_by state.run.standing state
-
-  -- a range that is pending, and the paragraph's number and rest to go on with
-  abbrev pub alone_pending : ℕ → List Pending
-  alone_pending exit = record { end = exit; paragraph = 0; rest = [] } ∷ []
-
-  -- a free flow path from the range's entry, with the range alone pending, comes to where it pops
-  -- it
-  abbrev pub ReturnsByPath : ℕ → ℕ → Type 0
-  ReturnsByPath entry exit = (ways : List ℕ) × (n : ℕ) × (later : List ℕ)
-      × (iterate free_step n (flow entry (rest_of program entry) (alone_pending exit) ways)
-      ≡ flow exit [] (alone_pending exit) later)
-
--- these are the ranges that return by a free flow path, and maybe more
-abbrev pub AreReturningByPath : Told → Program → Type 0
-AreReturningByPath told program =
-    (entry exit : ℕ) → ReturnsByPath told program entry exit → told.returning entry exit ≡ true
