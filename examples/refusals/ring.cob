@@ -1,0 +1,66 @@
+       IDENTIFICATION DIVISION.
+       PROGRAM-ID. RING.
+       PROCEDURE DIVISION.
+       MAIN-LINE.
+           PERFORM STEP-1.
+           STOP RUN.
+       STEP-1.
+           DISPLAY "STEP 1".
+           PERFORM STEP-2.
+       STEP-2.
+           DISPLAY "STEP 2".
+           PERFORM STEP-3.
+       STEP-3.
+           DISPLAY "STEP 3".
+           PERFORM STEP-4.
+       STEP-4.
+           DISPLAY "STEP 4".
+           PERFORM STEP-5.
+       STEP-5.
+           DISPLAY "STEP 5".
+           PERFORM STEP-6.
+       STEP-6.
+           DISPLAY "STEP 6".
+           PERFORM STEP-7.
+       STEP-7.
+           DISPLAY "STEP 7".
+           PERFORM STEP-8.
+       STEP-8.
+           DISPLAY "STEP 8".
+           PERFORM STEP-9.
+       STEP-9.
+           DISPLAY "STEP 9".
+           PERFORM STEP-10.
+       STEP-10.
+           DISPLAY "STEP 10".
+           PERFORM STEP-11.
+       STEP-11.
+           DISPLAY "STEP 11".
+           PERFORM STEP-12.
+       STEP-12.
+           DISPLAY "STEP 12".
+           PERFORM STEP-13.
+       STEP-13.
+           DISPLAY "STEP 13".
+           PERFORM STEP-14.
+       STEP-14.
+           DISPLAY "STEP 14".
+           PERFORM STEP-15.
+       STEP-15.
+           DISPLAY "STEP 15".
+           PERFORM STEP-16.
+       STEP-16.
+           DISPLAY "STEP 16".
+           PERFORM STEP-17.
+       STEP-17.
+           DISPLAY "STEP 17".
+           PERFORM STEP-18.
+       STEP-18.
+           DISPLAY "STEP 18".
+           PERFORM STEP-19.
+       STEP-19.
+           DISPLAY "STEP 19".
+           PERFORM STEP-20.
+       STEP-20.
+           DISPLAY "STEP 20".
+           PERFORM STEP-1.
