@@ -59,6 +59,7 @@ AddedItemsLieBehind =
 -- a run starts with what it starts with alone, and behind it the first bytes of each added item
 abbrev pub AddedItemsStartBehind : Type 0
 AddedItemsStartBehind =
-    (entries added : List Entry) → IsTrue (begins_with_item entries) → IsTrue (have_levels entries) →
+    (entries added : List Entry) → IsTrue (begins_with_item entries) →
+    IsTrue (have_levels entries) →
     IsTrue (stand_alone added) →
     initial_store (entries ++ added) ≡ initial_store entries ++ map first_bytes added

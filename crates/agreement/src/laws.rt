@@ -8,7 +8,8 @@ pub fn more_units_show_more<Memory, Left>()
     ensures fair { NestedEndFairly Memory Left }
 {}
 
-/// The source machine on a structured program does what its nested statements do, and never meets a fault of its flow.
+/// The source machine on a structured program does what its nested statements do, and never meets a
+/// fault of its flow.
 pub fn a_structured_program_agrees<Memory, Left>()
     ensures tied { StructuredAgrees Memory Left }
     ensures same { StructuredBehavesTheSame Memory Left }

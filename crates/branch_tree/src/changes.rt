@@ -18,8 +18,8 @@ impl Tree {
         self.end = end;
     }
 
-    /// Puts the other tree in the place of this one's end. Without memory it comes back, and this one
-    /// stays.
+    /// Puts the other tree in the place of this one's end. Without memory it comes back, and this
+    /// one stays.
     pub fn go_on(&mut self, by: Tree) -> Option<Tree>
         ensures { GoesOn result (seen_tree by) (seen_tree self.old) (seen_tree self.new) }
     {

@@ -79,9 +79,11 @@ fn arms_leaves(arms: &[Tree], label: Label) -> u32
 }
 
 impl Graph {
-    /// How many leaves of the graph jump to the label; past the last number of the type that number.
+    /// How many leaves of the graph jump to the label; past the last number of the type that
+    /// number.
     pub fn leaves_to(&self, label: Label) -> u32
-        ensures { result ≡ min (all_leaves_to label (seen_nodes self.now.nodes.items)) (2 ^ 32 - 1) }
+        ensures { result ≡ min (all_leaves_to label (seen_nodes self.now.nodes.items))
+            (2 ^ 32 - 1) }
     {
         let mut count = 0u32;
         for node in &self.nodes {

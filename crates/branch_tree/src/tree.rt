@@ -15,8 +15,8 @@ pub enum Leaves {
         cell: u32,
         label: Label,
     },
-    /// A jump to the label goes on; any other sets the cell to the number of its target, from 1, and a
-    /// return to the number behind the last one.
+    /// A jump to the label goes on; any other sets the cell to the number of its target, from 1,
+    /// and a return to the number behind the last one.
     Exit {
         cell: u32,
         label: Label,

@@ -1,8 +1,8 @@
 //! Items that restructuring adds: flags, counters and states, each a number item of level 01.
 //!
 //! The laws say what MOVE, SUBTRACT, comparisons and EVALUATE do with such an item: a value that is
-//! moved to it is the value that it is compared with, and nothing else in the store changes. Nothing
-//! here runs: the functions are laws.
+//! moved to it is the value that it is compared with, and nothing else in the store changes.
+//! Nothing here runs: the functions are laws.
 #![tactic(auto)]
 
 mod laws;

@@ -29,7 +29,8 @@ chooser_as_stands literal (Arith calc into) arms = written_chooser literal (Arit
 chooser_as_stands literal (Depending on names) arms =
     written_chooser literal (Depending on names) arms
 
--- the first added item and the items of cells, and the places of procedures, for the body of a range
+-- the first added item and the items of cells, and the places of procedures, for the body of a
+-- range
 pub record Way : Type 0 where
   pub first : ℕ
   pub table : CellTable

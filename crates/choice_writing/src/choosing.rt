@@ -60,7 +60,8 @@ pub fn arith_stmt(
     first: Items<Stmt>,
     second: Items<Stmt>,
 ) -> Result<Stmt, NoMemory>
-    ensures { IfOk result (λ made. IsArith calc into (seen_stmts 0 first) (seen_stmts 0 second) made) }
+    ensures { IfOk result (λ made. IsArith calc into (seen_stmts 0 first) (seen_stmts 0 second)
+        made) }
 {
     let first = kept(first, true)?;
     let second = kept(second, false)?;

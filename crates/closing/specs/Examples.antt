@@ -70,7 +70,8 @@ last_nodes =
     record {
       label = 6;
       tree =
-          tree (also (say 2) (one (Choose (If (Holds (is 2))) (given (one StopRun) (missing done)))))
+          tree (also (say 2) (one (Choose (If (Holds (is 2)))
+          (given (one StopRun) (missing done)))))
           (Jump 3);
     } ∷ []
 

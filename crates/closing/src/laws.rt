@@ -3,8 +3,9 @@
 ghost use Rattle.closing.specs.Laws.{GatheringKeeps, FlagKeeps, ExitsKeep, NodeExitsKeep, ExitsGraphKeeps, DispatchKeeps, DispatchGraphKeeps, TargetsRise, ClosedEnds, ClosedKeeps, RulesEnd, KeptMainsAreTied, SameMainsAreTied};
 ghost use Rattle.closing.specs.Examples.{ALoopWithTwoExits, TwoLabelsFromTwoEntries, TheDispatchWalksAlike, ItMeetsThePremises, ItTakesSevenUnits};
 
-/// A set of nodes that has become one loop, whose turns walk their trees and leave a number in a cell, walks as it did:
-/// by steps, within eight times the units, and never lost where it never was.
+/// A set of nodes that has become one loop, whose turns walk their trees and leave a number in a
+/// cell, walks as it did: by steps, within eight times the units, and never lost where it never
+/// was.
 pub fn gathering_keeps<Memory, Left>()
     ensures { GatheringKeeps Memory Left }
 {}
@@ -34,19 +35,22 @@ pub fn mains_are_tied<Memory, Left>()
     ensures same { SameMainsAreTied Memory Left }
 {}
 
-/// A family whose graphs are closed by all rules in their order, Exits and the dispatch among them, does what it did.
+/// A family whose graphs are closed by all rules in their order, Exits and the dispatch among them,
+/// does what it did.
 pub fn closed_keeps<Memory, Left>()
     ensures { ClosedKeeps Memory Left }
 {}
 
-/// All rules in their order leave one node, behind which nothing comes; and a dispatch stands only where no other rule applies.
+/// All rules in their order leave one node, behind which nothing comes; and a dispatch stands only
+/// where no other rule applies.
 pub fn closing_ends()
     ensures one { ClosedEnds }
     ensures none { RulesEnd }
 {}
 
-/// Of two small graphs: a loop with two exits takes an exit number, and two labels that jump into each other from two
-/// entries a state; the second walks alike before and behind, and the premises of the laws hold of it.
+/// Of two small graphs: a loop with two exits takes an exit number, and two labels that jump into
+/// each other from two entries a state; the second walks alike before and behind, and the premises
+/// of the laws hold of it.
 pub fn worked_graphs_close_as_said()
     ensures exits { ALoopWithTwoExits }
     ensures state { TwoLabelsFromTwoEntries }

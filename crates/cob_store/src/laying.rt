@@ -212,7 +212,8 @@ fn lay_inner(
 
 fn lay_item(alloc: Global, laid: &mut Laid, entry: &Entry, size: u32) -> Result<(), NoMemory>
     requires { length laid.old.roots < 2 ^ 32 }
-    ensures { OnOk result (laid.new ≡ item_laid laid.old entry.now size (groups_of entry.now.level laid.old.groups)) }
+    ensures { OnOk result (laid.new
+        ≡ item_laid laid.old entry.now size (groups_of entry.now.level laid.old.groups)) }
 {
     close_groups(&mut laid.groups, entry.level);
     match laid.groups.pop() {

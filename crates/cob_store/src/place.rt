@@ -184,7 +184,8 @@ fn subscripted(
     dims: &[Dim],
     start: u32,
 ) -> Result<u32, Abend>
-    ensures { result ≡ subscripted (memory_of areas.now store.now) (map sub_value subs.now) dims.now start }
+    ensures { result ≡ subscripted (memory_of areas.now store.now) (map sub_value subs.now) dims.now
+        start }
 {
     let mut offsets = SmallVec::new(store.allocator());
     let mut left = dims;

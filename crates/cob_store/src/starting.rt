@@ -71,7 +71,8 @@ fn number_started(
     sign: Sign,
     clause: &Option<Operand>,
 ) -> Start<'_>
-    ensures { (size : ℕ) → start_bytes size result ≡ number_started signed whole part sign size (number_in_clause clause.now) }
+    ensures { (size : ℕ) → start_bytes size result
+        ≡ number_started signed whole part sign size (number_in_clause clause.now) }
 {
     let zero = Start::Number {
         signed,

@@ -183,7 +183,8 @@ impl Store {
 
     /// Puts a number, below zero or not.
     pub fn put_number(&mut self, spot: Spot, signed: bool, sign: Sign, minus: bool, number: u128)
-        ensures { self.new ≡ put_at self.old spot (signed_bytes signed sign spot.length minus number) }
+        ensures { self.new ≡ put_at self.old spot
+            (signed_bytes signed sign spot.length minus number) }
     {
         let at = spot.root as usize;
         if self.is_inside(spot) && at < self.roots.len() {

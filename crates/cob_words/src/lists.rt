@@ -109,8 +109,8 @@ const LEFT_OUT: [&[&str]; 16] = [
     &["PACKED-DECIMAL"],
     &["COMPUTATIONAL-3"],
 ];
-/// Whether the word is reserved (ISO 1989:1985, reserved words) and of the language that is read. The
-/// words that are left out are reserved too: a user's word is neither this nor `left_out`.
+/// Whether the word is reserved (ISO 1989:1985, reserved words) and of the language that is read.
+/// The words that are left out are reserved too: a user's word is neither this nor `left_out`.
 pub fn reserved(word: &Word) -> bool
     ensures { result ≡ is_listed reserved_words word.now }
 {

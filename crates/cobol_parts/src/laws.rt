@@ -13,8 +13,8 @@ pub fn cobol_choosers_give_some_arm()
     ensures { CobolChoosersGiveSomeArm }
 {}
 
-/// A program whose statements name items and paragraphs of its own alone, and whose inline loops say
-/// how they turn, is a source.
+/// A program whose statements name items and paragraphs of its own alone, and whose inline loops
+/// say how they turn, is a source.
 pub fn cobol_programs_are_sources()
     ensures { CobolProgramsAreSources }
 {}

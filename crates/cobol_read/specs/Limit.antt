@@ -1,5 +1,5 @@
--- The limits that are counted over the whole source. Those of one condition or statement stand in its
--- forms.
+-- The limits that are counted over the whole source. Those of one condition or statement stand in
+-- its forms.
 use Rattle.std.specs.Prelude.{ℕ, ◌+◌, false}
 use Rattle.cob_base.specs.declared.limit.Limit.{Limit}
 use Rattle.cob_base.specs.declared.limit.LimitKind.{LimitKind}

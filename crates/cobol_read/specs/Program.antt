@@ -56,7 +56,8 @@ preamble_of tokens found =
 
 abbrev pub declarations_of : List Token → Declarations
 declarations_of tokens =
-    declarations_from tokens (declared_by (nameless tokens)) (statements_at tokens (nameless tokens))
+    declarations_from tokens (declared_by (nameless tokens))
+    (statements_at tokens (nameless tokens))
 
 -- ---- program = divisions PROCEDURE DIVISION . paragraphs
 

@@ -1,10 +1,10 @@
 //! Bytes of a source to its program, or the first reason why they are none.
 //!
 //! `read` goes through the limits of the source, the reference format, tokens, words that are left
-//! out, the syntax of the whole program over the names that it declares itself, name faults, and the
-//! limits of storage and paragraphs, in this order (ISO 1989:1985). Hold `specs/Reading` against it:
-//! `Reads` says which bytes are which program, `HasCause` why a source is refused, a clause a
-//! refusal. `source_is_read_one_way` says that there is one answer.
+//! out, the syntax of the whole program over the names that it declares itself, name faults, and
+//! the limits of storage and paragraphs, in this order (ISO 1989:1985). Hold `specs/Reading`
+//! against it: `Reads` says which bytes are which program, `HasCause` why a source is refused, a
+//! clause a refusal. `source_is_read_one_way` says that there is one answer.
 #![tactic(auto)]
 
 mod answer;
@@ -29,8 +29,8 @@ pub use limit::SOURCE_LIMIT;
 pub use refusal::ReadRefusal;
 use std::alloc::Global;
 
-/// The program that these bytes are, or why they are none: of several reasons the first in the order
-/// of reading.
+/// The program that these bytes are, or why they are none: of several reasons the first in the
+/// order of reading.
 pub fn read(alloc: Global, bytes: &[u8]) -> Result<Program, ReadRefusal>
     // what each answer tells
     ensures found { IfOk result (Reads bytes.now) }

@@ -16,8 +16,8 @@ use statement_parts::PartReader;
 use statement_uses::Records;
 use std::alloc::Global;
 
-/// What a program declares: names of data and files, entries with the first fault of their rules and
-/// those on files, paragraphs and sections.
+/// What a program declares: names of data and files, entries with the first fault of their rules
+/// and those on files, paragraphs and sections.
 #[derive(Drop)]
 pub struct Declarations {
     pub names: NameTable,

@@ -6,8 +6,8 @@ use cobol_lex::LexFault;
 use ref_format::FormatFault;
 use thiserror::Error;
 
-/// Why a source isn't a program of this language. A limit that is passed is always `Limit`, and want
-/// of memory `NoMemory`.
+/// Why a source isn't a program of this language. A limit that is passed is always `Limit`, and
+/// want of memory `NoMemory`.
 #[derive(Debug, Drop, Error)]
 pub enum ReadRefusal {
     #[error("{0}")]

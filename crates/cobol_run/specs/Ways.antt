@@ -65,7 +65,8 @@ Leads way before after old new meant =
 
 -- no return is made or taken
 abbrev pub KeepsPending : (before after : List Frame) → Type 0
-KeepsPending before after = (program : Program) → pending_of program after ≡ pending_of program before
+KeepsPending before after = (program : Program) → pending_of program after
+    ≡ pending_of program before
 
 -- ---- arms
 

@@ -22,7 +22,8 @@ pub enum Head<'a> {
     Turn(Turning<'a>, Body<'a>),
 }
 
-/// A return that is pending: the paragraph at whose end it is made, and the one in which it goes on.
+/// A return that is pending: the paragraph at whose end it is made, and the one in which it goes
+/// on.
 #[derive(Clone, Copy)]
 pub struct Return {
     pub end: u32,
@@ -34,8 +35,10 @@ pub fn push_sentences<'a>(
     frames: &mut Stack<Frame<'a>>,
     sentences: &'a [Sentence],
 ) -> Result<(), NoMemory>
-    ensures rest { IfOk result (λ u. (last : ℕ) → rest_of last frames.new ≡ sentences_before last sentences.now (rest_of last frames.old)) }
-    ensures pending { IfOk result (λ u. (program : Program) → pending_of program frames.new ≡ pending_of program frames.old) }
+    ensures rest { IfOk result (λ u. (last : ℕ) → rest_of last frames.new
+        ≡ sentences_before last sentences.now (rest_of last frames.old)) }
+    ensures pending { IfOk result (λ u. (program : Program) → pending_of program frames.new
+        ≡ pending_of program frames.old) }
 {
     if let Some((first, others)) = sentences.split_first() {
         frames.push(Frame::Sentences(others))?;
@@ -46,8 +49,10 @@ pub fn push_sentences<'a>(
 
 /// Takes what is to be done next off.
 pub fn next<'a>(frames: &mut Stack<Frame<'a>>) -> Result<Head<'a>, NoMemory>
-    ensures rest { IfOk result (λ head. (last : ℕ) → rest_of last frames.old ≡ heads last head (rest_of last frames.new)) }
-    ensures pending { IfOk result (λ head. (program : Program) → pending_of program frames.new ≡ pending_of program frames.old) }
+    ensures rest { IfOk result (λ head. (last : ℕ) → rest_of last frames.old
+        ≡ heads last head (rest_of last frames.new)) }
+    ensures pending { IfOk result (λ head. (program : Program) → pending_of program frames.new
+        ≡ pending_of program frames.old) }
 {
     while let Some(frame) = frames.pop() {
         match frame {
@@ -76,8 +81,10 @@ pub fn next<'a>(frames: &mut Stack<Frame<'a>>) -> Result<Head<'a>, NoMemory>
 
 /// Statements that are to be done first.
 pub fn push_stmts<'a>(frames: &mut Stack<Frame<'a>>, stmts: &'a [Stmt]) -> Result<(), NoMemory>
-    ensures rest { IfOk result (λ u. (last : ℕ) → rest_of last frames.new ≡ before (seen_stmts last stmts.now) (rest_of last frames.old)) }
-    ensures pending { IfOk result (λ u. (program : Program) → pending_of program frames.new ≡ pending_of program frames.old) }
+    ensures rest { IfOk result (λ u. (last : ℕ) → rest_of last frames.new
+        ≡ before (seen_stmts last stmts.now) (rest_of last frames.old)) }
+    ensures pending { IfOk result (λ u. (program : Program) → pending_of program frames.new
+        ≡ pending_of program frames.old) }
 {
     frames.push(Frame::Stmts(stmts))?;
     Ok(())
@@ -89,16 +96,20 @@ pub fn push_turn<'a>(
     turning: Turning<'a>,
     body: Body<'a>,
 ) -> Result<(), NoMemory>
-    ensures rest { IfOk result (λ u. (last : ℕ) → rest_of last frames.new ≡ Turn (turning_seen turning.entry) (body_seen last body.entry) ∷ rest_of last frames.old) }
-    ensures pending { IfOk result (λ u. (program : Program) → pending_of program frames.new ≡ pending_of program frames.old) }
+    ensures rest { IfOk result (λ u. (last : ℕ) → rest_of last frames.new
+        ≡ Turn (turning_seen turning.entry) (body_seen last body.entry) ∷ rest_of last frames.old) }
+    ensures pending { IfOk result (λ u. (program : Program) → pending_of program frames.new
+        ≡ pending_of program frames.old) }
 {
     frames.push(Frame::Turn(turning, body))?;
     Ok(())
 }
 
 fn push_body<'a>(frames: &mut Stack<Frame<'a>>, body: Body<'a>) -> Result<(), NoMemory>
-    ensures rest { IfOk result (λ u. (last : ℕ) → rest_of last frames.new ≡ before_body (body_seen last body.entry) (rest_of last frames.old)) }
-    ensures pending { IfOk result (λ u. (program : Program) → pending_of program frames.new ≡ pending_of program frames.old) }
+    ensures rest { IfOk result (λ u. (last : ℕ) → rest_of last frames.new
+        ≡ before_body (body_seen last body.entry) (rest_of last frames.old)) }
+    ensures pending { IfOk result (λ u. (program : Program) → pending_of program frames.new
+        ≡ pending_of program frames.old) }
 {
     match body {
         Body::Nested(stmts) => frames.push(Frame::Stmts(stmts))?,
@@ -113,8 +124,11 @@ pub fn turn_on<'a>(
     turning: Turning<'a>,
     body: Body<'a>,
 ) -> Result<(), NoMemory>
-    ensures rest { IfOk result (λ u. (last : ℕ) → rest_of last frames.new ≡ before_body (body_seen last body.entry) (Turn (turning_seen turning.entry) (body_seen last body.entry) ∷ rest_of last frames.old)) }
-    ensures pending { IfOk result (λ u. (program : Program) → pending_of program frames.new ≡ pending_of program frames.old) }
+    ensures rest { IfOk result (λ u. (last : ℕ) → rest_of last frames.new
+        ≡ before_body (body_seen last body.entry)
+        (Turn (turning_seen turning.entry) (body_seen last body.entry) ∷ rest_of last frames.old)) }
+    ensures pending { IfOk result (λ u. (program : Program) → pending_of program frames.new
+        ≡ pending_of program frames.old) }
 {
     push_turn(frames, turning, body)?;
     push_body(frames, body)
@@ -123,7 +137,8 @@ pub fn turn_on<'a>(
 /// Leaves the paragraph: nothing of it is to be done.
 pub fn leave<'a>(frames: &mut Stack<Frame<'a>>) -> Result<(), NoMemory>
     ensures rest { IfOk result (λ u. (last : ℕ) → rest_of last frames.new ≡ []) }
-    ensures pending { IfOk result (λ u. (program : Program) → pending_of program frames.new ≡ pending_of program frames.old) }
+    ensures pending { IfOk result (λ u. (program : Program) → pending_of program frames.new
+        ≡ pending_of program frames.old) }
 {
     while let Some(frame) = frames.pop() {
         if let Frame::Return { end, paragraph } = frame {
@@ -137,8 +152,10 @@ pub fn leave<'a>(frames: &mut Stack<Frame<'a>>) -> Result<(), NoMemory>
 /// Leaves what is to be done up to the end of the sentence.
 #[tactic(auto, using(crate::proofs::FrameLemmas::past_before))]
 pub fn leave_sentence<'a>(frames: &mut Stack<Frame<'a>>) -> Result<(), NoMemory>
-    ensures rest { IfOk result (λ u. (last : ℕ) → rest_of last frames.new ≡ past_sentence (rest_of last frames.old)) }
-    ensures pending { IfOk result (λ u. (program : Program) → pending_of program frames.new ≡ pending_of program frames.old) }
+    ensures rest { IfOk result (λ u. (last : ℕ) → rest_of last frames.new
+        ≡ past_sentence (rest_of last frames.old)) }
+    ensures pending { IfOk result (λ u. (program : Program) → pending_of program frames.new
+        ≡ pending_of program frames.old) }
 {
     while let Some(frame) = frames.pop() {
         match frame {
@@ -158,8 +175,10 @@ pub fn leave_sentence<'a>(frames: &mut Stack<Frame<'a>>) -> Result<(), NoMemory>
 /// Leaves what is to be done up to the innermost loop, or with `cycle` up to what is left of it.
 #[tactic(auto, using(crate::proofs::FrameLemmas::loop_before, crate::proofs::FrameLemmas::loop_sentences))]
 pub fn leave_loop<'a>(frames: &mut Stack<Frame<'a>>, cycle: bool) -> Result<(), NoMemory>
-    ensures rest { IfOk result (λ u. (last : ℕ) → rest_of last frames.new ≡ from_loop cycle (rest_of last frames.old)) }
-    ensures pending { IfOk result (λ u. (program : Program) → pending_of program frames.new ≡ pending_of program frames.old) }
+    ensures rest { IfOk result (λ u. (last : ℕ) → rest_of last frames.new
+        ≡ from_loop cycle (rest_of last frames.old)) }
+    ensures pending { IfOk result (λ u. (program : Program) → pending_of program frames.new
+        ≡ pending_of program frames.old) }
 {
     while let Some(frame) = frames.pop() {
         match frame {

@@ -37,7 +37,8 @@ pub enum Way {
 }
 
 fn way_of(done: Done) -> Way
-    ensures { (last : ℕ) (world : World) (store : List (List ℕ)) (shown : List ℕ) (rest : List Item) →
+    ensures { (last : ℕ) (world : World) (store : List (List ℕ)) (shown : List ℕ)
+        (rest : List Item) →
         way_seen last result shown (memory_in store world) rest
         ≡ tried (did done shown (memory_in store world)) (λ u. on rest) }
 {

@@ -101,7 +101,8 @@ alone_content names inner content side count not_read =
     alone_part false None side count not_read >>= content_from names inner content
 
 -- an expression alone stays one; what else follows makes it a condition
-unfoldable pub content_by : Names → Inner → (ℕ → Form Read) → Position → Primary → ℕ → Bool → Form Read
+unfoldable pub content_by : Names → Inner → (ℕ → Form Read) → Position → Primary → ℕ → Bool →
+    Form Read
 content_by names inner content position (prims.Alone side) count false =
     where_next (is_mark right_parenthesis) (close_side position side count)
     (alone_content names inner content side count false)

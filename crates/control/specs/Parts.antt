@@ -61,7 +61,8 @@ on_item number = Depending (item number) 2
 -- the text, or else N
 abbrev pub shown_items : List Operand → ℕ → List ℕ
 shown_items [] n = []
-shown_items (first ∷ others) n = elim (out-Operand first) [ Operand-F.Text bytes ↦ bytes | _ ↦ n ∷ [] ]
+shown_items (first ∷ others) n = elim (out-Operand first)
+    [ Operand-F.Text bytes ↦ bytes | _ ↦ n ∷ [] ]
 
 abbrev pub changed : Calc → ℕ → ℕ
 changed (calc.Add parts) n = suc n

@@ -13,8 +13,8 @@ pub trait Refers {
     ghost status: { Form Place };
 }
 
-/// Whatever lawful form status items have, the divisions before the PROCEDURE DIVISION read what they
-/// spell and nothing else, and stop at the first token up to which the tokens aren't cut.
+/// Whatever lawful form status items have, the divisions before the PROCEDURE DIVISION read what
+/// they spell and nothing else, and stop at the first token up to which the tokens aren't cut.
 pub fn divisions_are_read<R: Refers>()
     ensures data_part { IsReader data_part }
     ensures divisions { Law true R.status → IsReader (divisions R.status) }

@@ -1,5 +1,5 @@
--- The groups that an entry stands in, by level numbers. They are looked for within its FD, or within
--- working storage: an entry of another file, or of none, ends the search.
+-- The groups that an entry stands in, by level numbers. They are looked for within its FD, or
+-- within working storage: an entry of another file, or of none, ends the search.
 use Rattle.std.specs.Prelude.{ℕ, Bool, true, false, ◌&&◌, ◌||◌, ◌==◌, nat_lt, List, [], ◌∷◌, Option, Some, None, if◌then◌else◌}
 use Rattle.std.specs.List.{count_by, filter_map}
 use Rattle.std.specs.Option.{is_some}
@@ -34,7 +34,8 @@ groups_of bound file (entry ∷ before) =
     else groups_of bound file before)
     else []
 
--- an entry of this level has items below it: the next item with a level of records is of a higher one
+-- an entry of this level has items below it: the next item with a level of records is of a higher
+-- one
 unfoldable pub has_items : (level : ℕ) → (file : Option ℕ) → (behind : List Entry) → Bool
 has_items level file [] = false
 has_items level file (entry ∷ behind) =

@@ -5,7 +5,8 @@ use Rattle.data_names.specs.declared.nesting.Nesting.{Nesting}
 use Rattle.data_names.specs.Grouping.{bound_of, groups_of, holds, same_file}
 use Rattle.data_names.specs.Names.{is_group}
 
--- the number of the nearest item that one bounded so stands in, among those before it, the last first
+-- the number of the nearest item that one bounded so stands in, among those before it, the last
+-- first
 unfoldable pub nearest : (bound : ℕ) → Option ℕ → (before : List Entry) → Option ℕ
 nearest bound file [] = None
 nearest bound file (other ∷ before) =

@@ -25,7 +25,8 @@ pub fn numbers_of<'a>(index: &'a WordIndex, word: &Word) -> &'a [u32]
 // Takes the numbers of a word out of the index.
 fn take_numbers(alloc: Global, index: &mut WordIndex, word: &Word) -> Items<u32>
     ensures value { result ≡ numbers_in index.old word.now }
-    ensures others { (q : List ℕ) → get bytes_eq index.new q ≡ cond (bytes_eq word.now q) None (get bytes_eq index.old q) }
+    ensures others { (q : List ℕ) → get bytes_eq index.new q
+        ≡ cond (bytes_eq word.now q) None (get bytes_eq index.old q) }
 {
     match index.swap_remove(word) {
         None => Items::new(alloc),
@@ -40,7 +41,9 @@ pub fn add_number(
     word: Word,
     number: u32,
 ) -> Result<(), NoMemory>
-    ensures { OnOk result ((other : List ℕ) → numbers_in index.new other ≡ (if bytes_eq word other then numbers_in index.old other ++ number ∷ [] else numbers_in index.old other)) }
+    ensures { OnOk result ((other : List ℕ) → numbers_in index.new other
+        ≡ (if bytes_eq word other then numbers_in index.old other ++ number ∷ []
+        else numbers_in index.old other)) }
 {
     let mut numbers = take_numbers(alloc, index, &word);
     numbers.push(number)?;

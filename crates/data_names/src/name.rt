@@ -20,8 +20,8 @@ pub enum Kind {
 pub struct Name {
     /// None for FILLER.
     pub word: Option<Word>,
-    /// What may qualify it: the names of the groups above it, the nearest first, and its file's. For a
-    /// level 88 the first is its item's.
+    /// What may qualify it: the names of the groups above it, the nearest first, and its file's.
+    /// For a level 88 the first is its item's.
     pub above: Items<Word>,
     pub kind: Kind,
     /// How many subscripts it takes.

@@ -36,7 +36,9 @@ fn one_before(number: usize) -> Option<usize>
 
 // Nothing between an entry and what it stands in holds what is bounded as low.
 fn next_for(bound: u8, other: &Entry, nesting: Nesting, number: usize) -> Option<usize>
-    ensures { nested.count_to result ≡ (if nat_le bound (bound_of other.now.level) then nested.count_to nesting.holder else number) }
+    ensures { nested.count_to result
+        ≡ (if nat_le bound (bound_of other.now.level) then nested.count_to nesting.holder
+        else number) }
 {
     if bound <= bound_of(other.level) {
         nesting.holder
@@ -48,7 +50,8 @@ fn next_for(bound: u8, other: &Entry, nesting: Nesting, number: usize) -> Option
 fn nearest(bound: u8, file: Option<u32>, entries: &[Entry], nestings: &[Nesting]) -> Option<usize>
     requires within { length nestings.now ≤ length entries.now }
     requires table { nestings.now ≡ take (length nestings.now) (nested.nestings_of entries.now) }
-    ensures { result ≡ nested.nearest bound file (reverse (take (length nestings.now) entries.now)) }
+    ensures { result ≡ nested.nearest bound file
+        (reverse (take (length nestings.now) entries.now)) }
 {
     let mut next = one_before(nestings.len());
     while let Some(number) = next {
@@ -67,7 +70,8 @@ fn nearest(bound: u8, file: Option<u32>, entries: &[Entry], nestings: &[Nesting]
 fn next_nesting(entries: &[Entry], nestings: &[Nesting], entry: &Entry) -> Nesting
     requires within { length nestings.now < length entries.now }
     requires table { nestings.now ≡ take (length nestings.now) (nested.nestings_of entries.now) }
-    ensures { result ≡ nested.nesting_of (reverse (take (length nestings.now) entries.now)) entry.now (drop (length nestings.now + 1) entries.now) }
+    ensures { result ≡ nested.nesting_of (reverse (take (length nestings.now) entries.now))
+        entry.now (drop (length nestings.now + 1) entries.now) }
 {
     Nesting {
         holder: nearest(bound_of(entry.level), entry.file, entries, nestings),

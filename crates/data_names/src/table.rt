@@ -41,7 +41,8 @@ impl Model for NameTable {
 
     ghost view = { λ t. record { items = t.items; files = t.files } };
 
-    ghost invariant = { λ t. (length t.items < 2 ^ 31) × (length t.files < 2 ^ 31) × ((word : List ℕ) → numbers_in t.index word ≡ places_of word t.items) };
+    ghost invariant = { λ t. (length t.items < 2 ^ 31) × (length t.files < 2 ^ 31)
+        × ((word : List ℕ) → numbers_in t.index word ≡ places_of word t.items) };
 }
 
 impl NameTable {
@@ -121,7 +122,8 @@ pub fn is_group(entry: &Entry, behind: &[Entry]) -> bool
 }
 
 fn kind_of(entry: &Entry, group: bool) -> Kind
-    ensures { result ≡ (if entry.now.level == 88 then Condition else (if group then Group else names.picture_kind entry.now.picture)) }
+    ensures { result ≡ (if entry.now.level == 88 then Condition
+        else (if group then Group else names.picture_kind entry.now.picture)) }
 {
     if entry.level == 88 {
         Kind::Condition
@@ -163,7 +165,8 @@ fn name_of(
     requires table { nestings.now ≡ nested.nestings_of entries.now }
     requires within { at < length entries.now }
     requires own { entry.now ≡ get_or entries.now at entry.now }
-    ensures { Makes (names.name_of files.now (reverse (take at entries.now)) entry.now (drop (at + 1) entries.now)) result }
+    ensures { Makes (names.name_of files.now (reverse (take at entries.now)) entry.now
+        (drop (at + 1) entries.now)) result }
 {
     let nesting = nesting_at(nestings, at);
     let above = groups_above(alloc, entries, nestings, nesting.holder)?;
@@ -232,7 +235,8 @@ fn place_of(files: &[Word], word: &Word) -> Option<usize>
 #[tactic(auto, using(crate::proofs::IndexLemmas::places_of_push))]
 fn index_of(alloc: Global, items: &[Name]) -> Result<WordIndex, NoMemory>
     requires { length items.now < 2 ^ 31 }
-    ensures { IfOk result (λ index. (word : List ℕ) → numbers_in index word ≡ places_of word items.now) }
+    ensures { IfOk result (λ index. (word : List ℕ) → numbers_in index word
+        ≡ places_of word items.now) }
 {
     let mut index = IndexMap::new(alloc);
     for (at, name) in items.iter().enumerate() {
@@ -248,7 +252,8 @@ fn add_name(
     word: Option<Word>,
     place: u32,
 ) -> Result<(), NoMemory>
-    ensures { OnOk result ((other : List ℕ) → numbers_in index.new other ≡ numbers_in index.old other ++ (if look.is_called other word then place ∷ [] else [])) }
+    ensures { OnOk result ((other : List ℕ) → numbers_in index.new other
+        ≡ numbers_in index.old other ++ (if look.is_called other word then place ∷ [] else [])) }
 {
     match word {
         None => Ok(()),

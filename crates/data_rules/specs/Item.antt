@@ -14,8 +14,8 @@ use Rattle.data_rules.specs.Base.{is_count, number_of}
 use Rattle.data_rules.specs.Clause.{clause_of}
 use Rattle.data_rules.specs.Fault.{fault_unless, first_of}
 
--- LEVEL: 01 and 77 stand alone, any other in an item or a group; 0 stands for what is no level. That
--- nothing stands below a picture needs no rule here: that fault of the group comes before.
+-- LEVEL: 01 and 77 stand alone, any other in an item or a group; 0 stands for what is no level.
+-- That nothing stands below a picture needs no rule here: that fault of the group comes before.
 abbrev pub level_stands : ℕ → Option ℕ → Bool
 level_stands level holder =
     level == 1 || (level == 77 || (not (level == 0) && is_some holder))

@@ -1,5 +1,5 @@
--- The rules on an entry. `bases` are the entries of the program by their drafts, `sizes` the bytes of
--- each, `at` the entry's number.
+-- The rules on an entry. `bases` are the entries of the program by their drafts, `sizes` the bytes
+-- of each, `at` the entry's number.
 use Rattle.std.specs.Prelude.{ℕ, Bool, ◌==◌, List, ◌∷◌, [], Option, Some, None, slice_get, if◌then◌else◌}
 use Rattle.cob_tree.specs.declared.entry.Entry.{Entry}
 use Rattle.data_forms.specs.declared.draft.EntryDraft.{EntryDraft}

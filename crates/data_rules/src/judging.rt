@@ -105,7 +105,8 @@ pub fn fault_by(
     requires short { length bases.now < 2 ^ 31 }
     requires names { names.now ≡ names_of divisions.now.selects divisions.now.data_part.fds }
     requires table { tables.now ≡ tables_of bases.now }
-    ensures { result ≡ (declaring.judged_by bases.now sizes.now (declaring.start_of divisions.now) divisions.now).fault }
+    ensures { result ≡ (declaring.judged_by bases.now sizes.now (declaring.start_of divisions.now)
+        divisions.now).fault }
 {
     let start = Judged {
         at: 0,

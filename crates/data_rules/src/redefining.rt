@@ -33,7 +33,8 @@ fn is_meant(name: &Word, entry: &Entry, other: &Entry) -> bool
 }
 
 fn if_meant(name: &Word, entry: &Entry, number: usize, bases: &[Entry]) -> Option<usize>
-    ensures value { result ≡ redefining.if_meant name.now entry.now number (slice_get bases.now number) }
+    ensures value { result ≡ redefining.if_meant name.now entry.now number
+        (slice_get bases.now number) }
     ensures within { IfSome result (λ found. found ≡ number) }
 {
     match bases.get(number) {
@@ -68,7 +69,8 @@ fn redefined(
 }
 
 fn name_fault(names: &WordPlaces, name: &Word, at: Position) -> Option<Note>
-    ensures { result ≡ (if list_any (bytes_eq name.now) names.now then fault_at Redefines at else fault_at Unknown at) }
+    ensures { result ≡ (if list_any (bytes_eq name.now) names.now then fault_at Redefines at
+        else fault_at Unknown at) }
 {
     if names.has(name) {
         fault_at(NameKind::Redefines, at)
@@ -104,7 +106,8 @@ fn redefined_fault(
 ) -> Option<Note>
     requires table { tables.now ≡ tables_of bases.now }
     requires own { slice_get bases.now at ≡ Some entry.now }
-    ensures { result ≡ redefining.redefined_fault bases.now sizes.now at entry.now name.now name_at }
+    ensures { result ≡ redefining.redefined_fault bases.now sizes.now at entry.now name.now
+        name_at }
 {
     match redefined(bases, tables.alikes.as_slice(), at, entry, name) {
         None => name_fault(&tables.names, name, name_at),

@@ -51,7 +51,8 @@ fn alike_of(other: &Entry, number: usize, alike: Option<usize>) -> Option<usize>
 fn last_alike(entry: &Entry, entries: &[Entry], alikes: &[Option<usize>]) -> Option<usize>
     requires within { length alikes.now ≤ length entries.now }
     requires table { alikes.now ≡ take (length alikes.now) (tables.alikes_of entries.now) }
-    ensures { result ≡ redefining.last_alike entry.now (reverse (take (length alikes.now) entries.now)) }
+    ensures { result ≡ redefining.last_alike entry.now
+        (reverse (take (length alikes.now) entries.now)) }
 {
     let bound = bound_of(entry.level);
     let mut at = alikes.len();

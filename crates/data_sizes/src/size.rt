@@ -130,7 +130,8 @@ fn in_order(alloc: Global, mut stack: Stack<u64>) -> Result<Items<u64>, NoMemory
     Ok(sizes)
 }
 
-/// The bytes of one occurrence of each entry; a size past the last number of 64 bits counts as that.
+/// The bytes of one occurrence of each entry; a size past the last number of 64 bits counts as
+/// that.
 pub fn sizes_of(alloc: Global, entries: &[Entry]) -> Result<Items<u64>, NoMemory>
     ensures { Makes (sized entries.now).sizes result }
 {

@@ -13,8 +13,8 @@ use std::alloc::Global;
 /// The most bytes that items may take.
 const STORAGE_LIMIT: u64 = 16_777_216;
 
-/// What lies over one another: the number of each entry's root, where it stands in no group; the bytes
-/// of each root; and the file of the last item that stands in no group.
+/// What lies over one another: the number of each entry's root, where it stands in no group; the
+/// bytes of each root; and the file of the last item that stands in no group.
 #[derive(Debug, Drop)]
 pub struct Roots {
     pub of: Items<usize>,
@@ -129,8 +129,8 @@ fn total(sizes: &[u64]) -> u64
     total
 }
 
-/// The bytes of all items of level 01 and 77, a file's records once; past the last number of 64 bits
-/// it counts as that.
+/// The bytes of all items of level 01 and 77, a file's records once; past the last number of 64
+/// bits it counts as that.
 pub fn storage_of(alloc: Global, entries: &[Entry]) -> Result<u64, NoMemory>
     ensures { Makes (storages.storage_of entries.now) result }
 {

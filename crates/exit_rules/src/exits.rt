@@ -22,7 +22,8 @@ use tree_rules::{Targets, other_targets, place_of};
 /// A bare return behind the other trees, where there is to be one, in room that is there.
 fn push_return(alloc: Global, trees: &mut Vec<Tree>, returns: bool)
     requires { vec_len trees.old < vec_capacity trees.old }
-    ensures { map seen_tree trees.new.items ≡ map seen_tree trees.old.items ++ return_trees returns }
+    ensures { map seen_tree trees.new.items ≡ map seen_tree trees.old.items
+        ++ return_trees returns }
 {
     if returns {
         trees.push_reserved(Tree {
@@ -51,7 +52,8 @@ fn bare(alloc: Global, targets: &[Label], returns: bool, room: Vec<Tree>) -> Ite
 
 /// The tree of a node as a loop with its exits. Without memory the tree stays.
 fn exit_tree(alloc: Global, tree: &mut Tree, label: Label, cell: u32) -> Result<(), NoMemory>
-    ensures ok { OnOk result (seen_tree tree.new ≡ with_exits none_left_out cell label (seen_tree tree.old)) }
+    ensures ok { OnOk result (seen_tree tree.new
+        ≡ with_exits none_left_out cell label (seen_tree tree.old)) }
     ensures err { OnErr result (seen_tree tree.new ≡ seen_tree tree.old) }
 {
     let targets = targets_of(alloc, tree, label)?;
@@ -95,7 +97,8 @@ fn are_several(targets: &Targets) -> bool
 pub fn exits_at(graph: &Graph, at: usize) -> bool
     requires within { at < length graph.now.nodes.items }
     requires rising { Rising (seen_nodes graph.now.nodes.items) }
-    ensures { result ≡ has_exits (seen_graph graph.now) (label_at (seen_nodes graph.now.nodes.items) at) }
+    ensures { result ≡ has_exits (seen_graph graph.now)
+        (label_at (seen_nodes graph.now.nodes.items) at) }
 {
     let node = &graph.nodes[at];
     if node.tree.jumps_to(node.label) {
@@ -110,7 +113,8 @@ pub fn exit_at(alloc: Global, graph: &mut Graph, at: usize) -> Result<(), NoMemo
     requires within { at < length graph.old.nodes.items }
     requires rising { Rising (seen_nodes graph.old.nodes.items) }
     requires room { length graph.old.added.items < 2 ^ 32 }
-    ensures ok { OnOk result (seen_graph graph.new ≡ exits_graph (label_at (seen_nodes graph.old.nodes.items) at) (seen_graph graph.old)) }
+    ensures ok { OnOk result (seen_graph graph.new
+        ≡ exits_graph (label_at (seen_nodes graph.old.nodes.items) at) (seen_graph graph.old)) }
     ensures err { OnErr result (seen_graph graph.new ≡ seen_graph graph.old) }
 {
     let cell = graph.added.len() as u32;
@@ -125,8 +129,8 @@ pub fn exit_at(alloc: Global, graph: &mut Graph, at: usize) -> Result<(), NoMemo
     }
 }
 
-/// Exits on the node with the label: true where the rule applied, false where it doesn't. With false,
-/// and without memory, the graph stays.
+/// Exits on the node with the label: true where the rule applied, false where it doesn't. With
+/// false, and without memory, the graph stays.
 pub fn close_exits(alloc: Global, graph: &mut Graph, label: Label) -> Result<bool, NoMemory>
     requires rising { Rising (seen_nodes graph.old.nodes.items) }
     requires room { length graph.old.added.items < 2 ^ 32 }

@@ -29,7 +29,8 @@ fn insert_label(labels: &mut Vec<Label>, label: Label) -> Result<(), NoMemory>
 /// The targets of the jumps but those to the label, with those that were found before.
 #[cycle(targets)]
 fn add_targets(tree: &Tree, label: Label, found: &mut Vec<Label>) -> Result<(), NoMemory>
-    ensures { OnOk result (found.new.items ≡ tree_targets label (seen_tree tree.now) found.old.items) }
+    ensures { OnOk result (found.new.items
+        ≡ tree_targets label (seen_tree tree.now) found.old.items) }
 {
     match &tree.end {
         End::Pick { arms, .. } => add_arms(arms.as_slice(), label, found),
@@ -48,7 +49,8 @@ fn add_targets(tree: &Tree, label: Label, found: &mut Vec<Label>) -> Result<(), 
 
 #[cycle(targets)]
 fn add_arms(arms: &[Tree], label: Label, found: &mut Vec<Label>) -> Result<(), NoMemory>
-    ensures { OnOk result (found.new.items ≡ trees_targets label (seen_trees arms.now) found.old.items) }
+    ensures { OnOk result (found.new.items
+        ≡ trees_targets label (seen_trees arms.now) found.old.items) }
 {
     for arm in arms {
         add_targets(arm, label, found)?;

@@ -53,7 +53,8 @@ pub fn window_behind(
     first: Side,
     count: u32,
 ) -> Result<(Window, u32), Unread>
-    ensures { Reads ((windows.window_behind names.now (inner names.now levels) alone first count).reads
+    ensures { Reads ((windows.window_behind names.now (inner names.now levels) alone first
+        count).reads
         cursor.old) result cursor.new }
 {
     cursor.mark(b':')?;

@@ -108,7 +108,8 @@ fn compared_as(kind: ValueKind) -> ValueKind
 }
 
 fn kinds_fault(left: &Side, right: &Side) -> Option<Note>
-    ensures { result ≡ faults.kinds_fault (faults.compared_as left.now.kind) (faults.compared_as right.now.kind) left.now right.now }
+    ensures { result ≡ faults.kinds_fault (faults.compared_as left.now.kind)
+        (faults.compared_as right.now.kind) left.now right.now }
 {
     match (compared_as(left.kind), compared_as(right.kind)) {
         (ValueKind::Text, ValueKind::Number(_)) => inexact_fault(right),

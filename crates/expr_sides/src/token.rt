@@ -60,7 +60,8 @@ pub fn at_turn(cursor: &Cursor<'_>) -> bool
 
 /// Takes an operator of an expression.
 pub fn operator(cursor: &mut Cursor<'_>) -> Result<Op, Unread>
-    ensures { Reads ((form.one (λ position kind. tokens.op_of kind)).reads cursor.old) result cursor.new }
+    ensures { Reads ((form.one (λ position kind. tokens.op_of kind)).reads cursor.old) result
+        cursor.new }
 {
     let op = match cursor.peek() {
         Some(TokenKind::Mark(b)) => op_of_byte(*b),

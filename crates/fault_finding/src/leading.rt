@@ -9,8 +9,8 @@ use cob_base::NoMemory;
 use flow_levels::Reach;
 use pending_returns::{RangeFacts, visit_calls};
 
-/// Makes these the ranges to which calls lead from this one. What was there before is let go, in the
-/// time that it took to come there. Err where memory is wanted.
+/// Makes these the ranges to which calls lead from this one. What was there before is let go, in
+/// the time that it took to come there. Err where memory is wanted.
 pub fn led_from(reach: &mut Reach, levels: &[RangeFacts], base: u32) -> Result<(), NoMemory>
     requires marked { IsMarked reach.old.places.items reach.old.marks.items }
     requires size { length reach.old.marks.items ≡ length levels.now }

@@ -61,13 +61,15 @@ pub trait Device: Drop {
     /// Puts bytes at a file's end.
     fn write_next(&mut self, file: &[u8], bytes: &[u8]) -> Put
         ensures name { named self.new ≡ named self.old }
-        ensures told { Changes (told self.old) file.now (appended bytes.now) result (told self.new) }
+        ensures told { Changes (told self.old) file.now (appended bytes.now) result
+            (told self.new) }
         ensures cause { Counts (put_fails result) (faults self.old) (faults self.new) };
 
     /// Puts a whole record in the place of the one that was read last.
     fn rewrite_last(&mut self, file: &[u8], bytes: &[u8]) -> Put
         ensures name { named self.new ≡ named self.old }
-        ensures told { Changes (told self.old) file.now (replaced bytes.now) result (told self.new) }
+        ensures told { Changes (told self.old) file.now (replaced bytes.now) result
+            (told self.new) }
         ensures cause { Counts (put_fails result) (faults self.old) (faults self.new) };
 
     /// Closes a file. It takes no memory.

@@ -231,7 +231,8 @@ impl Device for MemDevice {
 
     fn open_file(&mut self, file: &[u8], how: How) -> Opened
         ensures name { self.new.name ≡ self.old.name }
-        ensures told { Opens (Some self.old.files.items) file.now how result (Some self.new.files.items) }
+        ensures told { Opens (Some self.old.files.items) file.now how result
+            (Some self.new.files.items) }
         ensures cause { Counts (open_fails result) self.old.count self.new.count }
         ensures listed { (result ≡ Opened.Failed) ↔ Contains self.old.failing.items self.new.calls }
         ensures called { self.new.calls ≡ min (self.old.calls + 1) (2 ^ 64 - 1) }
@@ -246,7 +247,8 @@ impl Device for MemDevice {
     fn read_next(&mut self, file: &[u8], into: &mut [u8]) -> Got
         ensures name { self.new.name ≡ self.old.name }
         ensures bound { GivesAtMost (length into.old) result }
-        ensures told { Reads (Some self.old.files.items) file.now result into.old into.new (Some self.new.files.items) }
+        ensures told { Reads (Some self.old.files.items) file.now result into.old into.new
+            (Some self.new.files.items) }
         ensures cause { Counts (read_fails result) self.old.count self.new.count }
         ensures listed { (result ≡ Got.Failed) ↔ Contains self.old.failing.items self.new.calls }
         ensures called { self.new.calls ≡ min (self.old.calls + 1) (2 ^ 64 - 1) }
@@ -260,7 +262,8 @@ impl Device for MemDevice {
 
     fn write_next(&mut self, file: &[u8], bytes: &[u8]) -> Put
         ensures name { self.new.name ≡ self.old.name }
-        ensures told { Changes (Some self.old.files.items) file.now (appended bytes.now) result (Some self.new.files.items) }
+        ensures told { Changes (Some self.old.files.items) file.now (appended bytes.now) result
+            (Some self.new.files.items) }
         ensures cause { Counts (put_fails result) self.old.count self.new.count }
         ensures listed { (result ≡ Put.Failed) ↔ Contains self.old.failing.items self.new.calls }
         ensures called { self.new.calls ≡ min (self.old.calls + 1) (2 ^ 64 - 1) }
@@ -274,7 +277,8 @@ impl Device for MemDevice {
 
     fn rewrite_last(&mut self, file: &[u8], bytes: &[u8]) -> Put
         ensures name { self.new.name ≡ self.old.name }
-        ensures told { Changes (Some self.old.files.items) file.now (replaced bytes.now) result (Some self.new.files.items) }
+        ensures told { Changes (Some self.old.files.items) file.now (replaced bytes.now) result
+            (Some self.new.files.items) }
         ensures cause { Counts (put_fails result) self.old.count self.new.count }
         ensures listed { (result ≡ Put.Failed) ↔ Contains self.old.failing.items self.new.calls }
         ensures called { self.new.calls ≡ min (self.old.calls + 1) (2 ^ 64 - 1) }
@@ -288,7 +292,8 @@ impl Device for MemDevice {
 
     fn close_file(&mut self, file: &[u8]) -> Put
         ensures name { self.new.name ≡ self.old.name }
-        ensures told { Changes (Some self.old.files.items) file.now shut result (Some self.new.files.items) }
+        ensures told { Changes (Some self.old.files.items) file.now shut result
+            (Some self.new.files.items) }
         ensures cause { Counts (put_fails result) self.old.count self.new.count }
         ensures memory { result ≢ Put.NoMemory }
         ensures listed { (result ≡ Put.Failed) ↔ Contains self.old.failing.items self.new.calls }

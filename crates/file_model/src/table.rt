@@ -185,7 +185,8 @@ impl FileTable {
     /// Notes that a READ gave a record, or came to the end.
     pub fn note_read(&mut self, file: u32, ended: bool)
         requires { file < length self.old.rows }
-        ensures { IfSome (slice_get self.old.rows file) (λ row. self.new.rows ≡ slice_set self.old.rows file (read_row ended row)) }
+        ensures { IfSome (slice_get self.old.rows file)
+            (λ row. self.new.rows ≡ slice_set self.old.rows file (read_row ended row)) }
     {
         let row = self.row(file);
         self.rows.put(
@@ -201,7 +202,8 @@ impl FileTable {
     /// Notes any other operation, also one that was refused.
     pub fn note_other(&mut self, file: u32)
         requires { file < length self.old.rows }
-        ensures { IfSome (slice_get self.old.rows file) (λ row. self.new.rows ≡ slice_set self.old.rows file (other_row row)) }
+        ensures { IfSome (slice_get self.old.rows file)
+            (λ row. self.new.rows ≡ slice_set self.old.rows file (other_row row)) }
     {
         let row = self.row(file);
         self.rows.put(

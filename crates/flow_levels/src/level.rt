@@ -43,11 +43,13 @@ impl Level {
         requires tidy { IsTidy table.now }
         requires known { length table.now.ranges ≤ length returns.now }
         ensures fits { FitsTable table.now self.new }
-        ensures reach { OnOk result (IsReach table.now returns.now range self.new.places.places.items) }
+        ensures reach { OnOk result
+            (IsReach table.now returns.now range self.new.places.places.items) }
         ensures calls { OnOk result
             (GathersAllCalls table.now self.new.places.places.items self.new.calls.places.items) }
         ensures ends { OnOk result
-            (GathersAllEnds table.now range self.new.places.places.items self.new.ends.places.items) }
+            (GathersAllEnds table.now range self.new.places.places.items
+            self.new.ends.places.items) }
     {
         reached(&mut self.places, table, returns, range)?;
         calls_of(&mut self.calls, table, self.places.places.as_slice())?;

@@ -74,7 +74,8 @@ impl Reach {
         requires tidy_place { IsTidyPlace table.now place.now }
         requires known { length table.now.ranges ≤ length returns.now }
         ensures adds { OnOk result
-            (AddsNext table.now returns.now range place.now self.old.places.items self.new.places.items) }
+            (AddsNext table.now returns.now range place.now self.old.places.items
+            self.new.places.items) }
         ensures marked { IsMarked self.new.places.items self.new.marks.items }
         ensures size { length self.new.marks.items ≡ length self.old.marks.items }
     {

@@ -57,7 +57,8 @@ pub fn round(reach: &mut Reach, table: &Table, returns: &mut Vec<bool>) -> Resul
     ensures size { length returns.new.items ≡ length table.now.ranges }
     ensures sound { StaysSound table.now returns.old.items returns.new.items }
     ensures closed { IfOk result (λ more. more ≡ false → IsClosed table.now returns.new.items) }
-    ensures more { IfOk result (λ more. more ≡ true → trues returns.old.items < trues returns.new.items) }
+    ensures more { IfOk result (λ more. more ≡ true → trues returns.old.items
+        < trues returns.new.items) }
     ensures marked { IsMarked reach.new.places.items reach.new.marks.items }
     ensures places { length reach.new.marks.items ≡ length table.now.places }
 {

@@ -10,7 +10,8 @@ use cob_base::NoMemory;
 use flow_places::{Place, Table};
 use std::alloc::Global;
 
-/// A range that waits for another one to return, and the number of the next that waits for the same.
+/// A range that waits for another one to return, and the number of the next that waits for the
+/// same.
 #[derive(Clone, Copy, Debug)]
 pub struct Wait {
     pub range: u32,

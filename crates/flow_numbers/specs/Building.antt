@@ -61,7 +61,8 @@ abbrev pub Builds : (Chooser → Bool) → ℕ → ℕ → List Place → List P
 Builds never_first count number old new old_ranges new_ranges stmts exits begin =
     (program : Program) (points : ℕ → Point) (rest : List Item) →
     IsBehind program count number old points rest exits →
-    (later : ℕ → Point) × Grown never_first program number old new old_ranges new_ranges points later
+    (later : ℕ → Point) × Grown never_first program number old new old_ranges new_ranges points
+    later
     × IsAt new later begin (at number (before stmts rest))
 
 -- the statements of each arm, none of a missing one
@@ -80,7 +81,8 @@ abbrev pub BuildsBranches : (Chooser → Bool) → ℕ → ℕ → List Place �
 BuildsBranches never_first count number old new old_ranges new_ranges branches exits ways =
     (program : Program) (points : ℕ → Point) (rest : List Item) →
     IsBehind program count number old points rest exits →
-    (later : ℕ → Point) × Grown never_first program number old new old_ranges new_ranges points later
+    (later : ℕ → Point) × Grown never_first program number old new old_ranges new_ranges points
+    later
     × (branch_points number rest branches ≡ map (λ (way : Option ℕ). option_map later way) ways)
     × AllBelow (length new) ways
 
@@ -167,5 +169,6 @@ abbrev pub BuildsRest : (Chooser → Bool) → ℕ → ℕ → List Place → Li
 BuildsRest never_first count number old new old_ranges new_ranges sentences begin =
     (program : Program) (points : ℕ → Point) → HasParagraphs program count old points →
     number < count →
-    (later : ℕ → Point) × Grown never_first program number old new old_ranges new_ranges points later
+    (later : ℕ → Point) × Grown never_first program number old new old_ranges new_ranges points
+    later
     × IsAt new later begin (at number (items_of sentences))

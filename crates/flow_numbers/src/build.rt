@@ -88,8 +88,10 @@ impl Builder {
     /// The number of a range: where ranges stand in their order it is found by halving, and any
     /// other is added.
     pub fn range_number(&mut self, range: Range) -> Result<u32, NoMemory>
-        ensures number { IfOk result (λ number. slice_get self.new.ranges.items number ≡ Some range) }
-        ensures kept { (number : ℕ) (known : Range) → slice_get self.old.ranges.items number ≡ Some known → slice_get self.new.ranges.items number ≡ Some known }
+        ensures number { IfOk result
+            (λ number. slice_get self.new.ranges.items number ≡ Some range) }
+        ensures kept { (number : ℕ) (known : Range) → slice_get self.old.ranges.items number
+            ≡ Some known → slice_get self.new.ranges.items number ≡ Some known }
         ensures places { self.new.places.items ≡ self.old.places.items }
         ensures count { self.new.count ≡ self.old.count }
         ensures longer { length self.old.places.items ≤ length self.new.places.items }
@@ -116,7 +118,8 @@ impl Builder {
 
     /// The place at a paragraph's end.
     pub fn end_place(&self, paragraph: u32) -> Result<u32, NoMemory>
-        ensures { IfOk result (λ place. (place ≡ self.now.count + paragraph) × (paragraph < self.now.count)) }
+        ensures { IfOk result (λ place. (place ≡ self.now.count + paragraph)
+            × (paragraph < self.now.count)) }
     {
         if paragraph >= self.count {
             return Err(NoMemory);
@@ -136,7 +139,8 @@ impl Builder {
         second: u32,
     ) -> Result<u32, NoMemory>
         ensures added { IfOk result (λ number. (number ≡ length self.old.places.items)
-            × (self.new.places.items ≡ self.old.places.items ++ Chooses (two_ways barred first second) ∷ [])) }
+            × (self.new.places.items ≡ self.old.places.items
+            ++ Chooses (two_ways barred first second) ∷ [])) }
         ensures ranges { self.new.ranges.items ≡ self.old.ranges.items }
         ensures count { self.new.count ≡ self.old.count }
         ensures longer { length self.old.places.items ≤ length self.new.places.items }
@@ -151,7 +155,8 @@ impl Builder {
     /// Adds a place with these ways and one more.
     pub fn choose_last(&mut self, ways: Items<Option<u32>>, last: u32) -> Result<u32, NoMemory>
         ensures added { IfOk result (λ number. (number ≡ length self.old.places.items)
-            × (self.new.places.items ≡ self.old.places.items ++ Chooses (ways ++ Some last ∷ []) ∷ [])) }
+            × (self.new.places.items ≡ self.old.places.items ++ Chooses (ways ++ Some last ∷ []) ∷
+            [])) }
         ensures ranges { self.new.ranges.items ≡ self.old.ranges.items }
         ensures count { self.new.count ≡ self.old.count }
         ensures longer { length self.old.places.items ≤ length self.new.places.items }
@@ -171,7 +176,9 @@ impl Builder {
         start: u32,
     ) -> Result<u32, NoMemory>
         requires { turn < length self.old.places.items }
-        ensures closed { IfOk result (λ begin. IsClosed kind turn after start begin self.old.places.items self.new.places.items) }
+        ensures closed { IfOk result
+            (λ begin. IsClosed kind turn after start begin self.old.places.items
+            self.new.places.items) }
         ensures ranges { self.new.ranges.items ≡ self.old.ranges.items }
         ensures count { self.new.count ≡ self.old.count }
         ensures longer { length self.old.places.items ≤ length self.new.places.items }
@@ -198,7 +205,8 @@ impl Builder {
         exit: u32,
         exits: Exits,
     ) -> Result<u32, NoMemory>
-        ensures builds { IfOk result (λ begin. (never_first : Chooser → Bool) → Builds never_first self.old.count here.number
+        ensures builds { IfOk result
+            (λ begin. (never_first : Chooser → Bool) → Builds never_first self.old.count here.number
             self.old.places.items self.new.places.items self.old.ranges.items self.new.ranges.items
             (also (Perform entry exit) none) exits begin) }
         ensures count { self.new.count ≡ self.old.count }
@@ -224,7 +232,9 @@ impl Builder {
         kind: Kind,
         exits: Exits,
     ) -> Result<u32, NoMemory>
-        ensures builds { IfOk result (λ begin. (never_first : Chooser → Bool) (control : language.Control) → kind_in control ≡ kind →
+        ensures builds { IfOk result
+            (λ begin. (never_first : Chooser → Bool) (control : language.Control) → kind_in control
+            ≡ kind →
             Builds never_first self.old.count here.number
             self.old.places.items self.new.places.items self.old.ranges.items self.new.ranges.items
             (also (Loop control (Performed entry exit)) none) exits begin) }
@@ -247,7 +257,8 @@ impl Builder {
         control: &Control,
         exits: Exits,
     ) -> Result<u32, NoMemory>
-        ensures builds { IfOk result (λ begin. (never_first : Chooser → Bool) → Builds never_first self.old.count here.number
+        ensures builds { IfOk result
+            (λ begin. (never_first : Chooser → Bool) → Builds never_first self.old.count here.number
             self.old.places.items self.new.places.items self.old.ranges.items self.new.ranges.items
             (also (perform_of (control_in control.now) entry exit) none) exits begin) }
         ensures count { self.new.count ≡ self.old.count }
@@ -267,7 +278,9 @@ impl Builder {
         names: &[u32],
         exits: Exits,
     ) -> Result<u32, NoMemory>
-        ensures builds { IfOk result (λ begin. (never_first : Chooser → Bool) (chooser : Chooser) → Builds never_first self.old.count here.number
+        ensures builds { IfOk result
+            (λ begin. (never_first : Chooser → Bool) (chooser : Chooser) →
+            Builds never_first self.old.count here.number
             self.old.places.items self.new.places.items self.old.ranges.items self.new.ranges.items
             (also (GoDepending names.now chooser) none) exits begin) }
         ensures count { self.new.count ≡ self.old.count }
@@ -286,7 +299,8 @@ impl Builder {
 
     /// The place of a GO TO.
     pub fn build_go(&mut self, here: Here, to: u32, exits: Exits) -> Result<u32, NoMemory>
-        ensures builds { IfOk result (λ begin. (never_first : Chooser → Bool) → Builds never_first self.old.count here.number
+        ensures builds { IfOk result
+            (λ begin. (never_first : Chooser → Bool) → Builds never_first self.old.count here.number
             self.old.places.items self.new.places.items self.old.ranges.items self.new.ranges.items
             (also (Go to) none) exits begin) }
         ensures count { self.new.count ≡ self.old.count }
@@ -300,7 +314,8 @@ impl Builder {
 
     /// The place of an EXIT PARAGRAPH.
     pub fn build_exit_paragraph(&mut self, here: Here, exits: Exits) -> Result<u32, NoMemory>
-        ensures builds { IfOk result (λ begin. (never_first : Chooser → Bool) → Builds never_first self.old.count here.number
+        ensures builds { IfOk result
+            (λ begin. (never_first : Chooser → Bool) → Builds never_first self.old.count here.number
             self.old.places.items self.new.places.items self.old.ranges.items self.new.ranges.items
             (also ExitParagraph none) exits begin) }
         ensures count { self.new.count ≡ self.old.count }
@@ -312,7 +327,8 @@ impl Builder {
 
     /// The place of an EXIT SECTION.
     pub fn build_exit_section(&mut self, here: Here, exits: Exits) -> Result<u32, NoMemory>
-        ensures builds { IfOk result (λ begin. (never_first : Chooser → Bool) → Builds never_first self.old.count here.number
+        ensures builds { IfOk result
+            (λ begin. (never_first : Chooser → Bool) → Builds never_first self.old.count here.number
             self.old.places.items self.new.places.items self.old.ranges.items self.new.ranges.items
             (also (ExitSection here.last) none) exits begin) }
         ensures count { self.new.count ≡ self.old.count }
@@ -332,7 +348,8 @@ impl Builder {
         stmt: &Stmt,
         exits: Exits,
     ) -> Result<u32, NoMemory>
-        ensures builds { IfOk result (λ begin. Builds (never_first_of files.now) self.old.count here.number
+        ensures builds { IfOk result
+            (λ begin. Builds (never_first_of files.now) self.old.count here.number
             self.old.places.items self.new.places.items self.old.ranges.items self.new.ranges.items
             (also (seen here.last stmt.now) none) exits begin) }
         ensures count { self.new.count ≡ self.old.count }
@@ -402,7 +419,8 @@ impl Builder {
         stmts: &Items<Stmt>,
         exits: Exits,
     ) -> Result<u32, NoMemory>
-        ensures builds { IfOk result (λ begin. Builds (never_first_of files.now) self.old.count here.number
+        ensures builds { IfOk result
+            (λ begin. Builds (never_first_of files.now) self.old.count here.number
             self.old.places.items self.new.places.items self.old.ranges.items self.new.ranges.items
             (seen_stmts here.last stmts.now) exits begin) }
         ensures count { self.new.count ≡ self.old.count }
@@ -427,7 +445,8 @@ impl Builder {
         silent: bool,
         exits: Exits,
     ) -> Result<u32, NoMemory>
-        ensures builds { IfOk result (λ begin. BuildsBoth (never_first_of files.now) self.old.count here.number
+        ensures builds { IfOk result
+            (λ begin. BuildsBoth (never_first_of files.now) self.old.count here.number
             self.old.places.items self.new.places.items self.old.ranges.items self.new.ranges.items
             here.last (out-Arms arms.now).first (out-Arms arms.now).second silent exits begin) }
         ensures count { self.new.count ≡ self.old.count }
@@ -464,7 +483,8 @@ impl Builder {
         whens: &Items<When>,
         exits: Exits,
     ) -> Result<Items<Option<u32>>, NoMemory>
-        ensures builds { IfOk result (λ ways. BuildsBranches (never_first_of files.now) self.old.count here.number
+        ensures builds { IfOk result
+            (λ ways. BuildsBranches (never_first_of files.now) self.old.count here.number
             self.old.places.items self.new.places.items self.old.ranges.items self.new.ranges.items
             (seen_branches here.last whens.now) exits ways) }
         ensures count { self.new.count ≡ self.old.count }
@@ -489,9 +509,11 @@ impl Builder {
         body: &Items<Stmt>,
         exits: Exits,
     ) -> Result<u32, NoMemory>
-        ensures builds { IfOk result (λ begin. Builds (never_first_of files.now) self.old.count here.number
+        ensures builds { IfOk result
+            (λ begin. Builds (never_first_of files.now) self.old.count here.number
             self.old.places.items self.new.places.items self.old.ranges.items self.new.ranges.items
-            (also (loop_of (control_in control.now) (seen_stmts here.last body.now)) none) exits begin) }
+            (also (loop_of (control_in control.now) (seen_stmts here.last body.now)) none) exits
+            begin) }
         ensures count { self.new.count ≡ self.old.count }
         ensures longer { length self.old.places.items ≤ length self.new.places.items }
     {

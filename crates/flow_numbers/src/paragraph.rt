@@ -20,7 +20,8 @@ impl Builder {
         here: Here,
         sentences: &Items<Sentence>,
     ) -> Result<u32, NoMemory>
-        ensures builds { IfOk result (λ begin. BuildsRest (never_first_of files.now) self.old.count here.number
+        ensures builds { IfOk result
+            (λ begin. BuildsRest (never_first_of files.now) self.old.count here.number
             self.old.places.items self.new.places.items self.old.ranges.items self.new.ranges.items
             (map (seen_sentence here.last) sentences.now) begin) }
         ensures count { self.new.count ≡ self.old.count }

@@ -74,8 +74,8 @@ some_given done = false
 some_given (given arm others) = true
 some_given (missing others) = some_given others
 
--- how many ways it has: its arms, where one is given; its names and the way behind it; or no turn and
--- one more
+-- how many ways it has: its arms, where one is given; its names and the way behind it; or no turn
+-- and one more
 abbrev pub way_count : Item → ℕ
 way_count (Do (Choose picker arms)) = if some_given arms then arm_count arms else 1
 way_count (Do (GoDepending to on)) = suc (length to)

@@ -17,8 +17,8 @@ pub enum Place {
     Ends(u32),
 }
 
-/// The places of a program, the paragraph in which each of them stands, where each paragraph starts,
-/// and main and the ranges that its PERFORM statements name.
+/// The places of a program, the paragraph in which each of them stands, where each paragraph
+/// starts, and main and the ranges that its PERFORM statements name.
 #[derive(Debug, Drop)]
 pub struct Table {
     pub places: Items<Place>,

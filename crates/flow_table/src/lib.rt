@@ -1,7 +1,8 @@
 //! A whole program's places, by number.
 //!
-//! `table_of` numbers a program: the table that it gives is one of the program, as `flow_places` has
-//! it, and tidy. `specs/Numbering.antt` says what is told when the paragraphs from one on are done.
+//! `table_of` numbers a program: the table that it gives is one of the program, as `flow_places`
+//! has it, and tidy. `specs/Numbering.antt` says what is told when the paragraphs from one on are
+//! done.
 #![tactic(auto)]
 
 mod begin;

@@ -17,7 +17,8 @@ use std::alloc::Global;
 
 /// The last paragraph of the section of the one with this number, by that of the next one's.
 pub fn last_of(paragraphs: &[Paragraph], number: u32, next: u32) -> u32
-    requires { suc number < length paragraphs.now → next ≡ section_last (suc number) (drop (suc (suc number)) paragraphs.now) }
+    requires { suc number < length paragraphs.now → next
+        ≡ section_last (suc number) (drop (suc (suc number)) paragraphs.now) }
     ensures { result ≡ section_last number (drop (suc number) paragraphs.now) }
 {
     let up = number as usize + 1;
@@ -38,14 +39,17 @@ pub fn build_paragraphs(
     paragraphs: &[Paragraph],
 ) -> Result<(), NoMemory>
     requires count { numbering.old.builder.count ≡ length paragraphs.now }
-    requires owners { length numbering.old.owners.items ≡ length numbering.old.builder.places.items }
-    ensures builds { OnOk result (NumbersAll (never_first_of files.now) (seen_paragraphs 0 paragraphs.now)
+    requires owners { length numbering.old.owners.items
+        ≡ length numbering.old.builder.places.items }
+    ensures builds { OnOk result (NumbersAll (never_first_of files.now)
+        (seen_paragraphs 0 paragraphs.now)
         numbering.old.builder.count
         numbering.old.builder.places.items numbering.new.builder.places.items
         numbering.old.builder.ranges.items numbering.new.builder.ranges.items
         numbering.old.owners.items numbering.new.owners.items) }
     ensures count { numbering.new.builder.count ≡ numbering.old.builder.count }
-    ensures owners { OnOk result (length numbering.new.owners.items ≡ length numbering.new.builder.places.items) }
+    ensures owners { OnOk result (length numbering.new.owners.items
+        ≡ length numbering.new.builder.places.items) }
 {
     let mut last = 0;
     for number in (0..numbering.builder.count).rev() {
@@ -67,7 +71,8 @@ pub fn build_paragraphs(
 /// Err where memory is wanted, where a PERFORM names none of the ranges, and where the program or
 /// one of the ranges names a paragraph that isn't there.
 pub fn table_of(alloc: Global, program: &Program, ranges: Vec<Range>) -> Result<Table, NoMemory>
-    ensures table { IfOk result (λ table. HasTable (never_first_of program.now.files) (control_of program.now) table) }
+    ensures table { IfOk result (λ table. HasTable (never_first_of program.now.files)
+        (control_of program.now) table) }
     ensures tidy { IfOk result (λ table. IsTidy table) }
     ensures ranges { IfOk result (λ table. table.ranges ≡ ranges.items) }
     ensures starts { IfOk result (λ table. Counts (length program.now.paragraphs) table.starts) }

@@ -42,7 +42,8 @@ pub fn own(owners: &mut Vec<u32>, until: usize, number: u32) -> Result<(), NoMem
     Ok(())
 }
 
-/// Adds the places of a paragraph, and puts what control does first in it at the place of its start.
+/// Adds the places of a paragraph, and puts what control does first in it at the place of its
+/// start.
 pub fn build_paragraph(
     numbering: &mut Numbering,
     alloc: Global,
@@ -51,14 +52,17 @@ pub fn build_paragraph(
     sentences: &Items<Sentence>,
 ) -> Result<(), NoMemory>
     requires number { here.number < numbering.old.builder.count }
-    requires owners { length numbering.old.owners.items ≡ length numbering.old.builder.places.items }
-    ensures builds { OnOk result (BuildsParagraph (never_first_of files.now) numbering.old.builder.count
+    requires owners { length numbering.old.owners.items
+        ≡ length numbering.old.builder.places.items }
+    ensures builds { OnOk result (BuildsParagraph (never_first_of files.now)
+        numbering.old.builder.count
         numbering.old.builder.places.items numbering.new.builder.places.items
         numbering.old.builder.ranges.items numbering.new.builder.ranges.items
         numbering.old.owners.items numbering.new.owners.items
         (map (seen_sentence here.last) sentences.now) here.number) }
     ensures count { numbering.new.builder.count ≡ numbering.old.builder.count }
-    ensures owners { OnOk result (length numbering.new.owners.items ≡ length numbering.new.builder.places.items) }
+    ensures owners { OnOk result (length numbering.new.owners.items
+        ≡ length numbering.new.builder.places.items) }
 {
     let begin = numbering.builder.build_rest(alloc, files, here, sentences)?;
     // It always is behind: a paragraph begins at a place of its own, or at that of its end.

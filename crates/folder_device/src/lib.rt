@@ -1,4 +1,5 @@
-//! A device over the files of one folder, as `main` hands it to the interpreter under the name DISK.
+//! A device over the files of one folder, as `main` hands it to the interpreter under the name
+//! DISK.
 //!
 //! It is an edge of what is proved: it keeps the trait's clauses on names, lengths and counts of
 //! failures, and tells nothing of what files hold. One test tries it on a real folder.
@@ -18,8 +19,8 @@ use std::alloc::Global;
 use std::fs::Files;
 use std::io::{Error, ErrorKind, Result as IoResult};
 
-/// The files of one folder. Each error of the system counts as a failure, but at OPEN a file that is
-/// missing and want of memory. A name that is open already is closed, and then opened anew.
+/// The files of one folder. Each error of the system counts as a failure, but at OPEN a file that
+/// is missing and want of memory. A name that is open already is closed, and then opened anew.
 #[derive(Drop)]
 pub struct FolderDevice<R: Files + Drop> {
     name: Text,

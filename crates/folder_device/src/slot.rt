@@ -1,4 +1,5 @@
-//! A writer that is given its file later, so that a buffer is had before anything in the folder changes.
+//! A writer that is given its file later, so that a buffer is had before anything in the folder
+//! changes.
 
 use std::io::{Error, ErrorKind, Result as IoResult, Write};
 

@@ -56,7 +56,8 @@ ALoopBefore =
 -- tested after
 abbrev pub ALoopAfter : Type 0
 ALoopAfter =
-    shaped (graph 0 (labelled 0 (tree (alone (say 2)) (either three (tree none Return) (to 0))) ∷ [])
+    shaped (graph 0 (labelled 0 (tree (alone (say 2)) (either three (tree none Return) (to 0))) ∷
+    [])
     [])
     ≡ graph 0 (labelled 0
     (tree (also (Loop (Until true (Holds (is 3))) (Nested (alone (say 2)))) none) Return) ∷ []) []

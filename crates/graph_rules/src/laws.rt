@@ -3,14 +3,15 @@
 ghost use Rattle.graph_rules.specs.Laws.{JoinGives, OneJoinGives, JoinsAddUp, NoJoinIsLeft, InlineGives, EndlessGives, FlagGives, FormGives, ShapingEnds, ShapedIsClosed, SingleIsLast, ShapedKeeps, ShapedMainIsTied, WalkTakesItsUnits, WalksAreTied, JoinKeeps, PruneKeeps, InlineKeeps, TestedKeeps, LoopKeeps, WalkSeesItsCells, KeptFromAgreeing, SoundBySteps};
 ghost use Rattle.graph_rules.specs.Examples.{AFlagLoop, ALoopBefore, ALoopAfter, AnEndlessLoop, AJoinAndAnInline};
 
-/// The walk of a range by recursion is its walk step by step, and takes exactly the units that the steps cost.
+/// The walk of a range by recursion is its walk step by step, and takes exactly the units that the
+/// steps cost.
 pub fn a_walk_takes_its_units<Memory, Left>()
     ensures units { WalkTakesItsUnits Memory Left }
     ensures tied { WalksAreTied Memory Left }
 {}
 
-/// What a walk does depends on the program's memory and the cells of its family, and the rules keep it from any two
-/// memories that agree on them.
+/// What a walk does depends on the program's memory and the cells of its family, and the rules keep
+/// it from any two memories that agree on them.
 pub fn walks_from_agreeing_memories<Memory, Left>()
     ensures sees { WalkSeesItsCells Memory Left }
     ensures kept { KeptFromAgreeing Memory Left }
@@ -71,7 +72,8 @@ pub fn shaped_keeps<Memory, Left>()
     ensures main { ShapedMainIsTied Memory Left }
 {}
 
-/// Of small graphs: a loop with a flag, tested before, tested after and endless, a join and a node in place of a jump.
+/// Of small graphs: a loop with a flag, tested before, tested after and endless, a join and a node
+/// in place of a jump.
 pub fn small_graphs_are_shaped_as_said()
     ensures flag { AFlagLoop }
     ensures before { ALoopBefore }

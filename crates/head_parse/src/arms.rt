@@ -153,7 +153,8 @@ pub fn not_phrase(
     has_first: bool,
     not_read: bool,
 ) -> Result<NotPhrase, Unread>
-    ensures { Reads ((forms.not_phrase phrase (all.enter levels) has_first not_read).reads cursor.old)
+    ensures { Reads ((forms.not_phrase phrase (all.enter levels) has_first not_read).reads
+        cursor.old)
         result cursor.new }
 {
     if not_read {

@@ -204,7 +204,8 @@ fn item_head<P: Parts>(
     name: &Word,
     position: Position,
 ) -> Result<PerformHead, Unread>
-    ensures { Reads ((forms.item_head (P.parts parts.now) (all.enter levels) name.now position).reads cursor.old)
+    ensures { Reads ((forms.item_head (P.parts parts.now) (all.enter levels) name.now
+        position).reads cursor.old)
         result cursor.new }
 {
     enter(cursor, levels)?;
@@ -220,7 +221,8 @@ fn digits_head<P: Parts>(
     digits: Text,
     position: Position,
 ) -> Result<PerformHead, Unread>
-    ensures { Reads ((forms.digits_head (P.parts parts.now) (all.enter levels) digits position).reads cursor.old)
+    ensures { Reads ((forms.digits_head (P.parts parts.now) (all.enter levels) digits
+        position).reads cursor.old)
         result cursor.new }
 {
     enter(cursor, levels)?;
@@ -376,7 +378,8 @@ fn perform_operand<P: Parts>(
     cursor: &mut Cursor<'_>,
     levels: u32,
 ) -> Result<PerformHead, Unread>
-    ensures { Reads ((forms.perform_operand (P.parts parts.now) (all.enter levels)).reads cursor.old)
+    ensures { Reads ((forms.perform_operand (P.parts parts.now) (all.enter levels)).reads
+        cursor.old)
         result cursor.new }
 {
     if parts.at_procedure_word(cursor) {

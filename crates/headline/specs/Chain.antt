@@ -126,8 +126,8 @@ NamesItsCells graphs range = (label : Label) →
     TreeNames (Has (kinds_of graphs) range) (MaySet (kinds_of graphs) range)
     ((family_of graphs).node range label)
 
--- how a program is lowered: which ranges return, which nodes are kept, and in which order the ranges
--- stand, main first
+-- how a program is lowered: which ranges return, which nodes are kept, and in which order the
+-- ranges stand, main first
 pub record IsPlan (told : Told) (program : Program) (keep : Range → Label → Bool)
     (others : List Range) : Type 0 where
   -- the table names the ranges that are entered and return, and none that doesn't return
@@ -166,7 +166,8 @@ module _ (cell : ℕ) where
   abbrev mutual
     pub stmt_arms : Stmt → Option ℕ
     stmt_arms (Do act) = None
-    stmt_arms (Choose picker arms) = or_first (picker_arms picker (count_arms arms)) (arms_arms arms)
+    stmt_arms (Choose picker arms) =
+        or_first (picker_arms picker (count_arms arms)) (arms_arms arms)
     stmt_arms (Loop control body) = body_arms body
     stmt_arms (Perform entry exit) = None
     stmt_arms (Go to) = None

@@ -21,8 +21,8 @@ use Rattle.headline.specs.Chain.{lowered_graphs, procedures_of, IsPlan, EachCell
 use Rattle.headline.specs.Numbering.{numbers_by, added_by}
 use Rattle.headline.specs.CallsReached.{GivesSome, CalledByPaths}
 
--- how a program is restructured: what lowering is told, which nodes are kept, and in which order the
--- ranges stand behind main
+-- how a program is restructured: what lowering is told, which nodes are kept, and in which order
+-- the ranges stand behind main
 pub record Plan : Type 0 where
   pub told : Told
   pub keep : Range → Label → Bool
@@ -71,8 +71,8 @@ pub record PartsAgree {Memory Other Left World : Type 0} (Carries : Celled Memor
   pub serves : Serves parts.acting parts.left parts.first parts.result parts.other_left
       parts.other_first Carries
       parts.naming parts.kinds
-  -- what the rules write of the cells that they add may be written, and each part that stands in the
-  -- lowered graphs
+  -- what the rules write of the cells that they add may be written, and each part that stands in
+  -- the lowered graphs
   pub cells : EachCellServed parts.kinds (Main ∷ plan.others) (graphs_by plan program)
   pub stand : GraphsServed parts.naming parts.kinds (Main ∷ plan.others) (graphs_by plan program)
 

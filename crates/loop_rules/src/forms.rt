@@ -18,8 +18,8 @@ use std::alloc::Global;
 use std::mem;
 use tree_rules::Targets;
 
-/// How a loop is tested: before or after its body, or by a flag. A test that is turned goes on where
-/// it holds.
+/// How a loop is tested: before or after its body, or by a flag. A test that is turned goes on
+/// where it holds.
 #[derive(Clone, Copy)]
 pub enum Form {
     Before { turned: bool },
@@ -39,7 +39,8 @@ pub struct Turning {
 /// A loop behind the other pieces, in room that is there.
 fn put_loop(pieces: &mut Vec<Piece>, turning: Turning, body: Tree)
     requires { vec_len pieces.old < vec_capacity pieces.old }
-    ensures { seen_body pieces.new.items ≡ followed (seen_body pieces.old.items) (alone (loop_by turning (seen_tree body))) }
+    ensures { seen_body pieces.new.items
+        ≡ followed (seen_body pieces.old.items) (alone (loop_by turning (seen_tree body))) }
 {
     let Turning {
         after,
@@ -59,7 +60,8 @@ fn put_loop(pieces: &mut Vec<Piece>, turning: Turning, body: Tree)
 /// The tree as the body of a loop behind these pieces, in room that is there, and then the end.
 pub fn looped(tree: &mut Tree, before: Vec<Piece>, turning: Turning, end: End)
     requires { vec_len before < vec_capacity before }
-    ensures { seen_tree tree.new ≡ looped_by turning (seen_body before.items) (seen_tree tree.old) (seen_end end) }
+    ensures { seen_tree tree.new ≡ looped_by turning (seen_body before.items) (seen_tree tree.old)
+        (seen_end end) }
 {
     let body = mem::replace(tree, Tree { body: before, end });
     put_loop(&mut tree.body, turning, body);
@@ -138,7 +140,8 @@ fn way(after: bool, first: bool, second: bool) -> Form
 
 /// The form of a loop that ends in two arms by a test.
 fn form_two(body: &[Piece], one: &Tree, two: &Tree, label: Label, live: &Targets) -> Form
-    ensures { result ≡ two_ways (seen_targets live.now) label (is_nothing (seen_body body.now)) (seen_tree one.now) (seen_tree two.now) }
+    ensures { result ≡ two_ways (seen_targets live.now) label (is_nothing (seen_body body.now))
+        (seen_tree one.now) (seen_tree two.now) }
 {
     if is_nothing(body) {
         let first = both(is_bare(one, live), stays(two, label));
@@ -151,7 +154,8 @@ fn form_two(body: &[Piece], one: &Tree, two: &Tree, label: Label, live: &Targets
 }
 
 fn form_arms(body: &[Piece], arms: &[Tree], label: Label, live: &Targets) -> Form
-    ensures { result ≡ ways (seen_targets live.now) label (is_nothing (seen_body body.now)) (seen_trees arms.now) }
+    ensures { result ≡ ways (seen_targets live.now) label (is_nothing (seen_body body.now))
+        (seen_trees arms.now) }
 {
     if arms.len() == 2 {
         form_two(body, &arms[0], &arms[1], label, live)
@@ -199,15 +203,19 @@ pub fn end_of(live: &Targets) -> End
     }
 }
 
-/// The loop by a test before each turn: the arm that stays is its body. Without memory the tree stays.
+/// The loop by a test before each turn: the arm that stays is its body. Without memory the tree
+/// stays.
 pub fn close_before(
     tree: &mut Tree,
     turned: bool,
     label: Label,
     live: &Targets,
 ) -> Result<(), NoMemory>
-    requires { form_at (form_for label (seen_targets live.now) (seen_tree tree.old)) ≡ FormIs.Before turned }
-    ensures ok { OnOk result (seen_tree tree.new ≡ formed_if (seen_targets live.now) (form_for label (seen_targets live.now) (seen_tree tree.old)) (seen_tree tree.old)) }
+    requires { form_at (form_for label (seen_targets live.now) (seen_tree tree.old))
+        ≡ FormIs.Before turned }
+    ensures ok { OnOk result (seen_tree tree.new
+        ≡ formed_if (seen_targets live.now)
+        (form_for label (seen_targets live.now) (seen_tree tree.old)) (seen_tree tree.old)) }
     ensures err { OnErr result (seen_tree tree.new ≡ seen_tree tree.old) }
 {
     tree.body.reserve(1)?;
@@ -240,8 +248,11 @@ pub fn close_after(
     label: Label,
     live: &Targets,
 ) -> Result<(), NoMemory>
-    requires { form_at (form_for label (seen_targets live.now) (seen_tree tree.old)) ≡ FormIs.After turned }
-    ensures ok { OnOk result (seen_tree tree.new ≡ formed_if (seen_targets live.now) (form_for label (seen_targets live.now) (seen_tree tree.old)) (seen_tree tree.old)) }
+    requires { form_at (form_for label (seen_targets live.now) (seen_tree tree.old))
+        ≡ FormIs.After turned }
+    ensures ok { OnOk result (seen_tree tree.new
+        ≡ formed_if (seen_targets live.now)
+        (form_for label (seen_targets live.now) (seen_tree tree.old)) (seen_tree tree.old)) }
     ensures err { OnErr result (seen_tree tree.new ≡ seen_tree tree.old) }
 {
     let room = Vec::with_capacity(alloc, 1)?;

@@ -21,7 +21,9 @@ use tree_rules::{Targets, other_targets, place_of};
 
 /// The loop without an end. Without memory the tree stays.
 fn close_endless(alloc: Global, tree: &mut Tree, label: Label, cell: u32) -> Result<(), NoMemory>
-    ensures ok { OnOk result (seen_tree tree.new ≡ graph.tree (loop_of Endless cell (flat Endless cell label (seen_tree tree.old))) graph.Dead) }
+    ensures ok { OnOk result (seen_tree tree.new
+        ≡ graph.tree (loop_of Endless cell (flat Endless cell label (seen_tree tree.old)))
+        graph.Dead) }
     ensures err { OnErr result (seen_tree tree.new ≡ seen_tree tree.old) }
 {
     let room = Vec::with_capacity(alloc, 1)?;
@@ -43,7 +45,9 @@ fn close_flag(
     cell: u32,
     live: &Targets,
 ) -> Result<(), NoMemory>
-    ensures ok { OnOk result (seen_tree tree.new ≡ graph.tree (loop_of Flagged cell (flat Flagged cell label (seen_tree tree.old))) (end_by (seen_targets live.now))) }
+    ensures ok { OnOk result (seen_tree tree.new
+        ≡ graph.tree (loop_of Flagged cell (flat Flagged cell label (seen_tree tree.old)))
+        (end_by (seen_targets live.now))) }
     ensures err { OnErr result (seen_tree tree.new ≡ seen_tree tree.old) }
 {
     let mut room = Vec::with_capacity(alloc, 2)?;
@@ -58,7 +62,8 @@ fn close_flag(
     Ok(())
 }
 
-/// The loop with its one target, with its added item where it has one. Without memory the tree stays.
+/// The loop with its one target, with its added item where it has one. Without memory the tree
+/// stays.
 fn close_live(
     alloc: Global,
     tree: &mut Tree,
@@ -66,7 +71,8 @@ fn close_live(
     cell: u32,
     live: &Targets,
 ) -> Result<Option<Added>, NoMemory>
-    ensures { Closes result (closed_live label cell (seen_tree tree.old) (seen_targets live.now)) (seen_tree tree.old) (seen_tree tree.new) }
+    ensures { Closes result (closed_live label cell (seen_tree tree.old) (seen_targets live.now))
+        (seen_tree tree.old) (seen_tree tree.new) }
 {
     match form_of(tree, label, live) {
         Form::Before { turned } => {
@@ -84,14 +90,16 @@ fn close_live(
     }
 }
 
-/// The tree of a node as a loop, with its added item where it has one. Without memory the tree stays.
+/// The tree of a node as a loop, with its added item where it has one. Without memory the tree
+/// stays.
 fn close_tree(
     alloc: Global,
     tree: &mut Tree,
     label: Label,
     cell: u32,
 ) -> Result<Option<Added>, NoMemory>
-    ensures { Closes result (closed label cell (seen_tree tree.old)) (seen_tree tree.old) (seen_tree tree.new) }
+    ensures { Closes result (closed label cell (seen_tree tree.old)) (seen_tree tree.old)
+        (seen_tree tree.new) }
 {
     let live = other_targets(tree, label);
     match live {
@@ -120,7 +128,8 @@ fn at_most_one(targets: &Targets) -> bool
 pub fn loops_at(graph: &Graph, at: usize) -> bool
     requires within { at < length graph.now.nodes.items }
     requires rising { Rising (seen_nodes graph.now.nodes.items) }
-    ensures { result ≡ loops (seen_graph graph.now) (label_at (seen_nodes graph.now.nodes.items) at) }
+    ensures { result ≡ loops (seen_graph graph.now)
+        (label_at (seen_nodes graph.now.nodes.items) at) }
 {
     let node = &graph.nodes[at];
     if node.tree.jumps_to(node.label) {
@@ -134,9 +143,11 @@ pub fn loops_at(graph: &Graph, at: usize) -> bool
 pub fn close_at(alloc: Global, graph: &mut Graph, at: usize) -> Result<(), NoMemory>
     requires within { at < length graph.old.nodes.items }
     requires rising { Rising (seen_nodes graph.old.nodes.items) }
-    requires applies { loops (seen_graph graph.old) (label_at (seen_nodes graph.old.nodes.items) at) ≡ true }
+    requires applies { loops (seen_graph graph.old) (label_at (seen_nodes graph.old.nodes.items) at)
+        ≡ true }
     requires room { length graph.old.added.items < 2 ^ 32 }
-    ensures ok { OnOk result (seen_graph graph.new ≡ close_graph (label_at (seen_nodes graph.old.nodes.items) at) (seen_graph graph.old)) }
+    ensures ok { OnOk result (seen_graph graph.new
+        ≡ close_graph (label_at (seen_nodes graph.old.nodes.items) at) (seen_graph graph.old)) }
     ensures err { OnErr result (seen_graph graph.new ≡ seen_graph graph.old) }
 {
     let cell = graph.added.len() as u32;
@@ -152,8 +163,8 @@ pub fn close_at(alloc: Global, graph: &mut Graph, at: usize) -> Result<(), NoMem
     }
 }
 
-/// Loop on the node with the label: true where the rule applied, false where it doesn't. With false,
-/// and without memory, the graph stays.
+/// Loop on the node with the label: true where the rule applied, false where it doesn't. With
+/// false, and without memory, the graph stays.
 pub fn close_loop(alloc: Global, graph: &mut Graph, label: Label) -> Result<bool, NoMemory>
     requires rising { Rising (seen_nodes graph.old.nodes.items) }
     requires room { length graph.old.added.items < 2 ^ 32 }

@@ -37,8 +37,8 @@ pub record Setting (telling : Telling) (leaving : Leaving) : Type 0 where
   pub at : AreAt telling.layout.now.places.items telling.layout.now.end place_of
   pub leaves : IsLeaving leaving last theirs
 
--- from one body to another, towards what stands behind: the tree, where it ends by itself; else what
--- is behind, further on
+-- from one body to another, towards what stands behind: the tree, where it ends by itself; else
+-- what is behind, further on
 abbrev pub Along : Option End → Stmts → Stmts → (graph.Tree → graph.Tree) → Type 0
 Along None old new made = (behind : graph.Tree) → before old (made behind) ≡ before new behind
 Along (Some end) old new made =

@@ -24,7 +24,8 @@ use Rattle.lower_stmts.specs.Along.{Setting, told_by}
 
 abbrev pub if_arms : (met unmet : List Stmt) → ℕ → language.Arms
 if_arms met unmet last =
-    language.given (seen_stmts last met) (arm_before (else_of (map (seen last) unmet)) language.done)
+    language.given (seen_stmts last met)
+    (arm_before (else_of (map (seen last) unmet)) language.done)
 
 abbrev pub seen_phrase : ℕ → Option (List Stmt) → Option language.Stmts
 seen_phrase last None = None

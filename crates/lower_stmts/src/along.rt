@@ -41,7 +41,8 @@ pub fn run_on(
 ) -> Result<Option<End>, NoMemory>
     requires own { IsTrue (stmts_own stmts.now) }
     requires fits { place + sum_by stmt_places stmts.now < 2 ^ 32 }
-    ensures { IfOk result (λ end. Runs telling.now leaving.now stmts.now place after.now end body.old.items body.new.items) }
+    ensures { IfOk result (λ end. Runs telling.now leaving.now stmts.now place after.now end
+        body.old.items body.new.items) }
 {
     let mut here = place;
     let mut at = 0usize;
@@ -70,7 +71,8 @@ fn run_stmt(
 ) -> Result<Option<End>, NoMemory>
     requires own { IsTrue (stmt_own stmt.now) }
     requires fits { place + stmt_places stmt.now < 2 ^ 32 }
-    ensures { IfOk result (λ end. RunsBy telling.now leaving.now stmt.now place after.now end body.old.items body.new.items) }
+    ensures { IfOk result (λ end. RunsBy telling.now leaving.now stmt.now place after.now end
+        body.old.items body.new.items) }
 {
     let facts = stmt_facts(stmt, telling.files, telling.returning);
     if facts.whole {
@@ -95,7 +97,8 @@ fn run_escape(
     requires escapes { Escapes (told_by telling.now) stmt.now true }
     requires own { IsTrue (stmt_own stmt.now) }
     requires fits { place + stmt_places stmt.now < 2 ^ 32 }
-    ensures { IfOk result (λ end. RunsBy telling.now leaving.now stmt.now place after.now (Some end) body.old.items body.new.items) }
+    ensures { IfOk result (λ end. RunsBy telling.now leaving.now stmt.now place after.now (Some end)
+        body.old.items body.new.items) }
 {
     match stmt {
         Stmt::Go(to) => Ok(End::Jump(point(telling.layout.place_of(*to)))),
@@ -178,7 +181,8 @@ fn run_if(
     requires met { IsTrue (stmts_own met.now) }
     requires unmet { IsTrue (stmts_own unmet.now) }
     requires fits { place + 1 + sum_by stmt_places met.now + sum_by stmt_places unmet.now < 2 ^ 32 }
-    ensures { IfOk result (IsChoice telling.now leaving.now (If (test_of cond.now)) false (if_arms met.now unmet.now) (place + 1) after.now) }
+    ensures { IfOk result (IsChoice telling.now leaving.now (If (test_of cond.now)) false
+        (if_arms met.now unmet.now) (place + 1) after.now) }
 {
     let mut arms = Items::new(alloc);
     match push_both(alloc, &mut arms, met, unmet, place, telling, leaving, after) {
@@ -209,7 +213,8 @@ fn push_both(
     requires met { IsTrue (stmts_own met.now) }
     requires unmet { IsTrue (stmts_own unmet.now) }
     requires fits { place + 1 + sum_by stmt_places met.now + sum_by stmt_places unmet.now < 2 ^ 32 }
-    ensures { OnOk result (AreArms telling.now leaving.now false (if_arms met.now unmet.now) (place + 1) after.now arms.new) }
+    ensures { OnOk result (AreArms telling.now leaving.now false (if_arms met.now unmet.now)
+        (place + 1) after.now arms.new) }
 {
     push_arm(alloc, arms, met, place + 1, telling, leaving, after)?;
     let next = place + 1 + stmts_size(met) as u32;
@@ -232,7 +237,9 @@ fn run_evaluate(
     requires whens { IsTrue (all (map when_own whens.now)) }
     requires other { IsTrue (phrase_own other.now) }
     requires fits { place + 1 + sum_by when_places whens.now + phrase_places other.now < 2 ^ 32 }
-    ensures { IfOk result (IsChoice telling.now leaving.now (By (Evaluate subject.now (when_tests whens.now) (is_some other.now))) false (when_arms whens.now other.now) (place + 1) after.now) }
+    ensures { IfOk result (IsChoice telling.now leaving.now
+        (By (Evaluate subject.now (when_tests whens.now) (is_some other.now))) false
+        (when_arms whens.now other.now) (place + 1) after.now) }
 {
     let mut arms = Items::new(alloc);
     match push_whens(
@@ -265,7 +272,8 @@ fn push_whens(
     requires whens { IsTrue (all (map when_own whens.now)) }
     requires other { IsTrue (phrase_own other.now) }
     requires fits { place + 1 + sum_by when_places whens.now + phrase_places other.now < 2 ^ 32 }
-    ensures { OnOk result (AreArms telling.now leaving.now false (when_arms whens.now other.now) (place + 1) after.now arms.new) }
+    ensures { OnOk result (AreArms telling.now leaving.now false (when_arms whens.now other.now)
+        (place + 1) after.now arms.new) }
 {
     let mut here = place + 1;
     for when in whens {
@@ -299,7 +307,10 @@ fn run_read(
 ) -> Result<End, NoMemory>
     requires own { IsTrue (arms_own phrases.now) }
     requires fits { place + 1 + arms_places phrases.now < 2 ^ 32 }
-    ensures { IfOk result (IsChoice telling.now leaving.now (By (Read file into.now (is_some (out-Arms phrases.now).first))) (status_missing (slice_get telling.now.files.now file)) (phrase_arms phrases.now) (place + 1) after.now) }
+    ensures { IfOk result (IsChoice telling.now leaving.now
+        (By (Read file into.now (is_some (out-Arms phrases.now).first)))
+        (status_missing (slice_get telling.now.files.now file)) (phrase_arms phrases.now)
+        (place + 1) after.now) }
 {
     let is_dead = ends_at_end(telling.files, file);
     let mut arms = Items::new(alloc);
@@ -331,7 +342,8 @@ fn run_arith(
 ) -> Result<End, NoMemory>
     requires own { IsTrue (arms_own phrases.now) }
     requires fits { place + 1 + arms_places phrases.now < 2 ^ 32 }
-    ensures { IfOk result (IsChoice telling.now leaving.now (By (Arith calc.now into.now)) false (phrase_arms phrases.now) (place + 1) after.now) }
+    ensures { IfOk result (IsChoice telling.now leaving.now (By (Arith calc.now into.now)) false
+        (phrase_arms phrases.now) (place + 1) after.now) }
 {
     let mut arms = Items::new(alloc);
     match push_phrases(
@@ -363,7 +375,8 @@ fn push_phrases(
     requires none { arms.old ≡ [] }
     requires own { IsTrue (arms_own phrases.now) }
     requires fits { place + 1 + arms_places phrases.now < 2 ^ 32 }
-    ensures { OnOk result (AreArms telling.now leaving.now is_dead (phrase_arms phrases.now) (place + 1) after.now arms.new) }
+    ensures { OnOk result (AreArms telling.now leaving.now is_dead (phrase_arms phrases.now)
+        (place + 1) after.now arms.new) }
 {
     match &phrases.first {
         None => {
@@ -430,7 +443,8 @@ fn run_loop(
     requires own { IsTrue (stmts_own turns.now) }
     requires control { IsTrue (control_own control.now) }
     requires fits { place + 1 + sum_by stmt_places turns.now < 2 ^ 32 }
-    ensures { IfOk result (EndsLoop telling.now leaving.now control.now turns.now place after.now body.old.items body.new.items) }
+    ensures { IfOk result (EndsLoop telling.now leaving.now control.now turns.now place after.now
+        body.old.items body.new.items) }
 {
     match control {
         Control::Once => {
@@ -478,7 +492,8 @@ fn run_once(
 ) -> Result<End, NoMemory>
     requires own { IsTrue (stmts_own turns.now) }
     requires fits { place + 1 + sum_by stmt_places turns.now < 2 ^ 32 }
-    ensures { IfOk result (IsChoice telling.now leaving.now (If (Holds always)) false (one_arm turns.now) (place + 1) after.now) }
+    ensures { IfOk result (IsChoice telling.now leaving.now (If (Holds always)) false
+        (one_arm turns.now) (place + 1) after.now) }
 {
     let mut arms = Items::new(alloc);
     match push_arm(alloc, &mut arms, turns, place + 1, telling, leaving, after) {
@@ -528,7 +543,8 @@ fn push_arm(
 ) -> Result<(), NoMemory>
     requires own { IsTrue (stmts_own stmts.now) }
     requires fits { place + sum_by stmt_places stmts.now < 2 ^ 32 }
-    ensures { OnOk result (AddsArmOf telling.now leaving.now stmts.now place after.now arms.old arms.new) }
+    ensures { OnOk result (AddsArmOf telling.now leaving.now stmts.now place after.now arms.old
+        arms.new) }
 {
     let tree = run_to(
         alloc,

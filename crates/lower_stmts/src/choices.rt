@@ -68,7 +68,8 @@ fn evaluate_chooser(
     whens: &[When],
     has_other: bool,
 ) -> Result<Chooser, NoMemory>
-    ensures { IfOk result (λ chooser. seen_chooser chooser ≡ Evaluate subject.now (when_tests whens.now) has_other) }
+    ensures { IfOk result (λ chooser. seen_chooser chooser
+        ≡ Evaluate subject.now (when_tests whens.now) has_other) }
 {
     let subject = subject.copy(alloc)?;
     let tests = tests_of(alloc, whens)?;
@@ -105,7 +106,8 @@ pub fn pick_read(
     has_end: bool,
     arms: Items<Tree>,
 ) -> Result<End, NoMemory>
-    ensures { IfOk result (λ end. seen_end end ≡ Pick (By (Read file into.now has_end)) (seen_trees arms)) }
+    ensures { IfOk result (λ end. seen_end end
+        ≡ Pick (By (Read file into.now has_end)) (seen_trees arms)) }
 {
     match into.copy(alloc) {
         Ok(into) => {
@@ -137,7 +139,8 @@ pub fn pick_arith(
     into: &Items<Target>,
     arms: Items<Tree>,
 ) -> Result<End, NoMemory>
-    ensures { IfOk result (λ end. seen_end end ≡ Pick (By (Arith calc.now into.now)) (seen_trees arms)) }
+    ensures { IfOk result (λ end. seen_end end
+        ≡ Pick (By (Arith calc.now into.now)) (seen_trees arms)) }
 {
     match arith_chooser(alloc, calc, into) {
         Ok(chooser) => Ok(picked(Picker::By(chooser), arms)),

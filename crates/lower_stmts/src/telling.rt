@@ -15,8 +15,9 @@ pub struct Telling<'a> {
     pub layout: &'a Layout,
 }
 
-/// Where what leaves a rest goes on: behind its sentence, at the end of its paragraph or of the last
-/// one of its section, behind the innermost loop that holds it, and at the next turn of that loop.
+/// Where what leaves a rest goes on: behind its sentence, at the end of its paragraph or of the
+/// last one of its section, behind the innermost loop that holds it, and at the next turn of that
+/// loop.
 #[derive(Clone, Copy)]
 pub struct Leaving {
     pub sentence: Leaf,

@@ -87,7 +87,8 @@ fn head_tree(
 ) -> Result<Tree, NoMemory>
     requires own { IsTrue (stmts_own turns.now) }
     requires fits { place + 1 + sum_by stmt_places turns.now < 2 ^ 32 }
-    ensures { IfOk result (IsLoopTree telling.now leaving.now true control.now turns.now place after.now) }
+    ensures { IfOk result (IsLoopTree telling.now leaving.now true control.now turns.now place
+        after.now) }
 {
     let turn = turn_tree(alloc, control, turns, place, telling, leaving, after)?;
     let tree = head_node(alloc, control, place, turn, *after)?;
@@ -107,7 +108,8 @@ pub fn loop_tree(
 ) -> Result<Tree, NoMemory>
     requires own { IsTrue (stmts_own turns.now) }
     requires fits { place + 1 + sum_by stmt_places turns.now < 2 ^ 32 }
-    ensures { IfOk result (IsLoopTree telling.now leaving.now is_head control.now turns.now place after.now) }
+    ensures { IfOk result (IsLoopTree telling.now leaving.now is_head control.now turns.now place
+        after.now) }
 {
     if is_head {
         let tree = head_tree(alloc, control, turns, place, telling, leaving, after)?;

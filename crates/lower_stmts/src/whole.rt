@@ -75,7 +75,8 @@ pub fn run_whole(
 ) -> Result<Option<End>, NoMemory>
     requires whole { Escapes (told_by telling.now) stmt.now false }
     requires completes { Completes (told_by telling.now) stmt.now completes }
-    ensures { IfOk result (λ end. RunsWhole (told_by telling.now) stmt.now end body.old.items body.new.items) }
+    ensures { IfOk result (λ end. RunsWhole (told_by telling.now) stmt.now end body.old.items
+        body.new.items) }
 {
     match kind_of(stmt) {
         Kind::Nothing => Ok(None),

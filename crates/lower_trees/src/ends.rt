@@ -74,7 +74,8 @@ fn push_names(
 
 /// The choice of a GO TO DEPENDING, by its arms.
 fn pick_depending(alloc: Global, on: &Place, names: u32, arms: Items<Tree>) -> Result<End, NoMemory>
-    ensures { IfOk result (λ end. seen_end end ≡ Pick (By (Depending on.now names)) (seen_trees arms)) }
+    ensures { IfOk result (λ end. seen_end end
+        ≡ Pick (By (Depending on.now names)) (seen_trees arms)) }
 {
     match on.copy(alloc) {
         Ok(on) => {

@@ -49,7 +49,8 @@ fn push_setting(
     from: &Operand,
 ) -> Result<(), NoMemory>
     requires { IsTrue (place_own item.now) }
-    ensures { OnOk result (Adds (alone (Do (setting_item item.now from.now))) body.old.items body.new.items) }
+    ensures { OnOk result (Adds (alone (Do (setting_item item.now from.now))) body.old.items
+        body.new.items) }
 {
     let mut to = Items::new(alloc);
     to.push(item.copy(alloc)?)?;
@@ -66,7 +67,8 @@ pub fn start_loop(
     place: u32,
 ) -> Result<(), NoMemory>
     requires { IsTrue (control_own control.now) }
-    ensures { OnOk result (Adds (start_by (control_in control.now) place) body.old.items body.new.items) }
+    ensures { OnOk result (Adds (start_by (control_in control.now) place) body.old.items
+        body.new.items) }
 {
     match control {
         Control::Once => Ok(()),

@@ -88,7 +88,8 @@ pub fn third_node(
 
 /// What begins each turn.
 pub fn start_turn(body: &mut Vec<Piece>, control: &Control, place: u32) -> Result<(), NoMemory>
-    ensures { OnOk result (Adds (turn_start (control_in control.now) place) body.old.items body.new.items) }
+    ensures { OnOk result (Adds (turn_start (control_in control.now) place) body.old.items
+        body.new.items) }
 {
     match control {
         Control::Once => Ok(()),

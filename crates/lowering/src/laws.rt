@@ -7,12 +7,14 @@ ghost use Rattle.lowering.specs.Renamed.{NumberingMakesNoDifference};
 ghost use Rattle.lowering.specs.WellFormed.{LoweredGraphsAreWellFormed, ReachedGraphsAreWellFormed};
 ghost use Rattle.lowering.specs.flow.Called.{ReachedNodesPerformWhatIsCalled};
 
-/// The walk of a lowered family does what the source does, where the source meets no fault of its flow.
+/// The walk of a lowered family does what the source does, where the source meets no fault of its
+/// flow.
 pub fn lowering_keeps_meaning<Memory, Left>()
     ensures { LoweringKeepsMeaning Memory Left }
 {}
 
-/// No walk of a lowered range is lost, from any memory and any cells, where the source meets no fault of its flow from there.
+/// No walk of a lowered range is lost, from any memory and any cells, where the source meets no
+/// fault of its flow from there.
 pub fn lowered_ranges_are_sound<Memory, Left>()
     ensures main { LoweredMainIsSound Memory Left }
     ensures part { LoweredRangeIsSound Memory Left }
@@ -34,7 +36,8 @@ pub fn what_is_not_faulty_meets_no_fault<Memory, Left>()
     ensures { NotFaultyHasNoFlowFault Memory Left }
 {}
 
-/// A free flow path passes each statement that can complete, where the table names only ranges that return.
+/// A free flow path passes each statement that can complete, where the table names only ranges that
+/// return.
 pub fn what_completes_is_passed()
     ensures { WhatCompletesIsPassed }
 {}
@@ -44,22 +47,24 @@ pub fn reached_nodes_perform_what_is_called()
     ensures { ReachedNodesPerformWhatIsCalled }
 {}
 
-/// The walk of the reached nodes of a program that isn't faulty does what the program does, and isn't lost.
+/// The walk of the reached nodes of a program that isn't faulty does what the program does, and
+/// isn't lost.
 pub fn lowered_family_keeps_meaning<Memory, Left>()
     ensures meaning { LoweredFamilyKeepsMeaning Memory Left }
     ensures sound { LoweredFamilyIsSound Memory Left }
     ensures numbered { NumberedFamilyKeepsMeaning Memory Left }
 {}
 
-/// In the nodes of a range no escape stands in a body, each Pick has its arms, each jump leads to a node, and labels
-/// rise; the same holds of those nodes that are reached.
+/// In the nodes of a range no escape stands in a body, each Pick has its arms, each jump leads to a
+/// node, and labels rise; the same holds of those nodes that are reached.
 pub fn lowered_graphs_are_well_formed()
     ensures all { LoweredGraphsAreWellFormed }
     ensures reached { ReachedGraphsAreWellFormed }
 {}
 
-/// Of small programs: the tree of a label inside an arm runs on behind the arm, cutting comes first, EXIT PERFORM and EXIT
-/// SECTION go on behind their loop and their section, and a loop tested after completes where it is left.
+/// Of small programs: the tree of a label inside an arm runs on behind the arm, cutting comes
+/// first, EXIT PERFORM and EXIT SECTION go on behind their loop and their section, and a loop
+/// tested after completes where it is left.
 pub fn lowered_examples()
     ensures runs_on { LabelInsideAnArmRunsOn }
     ensures cut_first { CuttingComesFirst }

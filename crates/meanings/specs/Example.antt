@@ -18,7 +18,10 @@ event byte = outside.Display (byte ∷ 10 ∷ [])
 
 -- shows 49 and goes to its third paragraph, which shows 51 and stops
 abbrev pub jumping : Program
-jumping = record { paragraphs = ((display 49 ∷ []) ∷ (Go 2 ∷ []) ∷ []) ∷ ((display 50 ∷ []) ∷ []) ∷ ((display 51 ∷ []) ∷ (StopRun ∷ []) ∷ []) ∷ [] }
+jumping = record {
+  paragraphs = ((display 49 ∷ []) ∷ (Go 2 ∷ []) ∷ []) ∷ ((display 50 ∷ []) ∷ []) ∷
+      ((display 51 ∷ []) ∷ (StopRun ∷ []) ∷ []) ∷ [];
+}
 
 abbrev pub nested : Program
 nested = record { paragraphs = ((display 49 ∷ display 51 ∷ StopRun ∷ []) ∷ []) ∷ [] }
@@ -29,9 +32,11 @@ shown = event 49 ∷ event 51 ∷ []
 abbrev pub RunsAs : Type 0
 RunsAs = (world : World) →
     (meaning (source_machine jumping) world 5 ≡ record { trace = shown; standing = Going })
-    × (meaning (source_machine jumping) world 6 ≡ record { trace = shown; standing = Over (Stopped Normally world.files) })
+    × (meaning (source_machine jumping) world 6
+    ≡ record { trace = shown; standing = Over (Stopped Normally world.files) })
     × (structural nested world 2 ≡ record { trace = shown; standing = Going })
-    × (structural nested world 3 ≡ record { trace = shown; standing = Over (Stopped Normally world.files) })
+    × (structural nested world 3 ≡ record
+    { trace = shown; standing = Over (Stopped Normally world.files) })
 
 pub runs_as : RunsAs
 runs_as world = (refl, refl, refl, refl)

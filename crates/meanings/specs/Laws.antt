@@ -20,17 +20,20 @@ MoreStepsShowMore = (program : Program) → Steady (meaning (source_machine prog
 
 -- from the state the source comes to a state with this run, in at most so many steps
 abbrev pub RunsTo : Program → ℕ → SourceState → Run → Type 0
-RunsTo program most state run = (later : SourceState) × ReachesWithin most (source_step program) state later × (later.run ≡ run)
+RunsTo program most state run = (later : SourceState)
+    × ReachesWithin most (source_step program) state later × (later.run ≡ run)
 
 -- what a reached state runs to, the one before runs to
 abbrev pub ReachingRunsOn : Type 0
 ReachingRunsOn = (program : Program) (m n : ℕ) (first second : SourceState) (run : Run) →
-    ReachesWithin m (source_step program) first second → RunsTo program n second run → RunsTo program (m + n) first run
+    ReachesWithin m (source_step program) first second → RunsTo program n second run →
+    RunsTo program (m + n) first run
 
 -- what its first state runs to, the program comes to
 abbrev pub TheFirstStateRuns : Type 0
 TheFirstStateRuns = (program : Program) (most : ℕ) (world : World) (run : Run) →
-    RunsTo program most (source_begun program world) run → ComesToWithin most (meaning (source_machine program)) world run
+    RunsTo program most (source_begun program world) run →
+    ComesToWithin most (meaning (source_machine program)) world run
 
 -- with more units nested statements show more
 abbrev pub MoreUnitsShowMore : Type 0

@@ -1,4 +1,5 @@
--- How a source program runs: step by step, with the rest of its paragraph and the returns that are pending.
+-- How a source program runs: step by step, with the rest of its paragraph and the returns that are
+-- pending.
 use Rattle.std.specs.Prelude.{ℕ, suc, Bool, true, false, if◌then◌else◌, ◌==◌, List, [], ◌∷◌, ◌++◌, Option, Some, None, slice_get}
 use Rattle.runs.specs.Run.{Going, Over}
 use Rattle.runs.specs.Machine.{Machine, meaning}
@@ -7,7 +8,8 @@ use Rattle.meanings.specs.Language.{Stmt, Display, Go, StopRun, Other, Paragraph
 use Rattle.meanings.specs.World.{World, Event, Stopping, Normally, FlowFault, Overlap, Ending, Stopped, Faulted, Run, Standing, displayed}
 use Rattle.meanings.specs.World as outside
 
--- a return that is pending: the paragraph at whose end it is made, with the paragraph and the rest to go on with
+-- a return that is pending: the paragraph at whose end it is made, with the paragraph and the rest
+-- to go on with
 pub record Pending : Type 0 where
   pub end : ℕ
   pub paragraph : ℕ
@@ -30,10 +32,16 @@ ends_at number [] = false
 ends_at number (return ∷ returns) = if return.end == number then true else ends_at number returns
 
 abbrev pub shows : List ℕ → SourceState → SourceState
-shows bytes state = record state { run = record { trace = state.run.trace ++ outside.Display bytes ∷ []; standing = state.run.standing } }
+shows bytes state = record state {
+  run = record {
+    trace = state.run.trace ++ outside.Display bytes ∷ [];
+    standing = state.run.standing;
+  };
+}
 
 abbrev pub comes_to : Ending → SourceState → SourceState
-comes_to ending state = record state { run = record { trace = state.run.trace; standing = Over ending } }
+comes_to ending state = record state
+    { run = record { trace = state.run.trace; standing = Over ending } }
 
 abbrev pub stops : Stopping → SourceState → SourceState
 stops how state = comes_to (Stopped how state.world.files) state
@@ -41,9 +49,11 @@ stops how state = comes_to (Stopped how state.world.files) state
 abbrev pub goes_to : Program → ℕ → SourceState → SourceState
 goes_to program number state = record state { paragraph = number; rest = rest_of program number }
 
--- a statement at the head of the rest; one that isn't of the plain form has no meaning yet, and is dropped
+-- a statement at the head of the rest; one that isn't of the plain form has no meaning yet, and is
+-- dropped
 abbrev pub stmt_step : Program → SourceState → List Item → Stmt → SourceState
-stmt_step program state rest (Display items advance) = shows (displayed items advance) (record state { rest = rest })
+stmt_step program state rest (Display items advance) =
+    shows (displayed items advance) (record state { rest = rest })
 stmt_step program state rest (Go to) = goes_to program to state
 stmt_step program state rest StopRun = stops Normally state
 stmt_step program state rest Other = record state { rest = rest }
@@ -53,13 +63,15 @@ abbrev pub falls : Program → SourceState → Option Paragraph → SourceState
 falls program state None = stops Normally state
 falls program state (Some next) = goes_to program (suc state.paragraph) state
 
--- the end of a paragraph: the return that was made last is taken where it ends here; where another one does, that is a fault
+-- the end of a paragraph: the return that was made last is taken where it ends here; where another
+-- one does, that is a fault
 abbrev pub end_step : Program → SourceState → List Pending → SourceState
 end_step program state [] = falls program state (slice_get program.paragraphs (suc state.paragraph))
 end_step program state (top ∷ others) =
     if top.end == state.paragraph
     then record state { paragraph = top.paragraph; rest = top.rest; pending = others }
-    else (if ends_at state.paragraph others then comes_to (Faulted (Overlap state.paragraph)) state else falls program state (slice_get program.paragraphs (suc state.paragraph)))
+    else (if ends_at state.paragraph others then comes_to (Faulted (Overlap state.paragraph)) state
+    else falls program state (slice_get program.paragraphs (suc state.paragraph)))
 
 abbrev pub rest_step : Program → SourceState → List Item → SourceState
 rest_step program state [] = end_step program state state.pending
@@ -76,10 +88,20 @@ source_step program state = step_by program state state.run.standing
 
 -- at the first paragraph
 abbrev pub source_begun : Program → World → SourceState
-source_begun program world = record { paragraph = 0; rest = rest_of program 0; pending = []; world = world; run = record { trace = []; standing = Going } }
+source_begun program world = record {
+  paragraph = 0;
+  rest = rest_of program 0;
+  pending = [];
+  world = world;
+  run = record { trace = []; standing = Going };
+}
 
 abbrev pub source_machine : Program → Machine World Event Ending SourceState
-source_machine program = record { step = source_step program; run = λ state. state.run; begun = source_begun program }
+source_machine program = record {
+  step = source_step program;
+  run = λ state. state.run;
+  begun = source_begun program;
+}
 
 -- what the program shows in this many steps, and how it stands then
 abbrev pub source_run : tree.Program → World → ℕ → Run

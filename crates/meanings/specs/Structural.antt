@@ -6,7 +6,8 @@ use Rattle.meanings.specs.Language.{Stmt, Display, Go, StopRun, Other, Sentence,
 use Rattle.meanings.specs.World.{World, Event, Normally, Stopped, Run, Standing, Trace, displayed}
 use Rattle.meanings.specs.World as outside
 
--- what a statement comes to, with what it showed: it went on, with the world and the units that are left, or the run stands so
+-- what a statement comes to, with what it showed: it went on, with the world and the units that are
+-- left, or the run stands so
 pub data Outcome : Type 0 where
   Went : (trace : Trace) → (world : World) → (left : ℕ) → Outcome
   Stands : (trace : Trace) → (standing : Standing) → Outcome
@@ -37,9 +38,11 @@ abbrev pub unit_of : Does → Does
 unit_of does world zero = Stands [] Going
 unit_of does world (suc units) = does world units
 
--- each statement that is begun takes one unit; a jump has no meaning here, and structured programs have none; one that isn't of the plain form does nothing yet
+-- each statement that is begun takes one unit; a jump has no meaning here, and structured programs
+-- have none; one that isn't of the plain form does nothing yet
 abbrev pub stmt_does : Stmt → Does
-stmt_does (Display items advance) = unit_of (λ world units. Went (outside.Display (displayed items advance) ∷ []) world units)
+stmt_does (Display items advance) =
+    unit_of (λ world units. Went (outside.Display (displayed items advance) ∷ []) world units)
 stmt_does (Go to) = λ world units. Stands [] Going
 stmt_does StopRun = unit_of (λ world units. Stands [] (Over (Stopped Normally world.files)))
 stmt_does Other = unit_of nothing
@@ -52,7 +55,8 @@ paragraph_does paragraph = all (map sentence_does paragraph)
 
 -- a program is its first paragraph, and stops behind it
 abbrev pub run_of : Outcome → Run
-run_of (Went trace world left) = record { trace = trace; standing = Over (Stopped Normally world.files) }
+run_of (Went trace world left) = record
+    { trace = trace; standing = Over (Stopped Normally world.files) }
 run_of (Stands trace standing) = record { trace = trace; standing = standing }
 
 abbrev pub structural : Program → World → ℕ → Run

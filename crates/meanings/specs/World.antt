@@ -22,7 +22,8 @@ pub data Event : Type 0 where
 pub data Stopping : Type 0 where
   Normally : Stopping
 
--- a return that can't be made: a pending range ends at the end of this paragraph, and the innermost one doesn't
+-- a return that can't be made: a pending range ends at the end of this paragraph, and the innermost
+-- one doesn't
 pub data FlowFault : Type 0 where
   Overlap : (paragraph : ℕ) → FlowFault
 

@@ -11,13 +11,15 @@ pub fn a_small_program_runs_as_said()
     ensures { RunsAs }
 {}
 
-/// A step of the source shows more, and a state that is over stays; so with more steps the source shows more.
+/// A step of the source shows more, and a state that is over stays; so with more steps the source
+/// shows more.
 pub fn more_steps_show_more()
     ensures grows { TheSourceGrows }
     ensures steady { MoreStepsShowMore }
 {}
 
-/// What a reached state runs to, the state before it runs to, and the program comes to what its first state runs to.
+/// What a reached state runs to, the state before it runs to, and the program comes to what its
+/// first state runs to.
 pub fn what_is_reached_runs_on()
     ensures behind { ReachingRunsOn }
     ensures begun { TheFirstStateRuns }
@@ -28,7 +30,8 @@ pub fn more_units_show_more()
     ensures { MoreUnitsShowMore }
 {}
 
-/// A run that covers another matches it, so a program and a structured one whose meanings are tied behave the same.
+/// A run that covers another matches it, so a program and a structured one whose meanings are tied
+/// behave the same.
 pub fn tied_behaves_the_same()
     ensures matches { CoveringMatches }
     ensures same { TiedBehavesTheSame }

@@ -15,7 +15,8 @@ use Rattle.named_exprs.specs.Sides.{AreDeclared}
 
 -- over the names and entries of a program and the procedures of these tokens, where none of them is
 -- more than there are
-pub record AreCounted (names : Names) (entries : List Entry) (table : ProcedureTable) (counts : Counts) : Type 0 where
+pub record AreCounted (names : Names) (entries : List Entry) (table : ProcedureTable)
+    (counts : Counts) : Type 0 where
   pub declared : AreDeclared names counts
   pub items : length entries ≤ counts.items
   pub told : table.count ≤ counts.paragraphs

@@ -22,4 +22,5 @@ pub record SidesGive (names : Names) (counts : Counts) : Type 0 where
   pub cond : Gives IsNumbered (whole_cond names) (λ found. cond_named counts found.0 ≡ true)
 
 abbrev pub ExpressionsGive : Type 0
-ExpressionsGive = (names : Names) (counts : Counts) → AreDeclared names counts → SidesGive names counts
+ExpressionsGive = (names : Names) (counts : Counts) → AreDeclared names counts →
+    SidesGive names counts

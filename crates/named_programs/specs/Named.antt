@@ -96,7 +96,8 @@ module _ (counts : Counts) where
   sentences_named sentences = all (map sentence_named sentences)
 
   abbrev pub paragraphs_named : List Paragraph → Bool
-  paragraphs_named paragraphs = all (map (λ paragraph. sentences_named paragraph.sentences) paragraphs)
+  paragraphs_named paragraphs = all
+      (map (λ paragraph. sentences_named paragraph.sentences) paragraphs)
 
 -- what a program has
 abbrev pub counts_of : Program → Counts

@@ -8,4 +8,5 @@ use Rattle.named_forms.specs.Numbered.{IsNumbered}
 
 abbrev pub TokensAreNumbered : Type 0
 TokensAreNumbered =
-    (text : List Placed) (tokens : List Token) → tokens_of text ≡ Ok tokens → AreOf IsNumbered tokens
+    (text : List Placed) (tokens : List Token) → tokens_of text ≡ Ok tokens →
+    AreOf IsNumbered tokens

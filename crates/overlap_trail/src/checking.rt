@@ -57,7 +57,8 @@ pub fn leads(
 
 /// Whether each lemma leads to its return, over the ranges of earlier ones alone.
 pub fn lemmas_hold(program: &Program, lemmas: &[Lemma]) -> bool
-    ensures { IsTrue result ↔ LemmasHold (never_first_of program.now.files) (control_of program.now) [] lemmas.now }
+    ensures { IsTrue result ↔ LemmasHold (never_first_of program.now.files) (control_of program.now)
+        [] lemmas.now }
 {
     for (number, lemma) in lemmas.iter().enumerate() {
         let earlier = &lemmas[..number];
@@ -131,7 +132,8 @@ pub fn begins_in_main(hops: &[Hop]) -> bool
 
 /// Whether a trail is accepted.
 pub fn check(program: &Program, trail: &Trail) -> bool
-    ensures { IsTrue result ↔ IsAccepted (never_first_of program.now.files) (control_of program.now) trail.now }
+    ensures { IsTrue result ↔ IsAccepted (never_first_of program.now.files) (control_of program.now)
+        trail.now }
 {
     let lemmas = trail.lemmas.as_slice();
     let hops = trail.hops.as_slice();

@@ -51,14 +51,16 @@ pub struct Pick {
 /// The move behind the taken ones.
 pub fn next_move(moves: &[Move], taken: usize) -> Option<Move>
     ensures { MatchOption result (drop taken moves.now ≡ [])
-        (λ first. (drop taken moves.now ≡ first ∷ drop (taken + 1) moves.now) × (taken < length moves.now)) }
+        (λ first. (drop taken moves.now ≡ first ∷ drop (taken + 1) moves.now)
+        × (taken < length moves.now)) }
 {
     moves.get(taken).copied()
 }
 
 /// The arm that the move behind the taken ones names.
 pub fn arm_move(moves: &[Move], taken: usize) -> Option<u32>
-    ensures { MatchOption result (first_arm (drop taken moves.now) ≡ None) (IsArmFirst moves.now taken) }
+    ensures { MatchOption result (first_arm (drop taken moves.now) ≡ None)
+        (IsArmFirst moves.now taken) }
 {
     match next_move(moves, taken) {
         Some(Move::Arm(number)) => Some(number),
@@ -70,7 +72,8 @@ pub fn arm_move(moves: &[Move], taken: usize) -> Option<u32>
 
 /// The lemma that the move behind the taken ones names.
 pub fn over_move(moves: &[Move], taken: usize) -> Option<u32>
-    ensures { MatchOption result (first_over (drop taken moves.now) ≡ None) (IsOverFirst moves.now taken) }
+    ensures { MatchOption result (first_over (drop taken moves.now) ≡ None)
+        (IsOverFirst moves.now taken) }
 {
     match next_move(moves, taken) {
         Some(Move::Over(number)) => Some(number),
@@ -141,7 +144,8 @@ pub fn is_lemma(lemmas: &[Lemma], number: u32, entry: u32, exit: u32) -> bool
 /// Through a PERFORM without loop.
 pub fn follow_call(lemmas: &[Lemma], moves: &[Move], taken: usize, entry: u32, exit: u32) -> Way
     requires { taken ≤ length moves.now }
-    ensures follows { (never_first : Chooser → Bool) (last : ℕ) → Follows (knowing never_first lemmas.now)
+    ensures follows { (never_first : Chooser → Bool) (last : ℕ) →
+        Follows (knowing never_first lemmas.now)
         moves.now last taken (also (Perform entry exit) none) result }
     ensures taken { IsTaken taken (length moves.now) result }
 {
@@ -157,8 +161,8 @@ pub fn follow_call(lemmas: &[Lemma], moves: &[Move], taken: usize, entry: u32, e
     }
 }
 
-/// What the body of a loop comes to, as a turn: `Cycled` where the loop goes on, and `Through` where
-/// it is left.
+/// What the body of a loop comes to, as a turn: `Cycled` where the loop goes on, and `Through`
+/// where it is left.
 pub fn turned(way: Way) -> Way
     ensures { result ≡ turned_way way }
 {
@@ -178,7 +182,8 @@ pub fn turned(way: Way) -> Way
 /// Through what is left of a loop over a PERFORM.
 pub fn follow_calls(lemmas: &[Lemma], moves: &[Move], taken: usize, entry: u32, exit: u32) -> Way
     requires { taken ≤ length moves.now }
-    ensures turns { (never_first : Chooser → Bool) (last : ℕ) → Turns (knowing never_first lemmas.now)
+    ensures turns { (never_first : Chooser → Bool) (last : ℕ) →
+        Turns (knowing never_first lemmas.now)
         moves.now last taken (Performed entry exit) result }
     ensures taken { IsTaken taken (length moves.now) result }
 {
@@ -205,7 +210,8 @@ pub fn follow_perform(
     control: &Control,
 ) -> Way
     requires { taken ≤ length moves.now }
-    ensures follows { (never_first : Chooser → Bool) (last : ℕ) → Follows (knowing never_first lemmas.now)
+    ensures follows { (never_first : Chooser → Bool) (last : ℕ) →
+        Follows (knowing never_first lemmas.now)
         moves.now last taken (also (perform_of (control_in control.now) entry exit) none) result }
     ensures taken { IsTaken taken (length moves.now) result }
 {

@@ -36,7 +36,8 @@ pub fn pushed(standing: Standing, exit: Option<u32>, paragraph: usize) -> Standi
     ensures top { (ends : List ℕ) → standing.top ≡ top_is paragraph ends →
         result.top ≡ top_is paragraph (with_exit exit ends) }
     ensures below { (ends : List ℕ) → standing.top ≡ top_is paragraph ends →
-        standing.below ≡ below_is paragraph ends → result.below ≡ below_is paragraph (with_exit exit ends) }
+        standing.below ≡ below_is paragraph ends → result.below
+        ≡ below_is paragraph (with_exit exit ends) }
 {
     match exit {
         Some(end) => Standing {
@@ -91,7 +92,8 @@ pub fn meets_end(
     taken: usize,
 ) -> bool
     requires { taken ≤ length moves.now }
-    ensures { IsTrue result ↔ Meets (aim_of goal hops.now) range (Ends paragraph) (drop taken moves.now) }
+    ensures { IsTrue result ↔ Meets (aim_of goal hops.now) range (Ends paragraph)
+        (drop taken moves.now) }
 {
     if taken < moves.len() {
         return false;
@@ -130,7 +132,8 @@ pub fn meets_call(
     taken: usize,
 ) -> bool
     requires { taken ≤ length moves.now }
-    ensures { (after : Point) → IsTrue result ↔ Meets (aim_of goal hops.now) range (Calls entry exit after)
+    ensures { (after : Point) → IsTrue result
+        ↔ Meets (aim_of goal hops.now) range (Calls entry exit after)
         (drop taken moves.now) }
 {
     match goal {

@@ -63,7 +63,8 @@ pub fn follow_sentences(
     sentences: &[Sentence],
 ) -> Out
     requires { taken ≤ length moves.now }
-    ensures follows { (last : ℕ) → FollowsSentences (known_of files.now lemmas.now) moves.now last taken
+    ensures follows { (last : ℕ) →
+        FollowsSentences (known_of files.now lemmas.now) moves.now last taken
         (map (seen_sentence last) sentences.now) result }
     ensures taken { IsTakenOut taken (length moves.now) result }
 {
@@ -105,7 +106,8 @@ pub fn end_leg(
     taken: usize,
 ) -> Leg
     requires { taken ≤ length moves.now }
-    ensures leg { (known : Known) → IsLeg known (sought_of (control_of program.now) range (aim_of goal hops.now)) moves.now
+    ensures leg { (known : Known) →
+        IsLeg known (sought_of (control_of program.now) range (aim_of goal hops.now)) moves.now
         (walk (at paragraph []) (drop taken moves.now)) taken result }
     ensures within { IsOnFrom paragraph (length program.now.paragraphs) result }
 {

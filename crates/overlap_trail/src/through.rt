@@ -93,7 +93,8 @@ pub fn follow_first(
     stmts: &Items<Stmt>,
 ) -> Way
     requires { taken ≤ length moves.now }
-    ensures follows { (last : ℕ) → FollowsBranches (known_of files.now lemmas.now) moves.now last taken
+    ensures follows { (last : ℕ) →
+        FollowsBranches (known_of files.now lemmas.now) moves.now last taken
         (seen_stmts last stmts.now ∷ none ∷ []) result }
     ensures taken { IsTaken taken (length moves.now) result }
 {
@@ -114,7 +115,8 @@ pub fn follow_second(
     stmts: &Items<Stmt>,
 ) -> Way
     requires { taken ≤ length moves.now }
-    ensures follows { (last : ℕ) → FollowsBranches (known_of files.now lemmas.now) moves.now last taken
+    ensures follows { (last : ℕ) →
+        FollowsBranches (known_of files.now lemmas.now) moves.now last taken
         (none ∷ seen_stmts last stmts.now ∷ []) result }
     ensures taken { IsTaken taken (length moves.now) result }
 {

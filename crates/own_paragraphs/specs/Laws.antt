@@ -5,4 +5,5 @@ use Rattle.named_programs.specs.Named.{NamesItsOwn}
 
 -- each paragraph that its statements name is there, and each inline loop says how it turns
 abbrev pub NamedProgramsNameOwnParagraphs : Type 0
-NamedProgramsNameOwnParagraphs = (program : Program) → NamesItsOwn program → NamesOwnParagraphs program
+NamedProgramsNameOwnParagraphs = (program : Program) → NamesItsOwn program →
+    NamesOwnParagraphs program

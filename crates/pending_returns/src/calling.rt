@@ -28,7 +28,8 @@ pub fn led_to(alloc: Global, levels: &[RangeFacts]) -> Result<Vec<bool>, NoMemor
     requires main { 0 < length levels.now }
     requires known { CallsBelow (length levels.now) levels.now }
     ensures size { IfOk result (λ flags. length flags.items ≡ length levels.now) }
-    ensures led { IfOk result (λ flags. (number : ℕ) → slice_get flags.items number ≡ Some true ↔ LeadsTo levels.now number) }
+    ensures led { IfOk result (λ flags. (number : ℕ) → slice_get flags.items number ≡ Some true
+        ↔ LeadsTo levels.now number) }
 {
     let count = levels.len();
     let mut reach = Reach::new(alloc, count)?;

@@ -24,8 +24,8 @@ pub struct RangeFacts {
     pub ends: Items<u32>,
 }
 
-/// What the ranges that some flow path performs do, main first and the others by entry and exit; and
-/// of each paragraph whether some flow path comes to it.
+/// What the ranges that some flow path performs do, main first and the others by entry and exit;
+/// and of each paragraph whether some flow path comes to it.
 #[derive(Debug, Drop)]
 pub struct Summary {
     pub ranges: Items<RangeFacts>,
@@ -46,7 +46,8 @@ pub fn level_of(
     requires known { length table.now.ranges ≤ length returns.now }
     ensures range { IfOk result (λ facts. facts.range ≡ range) }
     ensures returns { IfOk result (λ facts. facts.returns ≡ back) }
-    ensures tells { IfOk result (λ facts. TellsLevel table.now returns.now range facts.calls facts.ends) }
+    ensures tells { IfOk result (λ facts. TellsLevel table.now returns.now range facts.calls
+        facts.ends) }
     ensures fits { FitsTable table.now level.new }
 {
     level.take(table, returns, range)?;

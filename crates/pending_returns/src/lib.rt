@@ -1,4 +1,5 @@
-//! What a program's ranges perform, whether they return, and whose ends they pass, whatever the data.
+//! What a program's ranges perform, whether they return, and whose ends they pass, whatever the
+//! data.
 //!
 //! `summarise` gives it of the ranges that some flow path performs. `specs/Summary.antt` says what
 //! a summary tells, by flow paths; `specs/Tabled.antt` the same of a table of the program's places.

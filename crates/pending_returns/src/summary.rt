@@ -60,8 +60,10 @@ pub fn limit_of(counted: usize) -> SplitFault
 /// name more than `RANGES` distinct ranges, main included.
 pub fn summarise(alloc: Global, program: &Program) -> Result<Summary, SplitFault>
     requires { 0 < length program.now.paragraphs }
-    ensures summary { IfOk result (λ summary. IsSummary (never_first_of program.now.files) (control_of program.now) summary) }
-    ensures limit { MatchResult result (λ summary. IsWithin program.now) (λ fault. IsPast program.now fault) }
+    ensures summary { IfOk result (λ summary. IsSummary (never_first_of program.now.files)
+        (control_of program.now) summary) }
+    ensures limit { MatchResult result (λ summary. IsWithin program.now)
+        (λ fault. IsPast program.now fault) }
 {
     let ranges = ranges_of(alloc, program)?;
     if ranges.len() > RANGES {

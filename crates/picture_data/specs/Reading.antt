@@ -51,7 +51,8 @@ kept place symbols (Err flaw) = Err flaw
 abbrev pub digit : ℕ → ℕ → Reading → Result Reading Flaw
 digit count d reading =
     if nat_le (count * 10 + d) 65535
-    then kept (places.Count (count * 10 + d)) reading.symbols (added (count * 10 + d - 1) reading.symbols)
+    then kept (places.Count (count * 10 + d)) reading.symbols
+    (added (count * 10 + d - 1) reading.symbols)
     else Err (too_many reading.symbols.shape)
 
 -- a count is at least 1

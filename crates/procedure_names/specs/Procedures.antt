@@ -1,8 +1,8 @@
 -- Which paragraphs and sections a division has, as its headers tell: a name at the beginning of the
 -- division or behind a period is a header, and SECTION behind it makes it a section (ISO 1989:1985,
 -- PROCEDURE DIVISION). Paragraphs have numbers in the order of the text. A section without a
--- paragraph has an empty one, as has a division without any, and sentences before a first name are a
--- paragraph without name.
+-- paragraph has an empty one, as has a division without any, and sentences before a first name are
+-- a paragraph without name.
 use Rattle.std.specs.Prelude.{ℕ, ◌+◌, ◌-◌, ◌^◌, ◌≤◌, ◌==◌, Bool, true, false, ◌&&◌, nat_lt, nat_le, codes, List, [], ◌∷◌, ◌++◌, length, position, slice_get, unwrap_or, Option, Some, None, if◌then◌else◌}
 use Rattle.std.specs.List.{list_all}
 use Rattle.std.specs.Str.{bytes_eq}
@@ -169,7 +169,8 @@ last_of table header = last_by table header.section header.first
   where
     last_by : ProcedureTable → Option ℕ → ℕ → ℕ
     last_by table None first = first
-    last_by table (Some section) first = unwrap_or (slice_get table.starts (section + 1)) table.count - 1
+    last_by table (Some section) first =
+        unwrap_or (slice_get table.starts (section + 1)) table.count - 1
 
 -- the first and the last paragraph of the procedure with this name, which are its entry and exit
 abbrev pub range_of : ProcedureTable → Option Header → Option (ℕ × ℕ)

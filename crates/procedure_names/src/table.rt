@@ -57,8 +57,8 @@ impl ProcedureTable {
         }
     }
 
-    /// The first and the last paragraph of the procedure with this name, which are its entry and its
-    /// exit.
+    /// The first and the last paragraph of the procedure with this name, which are its entry and
+    /// its exit.
     pub fn range_of(&self, name: &Word) -> Option<(u32, u32)>
         ensures { result ≡ procedures.range_of self.now (procedures.header_of self.now name.now) }
     {
@@ -70,7 +70,8 @@ impl ProcedureTable {
 
     /// The fault of the header at this position, where an earlier one has its name.
     pub fn again_fault(&self, name: &Word, position: Position) -> Option<Note>
-        ensures { result ≡ procedures.again_fault (procedures.header_of self.now name.now) position }
+        ensures { result ≡ procedures.again_fault (procedures.header_of self.now name.now)
+            position }
     {
         match self.header_of(name) {
             None => None,

@@ -14,11 +14,12 @@ use exit_rules::exit_at;
 use state_dispatch::dispatch;
 use std::alloc::Global;
 
-/// Exits on the lowest label where it applies, and Join. A graph with 2^32 - 1 added items is out of
-/// memory.
+/// Exits on the lowest label where it applies, and Join. A graph with 2^32 - 1 added items is out
+/// of memory.
 fn exits_step(alloc: Global, graph: &mut Graph) -> Result<bool, NoMemory>
     requires { IsClosed (seen_graph graph.old) }
-    ensures { Steps result (or_exits (seen_graph graph.old) None) (seen_graph graph.old) (seen_graph graph.new) }
+    ensures { Steps result (or_exits (seen_graph graph.old) None) (seen_graph graph.old)
+        (seen_graph graph.new) }
 {
     match lowest_exits(graph) {
         Some(at) => {
@@ -36,7 +37,8 @@ fn exits_step(alloc: Global, graph: &mut Graph) -> Result<bool, NoMemory>
 /// One step of Loop, Inline or Exits, where one applies.
 fn any_step(alloc: Global, graph: &mut Graph) -> Result<bool, NoMemory>
     requires { IsClosed (seen_graph graph.old) }
-    ensures { Steps result (any_step (seen_graph graph.old)) (seen_graph graph.old) (seen_graph graph.new) }
+    ensures { Steps result (any_step (seen_graph graph.old)) (seen_graph graph.old)
+        (seen_graph graph.new) }
 {
     if rule_step(alloc, graph)? {
         return Ok(true);

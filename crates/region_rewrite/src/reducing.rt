@@ -33,7 +33,8 @@ pub fn join_graph(graph: &mut Graph) -> Result<(), NoMemory>
 /// Inline on the lowest label where it applies, and Join.
 fn inline_step(graph: &mut Graph) -> Result<bool, NoMemory>
     requires { IsClosed (seen_graph graph.old) }
-    ensures { Steps result (loop_step (seen_graph graph.old) None) (seen_graph graph.old) (seen_graph graph.new) }
+    ensures { Steps result (loop_step (seen_graph graph.old) None) (seen_graph graph.old)
+        (seen_graph graph.new) }
 {
     match lowest_inline(graph) {
         None => Ok(false),
@@ -45,10 +46,12 @@ fn inline_step(graph: &mut Graph) -> Result<bool, NoMemory>
     }
 }
 
-/// One step of Loop or Inline, where one applies. A graph with 2^32 - 1 added items is out of memory.
+/// One step of Loop or Inline, where one applies. A graph with 2^32 - 1 added items is out of
+/// memory.
 pub fn rule_step(alloc: Global, graph: &mut Graph) -> Result<bool, NoMemory>
     requires { IsClosed (seen_graph graph.old) }
-    ensures { Steps result (rule_step (seen_graph graph.old)) (seen_graph graph.old) (seen_graph graph.new) }
+    ensures { Steps result (rule_step (seen_graph graph.old)) (seen_graph graph.old)
+        (seen_graph graph.new) }
 {
     match lowest_loop(graph) {
         None => inline_step(graph),
@@ -88,8 +91,8 @@ pub fn enough_steps(graph: &Graph) -> Result<usize, NoMemory>
     Ok(3 * nodes)
 }
 
-/// Reduces a graph by Join, Loop and Inline. Without memory some steps are done; a graph with 2^32 - 1
-/// nodes is out of memory.
+/// Reduces a graph by Join, Loop and Inline. Without memory some steps are done; a graph with 2^32
+/// - 1 nodes is out of memory.
 pub fn reduce(alloc: Global, graph: &mut Graph) -> Result<(), NoMemory>
     requires { IsClosed (seen_graph graph.old) }
     ensures { OnOk result (seen_graph graph.new ≡ shaped (seen_graph graph.old)) }

@@ -1,4 +1,5 @@
-//! The written program behaves as the walk of the family that it is written of, and so as the source.
+//! The written program behaves as the walk of the family that it is written of, and so as the
+//! source.
 
 ghost use Rattle.control.specs.Doing.{Celled};
 ghost use Rattle.rendering.specs.WholeExample.{TheJumpIsRestructured};
@@ -27,7 +28,8 @@ pub fn a_rendering_is_structured()
     ensures { RenderingIsStructured }
 {}
 
-/// A family whose walk is tied to a source that meets no fault is sound, and so is one that walks alike.
+/// A family whose walk is tied to a source that meets no fault is sound, and so is one that walks
+/// alike.
 pub fn followers_are_sound<Memory, Left>()
     ensures follows { FollowersAreSound Memory Left }
     ensures alike { SoundnessIsKept Memory Left }
@@ -43,12 +45,14 @@ pub fn rendering_keeps_meaning<Memory, Other, Left, World, C: Carrying<Memory, O
     ensures { RenderingKeepsMeaning C.carries Left World }
 {}
 
-/// Lowered, shaped and written, a source that meets no fault is a structured program of the same behaviour.
+/// Lowered, shaped and written, a source that meets no fault is a structured program of the same
+/// behaviour.
 pub fn restructuring_keeps_meaning<Memory, Other, Left, World, C: Carrying<Memory, Other>>()
     ensures { RestructuringKeepsMeaning C.carries Left World }
 {}
 
-/// A small program with a jump has a written program of the same behaviour: the premises of the whole chain can be met.
+/// A small program with a jump has a written program of the same behaviour: the premises of the
+/// whole chain can be met.
 pub fn a_small_program_is_restructured()
     ensures { TheJumpIsRestructured }
 {}

@@ -67,7 +67,8 @@ fn push_begin(
     telling: &Telling<'_>,
 ) -> Result<(), NoMemory>
     requires { place + sum_by stmt_places sentence.now.stmts < 2 ^ 32 }
-    ensures { OnOk result (AddsBegin telling.now.layout.now sentence.now.stmts place begins.old.items begins.new.items) }
+    ensures { OnOk result (AddsBegin telling.now.layout.now sentence.now.stmts place
+        begins.old.items begins.new.items) }
 {
     let next = top(begins);
     let begin = begin_of(sentence, place, &next, telling);
@@ -84,7 +85,8 @@ fn begins_of(
     telling: &Telling<'_>,
 ) -> Result<Vec<Begin>, NoMemory>
     requires fits { sentence_sizes sentences.now ≤ end }
-    ensures { IfOk result (λ begins. AreStacked telling.now.layout.now (end - sentence_sizes sentences.now) sentences.now begins.items) }
+    ensures { IfOk result (λ begins. AreStacked telling.now.layout.now
+        (end - sentence_sizes sentences.now) sentences.now begins.items) }
 {
     let mut begins = Vec::new(alloc);
     let last = paragraph_end();
@@ -148,7 +150,8 @@ fn push_paragraph<'a>(
     requires fits { end ≤ telling.now.layout.now.end }
     requires small { telling.now.layout.now.end < 2 ^ 31 }
     requires own { IsTrue (sentences_own paragraph.now.sentences) }
-    ensures { OnOk result (AddsParagraph telling.now paragraph.now number last spots.old.items spots.new.items) }
+    ensures { OnOk result (AddsParagraph telling.now paragraph.now number last spots.old.items
+        spots.new.items) }
 {
     let sentences = paragraph.sentences.as_slice();
     let mut begins = begins_of(alloc, sentences, end, telling)?;
@@ -184,7 +187,8 @@ pub fn spots_of<'a>(
     program: &'a Program,
     telling: &Telling<'_>,
 ) -> Result<Vec<Spot<'a>>, NoMemory>
-    requires layout { IsLayout program.now telling.now.layout.now.places.items telling.now.layout.now.end }
+    requires layout { IsLayout program.now telling.now.layout.now.places.items
+        telling.now.layout.now.end }
     requires small { telling.now.layout.now.end < 2 ^ 31 }
     requires own { NamesOwnItems program.now }
     ensures { IfOk result (λ spots. AreRestsOf telling.now program.now spots.items) }

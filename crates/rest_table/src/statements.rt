@@ -98,8 +98,10 @@ pub fn push_stmts<'a>(
     requires own { IsTrue (stmts_own stmts.now) }
     requires fits { length spots.old.items + sum_by stmt_places stmts.now ≤ layout.now.end }
     requires small { layout.now.end < 2 ^ 31 }
-    requires later { GoesLater (length spots.old.items + sum_by stmt_places stmts.now) layout.now.end onward.now.behind }
-    ensures { OnOk result (AddsRests layout.now stmts.now onward.now spots.old.items spots.new.items) }
+    requires later { GoesLater (length spots.old.items + sum_by stmt_places stmts.now)
+        layout.now.end onward.now.behind }
+    ensures { OnOk result (AddsRests layout.now stmts.now onward.now spots.old.items
+        spots.new.items) }
 {
     let mut at = 0usize;
     for stmt in stmts {
@@ -126,8 +128,10 @@ fn push_within<'a>(
     requires own { IsTrue (stmt_own stmt.now) }
     requires fits { length spots.old.items + inner_places stmt.now ≤ layout.now.end }
     requires small { layout.now.end < 2 ^ 31 }
-    requires later { GoesLater (length spots.old.items + inner_places stmt.now) layout.now.end onward.now.behind }
-    ensures { OnOk result (AddsWithin layout.now stmt.now place onward.now spots.old.items spots.new.items) }
+    requires later { GoesLater (length spots.old.items + inner_places stmt.now) layout.now.end
+        onward.now.behind }
+    ensures { OnOk result (AddsWithin layout.now stmt.now place onward.now spots.old.items
+        spots.new.items) }
 {
     match stmt {
         Stmt::If { yes, no, .. } => {
@@ -186,8 +190,10 @@ fn push_whens<'a>(
     requires own { IsTrue (all (map when_own whens.now)) }
     requires fits { length spots.old.items + sum_by when_places whens.now ≤ layout.now.end }
     requires small { layout.now.end < 2 ^ 31 }
-    requires later { GoesLater (length spots.old.items + sum_by when_places whens.now) layout.now.end onward.now.behind }
-    ensures { OnOk result (AddsArms layout.now (branch_arms whens.now) (sum_by when_places whens.now) onward.now spots.old.items spots.new.items) }
+    requires later { GoesLater (length spots.old.items + sum_by when_places whens.now)
+        layout.now.end onward.now.behind }
+    ensures { OnOk result (AddsArms layout.now (branch_arms whens.now)
+        (sum_by when_places whens.now) onward.now spots.old.items spots.new.items) }
 {
     for when in whens {
         push_stmts(spots, when.stmts.as_slice(), layout, onward)?;
@@ -206,8 +212,10 @@ fn push_phrase<'a>(
     requires own { IsTrue (phrase_own phrase.now) }
     requires fits { length spots.old.items + phrase_places phrase.now ≤ layout.now.end }
     requires small { layout.now.end < 2 ^ 31 }
-    requires later { GoesLater (length spots.old.items + phrase_places phrase.now) layout.now.end onward.now.behind }
-    ensures { OnOk result (AddsArms layout.now (phrase_alone phrase.now) (phrase_places phrase.now) onward.now spots.old.items spots.new.items) }
+    requires later { GoesLater (length spots.old.items + phrase_places phrase.now) layout.now.end
+        onward.now.behind }
+    ensures { OnOk result (AddsArms layout.now (phrase_alone phrase.now) (phrase_places phrase.now)
+        onward.now spots.old.items spots.new.items) }
 {
     match phrase {
         None => Ok(()),
@@ -228,8 +236,10 @@ fn push_arms<'a>(
     requires own { IsTrue (arms_own arms.now) }
     requires fits { length spots.old.items + arms_places arms.now ≤ layout.now.end }
     requires small { layout.now.end < 2 ^ 31 }
-    requires later { GoesLater (length spots.old.items + arms_places arms.now) layout.now.end onward.now.behind }
-    ensures { OnOk result (AddsArms layout.now (phrase_arms arms.now) (arms_places arms.now) onward.now spots.old.items spots.new.items) }
+    requires later { GoesLater (length spots.old.items + arms_places arms.now) layout.now.end
+        onward.now.behind }
+    ensures { OnOk result (AddsArms layout.now (phrase_arms arms.now) (arms_places arms.now)
+        onward.now spots.old.items spots.new.items) }
 {
     push_phrase(spots, &arms.first, layout, onward)?;
     push_phrase(spots, &arms.second, layout, onward)?;
@@ -250,8 +260,10 @@ fn push_turns<'a>(
     requires own { IsTrue (stmts_own turns.now) }
     requires fits { length spots.old.items + sum_by stmt_places turns.now ≤ layout.now.end }
     requires small { layout.now.end < 2 ^ 31 }
-    requires later { GoesLater (length spots.old.items + sum_by stmt_places turns.now) layout.now.end onward.now.behind }
-    ensures { OnOk result (AddsTurns layout.now control.now turns.now place onward.now spots.old.items spots.new.items) }
+    requires later { GoesLater (length spots.old.items + sum_by stmt_places turns.now)
+        layout.now.end onward.now.behind }
+    ensures { OnOk result (AddsTurns layout.now control.now turns.now place onward.now
+        spots.old.items spots.new.items) }
 {
     if is_once(control) {
         push_stmts(spots, turns, layout, onward)?;

@@ -1,5 +1,5 @@
--- The limits of the result. One that is rendered of a plain program can pass no others: no statement
--- of it holds another, and it has no data, no conditions and no expressions.
+-- The limits of the result. One that is rendered of a plain program can pass no others: no
+-- statement of it holds another, and it has no data, no conditions and no expressions.
 use Rattle.std.specs.Prelude.{ℕ, true, nat_lt, if◌then◌else◌, List, length, Option, Some, None}
 use Rattle.cob_base.specs.declared.limit.Limit.{Limit}
 use Rattle.cob_base.specs.declared.limit.LimitKind.{LimitKind}

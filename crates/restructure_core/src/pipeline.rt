@@ -30,7 +30,8 @@ pub struct Done {
 /// A program of the plain form has no files and no data; its paragraphs have names and are in no
 /// section, and their statements are DISPLAY of literals in quotation marks, GO TO and STOP RUN.
 /// The errors are those of reading, then too many ranges, then a fault of flow, then another form,
-/// then control that comes to a paragraph a second time, then too many tokens or bytes of the result.
+/// then control that comes to a paragraph a second time, then too many tokens or bytes of the
+/// result.
 pub fn restructure(alloc: Global, bytes: &[u8]) -> Result<Done, Refused>
     // what each answer tells
     ensures done { IfOk result (λ done. IsRestructured bytes.now done.text) }

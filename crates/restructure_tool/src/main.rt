@@ -34,8 +34,8 @@ use std::process::ExitCode;
 use writing::{note, write_text};
 
 /// Does what the words ask: with the one word `restructure` the source is read to its end, and the
-/// result is written to `out`. Where that isn't done, `notes` gets a line that says why, or the lines
-/// of a trail.
+/// result is written to `out`. Where that isn't done, `notes` gets a line that says why, or the
+/// lines of a trail.
 ///
 /// The order of the refusals is that of their causes: words, a fault of the source, those of
 /// reading, too many ranges, a fault of flow, the form, a loop, the result's tokens and bytes. Both

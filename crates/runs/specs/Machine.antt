@@ -21,16 +21,19 @@ pub record Machine (World Event End State : Type 0) : Type 0 where
   pub run : State → Run Event End
   pub begun : World → State
 
-abbrev pub meaning : {World Event End State : Type 0} → Machine World Event End State → Meaning World Event End
+abbrev pub meaning : {World Event End State : Type 0} → Machine World Event End State →
+    Meaning World Event End
 meaning machine world n = machine.run (iterate machine.step n (machine.begun world))
 
 -- a step shows more, and a state that is over stays
-pub record Grows {World Event End State : Type 0} (machine : Machine World Event End State) : Type 0 where
-  pub more : (state : State) → Covers (machine.run state) (machine.run (machine.step state))
-  pub stays : (state : State) → IsOver (machine.run state) → machine.step state ≡ state
+pub record Grows {World Event End State : Type 0} (machine : Machine World Event End State) : Type 0
+  where
+    pub more : (state : State) → Covers (machine.run state) (machine.run (machine.step state))
+    pub stays : (state : State) → IsOver (machine.run state) → machine.step state ≡ state
 
 -- each step of the first machine is some steps of the second; where it is none, the weight falls
-pub record Simulates {World Event End A B : Type 0} (a : Machine World Event End A) (b : Machine World Event End B) (Related : A → B → Type 0) : Type 0 where
+pub record Simulates {World Event End A B : Type 0} (a : Machine World Event End A)
+    (b : Machine World Event End B) (Related : A → B → Type 0) : Type 0 where
   pub weight : A → ℕ
   pub first : ℕ
   pub most : ℕ
@@ -39,4 +42,5 @@ pub record Simulates {World Event End A B : Type 0} (a : Machine World Event End
   pub starts : (world : World) → Related (a.begun world) (b.begun world)
   pub agree : (s : A) (t : B) → Related s t → a.run s ≡ b.run t
   pub moves : (s : A) (t : B) → Related s t → (a.run s).standing ≡ Going →
-      (j : ℕ) × Related (a.step s) (iterate b.step j t) × (j ≤ most) × (weight (a.step s) + 1 ≤ weight s + (growth + 1) * j)
+      (j : ℕ) × Related (a.step s) (iterate b.step j t) × (j ≤ most)
+      × (weight (a.step s) + 1 ≤ weight s + (growth + 1) * j)

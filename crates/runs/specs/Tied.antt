@@ -21,14 +21,17 @@ pub record Tied {World Event End : Type 0} (a b : Meaning World Event End) : Typ
 pub record Paced {World Event End : Type 0} (a b : Meaning World Event End) : Type 0 where
   pub there : ℕ
   pub back : ℕ
-  pub paced : (world : World) (n : ℕ) → (k : ℕ) × (a world n ≡ b world k) × (k ≤ there * (n + 1)) × ((a world n).standing ≡ Going → n ≤ back * (k + 1))
+  pub paced : (world : World) (n : ℕ) → (k : ℕ) × (a world n ≡ b world k) × (k ≤ there * (n + 1))
+      × ((a world n).standing ≡ Going → n ≤ back * (k + 1))
 
 -- in some number of steps the run is this one
-abbrev pub ComesTo : {World Event End : Type 0} → Meaning World Event End → World → Run Event End → Type 0
+abbrev pub ComesTo : {World Event End : Type 0} → Meaning World Event End → World → Run Event End →
+    Type 0
 ComesTo a world run = (n : ℕ) × (a world n ≡ run)
 
 -- the same, in at most so many steps
-abbrev pub ComesToWithin : {World Event End : Type 0} → ℕ → Meaning World Event End → World → Run Event End → Type 0
+abbrev pub ComesToWithin : {World Event End : Type 0} → ℕ → Meaning World Event End → World →
+    Run Event End → Type 0
 ComesToWithin most a world run = (n : ℕ) × (n ≤ most) × (a world n ≡ run)
 
 -- in every world both come to one run that is over, in a number of steps fixed beforehand

@@ -10,14 +10,16 @@ pub fn runs_compose<State>()
     ensures counted { (step : State → State) (k n : ℕ) (s : State) →
         iterate step (k + n) s ≡ iterate step n (iterate step k s) }
     ensures itself { (step : State → State) (s : State) → Reaches step s s }
-    ensures stepped { (step : State → State) (s t : State) → Reaches step (step s) t → Reaches step s t }
+    ensures stepped { (step : State → State) (s t : State) → Reaches step (step s) t →
+        Reaches step s t }
     ensures composes { (step : State → State) (s t u : State) →
         Reaches step s t → Reaches step t u → Reaches step s u }
 {}
 
 /// With more steps a machine shows more.
 pub fn more_steps_show_more<World, Event, End, State>()
-    ensures steady { (machine : Machine World Event End State) → Grows machine → Steady (meaning machine) }
+    ensures steady { (machine : Machine World Event End State) → Grows machine →
+        Steady (meaning machine) }
     ensures reached { (machine : Machine World Event End State) → Grows machine →
         (s t : State) → Reaches machine.step s t → Covers (machine.run s) (machine.run t) }
 {}

@@ -25,23 +25,26 @@ pub fn ties_compose<World, Event, End>()
     ensures { (a b c : Meaning World Event End) → Tied a b → Tied b c → Tied a c }
 {}
 
-/// Two meanings are tied where each number of steps of the first has one of the second with the same run, at a like pace.
+/// Two meanings are tied where each number of steps of the first has one of the second with the
+/// same run, at a like pace.
 pub fn paced_is_tied<World, Event, End>()
     ensures { (a b : Meaning World Event End) → Steady b → Paced a b → Tied a b }
 {}
 
-/// Two meanings are tied that in every world come to one run that is over, each within a number of steps fixed beforehand.
+/// Two meanings are tied that in every world come to one run that is over, each within a number of
+/// steps fixed beforehand.
 pub fn ended_alike_is_tied<World, Event, End>()
     ensures { (a b : Meaning World Event End) → Steady a → Steady b → EndAlike a b → Tied a b }
 {}
 
-/// What tied meanings have in common, without the numbers: what one shows the other comes to show, and they come to the
-/// same runs that are over, or neither ends.
+/// What tied meanings have in common, without the numbers: what one shows the other comes to show,
+/// and they come to the same runs that are over, or neither ends.
 pub fn tied_meanings_do_the_same<World, Event, End>()
     ensures show { (a b : Meaning World Event End) → Tied a b →
         (world : World) (n : ℕ) → (k : ℕ) × Begins (a world n).trace (b world k).trace }
     ensures end { (a b : Meaning World Event End) → Tied a b →
-        (world : World) (run : Run Event End) → IsOver run → (ComesTo a world run) ↔ (ComesTo b world run) }
+        (world : World) (run : Run Event End) → IsOver run → (ComesTo a world run)
+        ↔ (ComesTo b world run) }
 {}
 
 /// Meanings stay tied where their world is made from another one.

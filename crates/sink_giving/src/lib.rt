@@ -11,7 +11,8 @@ ghost use Rattle.sink_giving.specs.Giving.{Gains, Takes};
 
 use cob_base::{Gave, Sink};
 
-/// Gives all these bytes, for which there is room, and takes no memory; false where the sink failed.
+/// Gives all these bytes, for which there is room, and takes no memory; false where the sink
+/// failed.
 pub fn give_all<K: Sink>(sink: &mut K, bytes: &[u8]) -> bool
     requires { length bytes.now ≤ K.spare sink.old }
     ensures front { Takes bytes.now (sink_call K.held K.faults sink.old sink.new) }

@@ -51,7 +51,8 @@ fn gathered(
     returns: bool,
 ) -> Tree
     requires { vec_len before < vec_capacity before }
-    ensures { seen_tree result ≡ looped_by (state_loop state labels) (seen_body before.items) (choice_of state (seen_trees arms.items)) (return_if returns) }
+    ensures { seen_tree result ≡ looped_by (state_loop state labels) (seen_body before.items)
+        (choice_of state (seen_trees arms.items)) (return_if returns) }
 {
     let mut tree = Tree {
         body: Vec::new(alloc),
@@ -76,7 +77,8 @@ fn gathered(
     tree
 }
 
-/// Makes one node of all nodes, which loops over a choice by a state. Without memory the graph stays.
+/// Makes one node of all nodes, which loops over a choice by a state. Without memory the graph
+/// stays.
 pub fn dispatch(alloc: Global, graph: &mut Graph) -> Result<(), NoMemory>
     requires some { 0 < length graph.old.nodes.items }
     requires numbered { suc (length graph.old.nodes.items) < 2 ^ 32 }

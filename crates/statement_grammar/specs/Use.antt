@@ -1,5 +1,5 @@
--- What is wrong with how operands are used in statements, as far as their kinds say so; what is made
--- of them in the tree.
+-- What is wrong with how operands are used in statements, as far as their kinds say so; what is
+-- made of them in the tree.
 use Rattle.std.specs.Prelude.{ℕ, ◌==◌, Bool, false, List, [], ◌∷◌, Option, Some, None, if◌then◌else◌}
 use Rattle.cob_tree.specs.declared.entry.Entry.{Entry}
 use Rattle.cob_tree.specs.declared.place.Figure.TheVariants as figures

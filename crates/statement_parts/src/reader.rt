@@ -22,7 +22,8 @@ use statement_uses::Records;
 use std::alloc::Global;
 use word_forms::sees_name;
 
-/// Reads the parts of the statements of a program with these names, entries, which `records` has, and procedures.
+/// Reads the parts of the statements of a program with these names, entries, which `records` has,
+/// and procedures.
 #[derive(Drop)]
 pub struct PartReader<'a> {
     pub alloc: Global,

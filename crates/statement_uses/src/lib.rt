@@ -2,8 +2,8 @@
 //! what the definition of its name in `statement_grammar` says.
 //!
 //! `part` judges uses and makes what stands in the tree, `kind` tells what an entry holds, `record`
-//! what each file's first record does, `name` reads names, `procedure` looks procedures up. Hold the definitions, not this crate, against ISO
-//! 1989:1985.
+//! what each file's first record does, `name` reads names, `procedure` looks procedures up. Hold
+//! the definitions, not this crate, against ISO 1989:1985.
 #![tactic(auto)]
 
 mod kind;

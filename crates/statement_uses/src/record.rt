@@ -37,7 +37,8 @@ impl<'a> Model for Records<'a> {
 
     ghost view = { λ r. r.entries.now };
 
-    ghost invariant = { λ r. (file : ℕ) → file < length r.kinds.items → slice_get r.kinds.items file ≡ Some (record_kind r.entries.now file) };
+    ghost invariant = { λ r. (file : ℕ) → file < length r.kinds.items → slice_get r.kinds.items file
+        ≡ Some (record_kind r.entries.now file) };
 }
 
 impl<'a> Records<'a> {
@@ -102,7 +103,10 @@ fn count_of(entries: &[Entry]) -> usize {
 // Sets the kind of the file of an entry before those behind it.
 fn put_kind(kinds: &mut [ValueKind], entry: &Entry, behind: &[Entry])
     ensures length { length kinds.new ≡ length kinds.old }
-    ensures kinds { (file : ℕ) → (other : ValueKind) → file < length kinds.old → get_or kinds.new file other ≡ (if uses.is_of_file file entry.now.file then item_kind (kind_of entry.now behind.now) else get_or kinds.old file other) }
+    ensures kinds { (file : ℕ) → (other : ValueKind) → file < length kinds.old →
+        get_or kinds.new file other
+        ≡ (if uses.is_of_file file entry.now.file then item_kind (kind_of entry.now behind.now)
+        else get_or kinds.old file other) }
 {
     let Some(file) = entry.file else {
         return;
@@ -115,7 +119,8 @@ fn put_kind(kinds: &mut [ValueKind], entry: &Entry, behind: &[Entry])
 
 // The last entry comes first, so that the first record of a file is what stays.
 fn kinds_of(alloc: Global, entries: &[Entry]) -> Result<Vec<ValueKind>, NoMemory>
-    ensures { IfOk result (λ kinds. (file : ℕ) → file < length kinds.items → slice_get kinds.items file ≡ Some (uses.record_kind entries.now file)) }
+    ensures { IfOk result (λ kinds. (file : ℕ) → file < length kinds.items →
+        slice_get kinds.items file ≡ Some (uses.record_kind entries.now file)) }
 {
     let mut kinds = vec![in alloc; ValueKind::Unknown; count_of(entries)]?;
     let mut at = entries.len();

@@ -18,7 +18,8 @@ use Rattle.cob_store.specs.Store.{Roots, put_at}
 use Rattle.cob_store.specs.Place.{Memory, memory_of, Value, kept, number_at, operand_value, expr_value, reached}
 use Rattle.statements.specs.Outcome.{Outcome, done, go_on, then_do}
 
--- what is worked out before the receivers: a value that each is given, or one that each is changed by
+-- what is worked out before the receivers: a value that each is given, or one that each is changed
+-- by
 pub data Basis : Type 0 where
   Given : Value → Basis
   Quotient : (dividend divisor : Value) → Basis
@@ -85,12 +86,14 @@ value_for part now (Less value) = and_then now (λ old. Ok (both difference_of o
 value_for part now (Times value) = and_then now (λ old. Ok (both product_of old value))
 value_for part now (Over value) = and_then now (λ old. Ok (both (divided part) old value))
 
--- a receiver without a value, or with a size error under a SIZE phrase, stays; the answer says whether it had a size error
+-- a receiver without a value, or with a size error under a SIZE phrase, stays; the answer says
+-- whether it had a size error
 abbrev pub stored_in : Bool → Roots → Spot → Bool → Sign → Stored → Outcome Bool
 stored_in guarded store spot signed sign stored =
     if stored.size_error && guarded
     then done store true
-    else done (put_at store spot (number_bytes signed sign spot.length stored.value)) stored.size_error
+    else done (put_at store spot (number_bytes signed sign spot.length stored.value))
+    stored.size_error
 
 abbrev pub given_by : Bool → Roots → Spot → Bool → Sign → Option Stored → Outcome Bool
 given_by guarded store spot signed sign None = done store true

@@ -23,7 +23,11 @@ memory_in declared store = memory_of declared.areas.items store
 
 abbrev pub shows : Roots → World → Answer (List ℕ) → Effect
 shows store world (Ok bytes) =
-    record { operations = record { world = world; event = Display bytes } ∷ []; store = store; end = Went }
+    record {
+      operations = record { world = world; event = Display bytes } ∷ [];
+      store = store;
+      end = Went;
+    }
 shows store world (Err abend) = no_effect store (Abended abend)
 
 abbrev pub of_moves : Outcome (Unit {0}) → Effect

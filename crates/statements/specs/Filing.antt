@@ -125,12 +125,16 @@ always_ends status = status == 46 || status == 47
 -- the status is stored, then the event is given
 abbrev pub settled : Verb → ℕ → Bool → Option Spot → Roots → Attempt → Effect
 settled verb file cared item store attempt = record {
-  operations = record { world = attempt.world; event = Filed verb file attempt.bytes attempt.status } ∷ [];
+  operations = record {
+    world = attempt.world;
+    event = Filed verb file attempt.bytes attempt.status;
+  } ∷ [];
   store = with_status store item attempt.status;
   end = end_by ((is_some item || cared) && not (always_ends attempt.status)) attempt.status;
 }
 
--- an operation on a file: its status item is reached in the store before it, and else it isn't tried
+-- an operation on a file: its status item is reached in the store before it, and else it isn't
+-- tried
 abbrev pub operated_to : Declared → Verb → ℕ → Bool → (before after : Roots) → Attempt → Effect
 operated_to declared verb file cared before after attempt =
     elim (status_spot declared before (status_place declared file)) [
@@ -193,7 +197,8 @@ abbrev pub record_put : Declared → ℕ → Roots → Attempt → Roots
 record_put declared file store attempt =
     if attempt.status == 0 then put_at store (record_spot declared file) attempt.bytes else store
 
--- the record is put, the status is stored and the event is given; then INTO follows, and an arm is chosen where there are arms
+-- the record is put, the status is stored and the event is given; then INTO follows, and an arm is
+-- chosen where there are arms
 abbrev pub read_end : Declared → ℕ → Option Place → Bool → ℕ → World → Effect → Effect
 read_end declared file place arms status before effect =
     if status == 0

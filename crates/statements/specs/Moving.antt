@@ -48,7 +48,8 @@ is_group _ = false
 
 -- ---- senders
 
--- a sender as it was read: a figure, the bytes of a group, those of text, a number literal, or a number item with its bytes and, where a receiver isn't a group, its number
+-- a sender as it was read: a figure, the bytes of a group, those of text, a number literal, or a
+-- number item with its bytes and, where a receiver isn't a group, its number
 pub data Sender : Type 0 where
   Figured : Figure → Sender
   Grouped : List ℕ → Sender
@@ -83,7 +84,8 @@ operand_sent memory asked operand =
 
 -- ---- receivers
 
--- the number as an item with that picture takes it: aligned, high and low digits cut, the sign dropped where unsigned
+-- the number as an item with that picture takes it: aligned, high and low digits cut, the sign
+-- dropped where unsigned
 abbrev pub number_received : Bool → ℕ → ℕ → Sign → ℕ → Dec → Answer (List ℕ)
 number_received signed whole part sign size number =
     and_then (there_or BadDigits (kept whole part false number)) (λ stored.

@@ -88,7 +88,8 @@ filler_of Nought = Some 48
 filler_of (Filler byte) = Some byte
 filler_of _ = None
 
--- the bytes of a side that isn't a literal; a literal has its digits here, and beside text stands as it prints
+-- the bytes of a side that isn't a literal; a literal has its digits here, and beside text stands
+-- as it prints
 abbrev pub side_bytes : Side → List ℕ
 side_bytes (Literal number) = number.digits
 side_bytes (Item signed part sign bytes) = bytes

@@ -5,4 +5,5 @@ use Rattle.status_readings.specs.Alike.{Alike}
 
 abbrev pub ReferencesTakeTheSame : Type 0
 ReferencesTakeTheSame =
-    (names others : Names) → Alike (data_reference names) (data_reference others) (λ one other. Unit {0})
+    (names others : Names) → Alike (data_reference names) (data_reference others)
+    (λ one other. Unit {0})

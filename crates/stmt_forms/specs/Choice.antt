@@ -133,7 +133,8 @@ unfoldable pub test_by : {Side Known : Type 0} → (parts : Parts Side Known) �
 test_by parts None = cond_test parts
 test_by parts (Some known) = value_test parts known
 
-unfoldable pub one_test : {Side Known : Type 0} → (parts : Parts Side Known) → Option Known → Form Test
+unfoldable pub one_test : {Side Known : Type 0} → (parts : Parts Side Known) → Option Known →
+    Form Test
 one_test parts known = where_next (is_key (codes "ANY")) any_test (test_by parts known)
 
 unfoldable pub next_test : {Side Known : Type 0} → (parts : Parts Side Known) →
@@ -233,6 +234,7 @@ evaluate_stmt parts level scope = do
   state ← whens parts level scope found.1
   evaluated level scope found.0 state
 
-unfoldable pub choice_stmt : {Side Known : Type 0} → Parts Side Known → Level → Scope → Form FoundOne
+unfoldable pub choice_stmt : {Side Known : Type 0} → Parts Side Known → Level → Scope →
+    Form FoundOne
 choice_stmt parts level scope =
     where_next (is_key (codes "IF")) (if_stmt parts level scope) (evaluate_stmt parts level scope)

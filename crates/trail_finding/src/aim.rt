@@ -62,8 +62,8 @@ pub fn first_met(table: &Table, aim: Aim, places: &[u32]) -> Option<usize>
     None
 }
 
-/// What was found: the moves to where an aim is met, or, where it is met nowhere that the level comes
-/// to, the places that it comes to.
+/// What was found: the moves to where an aim is met, or, where it is met nowhere that the level
+/// comes to, the places that it comes to.
 #[derive(Debug, Drop)]
 pub enum Found {
     Moves(Items<Move>),

@@ -31,7 +31,8 @@ pub fn found(
     summary: &Summary,
     clash: Clash,
 ) -> Result<Trail, NoMemory>
-    requires summary { IsSummary (never_first_of program.now.files) (control_of program.now) summary.now }
+    requires summary { IsSummary (never_first_of program.now.files) (control_of program.now)
+        summary.now }
     requires clash { HasClash summary.now.ranges clash }
     ensures { IfOk result (λ trail.
         IsFound (never_first_of program.now.files) (control_of program.now) trail) }

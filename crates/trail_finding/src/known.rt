@@ -17,7 +17,8 @@ use flow_places::{Place, Table};
 use pending_returns::number_of;
 use std::alloc::Global;
 
-/// Lemmas, each behind those over which it steps; and of each range of a table the number of its own.
+/// Lemmas, each behind those over which it steps; and of each range of a table the number of its
+/// own.
 #[derive(Debug, Drop)]
 pub struct Known {
     pub lemmas: Items<Lemma>,

@@ -15,8 +15,8 @@ use flow_places::{Place, Table};
 use pending_returns::number_of;
 use std::alloc::Global;
 
-/// How a place was come to: the number of the place before it, among those come to, and the move that
-/// was taken there.
+/// How a place was come to: the number of the place before it, among those come to, and the move
+/// that was taken there.
 #[derive(Debug, Clone, Copy)]
 pub struct Came {
     pub before: u32,

@@ -3,9 +3,9 @@
 use Rattle.std.specs.Prelude.{ℕ, suc, max, not, Bool, true, false, if◌then◌else◌}
 use Rattle.language.specs.Language.{Picker, If, By, ByCell, Evaluate, Read, Arith, Depending, Stmt, Do, Choose, Loop, Perform, Go, GoDepending, NextSentence, ExitParagraph, ExitSection, ExitPerform, StopRun, Stmts, none, also, Arms, done, given, missing, Body, Nested, Performed}
 
--- Where it is empty, the first or a later arm of READ or arithmetic may be left out: AT END where the
--- source lacks it, and NOT AT END and NOT ON SIZE ERROR always. The others choose with an arm that
--- always stands, so what they leave out makes no level less.
+-- Where it is empty, the first or a later arm of READ or arithmetic may be left out: AT END where
+-- the source lacks it, and NOT AT END and NOT ON SIZE ERROR always. The others choose with an arm
+-- that always stands, so what they leave out makes no level less.
 abbrev pub leaves_out : Picker → Bool → Bool
 leaves_out (If test) first = false
 leaves_out (By (Evaluate subject tests has_other)) first = false

@@ -127,8 +127,8 @@ fn arm_is_nothing(tree: &Tree) -> bool
     both(is_nothing(tree.body.as_slice()), last_is_nothing(&tree.end))
 }
 
-/// How deep the statements of a body nest as they are written, 0 where none holds statements; past the
-/// last number of the type that number.
+/// How deep the statements of a body nest as they are written, 0 where none holds statements; past
+/// the last number of the type that number.
 #[cycle(nesting)]
 pub fn body_nesting(body: &[Piece]) -> u32
     ensures { result ≡ min (nesting (seen_body body.now)) (2 ^ 32 - 1) }
@@ -158,7 +158,8 @@ fn piece_nesting(piece: &Piece) -> u32
 #[cycle(nesting)]
 #[tactic(auto, using(crate::proofs::NestingRows::chosen_next, crate::proofs::NestingRows::capped_max))]
 fn chosen_nesting(by: &Picker, arms: &[Tree]) -> u32
-    ensures { result ≡ min (arms_nesting (seen_picker by.now) true (arms_stmts (seen_trees arms.now))) (2 ^ 32 - 1) }
+    ensures { result ≡ min (arms_nesting (seen_picker by.now) true
+        (arms_stmts (seen_trees arms.now))) (2 ^ 32 - 1) }
 {
     let mut deep = 0u32;
     let mut left = arms.len();
@@ -173,7 +174,8 @@ fn chosen_nesting(by: &Picker, arms: &[Tree]) -> u32
 #[cycle(nesting)]
 #[tactic(auto, using(crate::proofs::NestingRows::level_capped, crate::proofs::NestingRows::arm_nesting_is))]
 fn arm_nesting(out: bool, tree: &Tree) -> u32
-    ensures { result ≡ min (arm_level out (is_nothing (arm_stmts (seen_tree tree.now))) (nesting (arm_stmts (seen_tree tree.now)))) (2 ^ 32 - 1) }
+    ensures { result ≡ min (arm_level out (is_nothing (arm_stmts (seen_tree tree.now)))
+        (nesting (arm_stmts (seen_tree tree.now)))) (2 ^ 32 - 1) }
 {
     level(
         out,
@@ -208,7 +210,8 @@ fn end_nesting(leaves: &Leaves, end: &End) -> u32
 #[cycle(nesting)]
 #[tactic(auto, using(crate::proofs::NestingRows::within_next, crate::proofs::NestingRows::capped_max))]
 fn arms_nesting(leaves: &Leaves, by: &Picker, arms: &[Tree]) -> u32
-    ensures { result ≡ min (arms_nesting (seen_picker by.now) true (arms_within leaves.now (seen_picker by.now) 0 (seen_trees arms.now))) (2 ^ 32 - 1) }
+    ensures { result ≡ min (arms_nesting (seen_picker by.now) true
+        (arms_within leaves.now (seen_picker by.now) 0 (seen_trees arms.now))) (2 ^ 32 - 1) }
 {
     let mut deep = 0u32;
     let mut left = arms.len();
@@ -223,7 +226,8 @@ fn arms_nesting(leaves: &Leaves, by: &Picker, arms: &[Tree]) -> u32
 #[cycle(nesting)]
 #[tactic(auto, using(crate::proofs::NestingRows::level_capped))]
 fn within_nesting(leaves: &Leaves, out: bool, tree: &Tree) -> u32
-    ensures { result ≡ min (arm_level out (is_nothing (stated leaves.now (seen_tree tree.now))) (nesting (stated leaves.now (seen_tree tree.now)))) (2 ^ 32 - 1) }
+    ensures { result ≡ min (arm_level out (is_nothing (stated leaves.now (seen_tree tree.now)))
+        (nesting (stated leaves.now (seen_tree tree.now)))) (2 ^ 32 - 1) }
 {
     level(
         out,

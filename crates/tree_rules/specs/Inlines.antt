@@ -11,8 +11,8 @@ use Rattle.tree_rules.specs.Places.{label_at, tree_at}
 abbrev pub may_inline : Graph → Label → Bool
 may_inline graph label = if has_node graph.nodes label then inlines graph label else false
 
--- true with the node in place of the jump, exactly where the rule applies; else, and without memory,
--- the graph is as it was
+-- true with the node in place of the jump, exactly where the rule applies; else, and without
+-- memory, the graph is as it was
 abbrev pub Inlines : Result Bool NoMemory → Label → Graph → Graph → Type 0
 Inlines (Ok true) label old new = (may_inline old label ≡ true) × (new ≡ inline_graph label old)
 Inlines (Ok false) label old new = (may_inline old label ≡ false) × (new ≡ old)

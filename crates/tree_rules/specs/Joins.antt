@@ -5,4 +5,5 @@ use Rattle.graph_rules.specs.Shapes.{followed, alone, arms_stmts}
 
 -- and then this end
 abbrev pub choice_then : Stmts → Picker → Trees → End → Tree
-choice_then body picker arms end = tree (followed body (alone (Choose picker (arms_stmts arms)))) end
+choice_then body picker arms end =
+    tree (followed body (alone (Choose picker (arms_stmts arms)))) end

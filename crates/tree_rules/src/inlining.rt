@@ -40,7 +40,8 @@ pub fn place_of(nodes: &[Node], label: Label) -> Option<usize>
 pub fn inlines_at(graph: &Graph, at: usize) -> bool
     requires within { at < length graph.now.nodes.items }
     requires rising { Rising (seen_nodes graph.now.nodes.items) }
-    ensures { result ≡ inlines (seen_graph graph.now) (label_at (seen_nodes graph.now.nodes.items) at) }
+    ensures { result ≡ inlines (seen_graph graph.now)
+        (label_at (seen_nodes graph.now.nodes.items) at) }
 {
     let node = &graph.nodes[at];
     if node.label == graph.entry {
@@ -56,8 +57,10 @@ pub fn inlines_at(graph: &Graph, at: usize) -> bool
 pub fn inline_at(graph: &mut Graph, at: usize) -> Result<(), NoMemory>
     requires within { at < length graph.old.nodes.items }
     requires rising { Rising (seen_nodes graph.old.nodes.items) }
-    requires applies { inlines (seen_graph graph.old) (label_at (seen_nodes graph.old.nodes.items) at) ≡ true }
-    ensures ok { OnOk result (seen_graph graph.new ≡ inline_graph (label_at (seen_nodes graph.old.nodes.items) at) (seen_graph graph.old)) }
+    requires applies { inlines (seen_graph graph.old)
+        (label_at (seen_nodes graph.old.nodes.items) at) ≡ true }
+    ensures ok { OnOk result (seen_graph graph.new
+        ≡ inline_graph (label_at (seen_nodes graph.old.nodes.items) at) (seen_graph graph.old)) }
     ensures err { OnErr result (seen_graph graph.new ≡ seen_graph graph.old) }
 {
     let Node { label, tree } = graph.nodes.remove(at);
@@ -76,8 +79,8 @@ pub fn inline_at(graph: &mut Graph, at: usize) -> Result<(), NoMemory>
     }
 }
 
-/// Inline on the node with the label: true where the rule applied, false where it doesn't. With false,
-/// and without memory, the graph stays.
+/// Inline on the node with the label: true where the rule applied, false where it doesn't. With
+/// false, and without memory, the graph stays.
 pub fn inline(graph: &mut Graph, label: Label) -> Result<bool, NoMemory>
     requires rising { Rising (seen_nodes graph.old.nodes.items) }
     ensures { Inlines result label (seen_graph graph.old) (seen_graph graph.new) }

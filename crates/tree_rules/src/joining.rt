@@ -15,17 +15,19 @@ use std::mem;
 /// The choice as a statement behind the tree's body, for which there is room, and then the end.
 fn join_then(tree: &mut Tree, by: Picker, arms: Items<Tree>, end: End)
     requires { vec_len tree.old.body < vec_capacity tree.old.body }
-    ensures { seen_tree tree.new ≡ choice_then (seen_body tree.old.body.items) (seen_picker by) (seen_trees arms) (seen_end end) }
+    ensures { seen_tree tree.new ≡ choice_then (seen_body tree.old.body.items) (seen_picker by)
+        (seen_trees arms) (seen_end end) }
 {
     tree.body.push_reserved(Piece::Choose { by, arms });
     tree.end_by(end);
 }
 
-/// The choice behind the tree's body, for which there is room: as a statement, where its arms have at
-/// most one target.
+/// The choice behind the tree's body, for which there is room: as a statement, where its arms have
+/// at most one target.
 fn join_pick(tree: &mut Tree, by: Picker, arms: Items<Tree>)
     requires { vec_len tree.old.body < vec_capacity tree.old.body }
-    ensures { seen_tree tree.new ≡ join_by (seen_body tree.old.body.items) (seen_picker by) (seen_trees arms) (arms_targets (seen_trees arms)) }
+    ensures { seen_tree tree.new ≡ join_by (seen_body tree.old.body.items) (seen_picker by)
+        (seen_trees arms) (arms_targets (seen_trees arms)) }
 {
     match arms_targets(arms.as_slice()) {
         Targets::NoTarget => join_then(tree, by, arms, End::Dead),

@@ -9,8 +9,8 @@ use branch_tree::{End, Label, Tree};
 use cob_base::Items;
 use std::mem;
 
-/// Puts a tree in the place of the one jump to the label. Without memory it comes back, and the tree
-/// stays.
+/// Puts a tree in the place of the one jump to the label. Without memory it comes back, and the
+/// tree stays.
 #[cycle(put)]
 pub fn put(tree: &mut Tree, label: Label, by: Tree) -> Option<Tree>
     requires { leaves_to label (seen_tree tree.old) ≡ 1 }

@@ -30,7 +30,8 @@ impl Model for WordPlaces {
 
     ghost view = { λ t. t.words };
 
-    ghost invariant = { λ t. (word : List ℕ) → get bytes_eq t.firsts word ≡ position (bytes_eq word) t.words };
+    ghost invariant = { λ t. (word : List ℕ) → get bytes_eq t.firsts word
+        ≡ position (bytes_eq word) t.words };
 }
 
 impl WordPlaces {
@@ -78,7 +79,8 @@ impl WordPlaces {
 }
 
 fn put(firsts: &mut IndexMap<Word, usize>, word: Word, at: usize) -> Result<(), NoMemory>
-    ensures { OnOk result ((other : List ℕ) → get bytes_eq firsts.new other ≡ cond (bytes_eq word other) (Some at) (get bytes_eq firsts.old other)) }
+    ensures { OnOk result ((other : List ℕ) → get bytes_eq firsts.new other
+        ≡ cond (bytes_eq word other) (Some at) (get bytes_eq firsts.old other)) }
 {
     firsts.insert(word, at)?;
     Ok(())
@@ -86,7 +88,8 @@ fn put(firsts: &mut IndexMap<Word, usize>, word: Word, at: usize) -> Result<(), 
 
 // The last word comes first, so that the first place of a word is what stays.
 fn firsts_of(alloc: Global, words: &[Word]) -> Result<IndexMap<Word, usize>, NoMemory>
-    ensures { IfOk result (λ firsts. (word : List ℕ) → get bytes_eq firsts word ≡ position (bytes_eq word) words.now) }
+    ensures { IfOk result (λ firsts. (word : List ℕ) → get bytes_eq firsts word
+        ≡ position (bytes_eq word) words.now) }
 {
     let mut firsts = IndexMap::new(alloc);
     let mut at = words.len();
