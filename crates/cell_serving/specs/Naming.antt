@@ -1,6 +1,6 @@
 -- What the parts are called in the written program: the program's own keep their names, and a word
 -- on a cell is a statement, condition or choice by its item.
-use Rattle.std.specs.Prelude.{ℕ, zero, suc, ◌+◌, Bool, true, false, List, [], ◌∷◌, length, map}
+use Rattle.std.specs.Prelude.{ℕ, zero, suc, ◌+◌, Bool, true, false, not, List, [], ◌∷◌, length, map}
 use Rattle.cob_tree.specs.declared.number.Number.{Number}
 use Rattle.cob_tree.specs.declared.calc.Calc.TheVariants as calcs
 use Rattle.cob_tree.specs.declared.choice.Subject.TheVariants as subjects
@@ -65,5 +65,6 @@ module _ (literal : ℕ → Number) (first : ℕ) (table : CellTable)
         Evaluate (subjects.Value (operand_expr (cell_operand (item_of range cell))))
         (map number_tests (numbers_from literal 1 (whens_of (table.ends_in_other range cell) arms)))
         (other_stands (table.ends_in_other range cell) arms);
+    lacks_other = λ range cell. not (table.ends_in_other range cell);
     empty = empty;
   }

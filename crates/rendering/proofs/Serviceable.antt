@@ -185,6 +185,7 @@ module _ {Memory Left World : Type 0} (acting : Acting Memory) (left : Memory 鈫
     is = 位 range cell value. cond.Relation (leaf (word range cell value)) Equal (leaf []);
     above = 位 range cell. cond.Relation (leaf (word range cell 0)) Greater (leaf []);
     by_cell = 位 range cell arms. Evaluate (subject.Value (leaf (word range cell 0))) [] false;
+    lacks_other = 位 range cell. false;
     empty = empty;
   }
 

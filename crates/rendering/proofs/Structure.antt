@@ -4,7 +4,7 @@ use Rattle.language.specs.Language.{Simple, If, By, ByCell, Stmt, Do, Choose, Lo
 use Rattle.control.specs.Graph.{Family}
 use Rattle.control.specs.Graph as graph
 use Rattle.language.specs.Structured.{StmtNests, StmtsNest, ArmsNest, BodyNests, NamesLater, ParagraphsNest, EndsInStop, FirstStops, stmt_performs, stmts_perform, arms_perform, body_performs, paragraph_performs, IsStructured}
-use Rattle.rendering.specs.Rendering.{Empty, Continues, Stays, Goes, Naming, Procedure, place_of, required, written_arm, then_stmts, closing, written_stmt, written_stmts, written_arms, written_body, written_paragraph, rendered}
+use Rattle.rendering.specs.Rendering.{Empty, Continues, Stays, Goes, Naming, Procedure, place_of, required, written_arm, and_missing, whole_arms, picker_lacks, then_stmts, closing, written_stmt, written_stmts, written_arms, written_body, written_paragraph, rendered}
 use Rattle.rendering.specs.Procedures.{Writable, StmtStands, StmtsStand, StmtsLeft, ArmsStand, BodyStands, StmtChooses, BodyChooses, stmt_calls, stmts_call, arms_call, body_calls, FirstIsMain, AreProcedures}
 use Rattle.agreement.proofs.Agreement.{same_number}
 use Rattle.rendering.proofs.Written.{same-range, map-get}
@@ -47,6 +47,15 @@ module _ (Such : ℕ → ℕ → Type 0) (nothing : Simple) where
   nests-arm Stays false none others h g = g
   nests-arm Goes was_given none others h g = g
 
+  nests-missing : (arms : Arms) → ArmsNest Such arms → ArmsNest Such (and_missing arms)
+  nests-missing done h = h
+  nests-missing (given arm others) h = (h.0, nests-missing others h.1)
+  nests-missing (missing others) h = nests-missing others h
+
+  nests-whole : (lacks : Bool) (arms : Arms) → ArmsNest Such arms → ArmsNest Such (whole_arms lacks arms)
+  nests-whole true arms h = nests-missing arms h
+  nests-whole false arms h = h
+
   nests-then : (stmts more : Stmts) → StmtsNest Such stmts → StmtsNest Such more → StmtsNest Such (then_stmts stmts more)
   nests-then none more h g = g
   nests-then (also stmt stmts) more h g = (h.0, nests-then stmts more h.1 g)
@@ -74,6 +83,19 @@ performs-others number nothing Stays true none others h = h
 performs-others number nothing Stays false none others h = h
 performs-others number nothing Goes was_given none others h = h
 
+performs-missing : (number : ℕ) (arms : Arms) → arms_perform number arms ≡ true → arms_perform number (and_missing arms) ≡ true
+performs-missing number done h = h
+performs-missing number (given arm others) h =
+    elim (either (stmts_perform number arm) (arms_perform number others) h) [
+      | inl e ↦ or-left (stmts_perform number arm) (arms_perform number (and_missing others)) e
+      | inr e ↦ or-right (stmts_perform number arm) (arms_perform number (and_missing others)) (performs-missing number others e)
+    ]
+performs-missing number (missing others) h = performs-missing number others h
+
+performs-whole : (number : ℕ) (lacks : Bool) (arms : Arms) → arms_perform number arms ≡ true → arms_perform number (whole_arms lacks arms) ≡ true
+performs-whole number true arms h = performs-missing number arms h
+performs-whole number false arms h = h
+
 module _ (naming : Naming) (kinds : Writable) (procedures : List Procedure) (range : Range) where
   abbrev place : Range → ℕ
   place = place_of procedures
@@ -84,7 +106,8 @@ module _ (naming : Naming) (kinds : Writable) (procedures : List Procedure) (ran
   mutual
     stmt-nests : (stmt : Stmt) → StmtStands naming kinds procedures range stmt → StmtNests Later (written_stmt naming place range stmt)
     stmt-nests (Do act) = λ h. tt
-    stmt-nests (Choose picker arms) = λ h. arms-nest (naming.empty range picker) 0 arms h.1
+    stmt-nests (Choose picker arms) = λ h.
+        nests-whole Later naming.nothing (picker_lacks naming place range picker) (written_arms naming place range (naming.empty range picker) 0 arms) (arms-nest (naming.empty range picker) 0 arms h.1)
     stmt-nests (Loop control body) = λ h. elim h.1 [ inl s ↦ body-nests body s | inr c ↦ choosing-nests c.0 body c.2 ]
     stmt-nests (Perform entry exit) = λ h. (refl, h.0, h.1)
     stmt-nests (Go to) = λ h. h
@@ -115,7 +138,8 @@ module _ (naming : Naming) (kinds : Writable) (procedures : List Procedure) (ran
     body-nests (Performed entry exit) = λ h. (refl, h.0, h.1)
 
     chosen-nests : (cell : ℕ) (stmt : Stmt) → StmtChooses naming kinds procedures range cell stmt → StmtNests Later (written_stmt naming place range stmt)
-    chosen-nests cell (Choose (ByCell by) arms) = λ h. arms-nest (naming.empty range (ByCell by)) 0 arms h.2
+    chosen-nests cell (Choose (ByCell by) arms) = λ h.
+        nests-whole Later naming.nothing (naming.lacks_other range by) (written_arms naming place range (naming.empty range (ByCell by)) 0 arms) (arms-nest (naming.empty range (ByCell by)) 0 arms h.2)
     chosen-nests cell (Choose (If test) arms) = λ h. absurd h
     chosen-nests cell (Choose (By chooser) arms) = λ h. absurd h
     chosen-nests cell (Do act) = λ h. absurd h
@@ -141,7 +165,8 @@ module _ (naming : Naming) (kinds : Writable) (procedures : List Procedure) (ran
   mutual
     stmt-performs : (to : Range) (stmt : Stmt) → stmt_calls to stmt ≡ true → stmt_performs (place to) (written_stmt naming place range stmt) ≡ true
     stmt-performs to (Do act) = λ h. h
-    stmt-performs to (Choose picker arms) = λ h. arms-perform to (naming.empty range picker) 0 arms h
+    stmt-performs to (Choose picker arms) = λ h.
+        performs-whole (place to) (picker_lacks naming place range picker) (written_arms naming place range (naming.empty range picker) 0 arms) (arms-perform to (naming.empty range picker) 0 arms h)
     stmt-performs to (Loop control body) = λ h. body-performs to body h
     stmt-performs to (Perform entry exit) = λ h. calls-place entry exit to h
     stmt-performs to (Go at) = λ h. h

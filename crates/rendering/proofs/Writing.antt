@@ -6,7 +6,7 @@ use Rattle.language.specs.Language as language
 use Rattle.control.specs.Doing.{Acting, Doing, Celled, own_is, keeping, giving, arm_of, is_above, alone, alone_act, alone_test, alone_pick, celled, celled_act, celled_test, celled_pick}
 use Rattle.language.specs.Items.{Turning, Counted, Tests, Steps, StepsAfter, Item, Do, SentenceEnd, Turn, before, before_body, before_arm}
 use Rattle.control.specs.Items.{Way, On, Halts, Into, To, ToEnd, way_after, tried, on, first_turn, varying, loop_begins, turns, tests, steps_on, turn_way, stmt_way, item_way}
-use Rattle.rendering.specs.Rendering.{Empty, Continues, Stays, Goes, Naming, Procedure, place_of, count_arms, standing, required, written_arm, written_act, written_test, written_picker, written_control, written_stmt, written_stmts, written_arms, written_body}
+use Rattle.rendering.specs.Rendering.{Empty, Continues, Stays, Goes, Naming, Procedure, place_of, count_arms, standing, required, written_arm, and_missing, whole_arms, picker_lacks, written_act, written_test, written_picker, written_control, written_stmt, written_stmts, written_arms, written_body}
 use Rattle.rendering.specs.Procedures.{Writable, ActFits, TestFits, PickerFits, ControlFits, StandsLater, StmtLeaves, StmtStands, StmtsStand, ArmsStand, BodyStands, StmtChooses, BodyChooses}
 use Rattle.rendering.specs.Serving.{SameArm, Alike, Serves}
 
@@ -135,6 +135,19 @@ module _ {Memory Other Left World : Type 0} (acting : Acting Memory) (left : Mem
       eased-arm (empty n) false none (written_arms naming place range empty (suc n) others) (written_items items tail) (written_items items tail) refl
   eased-arms empty (missing others) n (suc k) items tail =
       subst (λ r. Eased r (written_items (before_arm others k items) tail)) (sym (later-arm (empty n) false none (written_arms naming place range empty (suc n) others) k (written_items items tail))) (eased-arms empty others (suc n) k items tail)
+
+  -- a missing arm behind them changes nothing
+  before-missing : (arms : Arms) (k : ℕ) (rest : List Item) → before_arm (and_missing arms) k rest ≡ before_arm arms k rest
+  before-missing done zero rest = refl
+  before-missing done (suc k) rest = refl
+  before-missing (given arm others) zero rest = refl
+  before-missing (given arm others) (suc k) rest = before-missing others k rest
+  before-missing (missing others) zero rest = refl
+  before-missing (missing others) (suc k) rest = before-missing others k rest
+
+  before-whole : (lacks : Bool) (arms : Arms) (k : ℕ) (rest : List Item) → before_arm (whole_arms lacks arms) k rest ≡ before_arm arms k rest
+  before-whole true arms k rest = before-missing arms k rest
+  before-whole false arms k rest = refl
 
   -- past the last arm there is nothing
   past-arms : (arms : Arms) (k : ℕ) (items : List Item) → count_arms arms ≤ k → before_arm arms k items ≡ items
@@ -399,12 +412,19 @@ module _ {Memory Other Left World : Type 0} (acting : Acting Memory) (left : Mem
         (inl (past-arms (written_arms naming place range empty 0 arms) other_k (written_items items tail) (let e = counts-written empty 0 arms in omega (arith, e, past.1))
         ∙ ap (λ l. written_items l tail) (sym (past-arms arms k items past.0))))
 
+    whole-ways : (lacks : Bool) (empty : ℕ → Empty) (arms : Arms) (items : List Item) → ArmsStand naming kinds procedures range arms → AllStand items → (k other_k : ℕ) (memory : Celled Memory) (other : Other) → SameArm (count_arms arms) k other_k → Carries memory other →
+        Go_alike (on here (before_arm arms k items) memory) (on there (before_arm (whole_arms lacks (written_arms naming place range empty 0 arms)) other_k (written_items items tail)) other)
+    whole-ways lacks empty arms items good all k other_k memory other same carries =
+        subst (λ rest. Go_alike (on here (before_arm arms k items) memory) (on there rest other)) (sym (before-whole lacks (written_arms naming place range empty 0 arms) other_k (written_items items tail)))
+        (arms-ways empty arms items good all k other_k memory other same carries)
+
     -- a choice by a cell that isn't zero
     cell-ways : (cell arm : ℕ) (stmt : Stmt) (items : List Item) → StmtChooses naming kinds procedures range cell stmt → AllStand items → (memory : Celled Memory) (other : Other) → memory.cells range cell ≡ suc arm → Carries memory other →
         Go_alike (stmt_way here stmt items memory) (stmt_way there (written_stmt naming place range stmt) (written_items items tail) other)
     cell-ways cell arm (Choose (ByCell by) arms) items chooses all memory other is carries =
         let by_is : memory.cells range by ≡ suc arm = ap (memory.cells range) chooses.0 ∙ is in
-        let news = written_arms naming place range (naming.empty range (ByCell by)) 0 arms in
+        let lacks = naming.lacks_other range by in
+        let news = whole_arms lacks (written_arms naming place range (naming.empty range (ByCell by)) 0 arms) in
         let stand = standing (naming.empty range (ByCell by)) 0 arms in
         let many : length stand ≡ count_arms arms = counts-standing (naming.empty range (ByCell by)) 0 arms in
         let kind = subst (λ n. kinds.chooses range by n ≡ true) (sym many) (subst (λ c. kinds.chooses range c (count_arms arms) ≡ true) (sym chooses.0) chooses.1) in
@@ -414,7 +434,7 @@ module _ {Memory Other Left World : Type 0} (acting : Acting Memory) (left : Mem
         (ways-got tail (SameArm (length stand)) [] arm memory (result.choose (naming.by_cell range by stand) other)
         (λ k. on here (before_arm arms k items)) (λ k. on there (before_arm news k (written_items items tail)))
         (serves.by_cell range by stand arm memory other kind by_is carries)
-        (λ w o same c. arms-ways (naming.empty range (ByCell by)) arms items chooses.2 all arm w memory o (subst (λ n. SameArm n arm w) many same) c))
+        (λ w o same c. whole-ways lacks (naming.empty range (ByCell by)) arms items chooses.2 all arm w memory o (subst (λ n. SameArm n arm w) many same) c))
     cell-ways cell arm (Choose (If test) arms) items chooses all memory other is carries = absurd chooses
     cell-ways cell arm (Choose (By chooser) arms) items chooses all memory other is carries = absurd chooses
     cell-ways cell arm (language.Do act) items chooses all memory other is carries = absurd chooses
@@ -442,12 +462,13 @@ module _ {Memory Other Left World : Type 0} (acting : Acting Memory) (left : Mem
         ways-tried tail (λ (a : Unit {0}) (b : Unit {0}). Unit {0}) (celled_act acting range act memory) (alone_act result (written_act naming place range act) other) (λ u. on here items) (λ u. on there (written_items items tail))
         (act-alike act memory other stands carries) (λ v w m o e c. on-ways tail m o items (written_items items tail) c all (inl refl))
     stmt-ways (Choose picker arms) items stands all memory other carries =
+        let lacks = picker_lacks naming place range picker in
         let stand = standing (naming.empty range picker) 0 arms in
         let many : length stand ≡ count_arms arms = counts-standing (naming.empty range picker) 0 arms in
         ways-tried tail (SameArm (length stand)) (celled_pick acting range picker memory) (alone_pick result (written_picker naming place range picker stand) other)
-        (λ k. on here (before_arm arms k items)) (λ k. on there (before_arm (written_arms naming place range (naming.empty range picker) 0 arms) k (written_items items tail)))
+        (λ k. on here (before_arm arms k items)) (λ k. on there (before_arm (whole_arms lacks (written_arms naming place range (naming.empty range picker) 0 arms)) k (written_items items tail)))
         (pick-alike picker stand memory other stands.0 carries)
-        (λ v w m o same c. arms-ways (naming.empty range picker) arms items stands.1 all v w m o (subst (λ n. SameArm n v w) many same) c)
+        (λ v w m o same c. whole-ways lacks (naming.empty range picker) arms items stands.1 all v w m o (subst (λ n. SameArm n v w) many same) c)
     stmt-ways (Loop control body) items stands all memory other carries = begins-ways control body items stands.0 stands.1 all memory other carries
     stmt-ways (Perform entry exit) items stands all memory other carries = (refl, refl, stands, all, refl)
     stmt-ways (Go to) items stands all memory other carries = absurd stands

@@ -107,7 +107,10 @@ always range (By chooser) arm = Goes
 always range (ByCell cell) arm = must (if cell == state then true else arm == 0)
 
 abbrev pub named : Naming → Naming
-named naming = record naming { empty = always }
+named naming = record naming {
+  lacks_other = λ range cell. cell == state;
+  empty = always;
+}
 
 -- the paragraphs of the three ranges have the numbers 0, 1 and 2
 abbrev pub written_program : Naming → Program
@@ -130,7 +133,7 @@ written_program n = record {
       (Nested (also
       (Choose (By (n.by_cell Main state (true ∷ true ∷ [])))
       (given (also (Do (Own (n.set Main state 2))) none)
-      (given (also (Do (Own (n.set Main state 0))) none) done))) none)))
+      (given (also (Do (Own (n.set Main state 0))) none) (missing done)))) none)))
       (also (Do (Own (n.take Main count (amount 5))))
       (also (Loop (Until false (Holds (n.is Main flag 1)))
       (Nested (also
