@@ -1,15 +1,14 @@
 -- For any parts there is a structured result of the same behaviour.
-use Rattle.std.proofs.Common.{◌≡◌, ℕ, suc, refl, true, List, ◌∷◌}
+use Rattle.std.proofs.Common.{◌≡◌, ℕ, suc, refl, Bool, true, List, ◌∷◌}
 use Rattle.language.specs.Language.{Act, Own, Set, Take, Lower, Test, Holds, Not, Is, Above, Picker, If, By, ByCell, Control, Times, Until, Varying, Stmt, Choose, Loop, Perform, Go, GoDepending, NextSentence, ExitParagraph, ExitSection, ExitPerform, StopRun, Stmts, none, also, Arms, done, given, missing, Body, Nested, Performed, Range, Main}
 use Rattle.language.specs.Language as language
 use Rattle.control.specs.Graph.{Tree, tree, End, Pick, Jump, Return, Stop, Dead, Trees, no_more, more, body_of}
-use Rattle.lowering.specs.WellFormed.{tree_count}
 use Rattle.graph_rules.specs.Families.{Added, Never, Flag, Count, State, Exit, Has, MaySet}
 use Rattle.graph_rules.specs.Reduced.{Graph, tree_in, family_of, kinds_of, size}
 use Rattle.closing.specs.Closes.{closed_graph}
-use Rattle.rendering.specs.Rendering.{Naming, Procedure, count_arms}
-use Rattle.rendering.specs.Procedures.{Writable, ActFits, TestFits, ControlFits}
-use Rattle.headline.specs.Chain.{lowered_graphs, procedures_of, PickerNames, StmtNames, StmtsName, ArmsName, BodyNames, EndNames, TreesName, TreeNames, KindServed, CellsServed, PickerServed, StmtServed, StmtsServed, ArmsServed, BodyServed, EndServed, TreesServed, TreeServed, SomeResultBehaves}
+use Rattle.rendering.specs.Rendering.{Naming, Procedure, standing}
+use Rattle.rendering.specs.Procedures.{Writable, ActFits, TestFits, PickerFits, ControlFits}
+use Rattle.headline.specs.Chain.{lowered_graphs, procedures_of, PickerNames, StmtNames, StmtsName, ArmsName, BodyNames, EndNames, TreesName, TreeNames, KindServed, CellsServed, PickServed, StmtServed, StmtsServed, ArmsServed, BodyServed, EndServed, TreesServed, TreeServed, SomeResultBehaves}
 use Rattle.rendering.proofs.Serviceable.{whole, names, whole-serves}
 use Rattle.headline.proofs.Chain.{headline-over-control}
 use Rattle.headline.proofs.graphs.LoweredStand.{closed-at, closed-graphs-stand}
@@ -55,10 +54,15 @@ module _ (naming : Naming) (procedures : List Procedure) (range : Range) (R W : 
   test-served (Is cell value) = refl
   test-served (Above cell) = refl
 
-  picker-served : (picker : Picker) (n : ℕ) → PickerNames R W picker → PickerServed naming every-kind procedures range picker n
-  picker-served (If test) n h = test-served test
-  picker-served (By chooser) n h = λ stand e. refl
-  picker-served (ByCell cell) n h = h
+  pick-served : (picker : Picker) (trees : Trees) → PickerNames R W picker → PickServed naming every-kind procedures range picker trees
+  pick-served (If test) trees h = test-served test
+  pick-served (By chooser) trees h = λ arms m. refl
+  pick-served (ByCell cell) trees h = h
+
+  picker-fits : (picker : Picker) (stand : List Bool) → PickerNames R W picker → PickerFits naming every-kind procedures range picker stand
+  picker-fits (If test) stand h = test-served test
+  picker-fits (By chooser) stand h = refl
+  picker-fits (ByCell cell) stand h = h
 
   control-served : (control : Control) → ControlFits naming every-kind procedures range control
   control-served (Times amount) = refl
@@ -68,7 +72,7 @@ module _ (naming : Naming) (procedures : List Procedure) (range : Range) (R W : 
   mutual
     stmt-served : (stmt : Stmt) → StmtNames R W stmt → StmtServed naming every-kind procedures range stmt
     stmt-served (language.Do act) = λ h. act-served act
-    stmt-served (Choose picker arms) = λ h. (picker-served picker (count_arms arms) h.0, arms-served arms h.1)
+    stmt-served (Choose picker arms) = λ h. (picker-fits picker (standing (naming.empty range picker) 0 arms) h.0, arms-served arms h.1)
     stmt-served (Loop control body) = λ h. (control-served control, body-served body h.1)
     stmt-served (Perform entry exit) = λ h. tt
     stmt-served (Go to) = λ h. tt
@@ -94,7 +98,7 @@ module _ (naming : Naming) (procedures : List Procedure) (range : Range) (R W : 
 
   mutual
     end-served : (end : End) → EndNames R W end → EndServed naming every-kind procedures range end
-    end-served (Pick picker arms) = λ h. (picker-served picker (tree_count arms) h.0, trees-served arms h.1)
+    end-served (Pick picker arms) = λ h. (pick-served picker arms h.0, trees-served arms h.1)
     end-served (Jump to) = λ h. tt
     end-served Return = λ h. tt
     end-served Stop = λ h. tt

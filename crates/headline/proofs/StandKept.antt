@@ -4,7 +4,7 @@ use Rattle.language.specs.Language.{Set, Test, Is, Picker, If, ByCell, Until, Do
 use Rattle.control.specs.Doing.{is_above}
 use Rattle.control.specs.Graph.{Label, Tree, tree, End, Pick, Jump, Return, Stop, Dead, Trees, no_more, more, body_of, end_of}
 use Rattle.lowering.specs.WellFormed.{tree_count}
-use Rattle.rendering.specs.Rendering.{Naming, Procedure, count_arms}
+use Rattle.rendering.specs.Rendering.{Naming, Procedure}
 use Rattle.rendering.specs.Procedures.{Writable, TestFits, StmtsStand, ArmsStand}
 use Rattle.graph_rules.specs.Families.{Added, Never, Flag, State, Exit}
 use Rattle.graph_rules.specs.Loops.{Keeper, Flagged, Endless, turned_test, tested_node}
@@ -13,11 +13,12 @@ use Rattle.graph_rules.specs.Reduced.{Node, Graph, tree_in, kind_at, count, with
 use Rattle.closing.specs.Dispatches.{Numbered, either, end_returns, tree_returns, trees_return, stated_end, stated_tree, stated_arms, number_in, length_of, set_to, exit_jump, bare, state_jump, node_arms, some_returns, return_if, labels_of}
 use Rattle.closing.specs.Targets.{targets_of, with_exits}
 use Rattle.closing.specs.Closes.{none_left_out, has_exits, exits_graph, exits_step, or_exits, any_step, reduced_by_all, dispatch_graph, dispatch_rest, closed_graph, IsClosed}
-use Rattle.headline.specs.Chain.{stmts_arms, KindServed}
+use Rattle.headline.specs.Chain.{stmts_arms, KindServed, MayBecome}
 use Rattle.headline.proofs.graphs.Choosing.{stmts_choose}
 use Rattle.graph_rules.proofs.shapes.Reducing.{form-is, kind-next}
 use Rattle.closing.proofs.closing.RulesStayClosed.{join-closed, lowest-in, rule-step-closed, shaped-closed, any-step-closed}
-use Rattle.headline.proofs.graphs.ArmCounts.{last-several, joined-count, arms-count, inlined-count, flat-count, stated-count}
+use Rattle.headline.proofs.graphs.ArmCounts.{last-several}
+use Rattle.headline.proofs.graphs.Becoming.{arms-become, joined-becomes, inlined-becomes, flat-becomes, stated-becomes}
 use Rattle.headline.proofs.graphs.ChoicesKept.{picks-self, join-graph-chooses, put-chooses, dispatch-own}
 use Rattle.headline.proofs.graphs.CellsKept.{Leads, reduced-leads, by-all-leads, rest-leads}
 use Rattle.headline.proofs.graphs.Bounds.{number-most, labels-size, targets-most, bare-most, bare-least, bare-returns, node-arms-count, step-fewer, by-all-fewer, shaped-fewer}
@@ -37,16 +38,16 @@ module _ (naming : Naming) (kinds : Writable) (procedures : List Procedure) (ran
   abbrev Arms-stand : Arms → Type 0
   Arms-stand arms = ArmsStand naming kinds procedures range arms
 
-  -- with any arms of this number, the choice may follow
-  abbrev HeadStands : Stmts → Picker → ℕ → Type 0
-  HeadStands body picker n = (arms : Arms) → count_arms arms ≡ n → Arms-stand arms → Stands (followed body (alone (Choose picker arms)))
+  -- with whatever its arms may become, the choice may follow
+  abbrev HeadStands : Stmts → Picker → Trees → Type 0
+  HeadStands body picker trees = (arms : Arms) → MayBecome trees arms → Arms-stand arms → Stands (followed body (alone (Choose picker arms)))
 
   abbrev mutual
     pub TreeStands : Tree → Type 0
     TreeStands (tree body end) = EndStands body end
 
     pub EndStands : Stmts → End → Type 0
-    EndStands body (Pick picker arms) = HeadStands body picker (tree_count arms) × TreesStand arms
+    EndStands body (Pick picker arms) = HeadStands body picker arms × TreesStand arms
     EndStands body (Jump to) = Stands body
     EndStands body Return = Stands body
     EndStands body Stop = Stands body
@@ -95,10 +96,10 @@ module _ (naming : Naming) (kinds : Writable) (procedures : List Procedure) (ran
     arms-stmts-stand others (λ e. n (ap (both_targets (leaf_targets end)) e ∙ last-several (leaf_targets end))) k.1,
   )
 
-  join-by-stands : (body : Stmts) (picker : Picker) (arms : Trees) (targets : Targets) → arms_targets arms ≡ targets → HeadStands body picker (tree_count arms) → TreesStand arms → TreeStands (join_by body picker arms targets)
-  join-by-stands body picker arms NoTarget e h k = h (arms_stmts arms) (arms-count arms) (arms-stmts-stand arms (λ s. (let x : NoTarget ≡ Several = sym e ∙ s in cc)) k)
-  join-by-stands body picker arms (Only (ToLabel to)) e h k = h (arms_stmts arms) (arms-count arms) (arms-stmts-stand arms (λ s. (let x : Only (ToLabel to) ≡ Several = sym e ∙ s in cc)) k)
-  join-by-stands body picker arms (Only Back) e h k = h (arms_stmts arms) (arms-count arms) (arms-stmts-stand arms (λ s. (let x : Only Back ≡ Several = sym e ∙ s in cc)) k)
+  join-by-stands : (body : Stmts) (picker : Picker) (arms : Trees) (targets : Targets) → arms_targets arms ≡ targets → HeadStands body picker arms → TreesStand arms → TreeStands (join_by body picker arms targets)
+  join-by-stands body picker arms NoTarget e h k = h (arms_stmts arms) (arms-become arms) (arms-stmts-stand arms (λ s. (let x : NoTarget ≡ Several = sym e ∙ s in cc)) k)
+  join-by-stands body picker arms (Only (ToLabel to)) e h k = h (arms_stmts arms) (arms-become arms) (arms-stmts-stand arms (λ s. (let x : Only (ToLabel to) ≡ Several = sym e ∙ s in cc)) k)
+  join-by-stands body picker arms (Only Back) e h k = h (arms_stmts arms) (arms-become arms) (arms-stmts-stand arms (λ s. (let x : Only Back ≡ Several = sym e ∙ s in cc)) k)
   join-by-stands body picker arms Several e h k = (h, k)
 
   mutual
@@ -107,7 +108,7 @@ module _ (naming : Naming) (kinds : Writable) (procedures : List Procedure) (ran
 
     join-end-stands : (body : Stmts) (end : End) → EndStands body end → TreeStands (join_end body end)
     join-end-stands body (Pick picker arms) = λ h.
-        join-by-stands body picker (joined_arms arms) (arms_targets (joined_arms arms)) refl (subst (HeadStands body picker) (sym (joined-count arms)) h.0) (joined-arms-stand arms h.1)
+        join-by-stands body picker (joined_arms arms) (arms_targets (joined_arms arms)) refl (λ news m s. h.0 news (joined-becomes arms news m) s) (joined-arms-stand arms h.1)
     join-end-stands body (Jump to) = λ h. h
     join-end-stands body Return = λ h. h
     join-end-stands body Stop = λ h. h
@@ -138,7 +139,7 @@ module _ (naming : Naming) (kinds : Writable) (procedures : List Procedure) (ran
       inlined-stands (tree body end) = λ h. inline-end-stands body end h
 
       inline-end-stands : (body : Stmts) (end : End) → EndStands body end → TreeStands (inline_end label node body end)
-      inline-end-stands body (Pick picker arms) = λ h. (subst (HeadStands body picker) (sym (inlined-count label node arms)) h.0, inlined-arms-stand arms h.1)
+      inline-end-stands body (Pick picker arms) = λ h. (λ news m s. h.0 news (inlined-becomes label node arms news m) s, inlined-arms-stand arms h.1)
       inline-end-stands body (Jump to) = λ h. elim (to == label) as (λ b. TreeStands (if b then tree (followed body (body_of node)) (end_of node) else tree body (Jump to))) [
         | true ↦ behind-tree body node h node_stands
         | false ↦ h
@@ -166,7 +167,7 @@ module _ (naming : Naming) (kinds : Writable) (procedures : List Procedure) (ran
       flat-stands (tree body end) = λ h. flat-end-stands body end h
 
       flat-end-stands : (body : Stmts) (end : End) → EndStands body end → Stands (followed body (flat_end keeper cell label end))
-      flat-end-stands body (Pick picker arms) = λ h. h.0 (flat_arms keeper cell label arms) (flat-count keeper cell label arms) (flat-arms-stand arms h.1)
+      flat-end-stands body (Pick picker arms) = λ h. h.0 (flat_arms keeper cell label arms) (flat-becomes keeper cell label arms) (flat-arms-stand arms h.1)
       flat-end-stands body (Jump to) = λ h. elim (to == label) as (λ b. Stands (followed body (if b then none else leaving keeper cell))) [
         | true ↦ followed-stands body none h tt
         | false ↦ followed-stands body (leaving keeper cell) h (leaving-stands keeper cell sets)
@@ -190,7 +191,7 @@ module _ (naming : Naming) (kinds : Writable) (procedures : List Procedure) (ran
       stated-stands (tree body end) = λ r h. stated-end-stands body end r h
 
       stated-end-stands : (body : Stmts) (end : End) → (end_returns end ≡ true → Stands return) → EndStands body end → Stands (followed body (stated_end none_left_out jump return end))
-      stated-end-stands body (Pick picker arms) = λ r h. h.0 (stated_arms none_left_out jump return picker 0 arms) (stated-count jump return picker 0 arms) (stated-arms-stand picker 0 arms r h.1)
+      stated-end-stands body (Pick picker arms) = λ r h. h.0 (stated_arms none_left_out jump return picker 0 arms) (stated-becomes jump return picker 0 arms) (stated-arms-stand picker 0 arms r h.1)
       stated-end-stands body (Jump to) = λ r h. followed-stands body (jump to) h (jumps to)
       stated-end-stands body Return = λ r h. followed-stands body return h (r refl)
       stated-end-stands body Stop = λ r h. followed-stands body (alone StopRun) h (tt, inl tt)
@@ -221,10 +222,10 @@ module _ (naming : Naming) (kinds : Writable) (procedures : List Procedure) (ran
 
   tested-stands : (after turned : Bool) (test : Test) (label : Label) (body : Stmts) (live : Live) → TreeStands (tested_node after turned test label body (end_at live)) →
       TestFits naming kinds procedures range test × Stands body
-  tested-stands false false test label body live h = ((h.0 (given none (given none done)) refl (tt, (tt, tt))).0.0, h.1.1.0)
-  tested-stands false true test label body live h = ((h.0 (given none (given none done)) refl (tt, (tt, tt))).0.0, h.1.0)
-  tested-stands true false test label body live h = (let r = before-if test (given none (given none done)) body (h.0 (given none (given none done)) refl (tt, (tt, tt))) in (r.1, r.0))
-  tested-stands true true test label body live h = (let r = before-if test (given none (given none done)) body (h.0 (given none (given none done)) refl (tt, (tt, tt))) in (r.1, r.0))
+  tested-stands false false test label body live h = ((h.0 (given none (given none done)) (record { as_many = refl; dead = λ d. tt }) (tt, (tt, tt))).0.0, h.1.1.0)
+  tested-stands false true test label body live h = ((h.0 (given none (given none done)) (record { as_many = refl; dead = λ d. tt }) (tt, (tt, tt))).0.0, h.1.0)
+  tested-stands true false test label body live h = (let r = before-if test (given none (given none done)) body (h.0 (given none (given none done)) (record { as_many = refl; dead = λ d. tt }) (tt, (tt, tt))) in (r.1, r.0))
+  tested-stands true true test label body live h = (let r = before-if test (given none (given none done)) body (h.0 (given none (given none done)) (record { as_many = refl; dead = λ d. tt }) (tt, (tt, tt))) in (r.1, r.0))
 
   -- Graphs.
 
@@ -316,7 +317,7 @@ module _ (naming : Naming) (kinds : Writable) (procedures : List Procedure) (ran
       let turn = stated-stands (exit_jump exit label targets) (set_to exit (suc (length_of targets))) (exit-jump-stands exit label targets arms few sets) t
       (λ is. set-stands exit (suc (length_of targets)) (sets (suc (length_of targets)) (bare-returns targets (tree_returns t) is))) (at-stands graph.nodes label h) in
       with-stands label (with_exits none_left_out exit label t) (
-        (λ news e s. (sets 0 (omega arith), inl ((above, inl turn), inr (exit, refl, (refl, subst (λ n. kinds.chooses range exit n ≡ true) (sym e) chooses, s), tt)))),
+        (λ news e s. (sets 0 (omega arith), inl ((above, inl turn), inr (exit, refl, (refl, subst (λ n. kinds.chooses range exit n ≡ true) (sym e.as_many) chooses, s), tt)))),
         bare-stands targets (tree_returns t),
       ) graph.nodes h
 

@@ -14,6 +14,8 @@ pub mod Bounds
 pub mod Numbering
 -- No rule changes how many arms a choice has.
 pub mod ArmCounts
+-- what the rules make of the arms of a choice
+pub mod Becoming
 -- The rules lose no choice by a cell.
 pub mod ChoicesKept
 -- What a graph on the way has of cells and choices, the closed one has.

@@ -17,15 +17,15 @@ use Rattle.lowering.specs.Renamed.{tree_anew}
 use Rattle.lowering.specs.flow.Paths.{IsFaulty}
 use Rattle.lowering.specs.flow.Entered.{FreelyComes, IsEntered, NamesWhatReturns}
 use Rattle.lowering.specs.Laws.{KeepsApart}
-use Rattle.lowering.specs.WellFormed.{tree_count, AreJustReached}
+use Rattle.lowering.specs.WellFormed.{tree_count, IsFirstDead, AreJustReached}
 use Rattle.lowering.specs.flow.Called.{IsCalled}
 use Rattle.graph_rules.specs.Fits as fits
 use Rattle.graph_rules.specs.Walked.{is_in, In}
 use Rattle.graph_rules.specs.Families.{Added, Never, Flag, Count, State, Exit, Has, MaySet}
 use Rattle.graph_rules.specs.Reduced.{Node, Graph, tree_in, kind_at, size, Graphs, family_of, kinds_of}
 use Rattle.closing.specs.Closes.{IsClosed, closed_graph}
-use Rattle.rendering.specs.Rendering.{Empty, Naming, Procedure, count_arms, rendered}
-use Rattle.rendering.specs.Procedures.{Writable, ActFits, TestFits, ControlFits, StmtsStand, stmts_call}
+use Rattle.rendering.specs.Rendering.{Empty, Naming, Procedure, count_arms, standing, rendered}
+use Rattle.rendering.specs.Procedures.{Writable, ActFits, TestFits, PickerFits, ControlFits, StmtsStand, stmts_call}
 use Rattle.rendering.specs.Serving.{Serves}
 
 -- the nodes of lowering as those that the rules reduce, with their cells numbered anew
@@ -222,19 +222,34 @@ abbrev pub EachCellServed : Writable → List Range → Graphs → Type 0
 EachCellServed kinds order graphs = (range : Range) → In range order →
     CellsServed kinds range (closed_graph (graphs range)) (size (graphs range).nodes)
 
+-- nothing stands in the first arm
+abbrev pub StartsEmpty : Arms → Type 0
+StartsEmpty done = Unit {0}
+StartsEmpty (given none others) = Unit {0}
+StartsEmpty (given (also stmt stmts) others) = ⊥
+StartsEmpty (missing others) = Unit {0}
+
+-- what the rules may make of the arms of a choice: as many, and nothing of a first one that is Dead
+pub record MayBecome (trees : Trees) (arms : Arms) : Type 0 where
+  pub as_many : count_arms arms ≡ tree_count trees
+  pub dead : IsFirstDead trees → StartsEmpty arms
+
 -- The parts that stand in a tree may be written, whatever is performed, wherever a jump leads and
--- whichever arms stand.
+-- whatever the arms become.
 module _ (naming : Naming) (kinds : Writable) (procedures : List Procedure) (range : Range) where
-  abbrev pub PickerServed : Picker → ℕ → Type 0
-  PickerServed (If test) arms = TestFits naming kinds procedures range test
-  PickerServed (By chooser) arms =
-      (stand : List Bool) → length stand ≡ arms → kinds.choosers chooser stand ≡ true
-  PickerServed (ByCell cell) arms = ⊥
+  abbrev pub PickServed : Picker → Trees → Type 0
+  PickServed (If test) trees = TestFits naming kinds procedures range test
+  PickServed (By chooser) trees = (arms : Arms) → MayBecome trees arms →
+      kinds.choosers chooser (standing (naming.empty range (By chooser)) 0 arms) ≡ true
+  PickServed (ByCell cell) trees = ⊥
 
   abbrev mutual
     pub StmtServed : Stmt → Type 0
     StmtServed (Do act) = ActFits naming kinds procedures range act
-    StmtServed (Choose picker arms) = PickerServed picker (count_arms arms) × ArmsServed arms
+    StmtServed (Choose picker arms) =
+        PickerFits naming kinds procedures range picker
+        (standing (naming.empty range picker) 0 arms)
+        × ArmsServed arms
     StmtServed (Loop control body) =
         ControlFits naming kinds procedures range control × BodyServed body
     StmtServed (Perform entry exit) = Unit {0}
@@ -261,7 +276,7 @@ module _ (naming : Naming) (kinds : Writable) (procedures : List Procedure) (ran
 
   abbrev mutual
     pub EndServed : End → Type 0
-    EndServed (Pick picker arms) = PickerServed picker (tree_count arms) × TreesServed arms
+    EndServed (Pick picker arms) = PickServed picker arms × TreesServed arms
     EndServed (Jump to) = Unit {0}
     EndServed Return = Unit {0}
     EndServed Stop = Unit {0}

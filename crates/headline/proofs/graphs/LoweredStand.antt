@@ -1,11 +1,10 @@
 -- The graphs of a lowered program can be written, and so can what closing leaves of them.
-use Rattle.std.proofs.Common.{◌≡◌, ℕ, suc, ◌<◌, Bool, true, false, if◌then◌else◌, List, [], ◌∷◌, refl, ap, sym, ◌∙◌, subst, arith, inl}
+use Rattle.std.proofs.Common.{◌≡◌, ℕ, suc, ◌<◌, Bool, true, false, if◌then◌else◌, List, [], ◌∷◌, refl, ap, sym, subst, arith, inl}
 use Rattle.std.specs.Prelude.{length}
 use Rattle.language.specs.Language.{Act, Own, Set, Take, Lower, Test, Holds, Not, Is, Above, Picker, If, By, ByCell, Control, Times, Until, Varying, Stmt, Choose, Loop, Perform, Go, GoDepending, NextSentence, ExitParagraph, ExitSection, ExitPerform, StopRun, Stmts, none, also, Arms, done, given, missing, Body, Nested, Performed, Program, Range, Main, Part, same_range}
 use Rattle.language.specs.Language as language
 use Rattle.control.specs.Graph.{Label, Tree, tree, End, Pick, Jump, Return, Stop, Dead, Trees, no_more, more, body_of, end_of, Family, IsLast}
 use Rattle.lowering.specs.Told.{Told, IsSource}
-use Rattle.lowering.specs.WellFormed.{tree_count}
 use Rattle.graph_rules.specs.Fits.{StmtFits, StmtsFit, ArmsFit, BodyFits, TreeFits, EndFits, TreesFit}
 use Rattle.graph_rules.specs.Walked.{is_in, In}
 use Rattle.graph_rules.specs.Families.{Added, Has, MaySet}
@@ -13,9 +12,9 @@ use Rattle.graph_rules.specs.Reduced.{Node, Graphs, tree_in, size, family_of, ki
 use Rattle.graph_rules.specs.Shapes.{alone}
 use Rattle.closing.specs.Dispatches.{Numbered, labels_of, AreNodes}
 use Rattle.closing.specs.Closes.{IsClosed, closed_graph}
-use Rattle.rendering.specs.Rendering.{Empty, Naming, Procedure, place_of, count_arms, standing}
+use Rattle.rendering.specs.Rendering.{Naming, Procedure, place_of, standing}
 use Rattle.rendering.specs.Procedures.{Writable, PickerFits, StandsLater, StmtStands, StmtsStand, ArmsStand, BodyStands}
-use Rattle.headline.specs.Chain.{lowered_graphs, procedures_of, IsNumberedPlan, EachCellServed, EachStands, ClosedGraphsStand, TreeNames, PickerServed, StmtServed, StmtsServed, ArmsServed, BodyServed, EndServed, TreesServed, TreeServed, GraphsServed}
+use Rattle.headline.specs.Chain.{lowered_graphs, procedures_of, IsNumberedPlan, EachCellServed, EachStands, ClosedGraphsStand, TreeNames, MayBecome, PickServed, StmtServed, StmtsServed, ArmsServed, BodyServed, EndServed, TreesServed, TreeServed, GraphsServed}
 use Rattle.graph_rules.proofs.walks.Orders.{place, Behind, ordered-fits}
 use Rattle.closing.proofs.closing.Closes.{are-nodes}
 use Rattle.headline.proofs.graphs.LoweredGraphs.{graphs-closed}
@@ -45,20 +44,15 @@ module _ (graphs : Graphs) where
 
 module _ (naming : Naming) (kinds : Writable) (procedures : List Procedure) (range : Range) (C : Range → Type 0) (R W : ℕ → Type 0)
     (stands_later : (entry exit : ℕ) → C (Part entry exit) → StandsLater naming kinds procedures range (Part entry exit)) where
-  standing-length : (empty : ℕ → Empty) (k : ℕ) (arms : Arms) → length (standing empty k arms) ≡ count_arms arms
-  standing-length empty k done = refl
-  standing-length empty k (given arm others) = ap suc (standing-length empty (suc k) others)
-  standing-length empty k (missing others) = ap suc (standing-length empty (suc k) others)
-
-  picker-stands : (picker : Picker) (arms : Arms) (n : ℕ) → count_arms arms ≡ n → PickerServed naming kinds procedures range picker n → PickerFits naming kinds procedures range picker (standing (naming.empty range picker) 0 arms)
-  picker-stands (If test) arms n e h = h
-  picker-stands (By chooser) arms n e h = h (standing (naming.empty range (By chooser)) 0 arms) (standing-length (naming.empty range (By chooser)) 0 arms ∙ e)
-  picker-stands (ByCell cell) arms n e h = h
+  pick-stands : (picker : Picker) (trees : Trees) (arms : Arms) → MayBecome trees arms → PickServed naming kinds procedures range picker trees → PickerFits naming kinds procedures range picker (standing (naming.empty range picker) 0 arms)
+  pick-stands (If test) trees arms m h = h
+  pick-stands (By chooser) trees arms m h = h arms m
+  pick-stands (ByCell cell) trees arms m h = h
 
   mutual
     stmt-stands : (stmt : Stmt) → StmtFits C R W stmt → StmtServed naming kinds procedures range stmt → StmtStands naming kinds procedures range stmt
     stmt-stands (language.Do act) = λ k n. n
-    stmt-stands (Choose picker arms) = λ k n. (picker-stands picker arms (count_arms arms) refl n.0, arms-stand arms k.1 n.1)
+    stmt-stands (Choose picker arms) = λ k n. (n.0, arms-stand arms k.1 n.1)
     stmt-stands (Loop control body) = λ k n. (n.0, inl (body-stands-so body k.1 n.1))
     stmt-stands (Perform entry exit) = λ k n. stands_later entry exit k
     stmt-stands (Go to) = λ k n. k
@@ -85,7 +79,7 @@ module _ (naming : Naming) (kinds : Writable) (procedures : List Procedure) (ran
   mutual
     end-stands : (body : Stmts) (end : End) → StmtsFit C R W body → StmtsServed naming kinds procedures range body → EndFits C R W end → EndServed naming kinds procedures range end → EndStands naming kinds procedures range body end
     end-stands body (Pick picker arms) = λ f m k n. (
-      λ news e s. followed-stands naming kinds procedures range body (alone (Choose picker news)) (stmts-stand body f m) ((picker-stands picker news (tree_count arms) e n.0, s), inl tt),
+      λ news e s. followed-stands naming kinds procedures range body (alone (Choose picker news)) (stmts-stand body f m) ((pick-stands picker arms news e n.0, s), inl tt),
       trees-stand arms k.1 n.1,
     )
     end-stands body (Jump to) = λ f m k n. stmts-stand body f m
