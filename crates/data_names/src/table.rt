@@ -1,8 +1,7 @@
 //! The table of the names of a program.
 
-ghost use Rattle.std.specs.Prelude.{◌≡◌, ◌++◌, ◌<◌, ◌^◌, List, ℕ, [], ◌∷◌, ◌+◌, ◌==◌, get_or, take, drop, length, map, reverse, position, slice_get, IfOk, OnOk, if◌then◌else◌};
+ghost use Rattle.std.specs.Prelude.{◌≡◌, ◌++◌, ◌<◌, ◌^◌, List, ℕ, [], ◌∷◌, ◌+◌, ◌==◌, get_or, take, drop, length, map, reverse, slice_get, IfOk, OnOk, if◌then◌else◌};
 ghost use Rattle.std.specs.Option.{option_copied};
-ghost use Rattle.std.specs.Str.{bytes_eq};
 ghost use Rattle.cob_base.specs.Answers.{Makes};
 ghost use Rattle.data_names.specs.Index.{and_item, find_among, numbers_in, places_of, tally};
 ghost use Rattle.data_names.specs.Look as look;
@@ -20,6 +19,7 @@ use cob_tree::{Entry, FileEntry, Picture};
 use indexmap::IndexMap;
 use std::alloc::Global;
 use std::marker::Model;
+use word_places::WordPlaces;
 
 /// The names of a program's files and items, each by its number.
 ///
@@ -27,7 +27,7 @@ use std::marker::Model;
 #[derive(Drop)]
 pub struct NameTable {
     items: Items<Name>,
-    files: Items<Word>,
+    files: WordPlaces,
     /// The numbers of the items of each name.
     index: WordIndex,
 }
@@ -53,7 +53,8 @@ impl NameTable {
         ensures { Makes (names.names_of files.now entries.now) result }
     {
         let items = item_names(alloc, files, entries)?;
-        let files = file_names(alloc, files)?;
+        let words = file_names(alloc, files)?;
+        let files = WordPlaces::of(alloc, words)?;
         let index = index_of(alloc, items.as_slice())?;
         Ok(NameTable {
             items,
@@ -75,7 +76,10 @@ impl NameTable {
     pub fn look_file(&self, word: &Word) -> Option<u32>
         ensures { result ≡ look.look_file self.now word.now }
     {
-        number_of(self.files.as_slice(), word)
+        match self.files.first(word) {
+            None => None,
+            Some(at) => Some(at as u32),
+        }
     }
 }
 
@@ -213,22 +217,6 @@ fn fits(name: &Name, word: &Word, of: &[Word]) -> bool
     ensures { result ≡ look.fits word.now of.now name.now }
 {
     is_called(word, name.word) && are_within(of, name.above.as_slice())
-}
-
-fn number_of(files: &[Word], word: &Word) -> Option<u32>
-    requires { length files.now < 2 ^ 31 }
-    ensures { result ≡ position (bytes_eq word.now) files.now }
-{
-    match place_of(files, word) {
-        None => None,
-        Some(at) => Some(at as u32),
-    }
-}
-
-fn place_of(files: &[Word], word: &Word) -> Option<usize>
-    ensures { result ≡ position (bytes_eq word.now) files.now }
-{
-    files.iter().position(|file| *word == *file)
 }
 
 // The numbers of the items of each name.

@@ -13,5 +13,5 @@ index_of-requires c =
 pub invariant_of-result : goal.invariant_of-result
 invariant_of-result c =
     let items = ap length c.in_ok-items.ensures ∙ length-names_from c.args.files.now [] c.args.entries.now in
-    let files = ap length c.in_ok-files.ensures ∙ length-map c.args.files.now _ in
+    let files = ap length c.in_ok-files.ensures ∙ ap length c.in_ok-words.ensures ∙ length-map c.args.files.now _ in
     (omega (arith, items), omega (arith, files), λ word. c.in_ok-index.ensures word ∙ ap (places_of word) c.as_slice.ensures)
