@@ -1,6 +1,7 @@
--- Looking up by the word alone: the numbers of the entries that it names, in their order.
-use Rattle.std.specs.Prelude.{ℕ, ◌+◌, List, [], ◌∷◌, Option, Some, None, slice_get, if◌then◌else◌}
-use Rattle.std.specs.List.{fold}
+-- Looking up by one word of a reference: the numbers of the entries that it names or may qualify, in
+-- their order.
+use Rattle.std.specs.Prelude.{ℕ, Bool, ◌+◌, List, [], ◌∷◌, Option, Some, None, slice_get, if◌then◌else◌}
+use Rattle.std.specs.List.{fold, list_any}
 use Rattle.std.specs.Option.{unwrap_or}
 use Rattle.std.specs.Str.{bytes_eq}
 use Rattle.indexmap.specs.IndexMap.{IndexMap, get}
@@ -9,15 +10,19 @@ use Rattle.data_names.specs.declared.name.Found.TheVariants as found
 use Rattle.data_names.specs.declared.name.Name.{Name}
 use Rattle.data_names.specs.Look.{fits, is_called}
 
--- these from this number on
-abbrev pub places_from : (at : ℕ) → List ℕ → List Name → List ℕ
-places_from at word [] = []
-places_from at word (name ∷ names) =
-    if is_called word name.word then at ∷ places_from (at + 1) word names
-    else places_from (at + 1) word names
+-- the numbers of these entries that have a property, from this number on
+abbrev pub places_from : (has : Name → Bool) → (at : ℕ) → List Name → List ℕ
+places_from has at [] = []
+places_from has at (name ∷ names) =
+    if has name then at ∷ places_from has (at + 1) names else places_from has (at + 1) names
 
+-- the entries that a word names
 abbrev pub places_of : List ℕ → List Name → List ℕ
-places_of word names = places_from 0 word names
+places_of word names = places_from (λ name. is_called word name.word) 0 names
+
+-- the entries that a word may qualify
+abbrev pub places_within : List ℕ → List Name → List ℕ
+places_within word names = places_from (λ name. list_any (bytes_eq word) name.above) 0 names
 
 -- what was found, and one item more
 abbrev pub and_item : Found → ℕ → Name → Found

@@ -6,5 +6,5 @@ pub mod Names
 pub mod Nesting
 -- What a reference stands for.
 pub mod Look
--- Looking up by the word alone.
+-- Looking up by one word of a reference.
 pub mod Index

@@ -1,11 +1,11 @@
 //! The names that a program declares, and what a reference to one of them stands for.
 //!
 //! A `NameTable` has the names of a program's files and entries; `look` and `look_file` look a
-//! reference up in it, `look` among the items that its word names alone. Hold `specs/Grouping` and
-//! `specs/Look` against ISO 1989:1985, data description entries (level numbers) and uniqueness of
-//! reference: an item fits a reference where its name matches and the qualifiers are names of
-//! groups above it or its file, in their order. `nestings_of` says of each entry what it stands in,
-//! in steps that are linear in all.
+//! reference up in it, `look` among the items that its word names or that one of its qualifiers may
+//! qualify, whichever are fewest. Hold `specs/Grouping` and `specs/Look` against ISO 1989:1985, data
+//! description entries (level numbers) and uniqueness of reference: an item fits a reference where
+//! its name matches and the qualifiers are names of groups above it or its file, in their order.
+//! `nestings_of` says of each entry what it stands in, in steps that are linear in all.
 #![tactic(auto)]
 
 mod above;

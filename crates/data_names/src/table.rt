@@ -3,7 +3,7 @@
 ghost use Rattle.std.specs.Prelude.{◌≡◌, ◌++◌, ◌<◌, ◌^◌, List, ℕ, [], ◌∷◌, ◌+◌, ◌==◌, get_or, take, drop, length, map, reverse, slice_get, IfOk, OnOk, if◌then◌else◌};
 ghost use Rattle.std.specs.Option.{option_copied};
 ghost use Rattle.cob_base.specs.Answers.{Makes};
-ghost use Rattle.data_names.specs.Index.{and_item, find_among, numbers_in, places_of, tally};
+ghost use Rattle.data_names.specs.Index.{and_item, find_among, numbers_in, places_of, places_within, tally};
 ghost use Rattle.data_names.specs.Look as look;
 ghost use Rattle.data_names.specs.Names as names;
 ghost use Rattle.data_names.specs.Nesting as nested;
@@ -11,7 +11,7 @@ ghost use Rattle.data_names.specs.declared.name.Kind.TheVariants.{Condition, Gro
 
 use crate::above::groups_above;
 use crate::grouping::{has_items, is_numbered, repeats};
-use crate::index::{WordIndex, add_number, numbers_of};
+use crate::index::{WordIndex, add_number, add_to_each, numbers_for};
 use crate::name::{Found, Kind, Name};
 use crate::nesting::{Nesting, nesting_at, nestings_of};
 use cob_base::{Items, NoMemory, Word};
@@ -30,11 +30,13 @@ pub struct NameTable {
     files: WordPlaces,
     /// The numbers of the items of each name.
     index: WordIndex,
+    /// The numbers of the items that each name may qualify.
+    within: WordIndex,
 }
 
 impl Model for NameTable {
     ghost use Rattle.std.specs.Prelude.{◌≡◌, ◌<◌, ◌^◌, List, ℕ, length};
-    ghost use Rattle.data_names.specs.Index.{numbers_in, places_of};
+    ghost use Rattle.data_names.specs.Index.{numbers_in, places_of, places_within};
     ghost use Rattle.data_names.specs.Names.{Names};
 
     ghost Value = { Names };
@@ -42,7 +44,8 @@ impl Model for NameTable {
     ghost view = { λ t. record { items = t.items; files = t.files } };
 
     ghost invariant = { λ t. (length t.items < 2 ^ 31) × (length t.files < 2 ^ 31)
-        × ((word : List ℕ) → numbers_in t.index word ≡ places_of word t.items) };
+        × ((word : List ℕ) → numbers_in t.index word ≡ places_of word t.items)
+        × ((word : List ℕ) → numbers_in t.within word ≡ places_within word t.items) };
 }
 
 impl NameTable {
@@ -56,19 +59,20 @@ impl NameTable {
         let words = file_names(alloc, files)?;
         let files = WordPlaces::of(alloc, words)?;
         let index = index_of(alloc, items.as_slice())?;
+        let within = within_of(alloc, items.as_slice())?;
         Ok(NameTable {
             items,
             files,
             index,
+            within,
         })
     }
 
     /// The entry that a word with these qualifiers stands for.
-    #[tactic(auto, using(crate::proofs::IndexLemmas::find_among_find))]
     pub fn look(&self, word: &Word, of: &[Word]) -> Found
         ensures { result ≡ look.look self.now word.now of.now }
     {
-        let places = numbers_of(&self.index, word);
+        let places = numbers_for(&self.index, &self.within, word, of);
         find_among(self.items.as_slice(), places, word, of)
     }
 
@@ -229,6 +233,19 @@ fn index_of(alloc: Global, items: &[Name]) -> Result<WordIndex, NoMemory>
     let mut index = IndexMap::new(alloc);
     for (at, name) in items.iter().enumerate() {
         add_name(alloc, &mut index, name.word, at as u32)?;
+    }
+    Ok(index)
+}
+
+// The numbers of the items that each name may qualify.
+fn within_of(alloc: Global, items: &[Name]) -> Result<WordIndex, NoMemory>
+    requires { length items.now < 2 ^ 31 }
+    ensures { IfOk result (λ index. (word : List ℕ) → numbers_in index word
+        ≡ places_within word items.now) }
+{
+    let mut index = IndexMap::new(alloc);
+    for (at, name) in items.iter().enumerate() {
+        add_to_each(alloc, &mut index, name.above.as_slice(), at as u32)?;
     }
     Ok(index)
 }
