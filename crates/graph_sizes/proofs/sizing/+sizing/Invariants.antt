@@ -1,0 +1,15 @@
+use Rattle.std.proofs.Common.{◌≡◌, ◌-◌, ◌^◌, min, take, sum_by}
+use Rattle.graph_sizes.specs.Parts.{arm_size, piece_size, within_size}
+use Rattle.graph_sizes.proofs.sizing.+sizing.Given as goal
+
+abbrev pub invariant-body_size-loop-piece : goal.invariant-body_size-loop-piece
+invariant-body_size-loop-piece l =
+    l.count ≡ min (sum_by piece_size (take l.piece-index l.body)) (2 ^ 64 - 1)
+
+abbrev pub invariant-chosen_size-loop-arm : goal.invariant-chosen_size-loop-arm
+invariant-chosen_size-loop-arm l =
+    l.count ≡ min (sum_by arm_size (take l.arm-index l.arms)) (2 ^ 64 - 1)
+
+abbrev pub invariant-arms_within_size-loop-arm : goal.invariant-arms_within_size-loop-arm
+invariant-arms_within_size-loop-arm l =
+    l.count ≡ min (sum_by (within_size l.leaves) (take l.arm-index l.arms)) (2 ^ 64 - 1)

@@ -1,0 +1,4 @@
+-- how large graphs are
+pub mod Sizes
+-- how large what stands in trees is
+pub mod Parts
