@@ -1,4 +1,4 @@
-//! Statements on files that hold no others, and the head of READ.
+//! Statements on files that hold no others.
 
 ghost use Rattle.std.specs.Prelude.{◌≡◌};
 ghost use Rattle.grammar_forms.specs.Form as form;
@@ -6,11 +6,11 @@ ghost use Rattle.grammar_forms.specs.Reading.{Reads};
 ghost use Rattle.stmt_forms.specs.File as forms;
 
 use crate::moving::value;
-use crate::parts::Parts;
 use cob_base::Items;
-use cob_tree::{How, Opening, Operand, Place, Stmt};
+use cob_tree::{How, Opening, Operand, Stmt};
 use cobol_lex::TokenKind;
 use grammar_forms::{Cursor, Unread, Why};
+use part_readers::Parts;
 use std::alloc::Global;
 
 #[tactic(auto, unfolding(stmt_forms::specs::File::file_name))]
@@ -225,49 +225,4 @@ pub fn rewrite_stmt<P: Parts>(
     cursor.maybe(b"END-REWRITE");
     let entry = parts.entry_of(&target);
     Ok(Stmt::Rewrite { entry, from })
-}
-
-#[tactic(auto, unfolding(stmt_forms::specs::File::into_item))]
-fn into_item<P: Parts>(
-    parts: &P,
-    alloc: Global,
-    cursor: &mut Cursor<'_>,
-    file: Option<u32>,
-) -> Result<Option<Place>, Unread>
-    ensures { Reads ((forms.into_item (P.parts parts.now) file).reads cursor.old)
-        result cursor.new }
-{
-    cursor.key(b"INTO")?;
-    let side = parts.reference(alloc, cursor)?;
-    cursor.note(parts.value_fault(&side));
-    cursor.note(parts.into_fault(file, &side));
-    Ok(Some(parts.place_of(side)))
-}
-
-/// `[RECORD] [INTO reference]`, of READ.
-#[tactic(auto, unfolding(stmt_forms::specs::File::into_part))]
-pub fn into_part<P: Parts>(
-    parts: &P,
-    alloc: Global,
-    cursor: &mut Cursor<'_>,
-    file: Option<u32>,
-) -> Result<Option<Place>, Unread>
-    ensures { Reads ((forms.into_part (P.parts parts.now) file).reads cursor.old)
-        result cursor.new }
-{
-    cursor.maybe(b"RECORD");
-    if cursor.sees(b"INTO") {
-        into_item(parts, alloc, cursor, file)
-    } else {
-        Ok(None)
-    }
-}
-
-/// READ and the name of its file, by its place among the files.
-#[tactic(auto, unfolding(stmt_forms::specs::File::read_file))]
-pub fn read_file<P: Parts>(parts: &P, cursor: &mut Cursor<'_>) -> Result<Option<u32>, Unread>
-    ensures { Reads ((forms.read_file (P.parts parts.now)).reads cursor.old) result cursor.new }
-{
-    cursor.key(b"READ")?;
-    parts.file(cursor)
 }

@@ -5,10 +5,10 @@ ghost use Rattle.grammar_forms.specs.Form as form;
 ghost use Rattle.grammar_forms.specs.Reading.{Reads};
 ghost use Rattle.stmt_forms.specs.Move as forms;
 
-use crate::parts::Parts;
 use cob_base::Items;
 use cob_tree::{Operand, Place, Stmt};
 use grammar_forms::{Cursor, Unread};
+use part_readers::{Parts, pushed};
 use std::alloc::Global;
 
 #[tactic(auto, unfolding(stmt_forms::specs::Move::value))]
@@ -32,6 +32,41 @@ fn value_operand<P: Parts>(
     Ok(parts.operand_of(side))
 }
 
+/// One more operand.
+fn operand_behind<P: Parts>(
+    parts: &P,
+    alloc: Global,
+    cursor: &mut Cursor<'_>,
+    found: Items<Operand>,
+) -> Result<Items<Operand>, Unread>
+    ensures { Reads ((form.added (forms.value_operand (P.parts parts.now)) found).reads cursor.old)
+        result cursor.new }
+{
+    match value_operand(parts, alloc, cursor) {
+        Ok(next) => Ok(pushed(found, next)?),
+        Err(stop) => {
+            drop(found);
+            Err(stop)
+        }
+    }
+}
+
+fn operands_from<P: Parts>(
+    parts: &P,
+    alloc: Global,
+    cursor: &mut Cursor<'_>,
+    mut found: Items<Operand>,
+) -> Result<Items<Operand>, Unread>
+    ensures { Reads ((form.loop (P.parts parts.now).begins_operand
+        (form.added (forms.value_operand (P.parts parts.now))) found).reads cursor.old)
+        result cursor.new }
+{
+    'items: while parts.at_operand(cursor) {
+        found = operand_behind(parts, alloc, cursor, found)?;
+    }
+    Ok(found)
+}
+
 fn value_operands<P: Parts>(
     parts: &P,
     alloc: Global,
@@ -40,12 +75,9 @@ fn value_operands<P: Parts>(
     ensures { Reads ((forms.value_operands (P.parts parts.now)).reads cursor.old)
         result cursor.new }
 {
-    let mut found = Items::new(alloc);
-    found.push(value_operand(parts, alloc, cursor)?)?;
-    'items: while parts.at_operand(cursor) {
-        found.push(value_operand(parts, alloc, cursor)?)?;
-    }
-    Ok(found)
+    let first = value_operand(parts, alloc, cursor)?;
+    let found = pushed(Items::new(alloc), first)?;
+    operands_from(parts, alloc, cursor, found)
 }
 
 fn at_advancing(cursor: &Cursor<'_>) -> bool
@@ -85,8 +117,13 @@ pub fn display_stmt<P: Parts>(
 {
     cursor.key(b"DISPLAY")?;
     let items = value_operands(parts, alloc, cursor)?;
-    let advance = advancing(cursor)?;
-    Ok(Stmt::Display { items, advance })
+    match advancing(cursor) {
+        Ok(advance) => Ok(Stmt::Display { items, advance }),
+        Err(stop) => {
+            drop(items);
+            Err(stop)
+        }
+    }
 }
 
 #[tactic(auto, unfolding(stmt_forms::specs::Move::receiver))]
@@ -105,6 +142,43 @@ fn receiver<P: Parts>(
     Ok(parts.place_of(side))
 }
 
+/// One more item that takes what is moved.
+fn receiver_behind<P: Parts>(
+    parts: &P,
+    alloc: Global,
+    cursor: &mut Cursor<'_>,
+    from: &P::Side,
+    found: Items<Place>,
+) -> Result<Items<Place>, Unread>
+    ensures { Reads ((form.added (forms.receiver (P.parts parts.now) from.now) found).reads
+        cursor.old) result cursor.new }
+{
+    match receiver(parts, alloc, cursor, from) {
+        Ok(next) => Ok(pushed(found, next)?),
+        Err(stop) => {
+            drop(found);
+            Err(stop)
+        }
+    }
+}
+
+fn receivers_from<P: Parts>(
+    parts: &P,
+    alloc: Global,
+    cursor: &mut Cursor<'_>,
+    from: &P::Side,
+    mut found: Items<Place>,
+) -> Result<Items<Place>, Unread>
+    ensures { Reads ((form.loop (P.parts parts.now).is_name
+        (form.added (forms.receiver (P.parts parts.now) from.now)) found).reads cursor.old)
+        result cursor.new }
+{
+    'items: while parts.at_name(cursor) {
+        found = receiver_behind(parts, alloc, cursor, from, found)?;
+    }
+    Ok(found)
+}
+
 fn receivers<P: Parts>(
     parts: &P,
     alloc: Global,
@@ -114,12 +188,9 @@ fn receivers<P: Parts>(
     ensures { Reads ((forms.receivers (P.parts parts.now) from.now).reads cursor.old)
         result cursor.new }
 {
-    let mut found = Items::new(alloc);
-    found.push(receiver(parts, alloc, cursor, from)?)?;
-    'items: while parts.at_name(cursor) {
-        found.push(receiver(parts, alloc, cursor, from)?)?;
-    }
-    Ok(found)
+    let first = receiver(parts, alloc, cursor, from)?;
+    let found = pushed(Items::new(alloc), first)?;
+    receivers_from(parts, alloc, cursor, from, found)
 }
 
 #[tactic(auto, unfolding(stmt_forms::specs::Move::move_stmt))]
@@ -147,17 +218,37 @@ fn set_one<P: Parts>(parts: &P, alloc: Global, cursor: &mut Cursor<'_>) -> Resul
     Ok(Stmt::SetTrue(parts.place_of(side)))
 }
 
+/// One more name of a level 88.
+fn set_behind<P: Parts>(
+    parts: &P,
+    alloc: Global,
+    cursor: &mut Cursor<'_>,
+    found: Items<Stmt>,
+) -> Result<Items<Stmt>, Unread>
+    ensures { Reads ((form.added (forms.set_one (P.parts parts.now)) found).reads cursor.old)
+        result cursor.new }
+{
+    match set_one(parts, alloc, cursor) {
+        Ok(next) => Ok(pushed(found, next)?),
+        Err(stop) => {
+            drop(found);
+            Err(stop)
+        }
+    }
+}
+
 fn set_more<P: Parts>(
     parts: &P,
     alloc: Global,
     cursor: &mut Cursor<'_>,
     mut found: Items<Stmt>,
 ) -> Result<Items<Stmt>, Unread>
-    ensures { Reads ((forms.set_more (P.parts parts.now) found).reads cursor.old)
+    ensures { Reads ((form.loop (P.parts parts.now).is_name
+        (form.added (forms.set_one (P.parts parts.now))) found).reads cursor.old)
         result cursor.new }
 {
     'items: while parts.at_name(cursor) {
-        found.push(set_one(parts, alloc, cursor)?)?;
+        found = set_behind(parts, alloc, cursor, found)?;
     }
     Ok(found)
 }
@@ -167,16 +258,32 @@ pub fn set_stmts<P: Parts>(
     parts: &P,
     alloc: Global,
     cursor: &mut Cursor<'_>,
-    mut found: Items<Stmt>,
+    found: Items<Stmt>,
 ) -> Result<Items<Stmt>, Unread>
     ensures { Reads ((forms.set_stmts (P.parts parts.now) found).reads cursor.old)
         result cursor.new }
 {
-    cursor.key(b"SET")?;
-    let first = set_one(parts, alloc, cursor)?;
-    found.push(first)?;
-    let found = set_more(parts, alloc, cursor, found)?;
-    cursor.key(b"TO")?;
-    cursor.key(b"TRUE")?;
-    Ok(found)
+    if let Err(stop) = cursor.key(b"SET") {
+        drop(found);
+        return Err(stop);
+    }
+    let first = match set_one(parts, alloc, cursor) {
+        Ok(first) => first,
+        Err(stop) => {
+            drop(found);
+            return Err(stop);
+        }
+    };
+    let found = set_more(parts, alloc, cursor, pushed(found, first)?)?;
+    if let Err(stop) = cursor.key(b"TO") {
+        drop(found);
+        return Err(stop);
+    }
+    match cursor.key(b"TRUE") {
+        Ok(_) => Ok(found),
+        Err(stop) => {
+            drop(found);
+            Err(stop)
+        }
+    }
 }

@@ -6,11 +6,10 @@ ghost use Rattle.stmt_forms.specs.Stmt as forms;
 use crate::file::{close_stmt, open_stmt, rewrite_stmt, write_stmt};
 use crate::jump::jump_stmt;
 use crate::moving::{display_stmt, move_stmt, set_stmts};
-use crate::parts::Parts;
-use crate::verb::{at_filing, at_moving};
 use cob_base::Items;
 use cob_tree::Stmt;
 use grammar_forms::{Cursor, Unread};
+use part_readers::{Parts, at_filing, at_moving, pushed};
 use std::alloc::Global;
 use stmt_forms::Scope;
 
@@ -30,7 +29,7 @@ fn moving_stmts<P: Parts>(
     parts: &P,
     alloc: Global,
     cursor: &mut Cursor<'_>,
-    mut found: Items<Stmt>,
+    found: Items<Stmt>,
 ) -> Result<Items<Stmt>, Unread>
     ensures { Reads ((forms.moving_stmts (P.parts parts.now) found).reads cursor.old)
         result cursor.new }
@@ -38,8 +37,13 @@ fn moving_stmts<P: Parts>(
     if cursor.sees(b"SET") {
         set_stmts(parts, alloc, cursor, found)
     } else {
-        found.push(moving_stmt(parts, alloc, cursor)?)?;
-        Ok(found)
+        match moving_stmt(parts, alloc, cursor) {
+            Ok(next) => Ok(pushed(found, next)?),
+            Err(stop) => {
+                drop(found);
+                Err(stop)
+            }
+        }
     }
 }
 
@@ -91,7 +95,7 @@ pub fn simple_stmts<P: Parts>(
     alloc: Global,
     cursor: &mut Cursor<'_>,
     scope: Scope,
-    mut found: Items<Stmt>,
+    found: Items<Stmt>,
 ) -> Result<Items<Stmt>, Unread>
     ensures { Reads ((forms.simple_stmts (P.parts parts.now) scope found).reads cursor.old)
         result cursor.new }
@@ -99,7 +103,12 @@ pub fn simple_stmts<P: Parts>(
     if at_moving(cursor) {
         moving_stmts(parts, alloc, cursor, found)
     } else {
-        found.push(filing_or_jump(parts, alloc, cursor, scope)?)?;
-        Ok(found)
+        match filing_or_jump(parts, alloc, cursor, scope) {
+            Ok(next) => Ok(pushed(found, next)?),
+            Err(stop) => {
+                drop(found);
+                Err(stop)
+            }
+        }
     }
 }

@@ -1,4 +1,4 @@
-//! The phrases of arithmetic and of READ, and what stands before them.
+//! The phrases of arithmetic and of READ.
 
 ghost use Rattle.std.specs.Prelude.{◌≡◌};
 ghost use Rattle.grammar_forms.specs.Form as form;
@@ -6,16 +6,8 @@ ghost use Rattle.grammar_forms.specs.Reading.{Reads};
 ghost use Rattle.stmt_forms.specs.Arms as forms;
 ghost use Rattle.stmt_forms.specs.Stmt as all;
 
-use act_parse::{
-    Parts, Work, add, at_adding, at_multiplying, compute, divide, into_part, multiply, read_file,
-    subtract,
-};
 use grammar_forms::{Cursor, Unread, Why};
-use std::alloc::Global;
-use stmt_forms::{ArithmeticVerb, NotPhrase, Phrase, ReadHead};
-
-/// What is worked out, and by which statement.
-pub type Worked = (ArithmeticVerb, Work);
+use stmt_forms::{ArithmeticVerb, NotPhrase, Phrase};
 
 /// Takes nothing, where a level is left.
 #[tactic(auto, unfolding(stmt_forms::specs::Stmt::enter))]
@@ -186,135 +178,5 @@ pub fn end_work(cursor: &mut Cursor<'_>, verb: ArithmeticVerb, not_read: bool) -
         ArithmeticVerb::Multiply => end_word(cursor, b"END-MULTIPLY", not_read),
         ArithmeticVerb::Divide => end_word(cursor, b"END-DIVIDE", not_read),
         ArithmeticVerb::Compute => end_word(cursor, b"END-COMPUTE", not_read),
-    }
-}
-
-#[tactic(auto, unfolding(stmt_forms::specs::Arms::adding_work))]
-fn adding_work<P: Parts>(
-    parts: &P,
-    alloc: Global,
-    cursor: &mut Cursor<'_>,
-) -> Result<Worked, Unread>
-    ensures { Reads ((forms.adding_work (P.parts parts.now)).reads cursor.old) result cursor.new }
-{
-    if cursor.sees(b"ADD") {
-        let work = add(parts, alloc, cursor)?;
-        Ok((ArithmeticVerb::Add, work))
-    } else {
-        let work = subtract(parts, alloc, cursor)?;
-        Ok((ArithmeticVerb::Subtract, work))
-    }
-}
-
-#[tactic(auto, unfolding(stmt_forms::specs::Arms::multiplying_work))]
-fn multiplying_work<P: Parts>(
-    parts: &P,
-    alloc: Global,
-    cursor: &mut Cursor<'_>,
-) -> Result<Worked, Unread>
-    ensures { Reads ((forms.multiplying_work (P.parts parts.now)).reads cursor.old)
-        result cursor.new }
-{
-    if cursor.sees(b"MULTIPLY") {
-        let work = multiply(parts, alloc, cursor)?;
-        Ok((ArithmeticVerb::Multiply, work))
-    } else {
-        let work = divide(parts, alloc, cursor)?;
-        Ok((ArithmeticVerb::Divide, work))
-    }
-}
-
-#[tactic(auto, unfolding(stmt_forms::specs::Arms::computing_work))]
-fn computing_work<P: Parts>(
-    parts: &P,
-    alloc: Global,
-    cursor: &mut Cursor<'_>,
-) -> Result<Worked, Unread>
-    ensures { Reads ((forms.computing_work (P.parts parts.now)).reads cursor.old)
-        result cursor.new }
-{
-    let work = compute(parts, alloc, cursor)?;
-    Ok((ArithmeticVerb::Compute, work))
-}
-
-/// Arithmetic up to its arms.
-#[tactic(auto, unfolding(stmt_forms::specs::Arms::arithmetic_work))]
-pub fn arithmetic_work<P: Parts>(
-    parts: &P,
-    alloc: Global,
-    cursor: &mut Cursor<'_>,
-) -> Result<Worked, Unread>
-    ensures { Reads ((forms.arithmetic_work (P.parts parts.now)).reads cursor.old)
-        result cursor.new }
-{
-    if at_adding(cursor) {
-        adding_work(parts, alloc, cursor)
-    } else if at_multiplying(cursor) {
-        multiplying_work(parts, alloc, cursor)
-    } else {
-        computing_work(parts, alloc, cursor)
-    }
-}
-
-#[tactic(auto, unfolding(stmt_forms::specs::Arms::read_open))]
-fn read_open<P: Parts>(
-    parts: &P,
-    alloc: Global,
-    cursor: &mut Cursor<'_>,
-    file: Option<u32>,
-) -> Result<ReadHead, Unread>
-    ensures { Reads ((forms.read_open (P.parts parts.now) file).reads cursor.old)
-        result cursor.new }
-{
-    let into = into_part(parts, alloc, cursor, file)?;
-    match file {
-        None => Ok(ReadHead::Open { file: 0, into }),
-        Some(file) => Ok(ReadHead::Open { file, into }),
-    }
-}
-
-#[tactic(auto, unfolding(stmt_forms::specs::Arms::read_sentence))]
-fn read_sentence(cursor: &mut Cursor<'_>, file: Option<u32>) -> Result<ReadHead, Unread>
-    ensures { Reads ((forms.read_sentence file).reads cursor.old) result cursor.new }
-{
-    cursor.key(b"SENTENCE")?;
-    match file {
-        None => Ok(ReadHead::WithSentence(0)),
-        Some(file) => Ok(ReadHead::WithSentence(file)),
-    }
-}
-
-#[tactic(auto, unfolding(stmt_forms::specs::Arms::read_next))]
-fn read_next<P: Parts>(
-    parts: &P,
-    alloc: Global,
-    cursor: &mut Cursor<'_>,
-    file: Option<u32>,
-) -> Result<ReadHead, Unread>
-    ensures { Reads ((forms.read_next (P.parts parts.now) file).reads cursor.old)
-        result cursor.new }
-{
-    cursor.key(b"NEXT")?;
-    if cursor.sees(b"SENTENCE") {
-        read_sentence(cursor, file)
-    } else {
-        read_open(parts, alloc, cursor, file)
-    }
-}
-
-/// READ up to its arms.
-#[tactic(auto, unfolding(stmt_forms::specs::Arms::read_head))]
-pub fn read_head<P: Parts>(
-    parts: &P,
-    alloc: Global,
-    cursor: &mut Cursor<'_>,
-) -> Result<ReadHead, Unread>
-    ensures { Reads ((forms.read_head (P.parts parts.now)).reads cursor.old) result cursor.new }
-{
-    let file = read_file(parts, cursor)?;
-    if cursor.sees(b"NEXT") {
-        read_next(parts, alloc, cursor, file)
-    } else {
-        read_open(parts, alloc, cursor, file)
     }
 }

@@ -7,10 +7,10 @@ ghost use Rattle.stmt_forms.specs.Choice as forms;
 ghost use Rattle.stmt_forms.specs.Stmt as all;
 
 use crate::arms::enter;
-use act_parse::Parts;
 use cob_base::Items;
 use cob_tree::{Cond, Expr, Subject, Test};
 use grammar_forms::{Cursor, Unread, Why};
+use part_readers::Parts;
 use std::alloc::Global;
 
 #[tactic(auto, unfolding(stmt_forms::specs::Choice::settled))]

@@ -8,10 +8,10 @@ ghost use Rattle.stmt_forms.specs.Stmt as all;
 
 use crate::arms::enter;
 use crate::choice::{at_thru, thru};
-use act_parse::{Parts, at_digits, number_operand, procedure, procedure_named};
 use cob_base::{Items, Text, Word};
 use cob_tree::{Control, Place, Stmt};
 use grammar_forms::{Cursor, Position, Unread, Why};
+use part_readers::{Parts, at_digits, number_operand, procedure, procedure_named};
 use std::alloc::Global;
 use stmt_forms::PerformHead;
 

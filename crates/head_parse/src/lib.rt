@@ -9,7 +9,9 @@
 mod arms;
 mod choice;
 mod control;
+mod read;
 
-pub use arms::{Worked, arithmetic_work, end_word, end_work, first_phrase, not_phrase, read_head};
+pub use arms::{end_word, end_work, first_phrase, not_phrase};
 pub use choice::{evaluate_head, first_tests, if_head, when_head};
 pub use control::{loop_end, perform_head};
+pub use read::read_head;

@@ -7,11 +7,11 @@ ghost use Rattle.stmt_forms.specs.Paragraph.{division as form};
 ghost use Rattle.procedure_parse.specs.Answer as answers;
 
 use crate::paragraph::division;
-use act_parse::Parts;
 use cob_base::Items;
 use cob_tree::{NameFault, Paragraph, ParseFault};
 use cobol_lex::Token;
 use grammar_forms::{Cursor, Note, Unread};
+use part_readers::Parts;
 use read_faults::{name_fault, stop_fault};
 use std::alloc::Global;
 

@@ -2,28 +2,12 @@
 //!
 //! They are generic where they can be, so that a check opens no tree at their exits.
 
-ghost use Rattle.std.specs.Prelude.{[], ◌∷◌, ◌++◌};
-ghost use Rattle.cob_base.specs.Answers.{Makes};
 ghost use Rattle.grammar_forms.specs.Reading.{Reads};
 ghost use Rattle.procedure_parse.specs.Step as steps;
 
-use cob_base::{Items, NoMemory};
 use grammar_forms::{Cursor, Unread};
 use head_parse::{end_word, end_work};
 use stmt_forms::ArithmeticVerb;
-
-/// One more element.
-pub fn pushed<T: Drop>(mut items: Items<T>, item: T) -> Result<Items<T>, NoMemory>
-    ensures { Makes (items ++ item ∷ []) result }
-{
-    match items.push(item) {
-        Ok(()) => Ok(items),
-        Err(fault) => {
-            drop(items);
-            Err(fault)
-        }
-    }
-}
 
 /// The word that ends a statement, unless NOT was read.
 pub fn ended<T: Drop>(

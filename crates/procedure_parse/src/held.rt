@@ -7,16 +7,16 @@ ghost use Rattle.stmt_forms.specs.Loop as loops;
 ghost use Rattle.stmt_forms.specs.Stmt as all;
 ghost use Rattle.procedure_parse.specs.Step as steps;
 
-use crate::ended::{ended, pushed, work_ended};
+use crate::ended::{ended, work_ended};
 use crate::made::{
     Begun, Draft, added, begin_arithmetic, begin_evaluate, begin_if, begin_perform, boxed_place,
     loop_closed, read_and_next, simple,
 };
-use act_parse::{Parts, at_arithmetic, at_choice, at_simple, at_stmt};
 use cob_base::{Boxed, Items};
 use cob_tree::{Arms, Cond, Control, Place, Stmt, Subject, Test, When};
 use grammar_forms::{Cursor, Unread, Why};
 use head_parse::{first_phrase, first_tests, not_phrase, read_head, when_head};
+use part_readers::{Parts, at_arithmetic, at_choice, at_simple, at_stmt, pushed};
 use std::alloc::Global;
 use stmt_forms::{NotPhrase, Phrase, ReadHead, Scope, Whens};
 

@@ -13,12 +13,13 @@ ghost use Rattle.stmt_forms.specs.Loop as loops;
 ghost use Rattle.stmt_forms.specs.Stmt as all;
 ghost use Rattle.procedure_parse.specs.Step as steps;
 
-use crate::ended::pushed;
-use act_parse::{Parts, simple_stmts};
+use act_parse::simple_stmts;
+use calc_parse::arithmetic_work;
 use cob_base::{Boxed, Items, NoMemory};
 use cob_tree::{Arms, Calc, Cond, Control, Place, Stmt, Subject, Target, When};
 use grammar_forms::{Cursor, Unread};
-use head_parse::{arithmetic_work, evaluate_head, if_head, perform_head};
+use head_parse::{evaluate_head, if_head, perform_head};
+use part_readers::{Parts, pushed};
 use std::alloc::Global;
 use std::marker::Model;
 use stmt_forms::{ArithmeticVerb, PerformHead, Scope};

@@ -7,12 +7,12 @@ ghost use Rattle.grammar_forms.specs.Reading.{Reads};
 ghost use Rattle.stmt_forms.specs.Paragraph as forms;
 ghost use Rattle.procedure_parse.specs.Step as steps;
 
-use crate::ended::pushed;
 use crate::held::{stmts_from, stmts_with};
-use act_parse::{Parts, at_procedure, at_stmt, exit_behind};
+use act_parse::exit_behind;
 use cob_base::{Items, NoMemory, Word};
 use cob_tree::{Paragraph, Sentence, Stmt};
 use grammar_forms::{Cursor, Position, Unread, Why};
+use part_readers::{Parts, at_procedure, at_stmt, pushed};
 use std::alloc::Global;
 use stmt_forms::{Outline, Scope};
 

@@ -4,7 +4,6 @@ ghost use Rattle.std.specs.Prelude.{◌≡◌};
 ghost use Rattle.statement_grammar.specs.Whole.{parts_of};
 ghost use Rattle.statement_grammar.proofs.PartLaws as laws;
 
-use act_parse::Parts;
 use cob_base::{Text, Word};
 use cob_tree::{Cond, Expr, Operand, Place};
 use cond_parse::whole_cond;
@@ -15,6 +14,7 @@ use expr_sides::{
     at_operand, condition_fault, digits_side, expr_of, number_fault, value_fault, whole_fault,
 };
 use grammar_forms::{Cursor, Note, Position, Unread};
+use part_readers::Parts;
 use procedure_names::ProcedureTable;
 use statement_grammar::Known;
 use statement_uses as uses;

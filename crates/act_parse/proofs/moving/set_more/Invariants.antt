@@ -5,7 +5,7 @@ use Rattle.act_parse.proofs.moving.set_more.Given as goal
 
 abbrev pub invariant-items : goal.invariant-items
 invariant-items g l =
-    (forms.set_more (g.P.Parts.parts l.parts) l.fn.found).reads l.fn.cursor ≡ (loop (g.P.Parts.parts l.parts).is_name (added (forms.set_one (g.P.Parts.parts l.parts))) l.found).reads l.cursor
+    (loop (g.P.Parts.parts l.parts).is_name (added (forms.set_one (g.P.Parts.parts l.parts))) l.fn.found).reads l.fn.cursor ≡ (loop (g.P.Parts.parts l.parts).is_name (added (forms.set_one (g.P.Parts.parts l.parts))) l.found).reads l.cursor
 
 abbrev pub decreases-items : goal.decreases-items
 decreases-items g l = length l.cursor.rest

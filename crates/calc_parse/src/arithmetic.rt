@@ -1,12 +1,14 @@
 //! Arithmetic up to its arms.
 
+ghost use Rattle.cob_base.specs.Answers.{Makes};
+ghost use Rattle.grammar_forms.specs.Form as form;
 ghost use Rattle.grammar_forms.specs.Reading.{Reads};
 ghost use Rattle.stmt_forms.specs.Arithmetic as forms;
 
-use crate::parts::Parts;
-use cob_base::Items;
+use cob_base::{Items, NoMemory};
 use cob_tree::{Calc, Operand, Target};
 use grammar_forms::{Cursor, Unread};
+use part_readers::{Parts, number_operand, pushed};
 use std::alloc::Global;
 
 /// The operand before GIVING, if there is one, and where the results go.
@@ -15,19 +17,39 @@ type Goal = (Option<Operand>, Items<Target>);
 /// What is worked out, and where it goes.
 pub type Work = (Calc, Items<Target>);
 
-/// An operand that is a number.
-#[tactic(auto, unfolding(stmt_forms::specs::Arithmetic::number_operand))]
-pub fn number_operand<P: Parts>(
+/// One more operand.
+fn operand_behind<P: Parts>(
     parts: &P,
     alloc: Global,
     cursor: &mut Cursor<'_>,
-) -> Result<Operand, Unread>
-    ensures { Reads ((forms.number_operand (P.parts parts.now)).reads cursor.old)
+    found: Items<Operand>,
+) -> Result<Items<Operand>, Unread>
+    ensures { Reads ((form.added (forms.number_operand (P.parts parts.now)) found).reads cursor.old)
         result cursor.new }
 {
-    let side = parts.operand(alloc, cursor)?;
-    cursor.note(parts.number_fault(&side));
-    Ok(parts.operand_of(side))
+    match number_operand(parts, alloc, cursor) {
+        Ok(next) => Ok(pushed(found, next)?),
+        Err(stop) => {
+            drop(found);
+            Err(stop)
+        }
+    }
+}
+
+fn operands_from<P: Parts>(
+    parts: &P,
+    alloc: Global,
+    cursor: &mut Cursor<'_>,
+    mut found: Items<Operand>,
+) -> Result<Items<Operand>, Unread>
+    ensures { Reads ((form.loop (P.parts parts.now).begins_operand
+        (form.added (forms.number_operand (P.parts parts.now))) found).reads cursor.old)
+        result cursor.new }
+{
+    'items: while parts.at_operand(cursor) {
+        found = operand_behind(parts, alloc, cursor, found)?;
+    }
+    Ok(found)
 }
 
 fn number_operands<P: Parts>(
@@ -38,12 +60,9 @@ fn number_operands<P: Parts>(
     ensures { Reads ((forms.number_operands (P.parts parts.now)).reads cursor.old)
         result cursor.new }
 {
-    let mut found = Items::new(alloc);
-    found.push(number_operand(parts, alloc, cursor)?)?;
-    'items: while parts.at_operand(cursor) {
-        found.push(number_operand(parts, alloc, cursor)?)?;
-    }
-    Ok(found)
+    let first = number_operand(parts, alloc, cursor)?;
+    let found = pushed(Items::new(alloc), first)?;
+    operands_from(parts, alloc, cursor, found)
 }
 
 #[tactic(auto, unfolding(stmt_forms::specs::Arithmetic::rounded))]
@@ -80,19 +99,52 @@ fn result<P: Parts>(parts: &P, alloc: Global, cursor: &mut Cursor<'_>) -> Result
     Ok(Target { place, rounded })
 }
 
+/// One more result.
+fn result_behind<P: Parts>(
+    parts: &P,
+    alloc: Global,
+    cursor: &mut Cursor<'_>,
+    found: Items<Target>,
+) -> Result<Items<Target>, Unread>
+    ensures { Reads ((form.added (forms.result (P.parts parts.now)) found).reads cursor.old)
+        result cursor.new }
+{
+    match result(parts, alloc, cursor) {
+        Ok(next) => Ok(pushed(found, next)?),
+        Err(stop) => {
+            drop(found);
+            Err(stop)
+        }
+    }
+}
+
+fn results_from<P: Parts>(
+    parts: &P,
+    alloc: Global,
+    cursor: &mut Cursor<'_>,
+    mut found: Items<Target>,
+) -> Result<Items<Target>, Unread>
+    ensures { Reads ((form.loop (P.parts parts.now).is_name
+        (form.added (forms.result (P.parts parts.now))) found).reads cursor.old)
+        result cursor.new }
+{
+    'items: while parts.at_name(cursor) {
+        found = result_behind(parts, alloc, cursor, found)?;
+    }
+    Ok(found)
+}
+
 fn results<P: Parts>(
     parts: &P,
     alloc: Global,
     cursor: &mut Cursor<'_>,
 ) -> Result<Items<Target>, Unread>
-    ensures { Reads ((forms.results (P.parts parts.now)).reads cursor.old) result cursor.new }
+    ensures { Reads ((forms.results (P.parts parts.now)).reads cursor.old)
+        result cursor.new }
 {
-    let mut found = Items::new(alloc);
-    found.push(result(parts, alloc, cursor)?)?;
-    'items: while parts.at_name(cursor) {
-        found.push(result(parts, alloc, cursor)?)?;
-    }
-    Ok(found)
+    let first = result(parts, alloc, cursor)?;
+    let found = pushed(Items::new(alloc), first)?;
+    results_from(parts, alloc, cursor, found)
 }
 
 #[tactic(auto, unfolding(stmt_forms::specs::Arithmetic::giving))]
@@ -117,8 +169,13 @@ fn giving_goal<P: Parts>(
     ensures { Reads ((forms.giving_goal (P.parts parts.now) operand).reads cursor.old)
         result cursor.new }
 {
-    let into = giving(parts, alloc, cursor)?;
-    Ok((Some(operand), into))
+    match giving(parts, alloc, cursor) {
+        Ok(into) => Ok((Some(operand), into)),
+        Err(stop) => {
+            drop(operand);
+            Err(stop)
+        }
+    }
 }
 
 #[tactic(auto, unfolding(stmt_forms::specs::Arithmetic::literal_goal))]
@@ -129,19 +186,37 @@ fn literal_goal<P: Parts>(parts: &P, alloc: Global, cursor: &mut Cursor<'_>) -> 
     giving_goal(parts, alloc, cursor, operand)
 }
 
-fn more_targets<P: Parts>(
+/// One more item that is an operand too.
+fn target_behind<P: Parts>(
     parts: &P,
     alloc: Global,
     cursor: &mut Cursor<'_>,
-    first: Target,
+    found: Items<Target>,
 ) -> Result<Items<Target>, Unread>
-    ensures { Reads ((forms.more_targets (P.parts parts.now) first).reads cursor.old)
+    ensures { Reads ((form.added (forms.target (P.parts parts.now)) found).reads cursor.old)
         result cursor.new }
 {
-    let mut found = Items::new(alloc);
-    found.push(first)?;
+    match target(parts, alloc, cursor) {
+        Ok(next) => Ok(pushed(found, next)?),
+        Err(stop) => {
+            drop(found);
+            Err(stop)
+        }
+    }
+}
+
+fn targets_from<P: Parts>(
+    parts: &P,
+    alloc: Global,
+    cursor: &mut Cursor<'_>,
+    mut found: Items<Target>,
+) -> Result<Items<Target>, Unread>
+    ensures { Reads ((form.loop (P.parts parts.now).is_name
+        (form.added (forms.target (P.parts parts.now))) found).reads cursor.old)
+        result cursor.new }
+{
     'items: while parts.at_name(cursor) {
-        found.push(target(parts, alloc, cursor)?)?;
+        found = target_behind(parts, alloc, cursor, found)?;
     }
     Ok(found)
 }
@@ -158,7 +233,8 @@ fn targets_goal<P: Parts>(
 {
     let rounded = rounded(cursor)?;
     let place = parts.place_of(side);
-    let into = more_targets(parts, alloc, cursor, Target { place, rounded })?;
+    let found = pushed(Items::new(alloc), Target { place, rounded })?;
+    let into = targets_from(parts, alloc, cursor, found)?;
     Ok((None, into))
 }
 
@@ -200,23 +276,42 @@ fn goal<P: Parts>(parts: &P, alloc: Global, cursor: &mut Cursor<'_>) -> Result<G
     }
 }
 
+/// What ADD works out, by whether an operand stands before GIVING.
+fn added_to(operands: Items<Operand>, found: Goal) -> Result<Work, NoMemory>
+    ensures { Makes (forms.added_to operands found) result }
+{
+    let (to, into) = found;
+    match to {
+        None => Ok((Calc::Add(operands), into)),
+        Some(to) => match pushed(operands, to) {
+            Ok(operands) => Ok((Calc::AddGiving(operands), into)),
+            Err(fault) => {
+                drop(into);
+                Err(fault)
+            }
+        },
+    }
+}
+
 #[tactic(auto, unfolding(stmt_forms::specs::Arithmetic::add_to))]
 fn add_to<P: Parts>(
     parts: &P,
     alloc: Global,
     cursor: &mut Cursor<'_>,
-    mut operands: Items<Operand>,
+    operands: Items<Operand>,
 ) -> Result<Work, Unread>
     ensures { Reads ((forms.add_to (P.parts parts.now) operands).reads cursor.old)
         result cursor.new }
 {
-    cursor.key(b"TO")?;
-    let (to, into) = goal(parts, alloc, cursor)?;
-    match to {
-        None => Ok((Calc::Add(operands), into)),
-        Some(to) => {
-            operands.push(to)?;
-            Ok((Calc::AddGiving(operands), into))
+    if let Err(stop) = cursor.key(b"TO") {
+        drop(operands);
+        return Err(stop);
+    }
+    match goal(parts, alloc, cursor) {
+        Ok(found) => Ok(added_to(operands, found)?),
+        Err(stop) => {
+            drop(operands);
+            Err(stop)
         }
     }
 }
@@ -231,8 +326,13 @@ fn add_giving<P: Parts>(
     ensures { Reads ((forms.add_giving (P.parts parts.now) operands).reads cursor.old)
         result cursor.new }
 {
-    let into = giving(parts, alloc, cursor)?;
-    Ok((Calc::AddGiving(operands), into))
+    match giving(parts, alloc, cursor) {
+        Ok(into) => Ok((Calc::AddGiving(operands), into)),
+        Err(stop) => {
+            drop(operands);
+            Err(stop)
+        }
+    }
 }
 
 /// ADD up to its arms.
@@ -256,8 +356,17 @@ pub fn subtract<P: Parts>(parts: &P, alloc: Global, cursor: &mut Cursor<'_>) -> 
 {
     cursor.key(b"SUBTRACT")?;
     let operands = number_operands(parts, alloc, cursor)?;
-    cursor.key(b"FROM")?;
-    let (from, into) = goal(parts, alloc, cursor)?;
+    if let Err(stop) = cursor.key(b"FROM") {
+        drop(operands);
+        return Err(stop);
+    }
+    let (from, into) = match goal(parts, alloc, cursor) {
+        Ok(found) => found,
+        Err(stop) => {
+            drop(operands);
+            return Err(stop);
+        }
+    };
     match from {
         None => Ok((Calc::Subtract(operands), into)),
         Some(from) => Ok((Calc::SubtractGiving(operands, from), into)),
@@ -271,8 +380,17 @@ pub fn multiply<P: Parts>(parts: &P, alloc: Global, cursor: &mut Cursor<'_>) -> 
 {
     cursor.key(b"MULTIPLY")?;
     let one = number_operand(parts, alloc, cursor)?;
-    cursor.key(b"BY")?;
-    let (by, into) = goal(parts, alloc, cursor)?;
+    if let Err(stop) = cursor.key(b"BY") {
+        drop(one);
+        return Err(stop);
+    }
+    let (by, into) = match goal(parts, alloc, cursor) {
+        Ok(found) => found,
+        Err(stop) => {
+            drop(one);
+            return Err(stop);
+        }
+    };
     match by {
         None => Ok((Calc::Multiply(one), into)),
         Some(by) => Ok((Calc::MultiplyGiving(one, by), into)),
@@ -289,8 +407,17 @@ fn divide_into<P: Parts>(
     ensures { Reads ((forms.divide_into (P.parts parts.now) by).reads cursor.old)
         result cursor.new }
 {
-    cursor.key(b"INTO")?;
-    let (dividend, into) = goal(parts, alloc, cursor)?;
+    if let Err(stop) = cursor.key(b"INTO") {
+        drop(by);
+        return Err(stop);
+    }
+    let (dividend, into) = match goal(parts, alloc, cursor) {
+        Ok(found) => found,
+        Err(stop) => {
+            drop(by);
+            return Err(stop);
+        }
+    };
     match dividend {
         None => Ok((Calc::Divide(by), into)),
         Some(dividend) => Ok((Calc::DivideGiving(by, dividend), into)),
@@ -307,10 +434,25 @@ fn divide_by<P: Parts>(
     ensures { Reads ((forms.divide_by (P.parts parts.now) dividend).reads cursor.old)
         result cursor.new }
 {
-    cursor.key(b"BY")?;
-    let by = number_operand(parts, alloc, cursor)?;
-    let into = giving(parts, alloc, cursor)?;
-    Ok((Calc::DivideGiving(by, dividend), into))
+    if let Err(stop) = cursor.key(b"BY") {
+        drop(dividend);
+        return Err(stop);
+    }
+    let by = match number_operand(parts, alloc, cursor) {
+        Ok(by) => by,
+        Err(stop) => {
+            drop(dividend);
+            return Err(stop);
+        }
+    };
+    match giving(parts, alloc, cursor) {
+        Ok(into) => Ok((Calc::DivideGiving(by, dividend), into)),
+        Err(stop) => {
+            drop(by);
+            drop(dividend);
+            Err(stop)
+        }
+    }
 }
 
 /// DIVIDE up to its arms.
@@ -346,8 +488,17 @@ pub fn compute<P: Parts>(parts: &P, alloc: Global, cursor: &mut Cursor<'_>) -> R
 {
     cursor.key(b"COMPUTE")?;
     let into = results(parts, alloc, cursor)?;
-    equals(cursor)?;
-    let side = parts.expr(alloc, cursor)?;
+    if let Err(stop) = equals(cursor) {
+        drop(into);
+        return Err(stop);
+    }
+    let side = match parts.expr(alloc, cursor) {
+        Ok(side) => side,
+        Err(stop) => {
+            drop(into);
+            return Err(stop);
+        }
+    };
     cursor.note(parts.number_fault(&side));
     Ok((Calc::Compute(parts.expr_of(side)), into))
 }

@@ -1,11 +1,11 @@
 use Rattle.std.proofs.Common.{◌≡◌, length}
 use Rattle.grammar_forms.specs.Form.{loop, added}
 use Rattle.stmt_forms.specs.Arithmetic as forms
-use Rattle.act_parse.proofs.arithmetic.number_operands.Given as goal
+use Rattle.calc_parse.proofs.arithmetic.targets_from.Given as goal
 
 abbrev pub invariant-items : goal.invariant-items
 invariant-items g l =
-    (forms.number_operands (g.P.Parts.parts l.parts)).reads l.fn.cursor ≡ (loop (g.P.Parts.parts l.parts).begins_operand (added (forms.number_operand (g.P.Parts.parts l.parts))) l.found).reads l.cursor
+    (loop (g.P.Parts.parts l.parts).is_name (added (forms.target (g.P.Parts.parts l.parts))) l.fn.found).reads l.fn.cursor ≡ (loop (g.P.Parts.parts l.parts).is_name (added (forms.target (g.P.Parts.parts l.parts))) l.found).reads l.cursor
 
 abbrev pub decreases-items : goal.decreases-items
 decreases-items g l = length l.cursor.rest

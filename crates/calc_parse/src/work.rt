@@ -1,0 +1,80 @@
+//! Arithmetic by its verb.
+
+ghost use Rattle.grammar_forms.specs.Reading.{Reads};
+ghost use Rattle.stmt_forms.specs.Arms as forms;
+
+use crate::arithmetic::{Work, add, compute, divide, multiply, subtract};
+use grammar_forms::{Cursor, Unread};
+use part_readers::{Parts, at_adding, at_multiplying};
+use std::alloc::Global;
+use stmt_forms::ArithmeticVerb;
+
+/// What is worked out, and by which statement.
+pub type Worked = (ArithmeticVerb, Work);
+
+#[tactic(auto, unfolding(stmt_forms::specs::Arms::adding_work))]
+fn adding_work<P: Parts>(
+    parts: &P,
+    alloc: Global,
+    cursor: &mut Cursor<'_>,
+) -> Result<Worked, Unread>
+    ensures { Reads ((forms.adding_work (P.parts parts.now)).reads cursor.old) result cursor.new }
+{
+    if cursor.sees(b"ADD") {
+        let work = add(parts, alloc, cursor)?;
+        Ok((ArithmeticVerb::Add, work))
+    } else {
+        let work = subtract(parts, alloc, cursor)?;
+        Ok((ArithmeticVerb::Subtract, work))
+    }
+}
+
+#[tactic(auto, unfolding(stmt_forms::specs::Arms::multiplying_work))]
+fn multiplying_work<P: Parts>(
+    parts: &P,
+    alloc: Global,
+    cursor: &mut Cursor<'_>,
+) -> Result<Worked, Unread>
+    ensures { Reads ((forms.multiplying_work (P.parts parts.now)).reads cursor.old)
+        result cursor.new }
+{
+    if cursor.sees(b"MULTIPLY") {
+        let work = multiply(parts, alloc, cursor)?;
+        Ok((ArithmeticVerb::Multiply, work))
+    } else {
+        let work = divide(parts, alloc, cursor)?;
+        Ok((ArithmeticVerb::Divide, work))
+    }
+}
+
+#[tactic(auto, unfolding(stmt_forms::specs::Arms::computing_work))]
+fn computing_work<P: Parts>(
+    parts: &P,
+    alloc: Global,
+    cursor: &mut Cursor<'_>,
+) -> Result<Worked, Unread>
+    ensures { Reads ((forms.computing_work (P.parts parts.now)).reads cursor.old)
+        result cursor.new }
+{
+    let work = compute(parts, alloc, cursor)?;
+    Ok((ArithmeticVerb::Compute, work))
+}
+
+/// Arithmetic up to its arms.
+#[tactic(auto, unfolding(stmt_forms::specs::Arms::arithmetic_work))]
+pub fn arithmetic_work<P: Parts>(
+    parts: &P,
+    alloc: Global,
+    cursor: &mut Cursor<'_>,
+) -> Result<Worked, Unread>
+    ensures { Reads ((forms.arithmetic_work (P.parts parts.now)).reads cursor.old)
+        result cursor.new }
+{
+    if at_adding(cursor) {
+        adding_work(parts, alloc, cursor)
+    } else if at_multiplying(cursor) {
+        multiplying_work(parts, alloc, cursor)
+    } else {
+        computing_work(parts, alloc, cursor)
+    }
+}

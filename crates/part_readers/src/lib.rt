@@ -1,0 +1,20 @@
+//! Readers of what statements are made of (`Parts`), and what several kinds of statements read by
+//! them: numbers and names of procedures, and which verb is next.
+//!
+//! Each function reads exactly by the form of its name in `stmt_forms` (ISO 1989:1985, PROCEDURE
+//! DIVISION), which is said by `Reads`: what it takes and makes, and where and why it stops.
+#![tactic(auto)]
+
+mod lists;
+mod number;
+mod parts;
+mod procedures;
+mod verb;
+
+pub use lists::pushed;
+pub use number::number_operand;
+pub use parts::Parts;
+pub use procedures::{at_digits, at_procedure, procedure, procedure_named};
+pub use verb::{
+    at_adding, at_arithmetic, at_choice, at_filing, at_moving, at_multiplying, at_simple, at_stmt,
+};
