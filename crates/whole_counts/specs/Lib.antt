@@ -1,0 +1,2 @@
+-- counts by whole numbers
+pub mod Whole
