@@ -1,0 +1,82 @@
+-- The graph that the nodes at the sorted labels make.
+use Rattle.std.proofs.Common.{◌≡◌, ℕ, ◌*◌, Bool, List, [], ◌∷◌, length, map, ap, ap₂, ◌∙◌, arith}
+use Rattle.std.specs.List.Sorted.{IsPermutation, IsSorted}
+use Rattle.std.specs.Ordering.{nat_cmp}
+use Rattle.cob_tree.specs.declared.program.Program.{Program}
+use Rattle.cob_tree.specs.declared.program.Range as code
+use Rattle.language.specs.Control.{control_of}
+use Rattle.control.specs.Graph as graph
+use Rattle.graph_rules.specs.Families as families
+use Rattle.graph_rules.specs.Reduced as reduced
+use Rattle.lowering.specs.Lower as lower
+use Rattle.lowering.specs.Lowered.{nodes_of, place_in}
+use Rattle.lowering.specs.Reached.{kept_nodes}
+use Rattle.lowering.specs.Rests.{Has}
+use Rattle.lowering.specs.Told.{Told}
+use Rattle.lowering.specs.WellFormed.{IsLabelOf}
+use Rattle.lowering.specs.flow.Comes.{entry_of}
+use Rattle.lowering.proofs.graphs.Families.{found-self}
+use Rattle.branch_tree.specs.Graphs.{seen_added}
+use Rattle.branch_tree.specs.declared.graph.Graph.{Graph}
+use Rattle.lower_places.specs.Fall.{seen_range}
+use Rattle.lower_places.specs.Layout.{end_from, place_at}
+use Rattle.lower_places.specs.Leaf.{point_of}
+use Rattle.lower_stmts.specs.Along.{told_by}
+use Rattle.lower_stmts.specs.declared.telling.Telling.{Telling}
+use Rattle.rest_table.specs.declared.spot.Spot.{Spot}
+use Rattle.range_trees.specs.Nodes.{IsWhole, node_in}
+use Rattle.flow_levels.specs.Reaching.{AllPlaces, IsMarked}
+use Rattle.flow_graph.specs.Lowered.{AreNodesAt, IsLoweredIn, node_of}
+use Rattle.flow_graph.specs.Reaching.{AreReachedIn, Begins, IsRangeIn}
+use Rattle.flow_graph.proofs.LabelRows.{nodes_within, reached_label}
+use Rattle.flow_graph.proofs.NodeRows.{Found, from_sorted, get_in, in_is, is_in, is_there, IsIn, same_nodes, sorted_rising, to_sorted}
+use Rattle.flow_graph.proofs.Reached.{reaches_below}
+
+found_by : (told : Told) (place_of : ℕ → ℕ) (trees : graph.Label → graph.Tree) (xs : List lower.Node) → Has told place_of trees xs → Found trees xs
+found_by told place_of trees [] h = tt
+found_by told place_of trees (x ∷ xs) h = (h.0, found_by told place_of trees xs h.1)
+
+abbrev graph_with : graph.Label → List reduced.Node → List families.Added → reduced.Graph
+graph_with entry nodes added = record { entry = entry; nodes = nodes; added = added }
+
+module _ (telling : Telling) (spots : List Spot) (range : code.Range) where
+  abbrev placed_at : ℕ → ℕ
+  placed_at number = place_at telling.layout.now.places.items telling.layout.now.end number
+
+  first_place : (program : Program) → IsRangeIn telling spots range program → (place number : ℕ) → number ≡ entry_of (seen_range range) → place ≡ placed_at number →
+      place ≡ place_in (control_of program) (entry_of (seen_range range))
+  first_place program is place number first at = at ∙ is.table.placed.places_in number ∙ ap (place_in (control_of program)) first
+
+  pub begins : (place number : ℕ) → number ≡ entry_of (seen_range range) → place ≡ placed_at number → Begins telling spots range (place * 3)
+  begins place number first at program is =
+      let turned : place * 3 ≡ 3 * place = omega arith in
+      turned ∙ ap lower.point (first_place program is place number first at)
+
+  module _ (places sorted : List ℕ) (marks : List Bool) (marked : IsMarked places marks) (moved : IsPermutation places sorted) (reached : AreReachedIn telling spots range places) where
+    pub labels_below : IsWhole telling spots → (program : Program) × IsRangeIn telling spots range program → AllPlaces (3 * length spots) sorted
+    labels_below whole some label there =
+        reaches_below telling spots range whole some.0 some.1 label
+        ((reached some.0 some.1).0 label (from_sorted places marks marked sorted moved label (get_in sorted there.0 label there.1)))
+
+    pub is_lowered : IsSorted nat_cmp sorted → (made : Graph) (place number : ℕ) → number ≡ entry_of (seen_range range) → place ≡ placed_at number → made.entry ≡ point_of place →
+        AreNodesAt telling spots range sorted made.nodes.items → made.added.items ≡ [] → IsLoweredIn telling spots range made
+    is_lowered up made place number first at entry nodes none program is =
+        let told = told_by telling in
+        let seen = control_of program in
+        let own = seen_range range in
+        let all = nodes_of told seen own in
+        let end = 3 * end_from 0 program.paragraphs in
+        let within = nodes_within told program own in
+        let trees = node_in telling program range in
+        let found : Found trees all = found_by told (place_in seen) trees all (found-self told (place_in seen) 0 end all within) in
+        let of_all : (label : ℕ) → IsIn sorted label → IsLabelOf all label = λ label there.
+        reached_label told seen own label is.table.source is.own ((reached program is).0 label (from_sorted places marks marked sorted moved label there)) in
+        let same = same_nodes (is_in sorted) trees 0 end all sorted within (sorted_rising places marks marked sorted moved up) found of_all (in_is sorted) (λ label l on. is_there sorted label on) in (
+          is_in sorted,
+          (
+            λ label on. (reached program is).0 label (from_sorted places marks marked sorted moved label (is_there sorted label on)),
+            λ label h. in_is sorted label (to_sorted places marks marked sorted moved label ((reached program is).1 label h)),
+          ),
+          ap₂ (λ e ns. graph_with e ns (map seen_added made.added.items)) (entry ∙ ap lower.point (first_place program is place number first at)) (nodes program is.table ∙ same)
+              ∙ ap (λ items. graph_with (lower.point (place_in seen (entry_of own))) (map node_of (kept_nodes (is_in sorted) all)) (map seen_added items)) none,
+        )

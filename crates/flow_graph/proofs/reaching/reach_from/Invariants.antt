@@ -1,0 +1,5 @@
+use Rattle.flow_graph.proofs.Reached.{ReachSoFar}
+use Rattle.flow_graph.proofs.reaching.reach_from.Given as goal
+
+abbrev pub invariant-loop-at : goal.invariant-loop-at
+invariant-loop-at l = ReachSoFar l.telling l.spots l.range l.entry l.reach.places.items l.reach.marks.items l.at

@@ -1,0 +1,62 @@
+-- The graph of a range, as lowering has it.
+use Rattle.std.specs.Prelude.{ℕ, ◌≡◌, Bool, List, [], map}
+use Rattle.language.specs.Language as language
+use Rattle.control.specs.Graph as graph
+use Rattle.graph_rules.specs.Reduced as reduced
+use Rattle.lowering.specs.Told.{Told}
+use Rattle.lowering.specs.Lower as lower
+use Rattle.lowering.specs.Lowered.{lowered, nodes_of}
+use Rattle.lowering.specs.Reached.{kept_nodes}
+use Rattle.lowering.specs.WellFormed.{AreJustReached}
+use Rattle.branch_tree.specs.Graphs.{seen_graph, seen_nodes}
+use Rattle.branch_tree.specs.declared.graph.Graph.{Graph}
+use Rattle.branch_tree.specs.declared.graph.Node.{Node}
+use Rattle.branch_tree.specs.declared.tree.Tree.{Tree}
+use Rattle.cob_tree.specs.declared.program.Program as source
+use Rattle.cob_tree.specs.declared.program.Range as code
+use Rattle.language.specs.Control.{control_of}
+use Rattle.lower_places.specs.Fall.{seen_range}
+use Rattle.lower_stmts.specs.Along.{told_by}
+use Rattle.lower_stmts.specs.declared.telling.Telling.{Telling}
+use Rattle.rest_table.specs.declared.spot.Spot.{Spot}
+use Rattle.range_trees.specs.Nodes.{IsTableOf, node_in}
+use Rattle.flow_graph.specs.Reaching.{IsRangeIn}
+
+-- a node of lowering as one that the rules reduce
+abbrev pub node_of : lower.Node → reduced.Node
+node_of one = record { label = one.key; tree = one.tree }
+
+-- the nodes of a range that are kept, from its entry; no item is added. Counter cells have the
+-- places of their loops
+abbrev pub lowered_graph : Told → language.Program → language.Range → (graph.Label → Bool) →
+    reduced.Graph
+lowered_graph told program range keep = record {
+  entry = (lowered told program).entry range;
+  nodes = map node_of (kept_nodes keep (nodes_of told program range));
+  added = [];
+}
+
+-- it is the graph of exactly the nodes that are reached
+abbrev pub IsLowered : Told → language.Program → language.Range → Graph → Type 0
+IsLowered told program range made =
+    (keep : graph.Label → Bool) × AreJustReached told program range keep
+    × (seen_graph made ≡ lowered_graph told program range keep)
+
+-- whatever the program
+abbrev pub IsLoweredIn : Telling → List Spot → code.Range → Graph → Type 0
+IsLoweredIn telling spots range made =
+    (program : source.Program) → IsRangeIn telling spots range program →
+    IsLowered (told_by telling) (control_of program) (seen_range range) made
+
+-- a node with this label
+abbrev pub node_with : ℕ → Tree → Node
+node_with label tree = record { label = label; tree = tree }
+
+-- the nodes at these labels
+abbrev pub node_by : (graph.Label → graph.Tree) → graph.Label → reduced.Node
+node_by trees label = record { label = label; tree = trees label }
+
+abbrev pub AreNodesAt : Telling → List Spot → code.Range → List ℕ → List Node → Type 0
+AreNodesAt telling spots range labels nodes =
+    (program : source.Program) → IsTableOf telling spots program →
+    seen_nodes nodes ≡ map (node_by (node_in telling program range)) labels
