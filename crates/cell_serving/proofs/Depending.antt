@@ -1,5 +1,5 @@
 -- GO TO DEPENDING as EVALUATE beside the numbers of its names.
-use Rattle.std.proofs.Common.{◌≡◌, ◌≢◌, ℕ, zero, suc, ◌+◌, ◌-◌, ◌^◌, ◌<◌, ◌≤◌, nat_le, Bool, true, false, ◌&&◌, if◌then◌else◌, List, length, map, None, Some, Option, refl, ap, sym, subst, ◌∙◌, arith, int_cmp, ◌⊎◌, inl, inr, le-leb, leb-true}
+use Rattle.std.proofs.Common.{◌≡◌, ◌≢◌, ℕ, zero, suc, ◌+◌, ◌-◌, ◌^◌, ◌<◌, ◌≤◌, nat_le, Bool, true, false, ◌&&◌, if◌then◌else◌, List, length, map, None, Some, Option, refl, ap, sym, ◌∙◌, arith, int_cmp, ◌⊎◌, inl, inr, le-leb, leb-true}
 use Rattle.std.specs.Prelude.{Ok, Err, ℤ, pos, negsuc, unsigned_abs}
 use Rattle.std.specs.Int.{is_positive}
 use Rattle.std.proofs.lemmas.Bool.{cases_lt}
@@ -29,17 +29,14 @@ use Rattle.statements.specs.Does.{memory_in}
 use Rattle.statements.specs.Filing.{Declared}
 use Rattle.statements.specs.Side.{Side, Item, Literal, item_side, valued, side_number, compared, expr_side}
 use Rattle.cobol_meaning.specs.Acting as acting
-use Rattle.cobol_meaning.specs.Acting.{answered, name_in, arm_in, chooses_in, abend_number}
-use Rattle.control.specs.Outcome.{Tried, Got, Ends}
-use Rattle.language.specs.Language.{Chooser, Evaluate, Arith, Depending}
-use Rattle.language.specs.Language as language
+use Rattle.cobol_meaning.specs.Acting.{name_in, arm_in}
 use Rattle.cell_items.specs.Cell.{number_operand}
 use Rattle.cell_items.specs.Laws.{IsWhole, AreNumbered, number_tests}
 use Rattle.cell_items.proofs.Choices.{among, behind}
 use Rattle.cell_items.proofs.Tests.{side_at, leaf-side, number-side}
 use Rattle.cell_serving.specs.Naming.{numbers_from}
-use Rattle.cell_serving.specs.Choosing.{place_expr, Suits, written_chooser}
-use Rattle.cell_serving.specs.Laws.{AreLiterals, SameChoice, ChoosesAlike}
+use Rattle.cell_serving.specs.Choosing.{place_expr, IsWholeItem}
+use Rattle.cell_serving.specs.Laws.{AreLiterals}
 use Rattle.cell_serving.proofs.Numbers.{long-as, are-numbered}
 
 -- ---- numbers without decimal places
@@ -191,23 +188,8 @@ module _ (declared : Declared) (literal : ℕ → Number) (worth : AreLiterals l
     same-by (Ok number) got = same-name number got
     same-by (Err abend) got = bad-name abend got
 
-  same : Suits declared (Depending p names) → here ≡ there
-  same suits = elim (suits.0 memory.store) [
+  pub same : IsWholeItem declared.areas.items p → here ≡ there
+  same whole = elim (whole memory.store) [
     | inl bad ↦ let both = unreached bad.0 bad.1 in both.0 ∙ sym both.1
     | inr good ↦ same-by good.0 good.1 good.2 good.3 good.4 (number_of (number_in good.1 good.3 (spot_bytes memory.store good.0)) 0) refl
   ]
-
--- ---- all choosers
-
-same-choice : (arms : ℕ) (first : Tried acting.Memory ℕ) → SameChoice arms first first
-same-choice arms (Got trace arm memory) = (refl, inl refl, refl)
-same-choice arms (Ends trace kind memory) = (refl, refl, refl)
-
-pub choose-alike : (declared : Declared) (literal : ℕ → Number) (chooser : Chooser) (arms : List Bool) → AreLiterals literal → Suits declared chooser →
-    ChoosesAlike declared chooser (written_chooser literal chooser arms) (length arms)
-choose-alike declared literal (Evaluate subject tests has_other) arms worth suits memory = same-choice (length arms) (chooses_in declared (Evaluate subject tests has_other) memory)
-choose-alike declared literal (language.Read file into has_end) arms worth suits memory = same-choice (length arms) (chooses_in declared (language.Read file into has_end) memory)
-choose-alike declared literal (Arith calc into) arms worth suits memory = same-choice (length arms) (chooses_in declared (Arith calc into) memory)
-choose-alike declared literal (Depending p names) arms worth suits memory =
-    subst (λ answer. SameChoice (length arms) (chooses_in declared (Depending p names) memory) (answered memory answer)) (same declared literal worth p names suits.1 suits.2 memory suits)
-    (same-choice (length arms) (chooses_in declared (Depending p names) memory))

@@ -10,6 +10,10 @@ pub mod Words
 pub mod Serving
 -- GO TO DEPENDING
 pub mod Depending
+-- all choosers
+pub mod Choosers
+-- READ at the end of a file
+pub mod AtEnd
 -- literals, and the entries of the items
 pub mod Entries
 -- operands and places that are worth whole numbers

@@ -1,7 +1,7 @@
 -- What passes the tests of a table is of the kinds that serve.
 use Rattle.std.proofs.Common.{◌≡◌, ℕ, ◌^◌, ◌<◌, ◌≤◌, nat_le, nat_lt, Bool, true, false, ◌&&◌, not, if◌then◌else◌, List, length, None, Some, Option, refl, ap, ◌∙◌, arith, leb-true, ltb-true, inl, inr}
 use Rattle.std.specs.Prelude.{ℤ, unsigned_abs, ◌==◌, is_some, slice_get, option_and_then}
-use Rattle.std.proofs.lemmas.Bool.{and_parts}
+use Rattle.std.proofs.lemmas.Bool.{and_parts, or_cases}
 use Rattle.cob_num.specs.declared.number.Dec.{Dec}
 use Rattle.cob_num.specs.Digits.{FitsDigits}
 use Rattle.cob_num.specs.Exact.{decimal, decimal_of}
@@ -19,18 +19,19 @@ use Rattle.cob_store.specs.Number.{digits_after, digits_value}
 use Rattle.cob_store.specs.Place.{signed_by}
 use Rattle.language.specs.Language.{Chooser, Evaluate, Arith, Depending}
 use Rattle.language.specs.Language as language
-use Rattle.statements.specs.Filing.{Declared}
+use Rattle.statements.specs.Filing.{Declared, status_place}
 use Rattle.cell_items.specs.Laws.{IsWhole}
 use Rattle.cell_items.proofs.Takes.{Layered}
 use Rattle.added_items.specs.Widened.{AddedItems, declared_beside}
 use Rattle.cell_serving.specs.Table.{CellTable}
+use Rattle.cell_serving.specs.Naming.{first_stands}
 use Rattle.cell_serving.specs.Amounts.{IsWholeArea, IsWholePlace, IsAmountBy}
 use Rattle.cell_serving.specs.Choosing.{Suits, written_chooser}
 use Rattle.cell_serving.specs.Tested.{is_whole_form, is_whole_area, is_whole_place, is_whole_number, is_amount_by, is_amount, suits, kinds_of}
 use Rattle.cell_serving.specs.Laws.{AreLiterals, AreOfKinds}
 use Rattle.cell_serving.proofs.Amounts.{whole-item, whole-amount, value-bound, size-neg}
 use Rattle.cell_serving.proofs.Changed.{same-number}
-use Rattle.cell_serving.proofs.Depending.{choose-alike}
+use Rattle.cell_serving.proofs.Choosers.{choose-alike}
 
 equal : (m n : ℕ) → (m == n) ≡ true → m ≡ n
 equal m n is = elim (same-number m n) [ inl same ↦ same.1 | inr other ↦ let no = other.0 in cc ]
@@ -119,11 +120,18 @@ amount areas (Operand-F.Figure figures.HighValue) is = cc
 amount areas (Operand-F.Figure figures.LowValue) is = cc
 amount areas (Operand-F.Figure figures.Quote) is = cc
 
-suited : (declared : Declared) (chooser : Chooser) → suits declared.areas.items chooser ≡ true → Suits declared chooser
-suited declared (Evaluate subject tests has_other) is = tt
-suited declared (language.Read file into has_end) is = tt
-suited declared (Arith calc into) is = tt
-suited declared (Depending p names) is =
+as-it-stood : (had stands : Bool) → (if had then stands else not stands) ≡ true → stands ≡ had
+as-it-stood true stands is = is
+as-it-stood false stands is = no-sign stands is
+
+suited : (declared : Declared) (chooser : Chooser) (arms : List Bool) → suits declared chooser arms ≡ true → Suits declared chooser arms
+suited declared (Evaluate subject tests has_other) arms is = tt
+suited declared (language.Read file into has_end) arms is = elim (or_cases (if has_end then first_stands arms else not (first_stands arms)) (is_some (status_place declared file)) is) [
+  | inl same ↦ inl (as-it-stood has_end (first_stands arms) same)
+  | inr some ↦ inr some
+]
+suited declared (Arith calc into) arms is = tt
+suited declared (Depending p names) arms is =
     let first = and_parts (is_whole_place declared.areas.items p && nat_le 1 names) (nat_lt names (10 ^ 18)) is in
     let both = and_parts (is_whole_place declared.areas.items p) (nat_le 1 names) first.0 in
     (whole-item declared.areas.items p (whole-place declared.areas.items p both.0), leb-true 1 names both.1, ltb-true names (10 ^ 18) first.1)
@@ -138,8 +146,8 @@ of-kinds declared added table literal worth =
       simples = λ simple is. is;
       conds = λ cond is. is;
       choosers = λ each arms is.
-          let both = and_parts _ (suits beside.areas.items each) is in
-          (both.0, choose-alike beside literal each arms worth (suited beside each both.1));
+          let both = and_parts _ (suits beside each arms) is in
+          (both.0, choose-alike beside literal each arms worth (suited beside each arms both.1));
       amounts = λ operand is.
           let both = and_parts _ (is_amount beside.areas.items operand) is in
           (both.0, whole-amount beside.areas.items operand (amount beside.areas.items (out-Operand operand) both.1));

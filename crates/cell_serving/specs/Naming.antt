@@ -28,6 +28,10 @@ abbrev pub numbers_from : (literal : ℕ → Number) → ℕ → ℕ → List Nu
 numbers_from literal first zero = []
 numbers_from literal first (suc more) = literal first ∷ numbers_from literal (suc first) more
 
+abbrev pub first_stands : List Bool → Bool
+first_stands [] = false
+first_stands (arm ∷ arms) = arm
+
 abbrev pub last_stands : List Bool → Bool
 last_stands [] = false
 last_stands (arm ∷ []) = arm

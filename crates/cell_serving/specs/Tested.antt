@@ -1,5 +1,5 @@
 -- Which parts may be written with a table of cells, as a test.
-use Rattle.std.specs.Prelude.{ℕ, ◌^◌, nat_le, nat_lt, Bool, true, false, ◌&&◌, not, ◌==◌, List, Option, Some, None, is_some, slice_get}
+use Rattle.std.specs.Prelude.{ℕ, ◌^◌, nat_le, nat_lt, Bool, true, false, ◌&&◌, ◌||◌, not, if◌then◌else◌, ◌==◌, List, Option, Some, None, is_some, slice_get}
 use Rattle.cob_tree.specs.declared.number.Number.{Number}
 use Rattle.cob_tree.specs.declared.place.Figure.TheVariants as figures
 use Rattle.cob_tree.specs.declared.place.Expr.{Expr}
@@ -12,14 +12,16 @@ use Rattle.cob_store.specs.declared.area.Area.{Area}
 use Rattle.cob_store.specs.declared.area.Form.{Form}
 use Rattle.cob_store.specs.declared.area.Form.TheVariants as forms
 use Rattle.cob_store.specs.Number.{digits_value}
-use Rattle.language.specs.Language.{Range, Chooser, Depending}
+use Rattle.language.specs.Language as language
+use Rattle.language.specs.Language.{Range, Chooser, Evaluate, Arith, Depending}
 use Rattle.rendering.specs.Procedures.{Writable}
-use Rattle.statements.specs.Filing.{Declared}
+use Rattle.statements.specs.Filing.{Declared, status_place}
 use Rattle.stored_numbers.specs.Laws.{bytes_for}
 use Rattle.added_items.specs.Within.{cond_within, operand_within}
 use Rattle.added_items.specs.Own.{items, stmt_own, chooser_own}
 use Rattle.added_items.specs.Widened.{AddedItems, declared_beside}
 use Rattle.cell_serving.specs.Table.{CellTable}
+use Rattle.cell_serving.specs.Naming.{first_stands}
 use Rattle.cell_serving.specs.Choosing.{written_chooser}
 use Rattle.cell_serving.specs.Laws.{AreLiterals, AreOfKinds}
 
@@ -53,14 +55,20 @@ is_amount_by areas (Operand-F.Figure _) = false
 abbrev pub is_amount : List Area → Operand → Bool
 is_amount areas operand = is_amount_by areas (out-Operand operand)
 
-abbrev pub suits : List Area → Chooser → Bool
-suits areas (Depending place names) =
-    is_whole_place areas place && nat_le 1 names && nat_lt names (10 ^ 18)
-suits areas _ = true
+-- GO TO DEPENDING of such an item; READ whose AT END stands as it did, or whose file has a status
+-- item
+abbrev pub suits : Declared → Chooser → (arms : List Bool) → Bool
+suits declared (Depending place names) arms =
+    is_whole_place declared.areas.items place && nat_le 1 names && nat_lt names (10 ^ 18)
+suits declared (language.Read file into has_end) arms =
+    (if has_end then first_stands arms else not (first_stands arms))
+    || is_some (status_place declared file)
+suits declared (Evaluate subject tests has_other) arms = true
+suits declared (Arith calc into) arms = true
 
 module _ (declared : Declared) (added : AddedItems) (table : CellTable) where
-  abbrev pub wide_areas : List Area
-  wide_areas = (declared_beside added declared).areas.items
+  abbrev pub wide : Declared
+  wide = declared_beside added declared
 
   -- the cell stands, without a sign
   abbrev pub is_plain : Range → ℕ → Bool
@@ -70,8 +78,8 @@ module _ (declared : Declared) (added : AddedItems) (table : CellTable) where
   kinds_of = record {
     simples = stmt_own declared;
     conds = cond_within (items declared);
-    choosers = λ chooser arms. chooser_own declared chooser && suits wide_areas chooser;
-    amounts = λ amount. operand_within (items declared) amount && is_amount wide_areas amount;
+    choosers = λ chooser arms. chooser_own declared chooser && suits wide chooser arms;
+    amounts = λ amount. operand_within (items declared) amount && is_amount wide.areas.items amount;
     sets = λ range cell value.
         is_plain range cell && table.changes range cell && nat_le value (table.most range cell);
     compares = λ range cell value. is_plain range cell && nat_le value (table.most range cell);

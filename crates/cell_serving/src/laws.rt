@@ -1,7 +1,7 @@
 //! The law of the items that stand for cells.
 
 ghost use Rattle.cell_serving.specs.Amounts.{AmountsAreWhole, WholePlacesAreWhole};
-ghost use Rattle.cell_serving.specs.Choosing.{WrittenChoosersChooseAlike};
+ghost use Rattle.cell_serving.specs.Choosing.{AlikeReadsSuit, WrittenChoosersChooseAlike};
 ghost use Rattle.cell_serving.specs.Entries.{CellEntriesAreDeclared, WholeLiteralsAreWorth};
 ghost use Rattle.cell_serving.specs.Tested.{TestedPartsAreOfKinds};
 ghost use Rattle.cell_serving.specs.Laws.{WrittenPartsServe};
@@ -12,9 +12,15 @@ pub fn written_parts_serve()
     ensures { WrittenPartsServe }
 {}
 
-/// The chooser that is written for one takes the same arm; for GO TO DEPENDING that is EVALUATE.
+/// The chooser that is written for one takes the same arm: for GO TO DEPENDING that is EVALUATE,
+/// and READ with AT END where the first arm stands.
 pub fn written_choosers_choose_alike()
     ensures { WrittenChoosersChooseAlike }
+{}
+
+/// A READ that takes the same arm as it is written is one of those.
+pub fn alike_reads_suit()
+    ensures { AlikeReadsSuit }
 {}
 
 /// A number of at most 18 digits, spelled as a literal, is worth that number.

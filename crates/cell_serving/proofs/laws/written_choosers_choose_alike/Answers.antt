@@ -1,4 +1,4 @@
-use Rattle.cell_serving.proofs.Depending.{choose-alike}
+use Rattle.cell_serving.proofs.Choosers.{choose-alike}
 use Rattle.cell_serving.proofs.laws.written_choosers_choose_alike.Goals as goal
 
 pub returns : goal.returns
