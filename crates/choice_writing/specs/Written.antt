@@ -1,12 +1,11 @@
 -- What is written of the program's own statements.
-use Rattle.std.specs.Prelude.{ℕ, ◌≡◌, Bool, false, List, [], ◌∷◌, map, Option, Some, None}
-use Rattle.cob_tree.specs.declared.number.Number.{Number}
+use Rattle.std.specs.Prelude.{ℕ, ◌≡◌, List, map, Option, Some, None}
 use Rattle.cob_tree.specs.declared.stmt.Stmt.{Stmt}
 use Rattle.cob_tree.specs.declared.stmt.Stmt.TheVariants.{Continue}
 use Rattle.cob_tree.specs.declared.stmt.When.{When}
 use Rattle.language.specs.Control.{seen, seen_stmts, seen_when, Branch}
 use Rattle.language.specs.Language as language
-use Rattle.language.specs.Language.{Range, Chooser, Evaluate, Read, Arith, Depending}
+use Rattle.language.specs.Language.{Range}
 use Rattle.rendering.specs.Rendering.{Naming, required, written_stmt, written_stmts}
 use Rattle.cell_serving.specs.Choosing.{written_chooser}
 use Rattle.cell_serving.specs.Entries.{whole_literal}
@@ -15,19 +14,6 @@ use Rattle.cell_serving.specs.Table.{CellTable}
 use Rattle.choice_writing.specs.Places.{ArePlaced}
 use Rattle.choice_writing.specs.Empties.{empties}
 use Rattle.choice_writing.specs.declared.placing.Placed.{Placed}
-
-abbrev pub first_stands : List Bool → Bool
-first_stands [] = false
-first_stands (arm ∷ arms) = arm
-
--- AT END stands where the first arm does
-abbrev pub chooser_as_stands : (literal : ℕ → Number) → Chooser → List Bool → Chooser
-chooser_as_stands literal (Read file into has_end) arms = Read file into (first_stands arms)
-chooser_as_stands literal (Evaluate subject tests has_other) arms =
-    written_chooser literal (Evaluate subject tests has_other) arms
-chooser_as_stands literal (Arith calc into) arms = written_chooser literal (Arith calc into) arms
-chooser_as_stands literal (Depending on names) arms =
-    written_chooser literal (Depending on names) arms
 
 -- the first added item and the items of cells, and the places of procedures, for the body of a
 -- range
@@ -39,7 +25,7 @@ pub record Way : Type 0 where
 
 abbrev pub naming_in : Way → Naming
 naming_in way =
-    cell_naming whole_literal way.first way.table (chooser_as_stands whole_literal)
+    cell_naming whole_literal way.first way.table (written_chooser whole_literal)
     (empties way.table)
 
 module _ (way : Way) where

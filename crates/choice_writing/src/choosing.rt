@@ -1,7 +1,8 @@
 //! Statements with arms, by the lists that their arms hold.
 
-ghost use Rattle.std.specs.Prelude.{IfOk};
+ghost use Rattle.std.specs.Prelude.{IfOk, IsOk, IsTrue};
 ghost use Rattle.language.specs.Control.{seen_stmts};
+ghost use Rattle.language.specs.OwnItems.{control_own};
 ghost use Rattle.choice_writing.specs.Choices.{IsIf, IsEvaluate, IsRead, IsArith, IsOwnPerform, IsOwnLoop};
 
 use crate::empties::{kept, or_continue};
@@ -69,9 +70,11 @@ pub fn arith_stmt(
     Ok(Stmt::Arith { calc, into, arms })
 }
 
-/// PERFORM of the procedure at the place. Err where it is tested by an added item.
+/// PERFORM of the procedure at the place. Err where it is tested by an added item, as in no program
+/// that is read, so that has no error of its own.
 pub fn perform_stmt(place: u32, control: Control) -> Result<Stmt, NoMemory>
-    ensures { IfOk result (λ made. IsOwnPerform place control made) }
+    ensures own { IfOk result (λ made. IsOwnPerform place control made) }
+    ensures every { IsTrue (control_own control) → IsOk result }
 {
     if is_own_control(&control) {
         Ok(Stmt::Perform {
@@ -84,9 +87,10 @@ pub fn perform_stmt(place: u32, control: Control) -> Result<Stmt, NoMemory>
     }
 }
 
-/// PERFORM of statements. Err where it is tested by an added item.
+/// PERFORM of statements. Err where it is tested by an added item, as above.
 pub fn loop_stmt(control: Control, body: Items<Stmt>) -> Result<Stmt, NoMemory>
-    ensures { IfOk result (λ made. IsOwnLoop control body made) }
+    ensures own { IfOk result (λ made. IsOwnLoop control body made) }
+    ensures every { IsTrue (control_own control) → IsOk result }
 {
     if is_own_control(&control) {
         Ok(Stmt::Loop { control, body })

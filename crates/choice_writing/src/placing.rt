@@ -1,7 +1,7 @@
 //! Where the procedures of ranges stand.
 
-ghost use Rattle.std.specs.Prelude.{MatchOption};
-ghost use Rattle.choice_writing.specs.Places.{IsPlace};
+ghost use Rattle.std.specs.Prelude.{Decides, MatchOption};
+ghost use Rattle.choice_writing.specs.Places.{HasNone, HasPlace, IsBefore};
 
 /// A range of paragraphs, and the place of its procedure in the structured program, from 0.
 #[derive(Clone, Copy, Debug, PartialEq, Eq)]
@@ -11,14 +11,17 @@ pub struct Placed {
     pub place: u32,
 }
 
-fn is_before(placed: Placed, entry: u32, exit: u32) -> bool {
+fn is_before(placed: Placed, entry: u32, exit: u32) -> bool
+    ensures { Decides result (IsBefore placed.entry placed.exit entry exit) }
+{
     placed.entry < entry || placed.entry == entry && placed.exit < exit
 }
 
 /// The place of the range's procedure. Where the ranges stand by entry and then by exit, it is
 /// found if it is there.
 pub fn place_of(places: &[Placed], entry: u32, exit: u32) -> Option<u32>
-    ensures { MatchOption result (Unit {0}) (λ place. IsPlace places.now entry exit place) }
+    ensures { MatchOption result (HasNone places.now entry exit)
+        (λ place. HasPlace places.now entry exit place) }
 {
     let mut low = 0;
     let mut high = places.len();

@@ -16,7 +16,8 @@ use Rattle.rendering.specs.Rendering.{Empty, Continues, Goes, standing, arm_stan
 use Rattle.choice_writing.specs.Empties.{if_had, put_arm, stands_so}
 use Rattle.choice_writing.specs.Choices.{IsIf, IsRead, IsArith}
 use Rattle.choice_writing.specs.Owning.{OwnTurns}
-use Rattle.choice_writing.specs.Written.{Way, naming_in, first_stands, written, all_written, or_nothing, written_if_any}
+use Rattle.cell_serving.specs.Naming.{first_stands}
+use Rattle.choice_writing.specs.Written.{Way, naming_in, written, all_written, or_nothing, written_if_any}
 use Rattle.choice_writing.proofs.ChoiceRows.{continues_is}
 
 module _ (way : Way) where

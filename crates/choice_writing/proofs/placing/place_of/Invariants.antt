@@ -1,8 +1,9 @@
-use Rattle.std.proofs.Common.{◌-◌, ◌≤◌, length}
+use Rattle.std.proofs.Common.{◌-◌}
+use Rattle.choice_writing.proofs.Halving.{IsSplit}
 use Rattle.choice_writing.proofs.placing.place_of.Given as goal
 
 abbrev pub invariant-loop-low : goal.invariant-loop-low
-invariant-loop-low l = (l.low ≤ l.high) × (l.high ≤ length l.places)
+invariant-loop-low l = IsSplit l.places l.entry l.exit l.low l.high
 
 abbrev pub decreases-loop-low : goal.decreases-loop-low
 decreases-loop-low l = l.high - l.low

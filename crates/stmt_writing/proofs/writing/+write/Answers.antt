@@ -70,7 +70,7 @@ write_loop-returns-in-Ok t c =
     if_ok c.loop_stmt.result (IsOwnLoop c.args.control c.in-Ok.body)
     (IsWritten c.args.places.now (Loop c.args.control c.args.body))
     (λ made h way placed. loop_row way c.args.control c.args.body c.in-Ok.body made h.0 (c.in-Ok.ensures way placed) h.1)
-    c.loop_stmt.ensures
+    c.loop_stmt.ensures.own
 
 pub write_phrases-returns-in-Ok : goal.write_phrases-returns-in-Ok
 write_phrases-returns-in-Ok t c =

@@ -8,5 +8,5 @@ use Rattle.stmt_writing.proofs.writing.write_perform.Goals as goal
 pub returns-in-Some : goal.returns-in-Some
 returns-in-Some c =
     if_ok c.perform_stmt.result (IsOwnPerform c.in-Some.place c.args.control) (IsWritten c.args.places.now (Perform c.args.entry c.args.exit c.args.control))
-    (λ made h way placed. perform_row way c.args.control c.args.entry c.args.exit c.in-Some.place made h.0 (c.in-Some.ensures way.place placed) h.1)
-    c.perform_stmt.ensures
+    (λ made h way placed. perform_row way c.args.control c.args.entry c.args.exit c.in-Some.place made h.0 (placed c.in-Some.ensures.0 _ c.in-Some.ensures.1) h.1)
+    c.perform_stmt.ensures.own
