@@ -1,0 +1,2 @@
+-- IF and EVALUATE of the program's own
+pub mod OwnRows

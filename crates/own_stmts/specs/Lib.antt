@@ -1,0 +1,4 @@
+-- tmp
+pub mod Owning
+-- what stands in the arms of a statement
+pub mod Within
