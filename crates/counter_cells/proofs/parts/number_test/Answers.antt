@@ -1,0 +1,13 @@
+use Rattle.std.proofs.Common.{ap, sym, ◌∙◌}
+use Rattle.language.specs.Control.{test_of}
+use Rattle.lowering.specs.Renamed.{test_anew}
+use Rattle.headline.specs.Numbering.{place_among}
+use Rattle.branch_tree.specs.Choosers.{seen_test}
+use Rattle.counter_cells.proofs.AnewRows.{own-test}
+use Rattle.counter_cells.proofs.parts.number_test.Goals as goal
+
+pub returns-then-is_own_test : goal.returns-then-is_own_test
+returns-then-is_own_test c =
+    let number = place_among c.args.cells.now in
+    sym (own-test number (test_of c.in-Holds.cond) (c.is_own_test.ensures c.if-is_own_test.true))
+    ∙ ap (λ t. test_anew number (seen_test t)) (sym c.in-Holds.is)

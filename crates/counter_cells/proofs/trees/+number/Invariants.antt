@@ -1,0 +1,20 @@
+use Rattle.std.proofs.Common.{◌≡◌, map}
+use Rattle.lowering.specs.Renamed.{stmt_anew, tree_anew}
+use Rattle.headline.specs.Numbering.{place_among}
+use Rattle.branch_tree.specs.Trees.{seen_piece, seen_tree}
+use Rattle.counter_cells.proofs.Each.{changed}
+use Rattle.counter_cells.proofs.trees.+number.Given as goal
+
+abbrev pub invariant-number_pieces-loop-at : goal.invariant-number_pieces-loop-at
+invariant-number_pieces-loop-at l = record {
+  same : map seen_piece l.pieces
+      ≡ changed seen_piece (stmt_anew (place_among l.cells)) l.at l.fn.pieces;
+  unvisited : goal.unvisited-number_pieces-loop-at l;
+}
+
+abbrev pub invariant-number_trees-loop-at : goal.invariant-number_trees-loop-at
+invariant-number_trees-loop-at l = record {
+  same : map seen_tree l.trees
+      ≡ changed seen_tree (tree_anew (place_among l.cells)) l.at l.fn.trees;
+  unvisited : goal.unvisited-number_trees-loop-at l;
+}

@@ -1,0 +1,10 @@
+use Rattle.std.proofs.Common.{◌≡◌, map}
+use Rattle.headline.specs.Numbering.{place_among}
+use Rattle.branch_tree.specs.Graphs.{seen_node}
+use Rattle.counter_cells.specs.Anew.{node_anew}
+use Rattle.counter_cells.proofs.Each.{changed}
+use Rattle.counter_cells.proofs.trees.number_nodes.Given as goal
+
+abbrev pub invariant-loop-at : goal.invariant-loop-at
+invariant-loop-at l =
+    map seen_node l.nodes ≡ changed seen_node (node_anew (place_among l.cells)) l.at l.fn.nodes
