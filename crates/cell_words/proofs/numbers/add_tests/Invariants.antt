@@ -1,0 +1,9 @@
+use Rattle.std.proofs.Common.{◌≡◌, ◌++◌, map}
+use Rattle.cell_items.specs.Laws.{number_tests}
+use Rattle.cell_serving.specs.Entries.{whole_literal}
+use Rattle.cell_serving.specs.Naming.{numbers_from}
+use Rattle.cell_words.proofs.numbers.add_tests.Given as goal
+
+abbrev pub invariant-loop-number : goal.invariant-loop-number
+invariant-loop-number l =
+    l.tests ≡ l.fn.tests ++ map number_tests (numbers_from whole_literal 1 l.number)

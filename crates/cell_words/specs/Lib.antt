@@ -1,0 +1,4 @@
+-- words on cells
+pub mod Words
+-- choices over the lists of their arms
+pub mod Lists
