@@ -1,0 +1,16 @@
+//! The bodies of a program's ranges: each range of its plan is lowered to exactly the nodes that
+//! are reached, with its counters numbered, and shaped by the rules to one body.
+//!
+//! `lower_ranges` gives the graphs, within the limit on their labels and statements
+//! (`specs/Graphs.antt`, `specs/Limit.antt`), and `shape_all` what they are shaped to
+//! (`specs/Shaped.antt`). That a program that isn't faulty is so planned as the headline asks is the
+//! law `ranges_are_planned`.
+#![tactic(auto)]
+
+mod graphing;
+mod laws;
+mod shaping;
+
+pub use graphing::lower_ranges;
+pub use laws::ranges_are_planned;
+pub use shaping::{Closed, shape_all};
