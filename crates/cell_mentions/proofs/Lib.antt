@@ -1,0 +1,2 @@
+-- where statements name cells, row by row
+pub mod MentionRows

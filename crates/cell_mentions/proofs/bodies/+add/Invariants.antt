@@ -1,0 +1,20 @@
+use Rattle.std.proofs.Common.{◌≡◌, ◌++◌, drop}
+use Rattle.graph_rules.specs.Shapes.{arms_stmts}
+use Rattle.branch_tree.specs.Trees.{seen_body, seen_trees}
+use Rattle.cell_mentions.specs.Mentions.{mentions, arms_mentions}
+use Rattle.cell_mentions.specs.Within.{trees_within}
+use Rattle.cell_mentions.proofs.bodies.+add.Given as goal
+
+abbrev pub invariant-add_body-loop-piece : goal.invariant-add_body-loop-piece
+invariant-add_body-loop-piece l =
+    l.made ++ mentions (seen_body (drop l.piece-index l.body)) ≡ l.fn.made ++ mentions (seen_body l.body)
+
+abbrev pub invariant-add_arms-loop-arm : goal.invariant-add_arms-loop-arm
+invariant-add_arms-loop-arm l =
+    l.made ++ arms_mentions (arms_stmts (seen_trees (drop l.arm-index l.arms)))
+    ≡ l.fn.made ++ arms_mentions (arms_stmts (seen_trees l.arms))
+
+abbrev pub invariant-add_within-loop-arm : goal.invariant-add_within-loop-arm
+invariant-add_within-loop-arm l =
+    l.made ++ trees_within l.leaves (seen_trees (drop l.arm-index l.arms))
+    ≡ l.fn.made ++ trees_within l.leaves (seen_trees l.arms)

@@ -1,0 +1,19 @@
+-- What trees within a loop name.
+use Rattle.std.specs.Prelude.{List, [], ◌++◌}
+use Rattle.language.specs.Language.{Stmts}
+use Rattle.control.specs.Graph.{End, Trees, no_more, more}
+use Rattle.closing.specs.Closes.{none_left_out}
+use Rattle.closing.specs.Dispatches.{stated_end}
+use Rattle.branch_tree.specs.declared.tree.Leaves.{Leaves}
+use Rattle.branch_tree.specs.Trees.{jump_within, return_within, stated}
+use Rattle.cell_mentions.specs.Mentions.{mentions}
+use Rattle.cell_mentions.specs.declared.mention.Mention.{Mention}
+
+abbrev pub end_within : Leaves → End → Stmts
+end_within leaves end = stated_end none_left_out (jump_within leaves) (return_within leaves) end
+
+-- tree after tree
+abbrev pub trees_within : Leaves → Trees → List Mention
+trees_within leaves no_more = []
+trees_within leaves (more first others) =
+    mentions (stated leaves first) ++ trees_within leaves others
