@@ -1,0 +1,44 @@
+//! Items for the cells of shaped ranges.
+
+ghost use Rattle.std.specs.Prelude.{◌≡◌, map, IfOk};
+ghost use Rattle.cell_table.specs.CellItems.{AreCellItems};
+ghost use Rattle.cell_table.specs.Names.{entries_for, seen_item};
+ghost use Rattle.cell_table.specs.Seen.{seen_ranges};
+
+use crate::cell_item::all_items;
+use crate::naming::{AddedItem, items_at};
+use crate::numbering::numbering_of;
+use crate::row::{ShapedRange, told_of};
+use cell_words::CellItem;
+use cob_base::{Items, NoMemory};
+use cob_words::WordTable;
+use std::alloc::Global;
+
+/// The items of cells, and what writing asks of the cells of each range.
+#[derive(Drop)]
+pub struct Given {
+    pub added: Items<AddedItem>,
+    pub cells: Items<Items<CellItem>>,
+}
+
+/// Gives items to the cells of these ranges, which stand in this order: their names are no words of
+/// the table, and their numbers go on from `first`. Err where memory, numbers of 32 bits or items
+/// below 2^31 are wanted, and where a statement of the program has a word on an added item.
+pub fn give_items(
+    alloc: Global,
+    words: &WordTable,
+    first: u32,
+    ranges: &[ShapedRange<'_>],
+) -> Result<Given, NoMemory>
+    ensures entries { IfOk result (λ given. map seen_item given.added
+        ≡ entries_for words.now (seen_ranges ranges.now)) }
+    ensures cells { IfOk result (λ given.
+        AreCellItems first (seen_ranges ranges.now) given.cells) }
+{
+    let told = told_of(alloc, ranges)?;
+    let numbering = numbering_of(alloc, ranges, told.as_slice())?;
+    let kinds = numbering.kinds.as_slice();
+    let added = items_at(alloc, words, kinds, numbering.holding.held.as_slice())?;
+    let cells = all_items(alloc, &numbering, first, ranges, told.as_slice())?;
+    Ok(Given { added, cells })
+}
