@@ -1,0 +1,4 @@
+-- DISPLAY and STOP RUN.
+pub mod Statements
+-- Sentences, the paragraph and the division.
+pub mod Paragraphs

@@ -1,0 +1,22 @@
+//! What spells the PROCEDURE DIVISION. This function does nothing; its contract is a law.
+
+ghost use Rattle.std.specs.Prelude.{◌≡◌, ℕ, List};
+ghost use Rattle.cob_tree.specs.declared.stmt.Stmt as tree;
+ghost use Rattle.display_programs.specs.Display.{IsShownStmt, display_program};
+ghost use Rattle.display_programs.specs.Kinds.{paragraph_kinds};
+ghost use Rattle.display_spelling.specs.End.{AtEnd};
+ghost use Rattle.display_spelling.specs.Parts.{PartsSpell};
+ghost use Rattle.named_forms.specs.Giving.{Each};
+ghost use Rattle.spelled_forms.specs.Spelling.{Spelled};
+ghost use Rattle.stmt_forms.specs.Paragraph.{division};
+
+use stmt_forms::Made;
+
+/// The tokens that the one paragraph is printed with spell it, where the parts of statements spell
+/// what they are to.
+pub fn divisions_are_spelled<Side, Known, M: Made<Side, Known>>()
+    ensures { (title label : List ℕ) (from : ℕ) (shown : List tree.Stmt) →
+        PartsSpell M.parts label from → Each IsShownStmt shown →
+        Spelled (division M.parts) from (paragraph_kinds label shown) AtEnd
+        (λ found. found ≡ (display_program title label shown).paragraphs) }
+{}

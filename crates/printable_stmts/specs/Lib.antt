@@ -1,0 +1,2 @@
+-- Which statements and paragraphs can be printed.
+pub mod Printable

@@ -1,0 +1,4 @@
+-- Which kinds of tokens spell a value of a form.
+pub mod Spelling
+-- What holds of names and literals.
+pub mod Laws
