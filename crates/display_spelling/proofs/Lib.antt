@@ -2,3 +2,5 @@
 pub mod Statements
 -- Sentences, the paragraph and the division.
 pub mod Paragraphs
+-- The divisions before it.
+pub mod Divisions

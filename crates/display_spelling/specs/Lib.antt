@@ -2,3 +2,5 @@
 pub mod Parts
 -- Where a text ends.
 pub mod End
+-- What stands before the PROCEDURE DIVISION.
+pub mod Bare

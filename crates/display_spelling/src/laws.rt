@@ -1,15 +1,19 @@
-//! What spells the PROCEDURE DIVISION. This function does nothing; its contract is a law.
+//! What spells the divisions. These functions do nothing; their contracts are laws.
 
-ghost use Rattle.std.specs.Prelude.{◌≡◌, ℕ, List};
+ghost use Rattle.std.specs.Prelude.{◌≡◌, ℕ, true, List};
 ghost use Rattle.cob_tree.specs.declared.stmt.Stmt as tree;
+ghost use Rattle.data_forms.specs.Divisions.{divisions};
 ghost use Rattle.display_programs.specs.Display.{IsShownStmt, display_program};
-ghost use Rattle.display_programs.specs.Kinds.{paragraph_kinds};
+ghost use Rattle.display_programs.specs.Kinds.{paragraph_kinds, title_kinds};
+ghost use Rattle.display_spelling.specs.Bare.{BeforeProcedures, bare_divisions};
 ghost use Rattle.display_spelling.specs.End.{AtEnd};
 ghost use Rattle.display_spelling.specs.Parts.{PartsSpell};
 ghost use Rattle.named_forms.specs.Giving.{Each};
 ghost use Rattle.spelled_forms.specs.Spelling.{Spelled};
 ghost use Rattle.stmt_forms.specs.Paragraph.{division};
+ghost use Rattle.word_forms.specs.Word.{is_data_word};
 
+use data_forms::Refers;
 use stmt_forms::Made;
 
 /// The tokens that the one paragraph is printed with spell it, where the parts of statements spell
@@ -19,4 +23,12 @@ pub fn divisions_are_spelled<Side, Known, M: Made<Side, Known>>()
         PartsSpell M.parts label from → Each IsShownStmt shown →
         Spelled (division M.parts) from (paragraph_kinds label shown) AtEnd
         (λ found. found ≡ (display_program title label shown).paragraphs) }
+{}
+
+/// What stands before the PROCEDURE DIVISION of a program without files and data is spelled by its
+/// tokens.
+pub fn titles_are_spelled<R: Refers>()
+    ensures { (taken : ℕ) (title : List ℕ) → is_data_word title ≡ true →
+        Spelled (divisions R.status) taken (title_kinds title) BeforeProcedures
+        (λ found. found ≡ bare_divisions title) }
 {}

@@ -17,14 +17,14 @@ tail-is e = cc
 
 -- ---- tokens by their kinds
 
-next-first : (tokens rest : List Token) → next (tokens ++ rest) ≡ first_of (kinds_of tokens) (next rest)
+pub next-first : (tokens rest : List Token) → next (tokens ++ rest) ≡ first_of (kinds_of tokens) (next rest)
 next-first [] rest = refl
 next-first (t ∷ tokens) rest = refl
 
-next-of : (tokens rest : List Token) (kinds : List TokenKind) → kinds_of tokens ≡ kinds → next (tokens ++ rest) ≡ first_of kinds (next rest)
+pub next-of : (tokens rest : List Token) (kinds : List TokenKind) → kinds_of tokens ≡ kinds → next (tokens ++ rest) ≡ first_of kinds (next rest)
 next-of tokens rest kinds e = next-first tokens rest ∙ ap (λ list. first_of list (next rest)) e
 
-parts : (kinds others : List TokenKind) (tokens : List Token) → kinds_of tokens ≡ kinds ++ others →
+pub parts : (kinds others : List TokenKind) (tokens : List Token) → kinds_of tokens ≡ kinds ++ others →
     (front : List Token) × (behind : List Token) × (tokens ≡ front ++ behind) × (kinds_of front ≡ kinds) × (kinds_of behind ≡ others)
 parts [] others tokens e = ([], tokens, refl, refl, e)
 parts (kind ∷ kinds) others [] e = absurd cc
