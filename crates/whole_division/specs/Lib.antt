@@ -1,0 +1,2 @@
+-- What the PROCEDURE DIVISION counts by.
+pub mod Laws
