@@ -1,0 +1,14 @@
+//! The closed body of a range as statements of a program, and the one sentence of its procedure.
+//!
+//! A body has no jump: it is a tree of pieces, choices, loops and what their leaves leave behind.
+//! The definition that the contracts hold the statements against is the theory's `written_stmts`
+//! and `written_paragraph`, in `rendering/specs/Rendering.antt`, with the names of
+//! `choice_writing/specs/Written.antt`. Trees are only read, so that none is dropped here.
+#![tactic(auto)]
+
+mod leaves;
+mod pieces;
+mod procedure;
+
+pub use pieces::write_body;
+pub use procedure::write_procedure;

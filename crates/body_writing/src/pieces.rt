@@ -1,0 +1,302 @@
+//! Pieces and trees as statements.
+
+ghost use Rattle.std.specs.Prelude.{IfOk, OnOk};
+ghost use Rattle.language.specs.Language.{Choose};
+ghost use Rattle.graph_rules.specs.Shapes.{alone, arms_stmts};
+ghost use Rattle.branch_tree.specs.Choosers.{seen_picker};
+ghost use Rattle.branch_tree.specs.Trees.{seen_piece, seen_body, seen_trees};
+ghost use Rattle.choice_writing.specs.Written.{IsWritten};
+ghost use Rattle.body_writing.specs.Bodies.{IsMade, AreMade, AddsStmts, AddsLists, within_arm, within_loop, end_stmts, stated_choice};
+
+use crate::leaves::{add_jump, add_last, add_return, add_stop};
+use branch_tree::{End, Leaves, Picker, Piece, Tree};
+use cell_words::{
+    CellItem, choose, drop_lists, drop_stmts, loop_until, lower_cell, set_cell, take_cell,
+};
+use choice_writing::Placed;
+use cob_base::{Copied, Items, NoMemory};
+use cob_tree::Stmt;
+use std::alloc::Global;
+use stmt_writing::write_stmt;
+
+fn write_own(alloc: Global, stmt: &Stmt, places: &[Placed]) -> Result<Stmt, NoMemory>
+    ensures { IfOk result (λ made. IsWritten places.now stmt.now made) }
+{
+    let stmt = stmt.copy(alloc)?;
+    write_stmt(alloc, stmt, places)
+}
+
+#[cycle(write)]
+fn write_piece(
+    alloc: Global,
+    piece: &Piece,
+    cells: &[CellItem],
+    places: &[Placed],
+) -> Result<Stmt, NoMemory>
+    ensures { IfOk result (λ made. IsMade cells.now places.now (seen_piece piece.now) made) }
+{
+    match piece {
+        Piece::Own(stmt) => write_own(alloc, stmt, places),
+        Piece::Set { cell, value } => set_cell(alloc, *cell, *value, cells),
+        Piece::Take { cell, amount } => take_cell(alloc, *cell, amount, cells),
+        Piece::Lower { cell } => lower_cell(alloc, *cell, cells),
+        Piece::Choose { by, arms } => write_choice(alloc, by, arms.as_slice(), cells, places),
+        Piece::Loop {
+            after,
+            turned,
+            test,
+            leaves,
+            body,
+        } => match write_stated(alloc, body, leaves, cells, places) {
+            Ok(body) => loop_until(alloc, test, *turned, *after, body, cells),
+            Err(fault) => Err(fault),
+        },
+    }
+}
+
+#[cycle(write)]
+fn add_pieces(
+    alloc: Global,
+    pieces: &[Piece],
+    made: &mut Items<Stmt>,
+    cells: &[CellItem],
+    places: &[Placed],
+) -> Result<(), NoMemory>
+    ensures { OnOk result
+        (AddsStmts cells.now places.now (seen_body pieces.now) made.old made.new) }
+{
+    for piece in pieces {
+        let stmt = write_piece(alloc, piece, cells, places)?;
+        made.push(stmt)?;
+    }
+    Ok(())
+}
+
+/// Adds the statements of a body.
+#[cycle(write)]
+fn add_arm(
+    alloc: Global,
+    arm: &Tree,
+    made: &mut Items<Stmt>,
+    cells: &[CellItem],
+    places: &[Placed],
+) -> Result<(), NoMemory>
+    ensures { OnOk result (AddsStmts cells.now places.now (within_arm arm.now) made.old made.new) }
+{
+    add_pieces(alloc, arm.body.as_slice(), made, cells, places)?;
+    add_last(made, &arm.end)
+}
+
+/// An arm of a choice that is a statement.
+#[cycle(write)]
+fn write_arm(
+    alloc: Global,
+    arm: &Tree,
+    cells: &[CellItem],
+    places: &[Placed],
+) -> Result<Items<Stmt>, NoMemory>
+    ensures { IfOk result (λ made. AreMade cells.now places.now (within_arm arm.now) made) }
+{
+    let mut made = Items::new(alloc);
+    match add_arm(alloc, arm, &mut made, cells, places) {
+        Ok(()) => Ok(made),
+        Err(fault) => {
+            drop_stmts(made);
+            Err(fault)
+        }
+    }
+}
+
+#[cycle(write)]
+fn add_arms(
+    alloc: Global,
+    lists: &mut Items<Items<Stmt>>,
+    arms: &[Tree],
+    cells: &[CellItem],
+    places: &[Placed],
+) -> Result<(), NoMemory>
+    ensures { OnOk result
+        (AddsLists cells.now places.now within_arm arms.now lists.old lists.new) }
+{
+    for arm in arms {
+        let made = write_arm(alloc, arm, cells, places)?;
+        lists.push(made)?;
+    }
+    Ok(())
+}
+
+/// A choice whose arms end in leaves.
+#[cycle(write)]
+fn write_choice(
+    alloc: Global,
+    by: &Picker,
+    arms: &[Tree],
+    cells: &[CellItem],
+    places: &[Placed],
+) -> Result<Stmt, NoMemory>
+    ensures { IfOk result (λ made. IsMade cells.now places.now
+        (Choose (seen_picker by.now) (arms_stmts (seen_trees arms.now))) made) }
+{
+    let mut lists = Items::new(alloc);
+    match add_arms(alloc, &mut lists, arms, cells, places) {
+        Ok(()) => choose(alloc, by, lists, cells),
+        Err(fault) => {
+            drop_lists(lists);
+            Err(fault)
+        }
+    }
+}
+
+/// Adds the statements of a tree within a loop with such leaves.
+#[cycle(write)]
+fn add_stated(
+    alloc: Global,
+    tree: &Tree,
+    made: &mut Items<Stmt>,
+    leaves: &Leaves,
+    cells: &[CellItem],
+    places: &[Placed],
+) -> Result<(), NoMemory>
+    ensures { OnOk result
+        (AddsStmts cells.now places.now (within_loop leaves.now tree.now) made.old made.new) }
+{
+    add_pieces(alloc, tree.body.as_slice(), made, cells, places)?;
+    add_end(alloc, &tree.end, made, leaves, cells, places)
+}
+
+#[cycle(write)]
+fn write_stated(
+    alloc: Global,
+    tree: &Tree,
+    leaves: &Leaves,
+    cells: &[CellItem],
+    places: &[Placed],
+) -> Result<Items<Stmt>, NoMemory>
+    ensures { IfOk result
+        (λ made. AreMade cells.now places.now (within_loop leaves.now tree.now) made) }
+{
+    let mut made = Items::new(alloc);
+    match add_stated(alloc, tree, &mut made, leaves, cells, places) {
+        Ok(()) => Ok(made),
+        Err(fault) => {
+            drop_stmts(made);
+            Err(fault)
+        }
+    }
+}
+
+#[cycle(write)]
+fn add_end(
+    alloc: Global,
+    end: &End,
+    made: &mut Items<Stmt>,
+    leaves: &Leaves,
+    cells: &[CellItem],
+    places: &[Placed],
+) -> Result<(), NoMemory>
+    ensures { OnOk result
+        (AddsStmts cells.now places.now (end_stmts leaves.now end.now) made.old made.new) }
+{
+    match end {
+        End::Pick { by, arms } => {
+            add_choice(alloc, by, arms.as_slice(), made, leaves, cells, places)
+        }
+        End::Jump(to) => add_jump(alloc, made, leaves, *to, cells),
+        End::Return => add_return(alloc, made, leaves, cells),
+        End::Stop => add_stop(made),
+        End::Dead => Ok(()),
+    }
+}
+
+/// Adds a choice whose arms are trees within a loop.
+#[cycle(write)]
+fn add_choice(
+    alloc: Global,
+    by: &Picker,
+    arms: &[Tree],
+    made: &mut Items<Stmt>,
+    leaves: &Leaves,
+    cells: &[CellItem],
+    places: &[Placed],
+) -> Result<(), NoMemory>
+    ensures { OnOk result (AddsStmts cells.now places.now
+        (alone (stated_choice leaves.now by.now arms.now)) made.old made.new) }
+{
+    let stmt = write_stated_choice(alloc, by, arms, leaves, cells, places)?;
+    made.push(stmt)
+}
+
+#[cycle(write)]
+fn write_stated_choice(
+    alloc: Global,
+    by: &Picker,
+    arms: &[Tree],
+    leaves: &Leaves,
+    cells: &[CellItem],
+    places: &[Placed],
+) -> Result<Stmt, NoMemory>
+    ensures { IfOk result
+        (λ made. IsMade cells.now places.now (stated_choice leaves.now by.now arms.now) made) }
+{
+    let mut lists = Items::new(alloc);
+    match add_stated_arms(alloc, &mut lists, arms, leaves, cells, places) {
+        Ok(()) => choose(alloc, by, lists, cells),
+        Err(fault) => {
+            drop_lists(lists);
+            Err(fault)
+        }
+    }
+}
+
+#[cycle(write)]
+fn add_stated_arms(
+    alloc: Global,
+    lists: &mut Items<Items<Stmt>>,
+    arms: &[Tree],
+    leaves: &Leaves,
+    cells: &[CellItem],
+    places: &[Placed],
+) -> Result<(), NoMemory>
+    ensures { OnOk result
+        (AddsLists cells.now places.now (within_loop leaves.now) arms.now lists.old lists.new) }
+{
+    for arm in arms {
+        let made = write_stated(alloc, arm, leaves, cells, places)?;
+        lists.push(made)?;
+    }
+    Ok(())
+}
+
+/// The statements of a body, added behind others.
+pub fn add_body(
+    alloc: Global,
+    made: &mut Items<Stmt>,
+    pieces: &[Piece],
+    cells: &[CellItem],
+    places: &[Placed],
+) -> Result<(), NoMemory>
+    ensures { OnOk result
+        (AddsStmts cells.now places.now (seen_body pieces.now) made.old made.new) }
+{
+    add_pieces(alloc, pieces, made, cells, places)
+}
+
+/// The statements of a body. Err where memory is wanted, where a range that is performed has no
+/// place or a cell no item, and where a number or a choice doesn't fit its item.
+pub fn write_body(
+    alloc: Global,
+    pieces: &[Piece],
+    cells: &[CellItem],
+    places: &[Placed],
+) -> Result<Items<Stmt>, NoMemory>
+    ensures { IfOk result (λ made. AreMade cells.now places.now (seen_body pieces.now) made) }
+{
+    let mut made = Items::new(alloc);
+    match add_body(alloc, &mut made, pieces, cells, places) {
+        Ok(()) => Ok(made),
+        Err(fault) => {
+            drop_stmts(made);
+            Err(fault)
+        }
+    }
+}
