@@ -1,0 +1,2 @@
+-- What holds of named statements.
+pub mod Laws
