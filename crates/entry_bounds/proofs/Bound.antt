@@ -1,10 +1,14 @@
--- Entry by entry: where no rule is broken, its file and what it redefines are there, and a level 88 has
--- a value.
-use Rattle.std.proofs.Common.{◌≡◌, ℕ, zero, suc, ◌+◌, Bool, true, false, not, ◌||◌, cond, if◌then◌else◌, List, [], ◌∷◌, ◌++◌, length, map, drop, Option, Some, None, refl, ap, sym, ◌∙◌, subst, append_assoc, length-append, arith}
-use Rattle.std.specs.Prelude.{◌==◌, slice_get}
+-- Entry by entry: where no rule is broken, its file and what it redefines are there, a level 88 has
+-- a value and no picture, and a sign suits its picture.
+use Rattle.std.proofs.Common.{◌≡◌, ℕ, zero, suc, ◌+◌, Bool, true, false, not, ◌||◌, cond, ◌&&◌, if◌then◌else◌, List, [], ◌∷◌, ◌++◌, length, map, drop, Option, Some, None, refl, ap, sym, ◌∙◌, subst, append_assoc, length-append, arith}
+use Rattle.std.specs.Prelude.{◌==◌, is_some, slice_get}
 use Rattle.std.specs.List.{fold, find}
 use Rattle.std.proofs.lemmas.Bool.{and_parts}
 use Rattle.cob_tree.specs.declared.entry.Entry.{Entry}
+use Rattle.cob_tree.specs.declared.picture.Picture.{Picture}
+use Rattle.cob_tree.specs.declared.picture.Picture.TheVariants as pictures
+use Rattle.cob_tree.specs.declared.picture.Sign.TheVariants.{Within}
+use Rattle.data_names.specs.Names.{is_group}
 use Rattle.grammar_forms.specs.declared.note.NameKind.TheVariants.{Level}
 use Rattle.grammar_forms.specs.declared.note.Position.{Position}
 use Rattle.grammar_forms.specs.Note.{earliest}
@@ -17,20 +21,21 @@ use Rattle.data_forms.specs.declared.draft.SelectDraft.{SelectDraft}
 use Rattle.data_sizes.specs.Size.{sized}
 use Rattle.data_rules.specs.declared.clause.ClauseKind.TheVariants as kinds
 use Rattle.data_rules.specs.declared.judging.Judged.{Judged}
-use Rattle.data_rules.specs.Base.{base_of, condition_of, item_of, level_of, spans_in, spans_of, span_of}
+use Rattle.data_rules.specs.Base.{base_of, condition_of, item_of, level_of, sign_in, spans_in, spans_of, span_of}
 use Rattle.data_rules.specs.Clause.{again_fault, other_fault, is_of, clause_of}
 use Rattle.data_rules.specs.Declaring.{section_bases, record_bases, settled, settled_at, settle, settle_all, settle_records, judged_at, judge, judge_all, judge_records, bases_of, entries_of, start_of, fault_of, declared_of}
 use Rattle.data_rules.specs.Fault.{fault_at}
 use Rattle.data_rules.specs.File.{file_number, file_of}
-use Rattle.data_rules.specs.Item.{level_stands}
-use Rattle.data_rules.specs.Rule.{fits_fault, condition_fault, kind_fault, entry_fault}
-use Rattle.data_rules.specs.Standing.{before, holder_of}
-use Rattle.data_rules.specs.Value.{missing_by, missing_fault}
+use Rattle.data_rules.specs.Item.{level_stands, picture_fault, sign_by, sign_fault, occurs_fault}
+use Rattle.data_rules.specs.Rule.{target_of, fits_fault, condition_fault, clauses_fault, item_fault, kind_fault, entry_fault}
+use Rattle.data_rules.specs.Standing.{before, behind, holder_of, standing_of}
+use Rattle.data_rules.specs.Value.{missing_by, missing_fault, value_fault}
+use Rattle.data_rules.specs.Redefining.{redefines_fault}
 use Rattle.language.specs.All.{all}
 use Rattle.named_programs.specs.Part.{is_filled, if_any}
 use Rattle.named_programs.proofs.Made.{both, all-added}
 use Rattle.named_data.specs.Drafts.{clause_literal, entry_literal, entries_literal, fd_literal, data_literal, span_literal}
-use Rattle.entry_bounds.specs.Bounds.{is_below, file_there, redefine_earlier, has_values, EntriesBound}
+use Rattle.entry_bounds.specs.Bounds.{is_below, file_there, redefine_earlier, has_values, sign_suits, is_pictured, EntriesBound}
 use Rattle.entry_bounds.proofs.Redefined.{redefines-earlier}
 use Rattle.entry_bounds.proofs.Selected.{none_of, has_select, all-selected, number-there}
 
@@ -77,6 +82,40 @@ missing-none bases sizes draft holder e =
     let missing = earliest other (missing_fault draft.at draft.clauses) in
     (none_of other (missing_fault draft.at draft.clauses) (none_of missing (fits_fault bases sizes draft holder) e).0).1
 
+-- ---- pictures and signs
+
+abbrev no_picture : Option Picture
+no_picture = None
+
+-- a group has no picture
+sign-suits : (group : Bool) (picture : Option Picture) (clause : Option Clause) → sign_by picture group clause ≡ None → sign_suits (sign_in clause) (if group then None else picture) ≡ true
+sign-suits true picture clause e = refl
+sign-suits false None clause e = refl
+sign-suits false (Some (pictures.Letters count)) clause e = refl
+sign-suits false (Some (pictures.Any count)) clause e = refl
+sign-suits false (Some (pictures.Number true whole part)) clause e = refl
+sign-suits false (Some (pictures.Number false whole part)) None e = refl
+sign-suits false (Some (pictures.Number false whole part)) (Some (clauses.Sign at leading false)) e = refl
+sign-suits false (Some (pictures.Number false whole part)) (Some (clauses.Sign at leading true)) e = absurd cc
+sign-suits false (Some (pictures.Number false whole part)) (Some (clauses.Value at spans)) e = refl
+sign-suits false (Some (pictures.Number false whole part)) (Some (clauses.Redefines at name name_at)) e = refl
+sign-suits false (Some (pictures.Number false whole part)) (Some (clauses.Picture at text text_at)) e = refl
+sign-suits false (Some (pictures.Number false whole part)) (Some (clauses.Usage at)) e = refl
+sign-suits false (Some (pictures.Number false whole part)) (Some (clauses.Occurs at count count_at)) e = refl
+
+sign-none : (bases : List Entry) (sizes : List ℕ) (at : ℕ) (entry : Entry) (draft : EntryDraft) → item_fault bases sizes at entry draft ≡ None →
+    sign_fault entry.picture (is_group entry (behind bases at)) draft.clauses ≡ None
+sign-none bases sizes at entry draft e =
+    let target = target_of bases sizes at entry in
+    let standing = standing_of entry (before bases at) in
+    let picture = earliest (again_fault draft.clauses) (picture_fault entry.picture target.group draft.at draft.clauses) in
+    let sign = earliest picture (sign_fault entry.picture target.group draft.clauses) in
+    let occurs = earliest sign (occurs_fault entry.level standing.dims draft.clauses) in
+    let h = (none_of (clauses_fault entry target standing draft) (redefines_fault bases sizes at entry draft.clauses) e).0 in
+    let k = (none_of occurs (value_fault entry target standing.barred draft.clauses) h).0 in
+    (none_of picture (sign_fault entry.picture target.group draft.clauses)
+    (none_of sign (occurs_fault entry.level standing.dims draft.clauses) k).0).1
+
 module _ (bases : List Entry) (sizes : List ℕ) (files : ℕ) where
   -- no rule on the level is broken, and then none on the kind
   kind-none : (at : ℕ) (entry : Entry) (draft : EntryDraft) → entry_fault bases sizes at entry draft ≡ None → kind_fault bases sizes at entry draft (holder_of entry (before bases at)) ≡ None
@@ -97,6 +136,24 @@ module _ (bases : List Entry) (sizes : List ℕ) (files : ℕ) where
           (missing-none bases sizes draft (holder_of (condition_of draft file) (before bases at)) (kind-none at (condition_of draft file) draft e)))
       go false is e = ap (λ c. not c || false) is
 
+  base-pictured : (file : Option ℕ) (at : ℕ) (draft : EntryDraft) → entry_fault bases sizes at (base_of file draft) draft ≡ None → is_pictured (settled bases at draft (base_of file draft)) ≡ true
+  base-pictured file at draft e = go (level_of draft.level == 88) refl e
+    where
+      none : (group : Bool) → (not (true && is_some (if group then None else no_picture)) && sign_suits Within (if group then None else no_picture)) ≡ true
+      none true = refl
+      none false = refl
+
+      go : (b : Bool) → (level_of draft.level == 88) ≡ b → entry_fault bases sizes at (if b then condition_of draft file else item_of draft (level_of draft.level) file) draft ≡ None →
+          is_pictured (settled bases at draft (if b then condition_of draft file else item_of draft (level_of draft.level) file)) ≡ true
+      go true is e = none (is_group (condition_of draft file) (behind bases at))
+      go false is e =
+          let entry = item_of draft (level_of draft.level) file in
+          let group = is_group entry (behind bases at) in
+          let k = kind-none at entry draft e in
+          let item = subst (λ b. (if b then condition_fault bases sizes draft (holder_of entry (before bases at)) else item_fault bases sizes at entry draft) ≡ None) is k in
+          both (ap (λ b. not (b && is_some (if group then None else entry.picture))) is)
+          (sign-suits group entry.picture (clause_of kinds.Sign draft.clauses) (sign-none bases sizes at entry draft item))
+
   base-file : (file : Option ℕ) (draft : EntryDraft) → (base_of file draft).file ≡ file
   base-file file draft = go (level_of draft.level == 88)
     where
@@ -110,6 +167,7 @@ module _ (bases : List Entry) (sizes : List ℕ) (files : ℕ) where
     in_files : all (map (file_there files) entries) ≡ true
     redefined : redefine_earlier 0 entries ≡ true
     valued : all (map has_values entries) ≡ true
+    pictured : all (map is_pictured entries) ≡ true
 
   earlier-added : (count at : ℕ) (entries : List Entry) (entry : Entry) → count + length entries ≡ at → redefine_earlier count entries ≡ true → is_below at entry.redefines ≡ true →
       redefine_earlier count (entries ++ entry ∷ []) ≡ true
@@ -152,6 +210,7 @@ module _ (bases : List Entry) (sizes : List ℕ) (files : ℕ) where
                 in_files = all-added (file_there files) entries next S.in_files (ap (is_below files) (base-file file draft) ∙ there);
                 redefined = earlier-added 0 (length entries) entries next (omega arith) S.redefined (redefines-earlier bases (length entries) entry draft);
                 valued = all-added has_values entries next S.valued (base-valued file judged.at draft literal h.1);
+                pictured = all-added is_pictured entries next S.pictured (subst (λ n. is_pictured (settled bases n draft entry) ≡ true) (sym e) (base-pictured file judged.at draft h.1));
               },
             );
       }
@@ -236,11 +295,11 @@ bound-so-far divisions literal none =
     let entries = fold (settle_records bases) [] fds in
     let others = all-goes bases sizes count None storage entries judged [] (records.counted, records.aligned ∙ sym (append_nil (section_bases None storage))) refl h.1 in
     let all_of = then-goes bases sizes count [] (start_of divisions) (section_bases None storage) entries judged [] _ _ records others in
-    (all_of.fine none).1 (record { in_files = refl; redefined = refl; valued = refl })
+    (all_of.fine none).1 (record { in_files = refl; redefined = refl; valued = refl; pictured = refl })
 
 pub bound : (divisions : Divisions) → data_literal divisions.data_part ≡ true → (declared_of divisions).fault ≡ None →
     EntriesBound (length (declared_of divisions).files) (declared_of divisions).entries
 bound divisions literal none =
     let S = bound-so-far divisions literal none in
     subst (λ count. EntriesBound count (entries_of divisions)) (sym (map-length file_of divisions.selects))
-    (record { in_files = S.in_files; redefined = S.redefined; valued = S.valued })
+    (record { in_files = S.in_files; redefined = S.redefined; valued = S.valued; pictured = S.pictured })

@@ -1,6 +1,11 @@
--- Entries whose files and redefined entries are there, and whose level 88s have values.
-use Rattle.std.specs.Prelude.{ℕ, ◌≡◌, ◌+◌, ◌==◌, nat_lt, Bool, true, ◌&&◌, ◌||◌, not, List, [], ◌∷◌, map, Option}
+-- Entries whose files and redefined entries are there, whose level 88s have values and no picture,
+-- and whose signs suit their pictures.
+use Rattle.std.specs.Prelude.{ℕ, ◌≡◌, ◌+◌, ◌==◌, nat_lt, Bool, true, false, ◌&&◌, ◌||◌, not, List, [], ◌∷◌, map, Option, Some, None, is_some}
 use Rattle.cob_tree.specs.declared.entry.Entry.{Entry}
+use Rattle.cob_tree.specs.declared.picture.Picture.{Picture}
+use Rattle.cob_tree.specs.declared.picture.Picture.TheVariants as pictures
+use Rattle.cob_tree.specs.declared.picture.Sign.{Sign}
+use Rattle.cob_tree.specs.declared.picture.Sign.TheVariants.{Within, SeparateLeading, SeparateTrailing}
 use Rattle.language.specs.All.{all}
 use Rattle.named_programs.specs.Part.{is_filled, if_any}
 
@@ -22,8 +27,26 @@ redefine_earlier before (entry ∷ entries) =
 abbrev pub has_values : Entry → Bool
 has_values entry = not (entry.level == 88) || is_filled entry.ranges
 
+abbrev pub is_within : Sign → Bool
+is_within Within = true
+is_within SeparateLeading = false
+is_within SeparateTrailing = false
+
+-- a separate sign stands with a number that has a sign
+abbrev pub sign_suits : Sign → Option Picture → Bool
+sign_suits sign None = true
+sign_suits sign (Some (pictures.Number signed whole part)) = signed || is_within sign
+sign_suits sign (Some (pictures.Letters count)) = true
+sign_suits sign (Some (pictures.Any count)) = true
+
+-- and a level 88 has no picture
+abbrev pub is_pictured : Entry → Bool
+is_pictured entry =
+    not (entry.level == 88 && is_some entry.picture) && sign_suits entry.sign entry.picture
+
 -- in a program with so many files
 pub record EntriesBound (files : ℕ) (entries : List Entry) : Type 0 where
   pub in_files : all (map (file_there files) entries) ≡ true
   pub redefined : redefine_earlier 0 entries ≡ true
   pub valued : all (map has_values entries) ≡ true
+  pub pictured : all (map is_pictured entries) ≡ true

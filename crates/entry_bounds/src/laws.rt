@@ -3,7 +3,8 @@
 ghost use Rattle.entry_bounds.specs.Laws.{EntriesAreBound};
 
 /// Where the drafts' values are literals and no rule is broken, the file of each entry is there,
-/// what it redefines stands before it, and each level 88 has a value.
+/// what it redefines stands before it, each level 88 has a value and no picture, and a separate sign
+/// stands with a signed picture.
 pub fn entries_are_bound()
     ensures { EntriesAreBound }
 {}
