@@ -1,6 +1,6 @@
 -- Entry by entry: where no rule is broken, its file and what it redefines are there, a level 88 has
 -- a value and no picture, and a sign suits its picture.
-use Rattle.std.proofs.Common.{◌≡◌, ℕ, zero, suc, ◌+◌, Bool, true, false, not, ◌||◌, cond, ◌&&◌, if◌then◌else◌, List, [], ◌∷◌, ◌++◌, length, map, drop, Option, Some, None, refl, ap, sym, ◌∙◌, subst, append_assoc, length-append, arith}
+use Rattle.std.proofs.Common.{◌≡◌, ℕ, zero, suc, ◌+◌, ◌<◌, Bool, true, false, not, ◌||◌, cond, ◌&&◌, if◌then◌else◌, List, [], ◌∷◌, ◌++◌, length, map, drop, Option, Some, None, refl, ap, sym, ◌∙◌, subst, append_assoc, length-append, eq-eqb, arith}
 use Rattle.std.specs.Prelude.{◌==◌, is_some, slice_get}
 use Rattle.std.specs.List.{fold, find}
 use Rattle.std.proofs.lemmas.Bool.{and_parts}
@@ -35,9 +35,9 @@ use Rattle.language.specs.All.{all}
 use Rattle.named_programs.specs.Part.{is_filled, if_any}
 use Rattle.named_programs.proofs.Made.{both, all-added}
 use Rattle.named_data.specs.Drafts.{clause_literal, entry_literal, entries_literal, fd_literal, data_literal, span_literal}
-use Rattle.entry_bounds.specs.Bounds.{is_below, file_there, redefine_earlier, has_values, sign_suits, is_pictured, EntriesBound}
+use Rattle.entry_bounds.specs.Bounds.{is_below, is_in, has_file, file_there, redefine_earlier, has_values, sign_suits, is_pictured, EntriesBound}
 use Rattle.entry_bounds.proofs.Redefined.{redefines-earlier}
-use Rattle.entry_bounds.proofs.Selected.{none_of, has_select, all-selected, number-there}
+use Rattle.entry_bounds.proofs.Selected.{none_of, has_select, all-selected, number-there, all-named, AllFiled, all-recorded}
 
 -- ---- values of a level 88
 
@@ -176,11 +176,30 @@ module _ (bases : List Entry) (sizes : List ℕ) (files : ℕ) where
       let h = and_parts (is_below count first.redefines) (redefine_earlier (count + 1) entries) e in
       both h.0 (earlier-added (count + 1) at entries entry (omega (arith, is)) h.1 b)
 
+  -- ---- the files that they are of
+
+  either : (a b c : Bool) → (a || b) ≡ true → (b ≡ true → c ≡ true) → (a || c) ≡ true
+  either true b c e h = refl
+  either false b c e h = h e
+
+  has-kept : (file : ℕ) (entries others : List Entry) → has_file file entries ≡ true → has_file file (entries ++ others) ≡ true
+  has-kept file [] others e = absurd cc
+  has-kept file (entry ∷ entries) others e = either (is_in file entry.file) (has_file file entries) (has_file file (entries ++ others)) e (has-kept file entries others)
+
+  has-last : (file : ℕ) (entries : List Entry) (entry : Entry) → entry.file ≡ Some file → has_file file (entries ++ entry ∷ []) ≡ true
+  has-last file [] entry is = ap (λ b. b || false) (ap (is_in file) is ∙ eq-eqb file file refl)
+  has-last file (first ∷ entries) entry is = either (is_in file first.file) true (has_file file (entries ++ entry ∷ [])) (any (is_in file first.file)) (λ t. has-last file entries entry is)
+    where
+      any : (b : Bool) → (b || true) ≡ true
+      any true = refl
+      any false = refl
+
   -- what comes of the next ones: the bases behind them are these, and no fault before leaves all so
   record Goes (entries : List Entry) (judged : Judged) (more : List Entry) (next : List Entry) (later : Judged) : Type 0 where
     counted : length next ≡ later.at
     aligned : drop later.at bases ≡ more
     fine : later.fault ≡ None → (judged.fault ≡ None) × (SoFar entries → SoFar next)
+    filed : (file : ℕ) → has_file file entries ≡ true → has_file file next ≡ true
 
   abbrev Start : List Entry → Judged → List Entry → Type 0
   Start entries judged more = (length entries ≡ judged.at) × (drop judged.at bases ≡ more)
@@ -213,6 +232,7 @@ module _ (bases : List Entry) (sizes : List ℕ) (files : ℕ) where
                 pictured = all-added is_pictured entries next S.pictured (subst (λ n. is_pictured (settled bases n draft entry) ≡ true) (sym e) (base-pictured file judged.at draft h.1));
               },
             );
+        filed = λ number has. has-kept number entries (next ∷ []) has;
       }
 
   one-goes : (file : Option ℕ) (entries : List Entry) (judged : Judged) (draft : EntryDraft) (more : List Entry) → Start entries judged (base_of file draft ∷ more) →
@@ -229,31 +249,72 @@ module _ (bases : List Entry) (sizes : List ℕ) (files : ℕ) where
     counted = H.counted;
     aligned = H.aligned;
     fine = λ n. let after = H.fine n in let ahead = G.fine after.0 in (ahead.0, λ S. after.1 (ahead.1 S));
+    filed = λ file has. H.filed file (G.filed file has);
   }
 
   all-goes : (file : Option ℕ) (drafts : List EntryDraft) (entries : List Entry) (judged : Judged) (more : List Entry) → Start entries judged (section_bases file drafts ++ more) →
       is_below files file ≡ true → entries_literal drafts ≡ true → Goes entries judged more (settle_all bases entries drafts) (judge_all bases sizes judged drafts)
-  all-goes file [] entries judged more s there literal = record { counted = s.0; aligned = s.1; fine = λ n. (n, λ S. S) }
+  all-goes file [] entries judged more s there literal = record { counted = s.0; aligned = s.1; fine = λ n. (n, λ S. S); filed = λ file has. has }
   all-goes file (draft ∷ drafts) entries judged more s there literal =
       let h = and_parts (entry_literal draft) (entries_literal drafts) literal in
       let one = one-goes file entries judged draft (section_bases file drafts ++ more) s there h.0 in
       then-goes entries judged (section_bases file drafts ++ more) (settle bases entries draft) (judge bases sizes judged draft) more _ _ one
       (all-goes file drafts (settle bases entries draft) (judge bases sizes judged draft) more (one.counted, one.aligned) there h.1)
 
+  one-filed : (number : ℕ) (entries : List Entry) (judged : Judged) (draft : EntryDraft) (more : List Entry) → Start entries judged (base_of (Some number) draft ∷ more) →
+      has_file number (settle bases entries draft) ≡ true
+  one-filed number entries judged draft more s =
+      let found = drop-next bases judged.at (base_of (Some number) draft) more s.1 in
+      subst (λ o. has_file number (settled_at bases entries draft o) ≡ true) (sym (ap (slice_get bases) s.0 ∙ found.0))
+      (has-last number entries (settled bases (length entries) draft (base_of (Some number) draft)) (base-file (Some number) draft))
+
+  all-filed : (number : ℕ) (drafts : List EntryDraft) (entries : List Entry) (judged : Judged) (more : List Entry) → Start entries judged (section_bases (Some number) drafts ++ more) →
+      is_below files (Some number) ≡ true → is_filled drafts ≡ true → entries_literal drafts ≡ true → has_file number (settle_all bases entries drafts) ≡ true
+  all-filed number [] entries judged more s there filled literal = absurd cc
+  all-filed number (draft ∷ drafts) entries judged more s there filled literal =
+      let h = and_parts (entry_literal draft) (entries_literal drafts) literal in
+      let one = one-goes (Some number) entries judged draft (section_bases (Some number) drafts ++ more) s there h.0 in
+      (all-goes (Some number) drafts (settle bases entries draft) (judge bases sizes judged draft) more (one.counted, one.aligned) there h.1).filed number
+      (one-filed number entries judged draft (section_bases (Some number) drafts ++ more) s)
+
 module _ (bases : List Entry) (sizes : List ℕ) (selects : List SelectDraft) where
   records-go : (fds : List FdDraft) (number : ℕ) (entries : List Entry) (judged : Judged) (more : List Entry) → Start bases sizes (length selects) entries judged (record_bases selects number fds ++ more) →
       all (map (has_select selects) fds) ≡ true → all (map fd_literal fds) ≡ true →
       Goes bases sizes (length selects) entries judged more (fold (settle_records bases) entries fds) (fold (judge_records bases sizes) judged fds)
-  records-go [] number entries judged more s selected literal = record { counted = s.0; aligned = s.1; fine = λ n. (n, λ S. S) }
+  records-go [] number entries judged more s selected literal = record { counted = s.0; aligned = s.1; fine = λ n. (n, λ S. S); filed = λ file has. has }
   records-go (fd ∷ fds) number entries judged more s selected literal =
       let h = and_parts (fd_literal fd) (all (map fd_literal fds)) literal in
       let k = and_parts (has_select selects fd) (all (map (has_select selects) fds)) selected in
       let file = Some (file_number selects fd number) in
       let behind = record_bases selects (number + 1) fds ++ more in
       let here : drop judged.at bases ≡ section_bases file fd.entries ++ behind = s.1 ∙ append_assoc (section_bases file fd.entries) (record_bases selects (number + 1) fds) more in
-      let one = all-goes bases sizes (length selects) file fd.entries entries judged behind (s.0, here) (number-there selects fd number k.0) h.0 in
+      let drafts = and_parts (is_filled fd.entries) (entries_literal fd.entries) h.0 in
+      let one = all-goes bases sizes (length selects) file fd.entries entries judged behind (s.0, here) (number-there selects fd number k.0) drafts.1 in
       then-goes bases sizes (length selects) entries judged behind (settle_records bases entries fd) (judge_records bases sizes judged fd) more _ _ one
       (records-go fds (number + 1) (settle_records bases entries fd) (judge_records bases sizes judged fd) more (one.counted, one.aligned) k.1 h.1)
+
+  records-filed : (fds : List FdDraft) (number : ℕ) (entries : List Entry) (judged : Judged) (more : List Entry) → Start bases sizes (length selects) entries judged (record_bases selects number fds ++ more) →
+      all (map (has_select selects) fds) ≡ true → all (map fd_literal fds) ≡ true → AllFiled selects (fold (settle_records bases) entries fds) fds number
+  records-filed [] number entries judged more s selected literal = tt
+  records-filed (fd ∷ fds) number entries judged more s selected literal =
+      let h = and_parts (fd_literal fd) (all (map fd_literal fds)) literal in
+      let k = and_parts (has_select selects fd) (all (map (has_select selects) fds)) selected in
+      let file = file_number selects fd number in
+      let behind = record_bases selects (number + 1) fds ++ more in
+      let here : drop judged.at bases ≡ section_bases (Some file) fd.entries ++ behind = s.1 ∙ append_assoc (section_bases (Some file) fd.entries) (record_bases selects (number + 1) fds) more in
+      let drafts = and_parts (is_filled fd.entries) (entries_literal fd.entries) h.0 in
+      let there = number-there selects fd number k.0 in
+      let one = all-goes bases sizes (length selects) (Some file) fd.entries entries judged behind (s.0, here) there drafts.1 in
+      let next = settle_records bases entries fd in
+      let later = judge_records bases sizes judged fd in (
+        (records-go fds (number + 1) next later more (one.counted, one.aligned) k.1 h.1).filed file
+            (all-filed bases sizes (length selects) file fd.entries entries judged behind (s.0, here) there drafts.0 drafts.1),
+        records-filed fds (number + 1) next later more (one.counted, one.aligned) k.1 h.1,
+      )
+
+  filed-more : (entries others : List Entry) (fds : List FdDraft) (number : ℕ) → ((file : ℕ) → has_file file entries ≡ true → has_file file others ≡ true) → AllFiled selects entries fds number → AllFiled selects others fds number
+  filed-more entries others [] number more filed = tt
+  filed-more entries others (fd ∷ fds) number more filed = (more (file_number selects fd number) filed.0, filed-more entries others fds (number + 1) more filed.1)
 
 append_nil : (list : List Entry) → list ++ [] ≡ list
 append_nil [] = refl
@@ -282,6 +343,7 @@ module _ (bases : List Entry) (sizes : List ℕ) where
 
 bound-so-far : (divisions : Divisions) → data_literal divisions.data_part ≡ true → fault_of divisions ≡ None →
     SoFar (bases_of divisions) (sized (entries_of divisions)).sizes (length divisions.selects) (entries_of divisions)
+    × ((file : ℕ) → file < length divisions.selects → has_file file (entries_of divisions) ≡ true)
 bound-so-far divisions literal none =
     let bases = bases_of divisions in
     let sizes = (sized (entries_of divisions)).sizes in
@@ -295,11 +357,14 @@ bound-so-far divisions literal none =
     let entries = fold (settle_records bases) [] fds in
     let others = all-goes bases sizes count None storage entries judged [] (records.counted, records.aligned ∙ sym (append_nil (section_bases None storage))) refl h.1 in
     let all_of = then-goes bases sizes count [] (start_of divisions) (section_bases None storage) entries judged [] _ _ records others in
-    (all_of.fine none).1 (record { in_files = refl; redefined = refl; valued = refl; pictured = refl })
+    let filed = filed-more bases sizes divisions.selects entries (entries_of divisions) fds 0 others.filed
+    (records-filed bases sizes divisions.selects fds 0 [] (start_of divisions) (section_bases None storage) (refl, refl) (all-selected divisions no_file_fault) h.0) in
+    ((all_of.fine none).1 (record { in_files = refl; redefined = refl; valued = refl; pictured = refl }), all-recorded fds (entries_of divisions) divisions.selects (all-named divisions no_file_fault) filed)
 
 pub bound : (divisions : Divisions) → data_literal divisions.data_part ≡ true → (declared_of divisions).fault ≡ None →
     EntriesBound (length (declared_of divisions).files) (declared_of divisions).entries
 bound divisions literal none =
-    let S = bound-so-far divisions literal none in
+    let all_of = bound-so-far divisions literal none in
+    let S = all_of.0 in
     subst (λ count. EntriesBound count (entries_of divisions)) (sym (map-length file_of divisions.selects))
-    (record { in_files = S.in_files; redefined = S.redefined; valued = S.valued; pictured = S.pictured })
+    (record { in_files = S.in_files; redefined = S.redefined; valued = S.valued; pictured = S.pictured; recorded = all_of.1 })

@@ -1,6 +1,6 @@
 -- Entries whose files and redefined entries are there, whose level 88s have values and no picture,
 -- and whose signs suit their pictures.
-use Rattle.std.specs.Prelude.{ℕ, ◌≡◌, ◌+◌, ◌==◌, nat_lt, Bool, true, false, ◌&&◌, ◌||◌, not, List, [], ◌∷◌, map, Option, Some, None, is_some}
+use Rattle.std.specs.Prelude.{ℕ, ◌≡◌, ◌+◌, ◌<◌, ◌==◌, nat_lt, Bool, true, false, ◌&&◌, ◌||◌, not, List, [], ◌∷◌, map, Option, Some, None, is_some}
 use Rattle.cob_tree.specs.declared.entry.Entry.{Entry}
 use Rattle.cob_tree.specs.declared.picture.Picture.{Picture}
 use Rattle.cob_tree.specs.declared.picture.Picture.TheVariants as pictures
@@ -44,9 +44,19 @@ abbrev pub is_pictured : Entry → Bool
 is_pictured entry =
     not (entry.level == 88 && is_some entry.picture) && sign_suits entry.sign entry.picture
 
+abbrev pub is_in : (file : ℕ) → Option ℕ → Bool
+is_in file None = false
+is_in file (Some other) = other == file
+
+-- one of them stands in the FD of this file
+abbrev pub has_file : ℕ → List Entry → Bool
+has_file file [] = false
+has_file file (entry ∷ entries) = is_in file entry.file || has_file file entries
+
 -- in a program with so many files
 pub record EntriesBound (files : ℕ) (entries : List Entry) : Type 0 where
   pub in_files : all (map (file_there files) entries) ≡ true
   pub redefined : redefine_earlier 0 entries ≡ true
   pub valued : all (map has_values entries) ≡ true
   pub pictured : all (map is_pictured entries) ≡ true
+  pub recorded : (file : ℕ) → file < files → has_file file entries ≡ true

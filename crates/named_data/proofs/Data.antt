@@ -1,5 +1,5 @@
 -- What the divisions before the PROCEDURE DIVISION give.
-use Rattle.std.proofs.Common.{◌≡◌, ℕ, Bool, true, false, ◌&&◌, List, [], ◌∷◌, ◌++◌, map, Option, Some, None, refl}
+use Rattle.std.proofs.Common.{◌≡◌, Bool, true, false, List, map, refl}
 use Rattle.std.specs.Prelude.{codes}
 use Rattle.cob_tree.specs.declared.place.Place.{Place}
 use Rattle.cobol_lex.specs.declared.token.TokenKind.{TokenKind}
@@ -7,7 +7,6 @@ use Rattle.grammar_forms.specs.Form as form
 use Rattle.grammar_forms.specs.Form.{Form}
 use Rattle.grammar_forms.proofs.MakerLaws as laws
 use Rattle.word_forms.proofs.WordLaws as words
-use Rattle.data_forms.specs.declared.draft.Clause.{Clause}
 use Rattle.data_forms.specs.declared.draft.StatusDraft.{StatusDraft}
 use Rattle.data_forms.specs.Clause as clauses
 use Rattle.data_forms.specs.Entry as entries
@@ -20,7 +19,7 @@ use Rattle.language.specs.All.{all}
 use Rattle.named_programs.specs.Part.{Counts, is_filled, if_any, place_named}
 use Rattle.named_programs.proofs.Made.{both, all-added}
 use Rattle.named_forms.specs.Giving.{Gives}
-use Rattle.named_forms.specs.Numbered.{IsNumbered, is_literal}
+use Rattle.named_forms.specs.Numbered.{IsNumbered}
 use Rattle.named_forms.proofs.Giving.{any, hence, still, pure, key, maybe, period, where_next, loop, items_all, some, ◌>>=◌, ◌>>◌}
 use Rattle.named_forms.proofs.Literals.{literal}
 use Rattle.named_data.specs.Drafts.{thru_literal, span_literal, clause_literal, entry_literal, entries_literal, fd_literal, data_literal, status_named, select_named, DivisionsNamed}
@@ -103,13 +102,13 @@ entry = any laws.digits >>= (λ level. any entry_name_law >>= (λ name. entry_cl
 
 -- ---- the DATA DIVISION
 
-records : Gives IsNumbered datas.records (λ list. entries_literal list ≡ true)
+records : Gives IsNumbered datas.records (λ list. (is_filled list ≡ true) × (entries_literal list ≡ true))
 unfolding datas.records
-records = hence (λ list h. h.1) (some entry_literal entry)
+records = some entry_literal entry
 
 fd : Gives IsNumbered datas.fd (λ fd. fd_literal fd ≡ true)
 unfolding datas.fd
-fd = key (codes "FD") >> (any words.name >>= (λ file. any (law.fd_clauses tt) >> (period >> (records >>= (λ found. pure (λ r _ _ _ _. r))))))
+fd = key (codes "FD") >> (any words.name >>= (λ file. any (law.fd_clauses tt) >> (period >> (records >>= (λ found. pure (λ r _ _ _ _. both r.0 r.1))))))
 
 fds : Gives IsNumbered datas.fds (λ list. all (map fd_literal list) ≡ true)
 unfolding datas.fds

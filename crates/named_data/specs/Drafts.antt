@@ -1,5 +1,5 @@
 -- Drafts whose status items are named, and whose values are literals.
-use Rattle.std.specs.Prelude.{◌≡◌, Bool, true, ◌&&◌, List, map, Option}
+use Rattle.std.specs.Prelude.{◌≡◌, Bool, true, ◌&&◌, List, map}
 use Rattle.data_forms.specs.declared.draft.Clause.{Clause}
 use Rattle.data_forms.specs.declared.draft.Clause.TheVariants as clauses
 use Rattle.data_forms.specs.declared.draft.DataDraft.{DataDraft}
@@ -33,8 +33,9 @@ entry_literal entry = all (map clause_literal entry.clauses)
 abbrev pub entries_literal : List EntryDraft → Bool
 entries_literal entries = all (map entry_literal entries)
 
+-- one record at least
 abbrev pub fd_literal : FdDraft → Bool
-fd_literal fd = entries_literal fd.entries
+fd_literal fd = is_filled fd.entries && entries_literal fd.entries
 
 abbrev pub data_literal : DataDraft → Bool
 data_literal data_part = all (map fd_literal data_part.fds) && entries_literal data_part.storage

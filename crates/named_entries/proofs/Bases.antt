@@ -83,7 +83,7 @@ records-fine : (selects : List SelectDraft) (at : ℕ) (fds : List FdDraft) → 
 records-fine selects at [] h = refl
 records-fine selects at (fd ∷ fds) h =
     let e = and_parts (fd_literal fd) (all (map fd_literal fds)) h in
-    all-append values_literal (section_bases (Some (file_number selects fd at)) fd.entries) (record_bases selects (at + 1) fds) (section-fine (Some (file_number selects fd at)) fd.entries e.0) (records-fine selects (at + 1) fds e.1)
+    all-append values_literal (section_bases (Some (file_number selects fd at)) fd.entries) (record_bases selects (at + 1) fds) (section-fine (Some (file_number selects fd at)) fd.entries (and_parts (is_filled fd.entries) (entries_literal fd.entries) e.0).1) (records-fine selects (at + 1) fds e.1)
 
 pub bases-fine : (divisions : Divisions) → data_literal divisions.data_part ≡ true → all (map values_literal (bases_of divisions)) ≡ true
 bases-fine divisions h =
