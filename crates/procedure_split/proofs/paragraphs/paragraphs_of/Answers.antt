@@ -1,0 +1,32 @@
+use Rattle.std.proofs.Common.{Some, None, ap, get_or, subst, sym, ◌∙◌, arith}
+use Rattle.std.proofs.lemmas.Option.{slice_get-get_or}
+use Rattle.cob_tree.specs.declared.program.Range.{Range}
+use Rattle.branch_tree.specs.Trees.{seen_tree}
+use Rattle.lower_places.specs.Fall.{seen_range}
+use Rattle.body_writing.specs.Procedures.{is_main}
+use Rattle.made_procedures.specs.Made.{IsParagraphOf}
+use Rattle.procedure_split.proofs.ParagraphRows.{done-more}
+use Rattle.procedure_split.proofs.paragraphs.paragraphs_of.Goals as goal
+
+pub loop-at-preserved : goal.loop-at-preserved
+loop-at-preserved c =
+    let order = c.args.order.now in
+    let closed = c.args.closed.now in
+    let cells = c.args.cells.now in
+    let names = c.args.names.now in
+    let at = c.loop-at.at in
+    let within = c.loop-at-test.true in
+    let first : Range = get_or order at (record { entry = 0; exit = None }) in
+    done-more order closed cells c.args.places.now names at c.loop-at.made c.push.new.self
+    first (get_or closed at c.index-closed-at.result) c.index-cells-at.result c.index-names-at.result
+    c.in-Ok.paragraph c.loop-at.invariant
+    (slice_get-get_or order at (record { entry = 0; exit = None }) within)
+    (slice_get-get_or closed at c.index-closed-at.result (omega (arith, within, c.requires.trees)))
+    (slice_get-get_or cells at c.index-cells-at.result (omega (arith, within, c.requires.items))
+    ∙ ap Some (sym c.index-cells-at.is))
+    (slice_get-get_or names at c.index-names-at.result (omega (arith, within, c.requires.words))
+    ∙ ap Some (sym c.index-names-at.is))
+    (subst (λ own. IsParagraphOf own c.args.places.now (is_main (seen_range first))
+    (seen_tree (get_or closed at c.index-closed-at.result).tree) c.index-names-at.result
+    c.in-Ok.paragraph) c.as_slice-own.ensures c.in-Ok.ensures)
+    c.in-Ok-push.ensures.ok

@@ -1,0 +1,60 @@
+use Rattle.std.proofs.Common.{ap, sym, subst, ◌∙◌, length}
+use Rattle.cut_lists.specs.Told.{told_of}
+use Rattle.language.specs.Control.{control_of}
+use Rattle.procedure_split.proofs.Planning.{as-many, ranges-are, too-deep, too-large}
+use Rattle.procedure_split.specs.Written.{IsWrittenFrom}
+use Rattle.procedure_split.proofs.splitting.split.Goals as goal
+
+pub lower_ranges-requires-clause-ranges : goal.lower_ranges-requires-clause-ranges
+lower_ranges-requires-clause-ranges c =
+    let plan = c.in_ok-plan.plan in
+    ranges-are c.args.program.now c.args.summary.now plan.returning plan.order c.requires
+    c.in_ok-plan.ensures
+
+pub write_program-made-requires : goal.write_program-made-requires
+write_program-made-requires c =
+    let plan = c.in_ok-plan.plan in
+    let program = c.args.program.now in
+    ap length c.as_slice-in-Ok-shape_all.ensures.value
+    ∙ as-many (told_of program.files plan.returning) (control_of program) plan.order
+    c.in-Ok.graphs.items c.in-Ok-shape_all.closed.items c.in-Ok.ensures.lowered.are
+    c.in-Ok-shape_all.ensures ∙ sym (ap length c.as_slice.ensures)
+
+pub returns-in-Ok-made : goal.returns-in-Ok-made
+returns-in-Ok-made c =
+    let program = c.args.program.now in
+    let made = c.in-Ok-made.made in
+    record {
+      plan = record {
+        returning = c.in_ok-plan.plan.returning;
+        order = c.in_ok-plan.plan.order;
+        is = c.in_ok-plan.ensures;
+      };
+      graphs = c.in-Ok.graphs.items;
+      lowered = c.in-Ok.ensures.lowered;
+      closed = c.in-Ok-shape_all.closed.items;
+      shaped = c.in-Ok-shape_all.ensures;
+      written = subst (λ o. IsWrittenFrom program o c.in-Ok-shape_all.closed.items made)
+          c.as_slice.ensures
+          (subst (λ l. IsWrittenFrom program c.as_slice.result.now l made)
+          c.as_slice-in-Ok-shape_all.ensures.value c.in-Ok-made.ensures);
+    }
+
+pub returns-in-Ok : goal.returns-in-Ok
+returns-in-Ok c =
+    too-deep c.args.program.now c.args.summary.now
+    (record {
+      returning = c.in_ok-plan.plan.returning;
+      order = c.in_ok-plan.plan.order;
+      is = c.in_ok-plan.ensures;
+    }) c.in-Ok.graphs.items c.in-Ok.ensures.lowered c.in-Err-shape_all.fault
+    c.in-Err-shape_all.ensures
+
+pub returns : goal.returns
+returns c =
+    too-large c.args.program.now c.args.summary.now
+    (record {
+      returning = c.in_ok-plan.plan.returning;
+      order = c.in_ok-plan.plan.order;
+      is = c.in_ok-plan.ensures;
+    }) c.in-Err.fault c.in-Err.ensures.lowered

@@ -1,0 +1,22 @@
+-- Shaped ranges, as the theory has them.
+use Rattle.std.specs.Prelude.{List, [], ◌∷◌, map}
+use Rattle.cob_tree.specs.declared.program.Range.{Range}
+use Rattle.lower_places.specs.Fall.{seen_range}
+use Rattle.branch_tree.specs.Graphs.{seen_added}
+use Rattle.control.specs.Graph.{body_of}
+use Rattle.branch_tree.specs.Trees.{seen_tree}
+use Rattle.cell_table.specs.Row.{CellRange}
+use Rattle.shaped_ranges.specs.declared.shaping.Closed.{Closed}
+
+abbrev pub row_of : Range → Closed → CellRange
+row_of range closed = record {
+  range = seen_range range;
+  added = map seen_added closed.added.items;
+  body = body_of (seen_tree closed.tree);
+}
+
+-- each range with what it was shaped to
+abbrev pub rows_of : List Range → List Closed → List CellRange
+rows_of [] closed = []
+rows_of (range ∷ ranges) [] = []
+rows_of (range ∷ ranges) (one ∷ closed) = row_of range one ∷ rows_of ranges closed

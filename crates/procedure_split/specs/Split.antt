@@ -1,0 +1,58 @@
+-- The structured program of a program without a fault.
+use Rattle.std.specs.Prelude.{ℕ, ◌≡◌, ◌⊎◌, List}
+use Rattle.cob_base.specs.declared.limit.Limit.{Limit}
+use Rattle.cob_tree.specs.declared.fault.SplitFault.{SplitFault}
+use Rattle.cob_tree.specs.declared.fault.SplitFault.TheVariants as fault
+use Rattle.cob_tree.specs.declared.program.Program.{Program}
+use Rattle.cob_tree.specs.declared.program.Range.{Range}
+use Rattle.language.specs.Control.{control_of}
+use Rattle.cut_lists.specs.Told.{told_of}
+use Rattle.pending_returns.specs.declared.facts.Summary.{Summary}
+use Rattle.range_plan.specs.Planned.{IsPlanOf}
+use Rattle.branch_tree.specs.declared.graph.Graph.{Graph}
+use Rattle.region_rewrite.specs.Shape.{nesting_passed}
+use Rattle.shaped_ranges.specs.Limit.{AreLowered, ArePast}
+use Rattle.shaped_ranges.specs.Shaped.{AllShaped, IsOneTooDeep}
+use Rattle.shaped_ranges.specs.declared.shaping.Closed.{Closed}
+use Rattle.procedure_split.specs.Written.{IsWrittenFrom}
+
+-- which ranges return, and the order in which they stand
+pub record Planned (program : Program) (summary : Summary) : Type 0 where
+  pub returning : List (List ℕ)
+  pub order : List Range
+  pub is : IsPlanOf summary.ranges returning order
+
+-- the ranges of its plan are lowered to these graphs
+abbrev pub AreGraphs : (program : Program) (summary : Summary) → Planned program summary →
+    List Graph → Type 0
+AreGraphs program summary plan graphs =
+    AreLowered (told_of program.files plan.returning) (control_of program) plan.order graphs
+
+-- which are shaped, and it is written of what they are shaped to
+pub record IsSplit (program : Program) (summary : Summary) (made : Program) : Type 0 where
+  pub plan : Planned program summary
+  pub graphs : List Graph
+  pub lowered : AreGraphs program summary plan graphs
+  pub closed : List Closed
+  pub shaped : AllShaped graphs closed
+  pub written : IsWrittenFrom program plan.order closed made
+
+-- the graphs of the ranges are past the limit on their size
+pub record IsTooLarge (program : Program) (summary : Summary) (limit : Limit) : Type 0 where
+  pub plan : Planned program summary
+  pub past :
+      ArePast (told_of program.files plan.returning) (control_of program) plan.order limit
+
+-- one of them is shaped to a body that nests deeper than the limit
+pub record NestsTooDeep (program : Program) (summary : Summary) (limit : Limit) : Type 0 where
+  pub plan : Planned program summary
+  pub graphs : List Graph
+  pub lowered : AreGraphs program summary plan graphs
+  pub deep : IsOneTooDeep graphs
+  pub is : limit ≡ nesting_passed
+
+-- why it isn't split: one of the limits is passed; want of memory may come at any place
+abbrev pub IsSplitFault : Program → Summary → SplitFault → Type 0
+IsSplitFault program summary (fault.Limit limit) =
+    IsTooLarge program summary limit ⊎ NestsTooDeep program summary limit
+IsSplitFault program summary fault.NoMemory = Unit {0}

@@ -1,0 +1,46 @@
+-- What is written of shaped ranges.
+use Rattle.std.specs.Prelude.{◌≡◌, List, ◌++◌, length}
+use Rattle.cob_tree.specs.declared.entry.Entry.{Entry}
+use Rattle.cob_tree.specs.declared.program.Paragraph.{Paragraph}
+use Rattle.cob_tree.specs.declared.program.Program.{Program}
+use Rattle.cob_tree.specs.declared.program.Range.{Range}
+use Rattle.cell_serving.specs.Entries.{CellEntry, entries_of}
+use Rattle.out_names.specs.Naming.{names_of}
+use Rattle.out_names.specs.Words.{program_words, table_of}
+use Rattle.choice_writing.specs.declared.placing.Placed.{Placed}
+use Rattle.cell_words.specs.declared.cells.CellItem.{CellItem}
+use Rattle.cell_table.specs.CellItems.{AreCellItems}
+use Rattle.cell_table.specs.Names.{entries_for}
+use Rattle.shaped_ranges.specs.declared.shaping.Closed.{Closed}
+use Rattle.made_procedures.specs.Made.{AreAsMany, AreParagraphsOf, ArePlacesIn}
+use Rattle.procedure_split.specs.Rows.{rows_of}
+
+-- the program with other entries and paragraphs
+abbrev pub with_parts : Program → List Entry → List Paragraph → Program
+with_parts program entries paragraphs = record {
+  name = program.name;
+  files = program.files;
+  entries = entries;
+  paragraphs = paragraphs;
+}
+
+-- the entries of the items for the cells of the ranges
+abbrev pub added_entries : Program → List Range → List Closed → List CellEntry
+added_entries program order closed =
+    entries_for (table_of (program_words program)) (rows_of order closed)
+
+-- its entries stand behind the program's own, and its paragraphs are those of the ranges, by the
+-- items of their cells and the places of all procedures
+pub record IsWrittenFrom (program : Program) (order : List Range) (closed : List Closed)
+    (made : Program) : Type 0 where
+  pub name : made.name ≡ program.name
+  pub files : made.files ≡ program.files
+  pub entries : made.entries
+      ≡ program.entries ++ entries_of (added_entries program order closed)
+  pub cells : List (List CellItem)
+  pub items : AreCellItems (length program.entries) (rows_of order closed) cells
+  pub places : List Placed
+  pub placed : ArePlacesIn order places
+  pub many : AreAsMany order closed cells (names_of program order)
+  pub paragraphs :
+      AreParagraphsOf order closed cells places (names_of program order) made.paragraphs

@@ -1,0 +1,19 @@
+//! The structured program that a program is restructured to: for each range of its plan a
+//! paragraph of one sentence, and behind its own entries those of the added items.
+//!
+//! `split` makes it of a program and the summary of its ranges, which say that no flow path faults
+//! (`specs/Split.antt`). `specs/Written.antt` says what is written of shaped ranges.
+#![tactic(auto)]
+
+mod entries;
+mod paragraphs;
+mod placing;
+mod rows;
+mod splitting;
+mod writing;
+
+pub use paragraphs::paragraphs_of;
+pub use placing::places_of;
+pub use rows::rows_of;
+pub use splitting::split;
+pub use writing::write_program;

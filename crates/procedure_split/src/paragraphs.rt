@@ -1,0 +1,97 @@
+//! The paragraphs of the structured program.
+
+ghost use Rattle.std.specs.Prelude.{◌≡◌, length, IfOk};
+ghost use Rattle.cob_base.specs.Answers.{Makes};
+ghost use Rattle.lower_places.specs.Fall.{seen_range};
+ghost use Rattle.branch_tree.specs.Trees.{seen_tree};
+ghost use Rattle.body_writing.specs.Procedures.{is_main};
+ghost use Rattle.made_procedures.specs.Made.{AreAsMany, AreParagraphsOf, IsParagraphOf};
+ghost use Rattle.procedure_split.specs.Paragraphs.{paragraph_named};
+
+use body_writing::write_procedure;
+use branch_tree::Tree;
+use cell_words::CellItem;
+use choice_writing::Placed;
+use cob_base::{Items, NoMemory, Word};
+use cob_tree::{Paragraph, Range, Sentence};
+use shaped_ranges::Closed;
+use std::alloc::Global;
+
+fn is_main(range: Range) -> bool
+    ensures { result ≡ is_main (seen_range range) }
+{
+    match range.exit {
+        None => true,
+        Some(_) => false,
+    }
+}
+
+/// A paragraph in no section that holds one sentence.
+fn paragraph_named(alloc: Global, name: Word, sentence: Sentence) -> Result<Paragraph, NoMemory>
+    ensures { Makes (paragraph_named name sentence) result }
+{
+    let mut sentences = Items::new(alloc);
+    match sentences.push(sentence) {
+        Ok(()) => Ok(Paragraph {
+            name: Some(name),
+            section: None,
+            sentences,
+        }),
+        Err(fault) => {
+            drop(sentences);
+            Err(fault)
+        }
+    }
+}
+
+/// The paragraph of a range that was shaped to this tree.
+fn paragraph_of(
+    alloc: Global,
+    range: Range,
+    tree: &Tree,
+    cells: &[CellItem],
+    places: &[Placed],
+    name: Word,
+) -> Result<Paragraph, NoMemory>
+    ensures { IfOk result (λ made. IsParagraphOf cells.now places.now (is_main (seen_range range))
+        (seen_tree tree.now) name made) }
+{
+    match write_procedure(alloc, tree, is_main(range), cells, places) {
+        Ok(sentence) => paragraph_named(alloc, name, sentence),
+        Err(fault) => Err(fault),
+    }
+}
+
+/// The paragraphs of these ranges, in their order, each with the items of its cells and its name.
+/// Err where `write_procedure` has it.
+pub fn paragraphs_of(
+    alloc: Global,
+    order: &[Range],
+    closed: &[Closed],
+    cells: &[Items<CellItem>],
+    places: &[Placed],
+    names: &[Word],
+) -> Result<Items<Paragraph>, NoMemory>
+    requires { AreAsMany order.now closed.now cells.now names.now }
+    ensures { IfOk result (λ made.
+        AreParagraphsOf order.now closed.now cells.now places.now names.now made) }
+{
+    let mut made = Items::new(alloc);
+    for at in 0..order.len() {
+        let own = cells[at].as_slice();
+        match paragraph_of(alloc, order[at], &closed[at].tree, own, places, names[at]) {
+            Ok(paragraph) => match made.push(paragraph) {
+                Ok(()) => {}
+                Err(fault) => {
+                    drop(made);
+                    return Err(fault);
+                }
+            },
+            Err(fault) => {
+                drop(made);
+                return Err(fault);
+            }
+        }
+    }
+    Ok(made)
+}

@@ -1,0 +1,37 @@
+//! A program is split into its procedures.
+
+ghost use Rattle.std.specs.Prelude.{◌≡◌, length, MatchResult};
+ghost use Rattle.shaped_ranges.specs.Laws.{HasFlow};
+ghost use Rattle.procedure_split.specs.Split.{IsSplit, IsSplitFault};
+
+use crate::writing::write_program;
+use cob_tree::{Program, SplitFault};
+use pending_returns::Summary;
+use range_plan::plan_of;
+use shaped_ranges::{lower_ranges, shape_all};
+use std::alloc::Global;
+
+/// The structured program that a program without a fault is restructured to, by the summary of its
+/// ranges. Limit exactly where the graphs of its ranges have more than 500,000 labels and
+/// statements, or else one of them is shaped to a body that nests deeper than 500 levels.
+pub fn split(alloc: Global, program: &Program, summary: &Summary) -> Result<Program, SplitFault>
+    requires { HasFlow program.now summary.now }
+    ensures { MatchResult result (IsSplit program.now summary.now)
+        (IsSplitFault program.now summary.now) }
+{
+    let plan = plan_of(alloc, summary)?;
+    match lower_ranges(alloc, program, &plan) {
+        Ok(graphs) => match shape_all(alloc, graphs) {
+            Ok(closed) => {
+                let made = write_program(alloc, program, plan.order.as_slice(), closed.as_slice());
+                drop(closed);
+                match made {
+                    Ok(made) => Ok(made),
+                    Err(_) => Err(SplitFault::NoMemory),
+                }
+            }
+            Err(fault) => Err(fault),
+        },
+        Err(fault) => Err(fault),
+    }
+}

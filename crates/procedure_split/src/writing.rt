@@ -1,0 +1,107 @@
+//! What is written of shaped ranges.
+
+ghost use Rattle.std.specs.Prelude.{◌≡◌, ◌++◌, ◌*◌, ◌+◌, ◌<◌, ◌^◌, length, map, IfOk, IsTrue};
+ghost use Rattle.cob_base.specs.Answers.{Makes};
+ghost use Rattle.cell_serving.specs.Entries.{entries_of};
+ghost use Rattle.cell_table.specs.Names.{seen_item};
+ghost use Rattle.out_names.specs.Words.{program_words};
+ghost use Rattle.procedure_split.specs.Written.{IsWrittenFrom, with_parts};
+
+use crate::entries::entries_with;
+use crate::paragraphs::paragraphs_of;
+use crate::placing::places_of;
+use crate::rows::rows_of;
+use cell_table::{AddedItem, give_items};
+use cob_base::{Copied, Items, NoMemory};
+use cob_tree::{Paragraph, Program, Range};
+use out_names::{names, word_table};
+use shaped_ranges::Closed;
+use std::alloc::Global;
+
+/// Lists of a program that are as long or longer are out of memory.
+const MOST: usize = 1 << 28;
+
+/// Whether its words and procedures have numbers of 32 bits.
+#[tactic(auto, using(crate::proofs::WordCounts::word_count))]
+fn is_small(program: &Program, order: &[Range]) -> bool
+    ensures entries { IsTrue result → length program.now.entries < 2 ^ 28 }
+    ensures words { IsTrue result → length (program_words program.now) < 2 ^ 30 + 1 }
+    ensures ranges { IsTrue result → length order.now < 2 ^ 28 }
+{
+    if program.files.len() >= MOST {
+        return false;
+    }
+    if program.entries.len() >= MOST {
+        return false;
+    }
+    if program.paragraphs.len() >= MOST {
+        return false;
+    }
+    order.len() < MOST
+}
+
+/// The program with other entries and paragraphs.
+fn with_parts(
+    alloc: Global,
+    program: &Program,
+    added: &[AddedItem],
+    paragraphs: Items<Paragraph>,
+) -> Result<Program, NoMemory>
+    ensures { Makes (with_parts program.now
+        (program.now.entries ++ entries_of (map seen_item added.now)) paragraphs) result }
+{
+    match entries_with(alloc, &program.entries, added) {
+        Ok(entries) => match program.files.copy(alloc) {
+            Ok(files) => Ok(Program {
+                name: program.name,
+                files,
+                entries,
+                paragraphs,
+            }),
+            Err(fault) => {
+                drop(entries);
+                drop(paragraphs);
+                Err(fault)
+            }
+        },
+        Err(fault) => {
+            drop(paragraphs);
+            Err(fault)
+        }
+    }
+}
+
+/// The program whose procedures are these ranges, which were shaped to these bodies. Err where
+/// memory, places below 2^32, numbers or items are wanted, and where a statement of the program has
+/// a word on an added item.
+pub fn write_program(
+    alloc: Global,
+    program: &Program,
+    order: &[Range],
+    closed: &[Closed],
+) -> Result<Program, NoMemory>
+    requires { length closed.now ≡ length order.now }
+    ensures { IfOk result (IsWrittenFrom program.now order.now closed.now) }
+{
+    if !is_small(program, order) {
+        return Err(NoMemory);
+    }
+    let words = word_table(alloc, program)?;
+    let labels = names(alloc, program, order)?;
+    let places = places_of(alloc, order)?;
+    let rows = rows_of(alloc, order, closed)?;
+    let first = program.entries.len() as u32;
+    let given = give_items(alloc, &words, first, rows.as_slice())?;
+    let cells = given.cells.as_slice();
+    match paragraphs_of(
+        alloc,
+        order,
+        closed,
+        cells,
+        places.as_slice(),
+        labels.as_slice(),
+    ) {
+        Ok(paragraphs) => with_parts(alloc, program, given.added.as_slice(), paragraphs),
+        Err(fault) => Err(fault),
+    }
+}
