@@ -68,3 +68,7 @@ entries_for words ranges = entries_from words all_from_one (item_kinds ranges)
 
 abbrev pub seen_item : AddedItem → CellEntry
 seen_item item = entry_named item.name (seen_added item.kind)
+
+-- what an item is for
+abbrev pub item_kind : AddedItem → Added
+item_kind item = seen_added item.kind

@@ -2,7 +2,8 @@
 
 ghost use Rattle.std.specs.Prelude.{◌≡◌, map, IfOk};
 ghost use Rattle.cell_table.specs.CellItems.{AreCellItems};
-ghost use Rattle.cell_table.specs.Names.{entries_for, seen_item};
+ghost use Rattle.cell_table.specs.Items.{item_kinds};
+ghost use Rattle.cell_table.specs.Names.{entries_for, item_kind, seen_item};
 ghost use Rattle.cell_table.specs.Seen.{seen_ranges};
 
 use crate::cell_item::all_items;
@@ -32,6 +33,8 @@ pub fn give_items(
 ) -> Result<Given, NoMemory>
     ensures entries { IfOk result (λ given. map seen_item given.added
         ≡ entries_for words.now (seen_ranges ranges.now)) }
+    ensures kinds { IfOk result (λ given. map item_kind given.added
+        ≡ item_kinds (seen_ranges ranges.now)) }
     ensures cells { IfOk result (λ given.
         AreCellItems first (seen_ranges ranges.now) given.cells) }
 {

@@ -6,7 +6,7 @@ ghost use Rattle.cob_base.specs.Answers.{Makes};
 ghost use Rattle.out_names.specs.FreshWords.{fresh_number, fresh_word};
 ghost use Rattle.branch_tree.specs.Graphs.{seen_added};
 ghost use Rattle.cell_table.specs.Items.{kind_in};
-ghost use Rattle.cell_table.specs.Names.{stem_of, next_of, with_next, all_from_one, entry_named, entries_from, seen_item};
+ghost use Rattle.cell_table.specs.Names.{stem_of, next_of, with_next, all_from_one, entry_named, entries_from, seen_item, item_kind};
 
 use crate::holding::kind_in;
 use branch_tree::Added;
@@ -100,6 +100,7 @@ fn next_item(
     ensures next { let number = fresh_number words.now (stem_of (seen_added kind))
         (next_of next.old (seen_added kind)) in
         OnOk result (next.new ≡ with_next next.old (seen_added kind) (suc number)) }
+    ensures kind { IfOk result (λ item. item_kind item ≡ seen_added kind) }
 {
     let from = next_of(next, kind);
     if from >= 1 << 31 {
@@ -123,8 +124,10 @@ pub fn items_at(
     kinds: &[Added],
     held: &[u32],
 ) -> Result<Items<AddedItem>, NoMemory>
-    ensures { IfOk result (λ items. map seen_item items
+    ensures entries { IfOk result (λ items. map seen_item items
         ≡ entries_from words.now all_from_one (map (kind_in (map seen_added kinds.now)) held.now)) }
+    ensures kinds { IfOk result (λ items. map item_kind items
+        ≡ map (kind_in (map seen_added kinds.now)) held.now) }
 {
     let mut items = Items::new(alloc);
     let mut next = all_from_one();

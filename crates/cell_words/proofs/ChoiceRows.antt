@@ -25,6 +25,7 @@ use Rattle.cell_serving.specs.Naming.{numbers_from, whens_of, other_stands, last
 use Rattle.choice_writing.specs.Choices.{IsIf, IsRead, IsArith}
 use Rattle.choice_writing.specs.Empties.{if_had, of_whens, of_cell, put_arm, stands_so}
 use Rattle.choice_writing.specs.Written.{Way, naming_in}
+use Rattle.choice_writing.proofs.ChoiceRows.{stays_is}
 use Rattle.cell_words.specs.Words.{AreItems, IsItemOf, IsTest}
 use Rattle.cell_words.specs.Lists.{put_arms, stand_so, continued, chosen, IsChosen, IsOwnChoice, item_chosen, IsItemChoice, IsAmongAll, numbered, IsNumbered, IsNumberedAll}
 use Rattle.cell_words.specs.declared.cells.CellItem.{CellItem}
@@ -48,8 +49,11 @@ module _ (lists : List (List Stmt)) (first second : List Stmt) (two : lists ≡ 
       ∙ ap (λ l. chosen way (language.By (language.Read file into had)) (map (seen_stmts 0) l)) (sym two)
 
   pub arith_row : (calc : Calc) (into : List Target) (made : Stmt) →
-      IsArith calc into (seen_stmts 0 first) (seen_stmts 0 second) made → IsOwnChoice (choosers.Arith calc into) lists made
-  arith_row calc into made is way = is ∙ ap (λ l. chosen way (language.By (language.Arith calc into)) (map (seen_stmts 0) l)) (sym two)
+      IsArith calc into true (seen_stmts 0 first) (seen_stmts 0 second) made → IsOwnChoice (choosers.Arith calc into) lists made
+  arith_row calc into made is way =
+      is
+      ∙ ap (language.Choose (language.By (language.Arith calc into))) (stays_is (seen_stmts 0 first) (put_arm Goes (seen_stmts 0 second) done))
+      ∙ ap (λ l. chosen way (language.By (language.Arith calc into)) (map (seen_stmts 0) l)) (sym two)
 
 -- EVALUATE.
 

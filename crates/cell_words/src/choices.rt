@@ -108,7 +108,7 @@ fn arith_over(calc: Calc, into: Items<Target>, arms: Vec<Items<Stmt>>) -> Result
     ensures { IfOk result (λ made. IsOwnChoice (choosers.Arith calc into) arms.items made) }
 {
     match two_arms(arms) {
-        Ok(Two { first, second }) => arith_stmt(calc, into, first, second),
+        Ok(Two { first, second }) => arith_stmt(calc, into, first, second, true),
         Err(fault) => {
             drop(calc);
             drop(into);

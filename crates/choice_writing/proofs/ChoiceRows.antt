@@ -1,5 +1,5 @@
 -- Statements with arms, row by row.
-use Rattle.std.proofs.Common.{◌≡◌, ℕ, ◌<◌, Bool, true, false, List, [], ◌∷◌, ◌++◌, map, length, Option, Some, None, is_some, refl, ap, sym, ◌∙◌, arith}
+use Rattle.std.proofs.Common.{◌≡◌, ℕ, ◌<◌, Bool, true, false, ◌||◌, List, [], ◌∷◌, ◌++◌, map, length, Option, Some, None, is_some, refl, ap, sym, ◌∙◌, arith}
 use Rattle.cob_tree.specs.declared.calc.Calc.{Calc}
 use Rattle.cob_tree.specs.declared.calc.Target.{Target}
 use Rattle.cob_tree.specs.declared.choice.Subject.{Subject}
@@ -12,7 +12,7 @@ use Rattle.cob_tree.specs.declared.stmt.Stmt.TheVariants.{Continue, If, Evaluate
 use Rattle.language.specs.Language as language
 use Rattle.language.specs.Control.{test_of, arm_before, else_of, stmts_of, arith_stmt, evaluate_of, tests_of, Branch, branches_before, Both, both_arms, both_step, branch_step, seen_step, seen, seen_when, seen_both, seen_stmts}
 use Rattle.language.proofs.Rows.{seen_if_any, seen_if, seen_evaluate, seen_arith, seen_read, seen_continue}
-use Rattle.rendering.specs.Rendering.{Continues, Goes, required}
+use Rattle.rendering.specs.Rendering.{Continues, Stays, Goes, required}
 use Rattle.choice_writing.specs.Empties.{if_had, put_arm, stands_so, kept_stmts}
 use Rattle.choice_writing.specs.Choices.{seen_arm, IsKept, IsIf, IsEvaluate, IsRead, IsArith}
 
@@ -46,6 +46,11 @@ some_stays (stmt ∷ stmts) h = refl
 pub continues_is : (stmts : language.Stmts) (others : language.Arms) → put_arm Continues stmts others ≡ language.given (required Continue stmts) others
 continues_is language.none others = refl
 continues_is (language.also stmt stmts) others = refl
+
+-- one that is given
+pub stays_is : (stmts : language.Stmts) (others : language.Arms) → put_arm Continues stmts others ≡ put_arm Stays stmts others
+stays_is language.none others = refl
+stays_is (language.also stmt stmts) others = refl
 
 kept_is : (had : Bool) (stmts : language.Stmts) (others : language.Arms) → arm_before (kept_stmts had stmts) others ≡ put_arm (if_had had) stmts others
 kept_is true language.none others = refl
@@ -122,18 +127,27 @@ read_row file into had stmts others first second h g =
     ∙ ap (chosen (stands_so had stmts)) (kept_is had stmts (arm_before (kept_stmts false others) language.done)
     ∙ ap (put_arm (if_had had) stmts) (kept_is false others language.done))
 
-arith_choice : (calc : Calc) (into : List Target) (stmts others : language.Stmts) →
-    arith_stmt calc into (record { first = kept_stmts true stmts; second = kept_stmts false others })
-    ≡ language.Choose (language.By (language.Arith calc into)) (put_arm Continues stmts (put_arm Goes others language.done))
-arith_choice calc into language.none language.none = refl
-arith_choice calc into language.none (language.also other others) = refl
-arith_choice calc into (language.also stmt stmts) language.none = refl
-arith_choice calc into (language.also stmt stmts) (language.also other others) = refl
+some_kept_too : (had : Bool) (stmts : language.Stmts) (arm : Option (List Stmt)) → IsKept had stmts arm → is_some (kept_stmts had stmts) ≡ is_some arm
+some_kept_too had stmts arm h = sym (arm_is_some arm ∙ ap is_some h)
 
-pub arith_row : (calc : Calc) (into : List Target) (stmts others : language.Stmts) (first second : Option (List Stmt)) →
-    IsKept true stmts first → IsKept false others second →
-    IsArith calc into stmts others (Arith calc into (roll-Arms (record { first = first; second = second })))
-arith_row calc into stmts others first second h g =
+arith_choice : (calc : Calc) (into : List Target) (had : Bool) (stmts others : language.Stmts) → (is_some (kept_stmts had stmts) || is_some (kept_stmts false others)) ≡ true →
+    arith_stmt calc into (record { first = kept_stmts had stmts; second = kept_stmts false others })
+    ≡ language.Choose (language.By (language.Arith calc into)) (put_arm (if_had had) stmts (put_arm Goes others language.done))
+arith_choice calc into true language.none language.none h = refl
+arith_choice calc into false language.none language.none h = absurd (let e : false ≡ true = h in cc)
+arith_choice calc into true language.none (language.also other others) h = refl
+arith_choice calc into false language.none (language.also other others) h = refl
+arith_choice calc into true (language.also stmt stmts) language.none h = refl
+arith_choice calc into false (language.also stmt stmts) language.none h = refl
+arith_choice calc into true (language.also stmt stmts) (language.also other others) h = refl
+arith_choice calc into false (language.also stmt stmts) (language.also other others) h = refl
+
+pub arith_row : (calc : Calc) (into : List Target) (had : Bool) (stmts others : language.Stmts) (first second : Option (List Stmt)) →
+    IsKept had stmts first → IsKept false others second → (is_some first || is_some second) ≡ true →
+    IsArith calc into had stmts others (Arith calc into (roll-Arms (record { first = first; second = second })))
+arith_row calc into had stmts others first second h g stands =
     seen_arith 0 calc into (roll-Arms (record { first = first; second = second }))
-    ∙ ap (arith_stmt calc into) (both_kept true stmts others first second h g)
-    ∙ arith_choice calc into stmts others
+    ∙ ap (arith_stmt calc into) (both_kept had stmts others first second h g)
+    ∙ arith_choice calc into had stmts others
+    (ap (λ one. one || is_some (kept_stmts false others)) (some_kept_too had stmts first h)
+    ∙ ap (λ two. is_some first || two) (some_kept_too false others second g) ∙ stands)

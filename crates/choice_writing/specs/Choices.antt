@@ -39,10 +39,11 @@ IsRead file into has_end first second made =
     seen 0 made ≡ Choose (By (Read file into (stands_so has_end first)))
     (put_arm (if_had has_end) first (put_arm Goes second done))
 
-abbrev pub IsArith : Calc → List Target → (first second : Stmts) → Stmt → Type 0
-IsArith calc into first second made =
+abbrev pub IsArith : Calc → List Target → (has_first : Bool) → (first second : Stmts) → Stmt →
+    Type 0
+IsArith calc into has_first first second made =
     seen 0 made ≡ Choose (By (Arith calc into))
-    (put_arm Continues first (put_arm Goes second done))
+    (put_arm (if_had has_first) first (put_arm Goes second done))
 
 -- its turns are own, and so are what is performed and how often
 abbrev pub IsOwnPerform : ℕ → Control → Stmt → Type 0

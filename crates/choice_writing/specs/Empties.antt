@@ -1,11 +1,12 @@
--- What becomes of an arm with nothing in it: it holds CONTINUE, or goes. The arms of IF, WHEN and
--- ON SIZE ERROR continue; ELSE, NOT AT END and NOT ON SIZE ERROR go; WHEN OTHER and AT END continue
--- where the source has them. GO TO DEPENDING has no WHEN OTHER, and neither has the choice of an
--- exit, whose last arm is one in the result.
+-- What becomes of an arm with nothing in it: it holds CONTINUE, or goes. The arms of IF and WHEN
+-- continue; ELSE, NOT AT END and NOT ON SIZE ERROR go; WHEN OTHER and AT END continue where the
+-- source has them. ON SIZE ERROR continues where it is given, as in each choice that rules make, and
+-- is missing where it is so in a statement that stands whole. GO TO DEPENDING has no WHEN OTHER, and
+-- neither has the choice of an exit, whose last arm is one in the result.
 use Rattle.std.specs.Prelude.{ℕ, zero, suc, Bool, true, false, if◌then◌else◌, ◌==◌, ◌&&◌, nat_lt, length, Option, Some, None}
 use Rattle.cob_tree.specs.declared.stmt.Stmt.TheVariants.{Continue}
 use Rattle.language.specs.Language.{Range, Chooser, Evaluate, Read, Arith, Depending, Picker, If, By, ByCell, Stmts, none, also, Arms}
-use Rattle.rendering.specs.Rendering.{Empty, Continues, Goes, required, written_arm}
+use Rattle.rendering.specs.Rendering.{Empty, Continues, Stays, Goes, required, written_arm}
 use Rattle.cell_serving.specs.Table.{CellTable}
 
 -- one that the source has, or lacks
@@ -21,7 +22,7 @@ abbrev pub of_chooser : Chooser → ℕ → Empty
 of_chooser (Evaluate subject tests has_other) arm = of_whens (length tests) has_other arm
 of_chooser (Read file into has_end) zero = if_had has_end
 of_chooser (Read file into has_end) (suc arm) = Goes
-of_chooser (Arith calc into) zero = Continues
+of_chooser (Arith calc into) zero = Stays
 of_chooser (Arith calc into) (suc arm) = Goes
 of_chooser (Depending on names) arm = of_whens names false arm
 

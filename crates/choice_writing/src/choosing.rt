@@ -1,6 +1,6 @@
 //! Statements with arms, by the lists that their arms hold.
 
-ghost use Rattle.std.specs.Prelude.{IfOk, IsOk, IsTrue};
+ghost use Rattle.std.specs.Prelude.{◌≡◌, ◌||◌, is_some, IfOk, IsOk, IsTrue};
 ghost use Rattle.language.specs.Control.{seen_stmts};
 ghost use Rattle.language.specs.OwnItems.{control_own};
 ghost use Rattle.choice_writing.specs.Choices.{IsIf, IsEvaluate, IsRead, IsArith, IsOwnPerform, IsOwnLoop};
@@ -54,20 +54,32 @@ pub fn read_stmt(
     Ok(Stmt::Read { file, into, arms })
 }
 
-/// Arithmetic: an empty ON SIZE ERROR holds CONTINUE, and an empty NOT ON SIZE ERROR is left out.
+fn has_arm(first: &Option<Items<Stmt>>, second: &Option<Items<Stmt>>) -> bool
+    ensures { result ≡ (is_some first.now || is_some second.now) }
+{
+    first.is_some() || second.is_some()
+}
+
+/// Arithmetic: an empty ON SIZE ERROR holds CONTINUE, or is left out, and an empty NOT ON SIZE ERROR
+/// is left out. Err also where both are, as in no program that is read: it would choose nothing.
 pub fn arith_stmt(
     calc: Calc,
     into: Items<Target>,
     first: Items<Stmt>,
     second: Items<Stmt>,
+    has_first: bool,
 ) -> Result<Stmt, NoMemory>
-    ensures { IfOk result (λ made. IsArith calc into (seen_stmts 0 first) (seen_stmts 0 second)
-        made) }
+    ensures { IfOk result
+        (λ made. IsArith calc into has_first (seen_stmts 0 first) (seen_stmts 0 second) made) }
 {
-    let first = kept(first, true)?;
+    let first = kept(first, has_first)?;
     let second = kept(second, false)?;
-    let arms = Arms { first, second };
-    Ok(Stmt::Arith { calc, into, arms })
+    if has_arm(&first, &second) {
+        let arms = Arms { first, second };
+        Ok(Stmt::Arith { calc, into, arms })
+    } else {
+        Err(NoMemory)
+    }
 }
 
 /// PERFORM of the procedure at the place. Err where it is tested by an added item, as in no program

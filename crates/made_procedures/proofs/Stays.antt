@@ -21,7 +21,7 @@ module _ (nothing : Simple) where
       ArmsStay (written_arm nothing empty was_given stmts others)
   arm-stays empty was_given (also stmt stmts) others h g = (h, g)
   arm-stays Continues was_given none others h g = ((tt, tt), g)
-  arm-stays Stays true none others h g = (tt, g)
+  arm-stays Stays true none others h g = ((tt, tt), g)
   arm-stays Stays false none others h g = g
   arm-stays Goes was_given none others h g = g
 

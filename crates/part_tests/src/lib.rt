@@ -1,4 +1,4 @@
-//! Tests of the crates that read, print and generate, and of numbers: what no clause says.
+//! Tests of the crates that read, print, count and generate, and of numbers: what no clause says.
 //!
 //! They stand here, over the crates as these are, since a crate with tests of its own is proved
 //! twice. A module names the part that it tests.
@@ -16,6 +16,8 @@ mod orders;
 mod pictures;
 #[cfg(test)]
 mod printing;
+#[cfg(test)]
+mod terms;
 #[cfg(test)]
 mod tokens;
 #[cfg(test)]

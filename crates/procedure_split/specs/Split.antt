@@ -14,7 +14,11 @@ use Rattle.region_rewrite.specs.Shape.{nesting_passed}
 use Rattle.shaped_ranges.specs.Limit.{AreLowered, ArePast}
 use Rattle.shaped_ranges.specs.Shaped.{AllShaped, IsOneTooDeep}
 use Rattle.shaped_ranges.specs.declared.shaping.Closed.{Closed}
+use Rattle.cell_table.specs.Items.{item_kinds}
+use Rattle.procedure_split.specs.Counted.{counts_of}
+use Rattle.procedure_split.specs.Rows.{rows_of}
 use Rattle.procedure_split.specs.Written.{IsWrittenFrom}
+use Rattle.procedure_split.specs.declared.writing.Split.{Split}
 
 -- which ranges return, and the order in which they stand
 pub record Planned (program : Program) (summary : Summary) : Type 0 where
@@ -36,6 +40,11 @@ pub record IsSplit (program : Program) (summary : Summary) (made : Program) : Ty
   pub closed : List Closed
   pub shaped : AllShaped graphs closed
   pub written : IsWrittenFrom program plan.order closed made
+
+-- and so many items of each kind are added, for the cells of what they are shaped to
+pub record IsSplitWith (program : Program) (summary : Summary) (split : Split) : Type 0 where
+  pub is : IsSplit program summary split.program
+  pub added : split.added ≡ counts_of (item_kinds (rows_of is.plan.order is.closed))
 
 -- the graphs of the ranges are past the limit on their size
 pub record IsTooLarge (program : Program) (summary : Summary) (limit : Limit) : Type 0 where

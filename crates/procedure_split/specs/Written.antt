@@ -1,5 +1,5 @@
 -- What is written of shaped ranges.
-use Rattle.std.specs.Prelude.{◌≡◌, List, ◌++◌, length}
+use Rattle.std.specs.Prelude.{◌≡◌, List, ◌++◌, length, map}
 use Rattle.cob_tree.specs.declared.entry.Entry.{Entry}
 use Rattle.cob_tree.specs.declared.program.Paragraph.{Paragraph}
 use Rattle.cob_tree.specs.declared.program.Program.{Program}
@@ -10,10 +10,14 @@ use Rattle.out_names.specs.Words.{program_words, table_of}
 use Rattle.choice_writing.specs.declared.placing.Placed.{Placed}
 use Rattle.cell_words.specs.declared.cells.CellItem.{CellItem}
 use Rattle.cell_table.specs.CellItems.{AreCellItems}
-use Rattle.cell_table.specs.Names.{entries_for}
+use Rattle.cell_table.specs.Items.{item_kinds}
+use Rattle.cell_table.specs.Names.{entries_for, item_kind, seen_item}
+use Rattle.cell_table.specs.declared.naming.AddedItem.{AddedItem}
 use Rattle.shaped_ranges.specs.declared.shaping.Closed.{Closed}
 use Rattle.made_procedures.specs.Made.{AreAsMany, AreParagraphsOf, ArePlacesIn}
+use Rattle.procedure_split.specs.Counted.{counts_of}
 use Rattle.procedure_split.specs.Rows.{rows_of}
+use Rattle.procedure_split.specs.declared.writing.Split.{Split}
 
 -- the program with other entries and paragraphs
 abbrev pub with_parts : Program → List Entry → List Paragraph → Program
@@ -22,6 +26,13 @@ with_parts program entries paragraphs = record {
   files = program.files;
   entries = entries;
   paragraphs = paragraphs;
+}
+
+-- with these paragraphs, and entries for these items, which are counted
+abbrev pub split_of : Program → List AddedItem → List Paragraph → Split
+split_of program items paragraphs = record {
+  program = with_parts program (program.entries ++ entries_of (map seen_item items)) paragraphs;
+  added = counts_of (map item_kind items);
 }
 
 -- the entries of the items for the cells of the ranges
@@ -44,3 +55,9 @@ pub record IsWrittenFrom (program : Program) (order : List Range) (closed : List
   pub many : AreAsMany order closed cells (names_of program order)
   pub paragraphs :
       AreParagraphsOf order closed cells places (names_of program order) made.paragraphs
+
+-- and so many items of each kind are added: one for each entry
+pub record IsWrittenWith (program : Program) (order : List Range) (closed : List Closed)
+    (split : Split) : Type 0 where
+  pub written : IsWrittenFrom program order closed split.program
+  pub added : split.added ≡ counts_of (item_kinds (rows_of order closed))

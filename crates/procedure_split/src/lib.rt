@@ -2,9 +2,10 @@
 //! paragraph of one sentence, and behind its own entries those of the added items.
 //!
 //! `split` makes it of a program and the summary of its ranges, which say that no flow path faults
-//! (`specs/Split.antt`). `specs/Written.antt` says what is written of shaped ranges.
+//! (`specs/Split.antt`), and counts the items that are added (`specs/Counted.antt`). `specs/Written.antt` says what is written of shaped ranges.
 #![tactic(auto)]
 
+mod counting;
 mod entries;
 mod paragraphs;
 mod placing;
@@ -16,4 +17,4 @@ pub use paragraphs::paragraphs_of;
 pub use placing::places_of;
 pub use rows::rows_of;
 pub use splitting::split;
-pub use writing::write_program;
+pub use writing::{Split, write_program};

@@ -2,9 +2,9 @@
 
 ghost use Rattle.std.specs.Prelude.{◌≡◌, length, MatchResult};
 ghost use Rattle.shaped_ranges.specs.Laws.{HasFlow};
-ghost use Rattle.procedure_split.specs.Split.{IsSplit, IsSplitFault};
+ghost use Rattle.procedure_split.specs.Split.{IsSplitFault, IsSplitWith};
 
-use crate::writing::write_program;
+use crate::writing::{Split, write_program};
 use cob_tree::{Program, SplitFault};
 use pending_returns::Summary;
 use range_plan::plan_of;
@@ -12,11 +12,11 @@ use shaped_ranges::{lower_ranges, shape_all};
 use std::alloc::Global;
 
 /// The structured program that a program without a fault is restructured to, by the summary of its
-/// ranges. Limit exactly where the graphs of its ranges have more than 500,000 labels and
+/// ranges, and how many items are added. Limit exactly where the graphs of its ranges have more than 500,000 labels and
 /// statements, or else one of them is shaped to a body that nests deeper than 500 levels.
-pub fn split(alloc: Global, program: &Program, summary: &Summary) -> Result<Program, SplitFault>
+pub fn split(alloc: Global, program: &Program, summary: &Summary) -> Result<Split, SplitFault>
     requires { HasFlow program.now summary.now }
-    ensures { MatchResult result (IsSplit program.now summary.now)
+    ensures { MatchResult result (IsSplitWith program.now summary.now)
         (IsSplitFault program.now summary.now) }
 {
     let plan = plan_of(alloc, summary)?;

@@ -5,8 +5,9 @@ ghost use Rattle.cob_base.specs.Answers.{Makes};
 ghost use Rattle.cell_serving.specs.Entries.{entries_of};
 ghost use Rattle.cell_table.specs.Names.{seen_item};
 ghost use Rattle.out_names.specs.Words.{program_words};
-ghost use Rattle.procedure_split.specs.Written.{IsWrittenFrom, with_parts};
+ghost use Rattle.procedure_split.specs.Written.{IsWrittenWith, split_of, with_parts};
 
+use crate::counting::counts_of;
 use crate::entries::entries_with;
 use crate::paragraphs::paragraphs_of;
 use crate::placing::places_of;
@@ -14,12 +15,20 @@ use crate::rows::rows_of;
 use cell_table::{AddedItem, give_items};
 use cob_base::{Copied, Items, NoMemory};
 use cob_tree::{Paragraph, Program, Range};
+use flow_report::AddedCounts;
 use out_names::{names, word_table};
 use shaped_ranges::Closed;
 use std::alloc::Global;
 
 /// Lists of a program that are as long or longer are out of memory.
 const MOST: usize = 1 << 28;
+
+/// A program that another one is split into, and how many items of each kind it has that are added.
+#[derive(Drop)]
+pub struct Split {
+    pub program: Program,
+    pub added: AddedCounts,
+}
 
 /// Whether its words and procedures have numbers of 32 bits.
 #[tactic(auto, using(crate::proofs::WordCounts::word_count))]
@@ -71,17 +80,38 @@ fn with_parts(
     }
 }
 
-/// The program whose procedures are these ranges, which were shaped to these bodies. Err where
-/// memory, places below 2^32, numbers or items are wanted, and where a statement of the program has
-/// a word on an added item.
+/// The program with these paragraphs, and with entries for these items, which are counted.
+fn split_of(
+    alloc: Global,
+    program: &Program,
+    items: &[AddedItem],
+    paragraphs: Items<Paragraph>,
+) -> Result<Split, NoMemory>
+    ensures { Makes (split_of program.now items.now paragraphs) result }
+{
+    match counts_of(items) {
+        Ok(added) => match with_parts(alloc, program, items, paragraphs) {
+            Ok(program) => Ok(Split { program, added }),
+            Err(fault) => Err(fault),
+        },
+        Err(fault) => {
+            drop(paragraphs);
+            Err(fault)
+        }
+    }
+}
+
+/// The program whose procedures are these ranges, which were shaped to these bodies, with how many
+/// items are added. Err where memory, places below 2^32, numbers or items are wanted, and where a
+/// statement of the program has a word on an added item.
 pub fn write_program(
     alloc: Global,
     program: &Program,
     order: &[Range],
     closed: &[Closed],
-) -> Result<Program, NoMemory>
+) -> Result<Split, NoMemory>
     requires { length closed.now ≡ length order.now }
-    ensures { IfOk result (IsWrittenFrom program.now order.now closed.now) }
+    ensures { IfOk result (IsWrittenWith program.now order.now closed.now) }
 {
     if !is_small(program, order) {
         return Err(NoMemory);
@@ -101,7 +131,7 @@ pub fn write_program(
         places.as_slice(),
         labels.as_slice(),
     ) {
-        Ok(paragraphs) => with_parts(alloc, program, given.added.as_slice(), paragraphs),
+        Ok(paragraphs) => split_of(alloc, program, given.added.as_slice(), paragraphs),
         Err(fault) => Err(fault),
     }
 }

@@ -1,17 +1,69 @@
--- The table of returning ranges, as it grows.
-use Rattle.std.proofs.Common.{◌≡◌, ◌<◌, ◌≤◌, ◌+◌, ◌↔◌, ℕ, zero, suc, true, false, if◌then◌else◌, nat_eq, List, [], ◌∷◌, ◌++◌, length, Option, Some, None, slice_get, refl, ap, sym, ◌∙◌, subst, ◌⊎◌, inl, inr, eqb-true, eq-eqb, arith}
-use Rattle.std.specs.Prelude.{slice_set}
+-- The table of returning ranges names them.
+use Rattle.std.proofs.Common.{◌≡◌, ◌<◌, ◌≤◌, ◌↔◌, ℕ, zero, suc, true, false, if◌then◌else◌, nat_eq, List, [], ◌∷◌, ◌++◌, length, Option, Some, None, slice_get, refl, ap, sym, ◌∙◌, subst, ◌⊎◌, inl, inr, eqb-true, eq-eqb, arith}
+use Rattle.std.specs.Prelude.{Bool, slice_set}
+use Rattle.std.specs.List.{fold}
 use Rattle.cob_tree.specs.declared.program.Range.{Range}
 use Rattle.flow_paths.specs.Flow.{part}
 use Rattle.pending_returns.specs.declared.facts.RangeFacts.{RangeFacts}
 use Rattle.cut_lists.specs.Told.{is_among, returns_by}
-use Rattle.range_plan.specs.Planned.{AddsRange, AddsFacts, NamesReturning}
+use Rattle.range_plan.specs.Planned.{lengthened, with_exit, with_part, with_facts, table_by, Returns, NamesReturning}
 
-pub grown : (table : List (List ℕ)) (from to : ℕ) → returns_by (table ++ [] ∷ []) from to ≡ returns_by table from to
-grown [] zero to = refl
-grown [] (suc from) to = refl
-grown (row ∷ table) zero to = refl
-grown (row ∷ table) (suc from) to = grown table from to
+-- the table has this range too then
+abbrev AddsRange : List (List ℕ) → ℕ → ℕ → List (List ℕ) → Type 0
+AddsRange before entry exit after = (from to : ℕ) → returns_by after from to ≡ true
+    ↔ ((returns_by before from to ≡ true) ⊎ ((from ≡ entry) × (to ≡ exit)))
+
+-- and so is it where the range of these facts returns
+abbrev AddsFacts : List (List ℕ) → RangeFacts → List (List ℕ) → Type 0
+AddsFacts before facts after = (from to : ℕ) → returns_by after from to ≡ true
+    ↔ ((returns_by before from to ≡ true)
+    ⊎ ((facts.returns ≡ true) × (facts.range ≡ part from to)))
+
+-- a row for the entry names nothing
+long-same : (table : List (List ℕ)) (entry from to : ℕ) →
+    returns_by (lengthened table entry) from to ≡ returns_by table from to
+long-same [] zero zero to = refl
+long-same [] zero (suc from) to = refl
+long-same [] (suc entry) zero to = refl
+long-same [] (suc entry) (suc from) to = long-same [] entry from to
+long-same (row ∷ table) zero from to = refl
+long-same (row ∷ table) (suc entry) zero to = refl
+long-same (row ∷ table) (suc entry) (suc from) to = long-same table entry from to
+
+row-there : (table : List (List ℕ)) (entry : ℕ) →
+    (row : List ℕ) × (slice_get (lengthened table entry) entry ≡ Some row)
+row-there [] zero = ([], refl)
+row-there [] (suc entry) = row-there [] entry
+row-there (row ∷ table) zero = (row, refl)
+row-there (row ∷ table) (suc entry) = row-there table entry
+
+-- a row is added, up to the one for the entry
+pub longer : (table : List (List ℕ)) (entry : ℕ) → length table ≤ entry →
+    lengthened (table ++ [] ∷ []) entry ≡ lengthened table entry
+longer [] zero le = refl
+longer [] (suc entry) le = refl
+longer (row ∷ table) zero le = absurd (omega (arith, le))
+longer (row ∷ table) (suc entry) le =
+    ap (λ rows. row ∷ rows) (longer table entry (omega (arith, le)))
+
+pub long_enough : (table : List (List ℕ)) (entry : ℕ) → entry < length table →
+    lengthened table entry ≡ table
+long_enough [] entry lt = absurd (omega (arith, lt))
+long_enough (row ∷ table) zero lt = refl
+long_enough (row ∷ table) (suc entry) lt =
+    ap (λ rows. row ∷ rows) (long_enough table entry (omega (arith, lt)))
+
+-- the row of the entry gets the exit
+pub put-exit : (table : List (List ℕ)) (entry exit : ℕ) (row : List ℕ) →
+    slice_get (lengthened table entry) entry ≡ Some row →
+    slice_set (lengthened table entry) entry (row ++ exit ∷ []) ≡ with_exit table entry exit
+put-exit [] zero exit row e =
+    let same : [] ≡ row = cc in ap (λ r. (r ++ exit ∷ []) ∷ []) (sym same)
+put-exit [] (suc entry) exit row e = ap (λ rows. [] ∷ rows) (put-exit [] entry exit row e)
+put-exit (first ∷ table) zero exit row e =
+    let same : first ≡ row = cc in ap (λ r. (r ++ exit ∷ []) ∷ table) (sym same)
+put-exit (first ∷ table) (suc entry) exit row e =
+    ap (λ rows. first ∷ rows) (put-exit table entry exit row e)
 
 among-end : (number : ℕ) (row : List ℕ) → is_among number (row ++ number ∷ []) ≡ true
 among-end number [] = ap (λ b. if b then true else false) (eq-eqb number number refl)
@@ -31,7 +83,7 @@ among-last number last (other ∷ row) h = (elim (nat_eq other number) as (λ b.
   | false ↦ λ e. among-last number last row e
 ]) h
 
-pub with-exit : (table : List (List ℕ)) (entry exit : ℕ) (row : List ℕ) → slice_get table entry ≡ Some row → AddsRange table entry exit (slice_set table entry (row ++ exit ∷ []))
+with-exit : (table : List (List ℕ)) (entry exit : ℕ) (row : List ℕ) → slice_get table entry ≡ Some row → AddsRange table entry exit (slice_set table entry (row ++ exit ∷ []))
 with-exit [] entry exit row e from to = absurd (let k : ⊥ = cc in k)
 with-exit (first ∷ table) zero exit row e zero to =
     let same : first ≡ row = cc in (
@@ -53,24 +105,24 @@ with-exit (first ∷ table) (suc entry) exit row e (suc from) to =
     )
 
 -- after the table was lengthened
-pub added : (before long : List (List ℕ)) (entry exit : ℕ) (row : List ℕ) → ((from to : ℕ) → returns_by long from to ≡ returns_by before from to) → slice_get long entry ≡ Some row → AddsRange before entry exit (slice_set long entry (row ++ exit ∷ []))
+added : (before long : List (List ℕ)) (entry exit : ℕ) (row : List ℕ) → ((from to : ℕ) → returns_by long from to ≡ returns_by before from to) → slice_get long entry ≡ Some row → AddsRange before entry exit (slice_set long entry (row ++ exit ∷ []))
 added before long entry exit row same e from to =
     let step = with-exit long entry exit row e from to in (
       λ h. elim (step.0 h) [ inl old ↦ inl (sym (same from to) ∙ old) | inr new ↦ inr new ],
       λ h. elim h [ inl old ↦ step.1 (inl (same from to ∙ old)) | inr new ↦ step.1 (inr new) ],
     )
 
-pub adds_none : (table : List (List ℕ)) (facts : RangeFacts) → facts.returns ≡ false → AddsFacts table facts table
-adds_none table facts not from to = (λ h. inl h, λ h. elim h [ inl old ↦ old | inr new ↦ absurd (let wrong : true ≡ false = sym new.0 ∙ not in let k : ⊥ = cc in k) ])
+adds-none : (table : List (List ℕ)) (facts : RangeFacts) → facts.returns ≡ false → AddsFacts table facts table
+adds-none table facts not from to = (λ h. inl h, λ h. elim h [ inl old ↦ old | inr new ↦ absurd (let wrong : true ≡ false = sym new.0 ∙ not in let k : ⊥ = cc in k) ])
 
-pub adds_main : (table : List (List ℕ)) (facts : RangeFacts) → facts.range.exit ≡ None → AddsFacts table facts table
-adds_main table facts main from to = (λ h. inl h, λ h. elim h [ inl old ↦ old | inr new ↦ absurd (let wrong : None ≡ Some to = sym main ∙ ap (λ (r : Range). r.exit) new.1 in let k : ⊥ = cc in k) ])
+adds-main : (table : List (List ℕ)) (facts : RangeFacts) → facts.range.exit ≡ None → AddsFacts table facts table
+adds-main table facts main from to = (λ h. inl h, λ h. elim h [ inl old ↦ old | inr new ↦ absurd (let wrong : None ≡ Some to = sym main ∙ ap (λ (r : Range). r.exit) new.1 in let k : ⊥ = cc in k) ])
 
 part-is : (range : Range) (exit : ℕ) → range.exit ≡ Some exit → range ≡ part range.entry exit
 part-is range exit e = ap (λ (o : Option ℕ). record { entry = range.entry; exit = o }) e
 
-pub adds_part : (before after : List (List ℕ)) (facts : RangeFacts) (exit : ℕ) → facts.returns ≡ true → facts.range.exit ≡ Some exit → AddsRange before facts.range.entry exit after → AddsFacts before facts after
-adds_part before after facts exit yes_it_does e adds from to = (
+adds-part : (before after : List (List ℕ)) (facts : RangeFacts) (exit : ℕ) → facts.returns ≡ true → facts.range.exit ≡ Some exit → AddsRange before facts.range.entry exit after → AddsFacts before facts after
+adds-part before after facts exit yes_it_does e adds from to = (
   λ h. elim ((adds from to).0 h) [
     | inl old ↦ inl old
     | inr new ↦ inr (yes_it_does, part-is facts.range exit e ∙ ap (λ n. part n exit) (sym new.0) ∙ ap (λ n. part from n) (sym new.1))
@@ -84,44 +136,76 @@ adds_part before after facts exit yes_it_does e adds from to = (
   ],
 )
 
--- the table names the returning ones of the first of these
-abbrev pub NamesUpTo : List RangeFacts → ℕ → List (List ℕ) → Type 0
-NamesUpTo ranges index table = (entry exit : ℕ) → returns_by table entry exit ≡ true ↔ ((number : ℕ) × (facts : RangeFacts) × (slice_get ranges number ≡ Some facts) × (facts.returns ≡ true) × (facts.range ≡ part entry exit) × (number < index))
+exit-added : (table : List (List ℕ)) (entry exit : ℕ) →
+    AddsRange table entry exit (with_exit table entry exit)
+exit-added table entry exit =
+    let row = row-there table entry in
+    subst (λ (after : List (List ℕ)). AddsRange table entry exit after)
+    (put-exit table entry exit row.0 row.1)
+    (added table (lengthened table entry) entry exit row.0 (long-same table entry) row.1)
 
-before-or-now : (number index : ℕ) → number < index + 1 → (number < index) ⊎ (number ≡ index)
-before-or-now zero zero lt = inr refl
-before-or-now zero (suc index) lt = inl (omega arith)
-before-or-now (suc number) zero lt = absurd (omega (arith, lt))
-before-or-now (suc number) (suc index) lt = elim (before-or-now number index (omega (arith, lt))) [ inl less ↦ inl (omega (arith, less)) | inr same ↦ inr (ap (λ (n : ℕ). suc n) same) ]
+facts-added : (table : List (List ℕ)) (facts : RangeFacts) →
+    AddsFacts table facts (with_facts table facts)
+facts-added table facts = by facts.returns facts.range.exit refl refl where
+  by : (returns : Bool) (exit : Option ℕ) → facts.returns ≡ returns → facts.range.exit ≡ exit →
+      AddsFacts table facts (if returns then with_part table facts.range.entry exit else table)
+  by false exit e g = adds-none table facts e
+  by true None e g = adds-main table facts g
+  by true (Some exit) e g = adds-part table (with_exit table facts.range.entry exit) facts exit e g
+      (exit-added table facts.range.entry exit)
 
-get-below : {A : Type 0} → (xs : List A) (at : ℕ) (x : A) → slice_get xs at ≡ Some x → at < length xs
-get-below [] at x e = absurd (let k : ⊥ = cc in k)
-get-below (y ∷ xs) zero x e = omega arith
-get-below (y ∷ xs) (suc at) x e = (let less : at < length xs = get-below xs at x e in omega (arith, less))
+-- the table names what it named, and the ranges that return
+abbrev Grows : (before after : List (List ℕ)) → List RangeFacts → Type 0
+Grows before after ranges = (entry exit : ℕ) → returns_by after entry exit ≡ true
+    ↔ ((returns_by before entry exit ≡ true) ⊎ Returns ranges entry exit)
 
-pub names_none : (ranges : List RangeFacts) (table : List (List ℕ)) → table ≡ [] → NamesUpTo ranges 0 table
-names_none ranges table empty entry exit = (
-  λ h. absurd (let wrong : returns_by [] entry exit ≡ true = subst (λ t. returns_by t entry exit ≡ true) empty h in let k : ⊥ = cc in k),
-  λ h. absurd (let less = h.5 in omega (arith, less)),
+grow-step : (facts : RangeFacts) (ranges : List RangeFacts) (table after : List (List ℕ)) →
+    Grows (with_facts table facts) after ranges → Grows table after (facts ∷ ranges)
+grow-step facts ranges table after rest entry exit = (forth, back) where
+  forth : returns_by after entry exit ≡ true →
+      (returns_by table entry exit ≡ true) ⊎ Returns (facts ∷ ranges) entry exit
+  forth h = elim ((rest entry exit).0 h) [
+    | inl old ↦ elim ((facts-added table facts entry exit).0 old) [
+      | inl older ↦ inl older
+      | inr new ↦ inr (0, facts, refl, new.0, new.1)
+    ]
+    | inr new ↦ inr (suc new.0, new.1, new.2, new.3, new.4)
+  ]
+
+  later : Returns (facts ∷ ranges) entry exit → returns_by after entry exit ≡ true
+  later (zero, found, e, yes_it_does, is) =
+      let same : facts ≡ found = cc in
+      (rest entry exit).1 (inl ((facts-added table facts entry exit).1 (inr (
+        ap (λ (f : RangeFacts). f.returns) same ∙ yes_it_does,
+        ap (λ (f : RangeFacts). f.range) same ∙ is,
+      ))))
+  later (suc number, found, e, yes_it_does, is) =
+      (rest entry exit).1 (inr (number, found, e, yes_it_does, is))
+
+  back : (returns_by table entry exit ≡ true) ⊎ Returns (facts ∷ ranges) entry exit →
+      returns_by after entry exit ≡ true
+  back (inl old) = (rest entry exit).1 (inl ((facts-added table facts entry exit).1 (inl old)))
+  back (inr new) = later new
+
+grows : (ranges : List RangeFacts) (table : List (List ℕ)) →
+    Grows table (fold with_facts table ranges) ranges
+grows [] table entry exit = (
+  λ h. inl h,
+  λ h. elim h [ inl old ↦ old | inr new ↦ absurd (let e = new.2 in let k : ⊥ = cc in k) ],
 )
+grows (facts ∷ ranges) table entry exit =
+    grow-step facts ranges table (fold with_facts (with_facts table facts) ranges)
+    (λ from to. grows ranges (with_facts table facts) from to) entry exit
 
-pub names_more : (ranges : List RangeFacts) (index : ℕ) (here : RangeFacts) (before after : List (List ℕ)) → slice_get ranges index ≡ Some here → AddsFacts before here after → NamesUpTo ranges index before → NamesUpTo ranges (index + 1) after
-names_more ranges index here before after is adds so_far entry exit = (
-  λ h. elim ((adds entry exit).0 h) [
-    | inl old ↦ (let f = (so_far entry exit).0 old in (f.0, f.1, f.2, f.3, f.4, (let less = f.5 in omega (arith, less))))
-    | inr new ↦ (index, here, is, new.0, new.1, omega arith)
-  ],
-  λ h. elim (before-or-now h.0 index h.5) [
-    | inl less ↦ (adds entry exit).1 (inl ((so_far entry exit).1 (h.0, h.1, h.2, h.3, h.4, less)))
-    | inr now ↦
-        let two : Some h.1 ≡ Some here = sym h.2 ∙ ap (λ n. slice_get ranges n) now ∙ is in
-        let same : h.1 ≡ here = cc in
-        (adds entry exit).1 (inr (ap (λ (f : RangeFacts). f.returns) (sym same) ∙ h.3, ap (λ (f : RangeFacts). f.range) (sym same) ∙ h.4))
-  ],
-)
-
-pub names_all : (ranges : List RangeFacts) (index : ℕ) (table : List (List ℕ)) → length ranges ≤ index → NamesUpTo ranges index table → NamesReturning ranges table
-names_all ranges index table le so_far entry exit = (
-  λ h. let f = (so_far entry exit).0 h in (f.0, f.1, f.2, f.3, f.4),
-  λ h. (so_far entry exit).1 (h.0, h.1, h.2, h.3, h.4, (let less : h.0 < length ranges = get-below ranges h.0 h.1 h.2 in omega (arith, less, le))),
-)
+pub named_by : (ranges : List RangeFacts) (table : List (List ℕ)) → table ≡ table_by ranges →
+    NamesReturning ranges table
+named_by ranges table is =
+    subst (λ (t : List (List ℕ)). NamesReturning ranges t) (sym is) named where
+      named : NamesReturning ranges (table_by ranges)
+      named entry exit = (
+        λ h. elim ((grows ranges [] entry exit).0 h) [
+          | inl old ↦ absurd (let k : ⊥ = cc in k)
+          | inr new ↦ new
+        ],
+        λ h. (grows ranges [] entry exit).1 (inr h),
+      )

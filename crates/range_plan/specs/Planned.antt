@@ -1,21 +1,38 @@
 -- The plan of a program, by the summary of its ranges.
-use Rattle.std.specs.Prelude.{ℕ, ◌≡◌, ◌↔◌, ◌⊎◌, true, List, map, Option, Some, None, slice_get}
+use Rattle.std.specs.Prelude.{ℕ, zero, suc, ◌≡◌, ◌↔◌, true, if◌then◌else◌, List, [], ◌∷◌, ◌++◌, map, Option, Some, None, slice_get}
+use Rattle.std.specs.List.{fold}
 use Rattle.cob_tree.specs.declared.program.Range.{Range}
 use Rattle.flow_paths.specs.Flow.{main_range, part}
 use Rattle.pending_returns.specs.declared.facts.RangeFacts.{RangeFacts}
 use Rattle.cut_lists.specs.Told.{returns_by}
 use Rattle.out_names.specs.Ordering.{order_of}
 
--- the table has this range too then
-abbrev pub AddsRange : List (List ℕ) → ℕ → ℕ → List (List ℕ) → Type 0
-AddsRange before entry exit after = (from to : ℕ) → returns_by after from to ≡ true
-    ↔ ((returns_by before from to ≡ true) ⊎ ((from ≡ entry) × (to ≡ exit)))
+-- the table, with a row for this entry
+abbrev pub lengthened : List (List ℕ) → ℕ → List (List ℕ)
+lengthened [] zero = [] ∷ []
+lengthened [] (suc entry) = [] ∷ lengthened [] entry
+lengthened (row ∷ table) zero = row ∷ table
+lengthened (row ∷ table) (suc entry) = row ∷ lengthened table entry
 
--- and so is it where the range of these facts returns
-abbrev pub AddsFacts : List (List ℕ) → RangeFacts → List (List ℕ) → Type 0
-AddsFacts before facts after = (from to : ℕ) → returns_by after from to ≡ true
-    ↔ ((returns_by before from to ≡ true)
-    ⊎ ((facts.returns ≡ true) × (facts.range ≡ part from to)))
+-- and with this exit in it
+abbrev pub with_exit : List (List ℕ) → (entry exit : ℕ) → List (List ℕ)
+with_exit [] zero exit = (exit ∷ []) ∷ []
+with_exit [] (suc entry) exit = [] ∷ with_exit [] entry exit
+with_exit (row ∷ table) zero exit = (row ++ exit ∷ []) ∷ table
+with_exit (row ∷ table) (suc entry) exit = row ∷ with_exit table entry exit
+
+abbrev pub with_part : List (List ℕ) → ℕ → Option ℕ → List (List ℕ)
+with_part table entry None = table
+with_part table entry (Some exit) = with_exit table entry exit
+
+-- with the range of these facts, where it returns
+abbrev pub with_facts : List (List ℕ) → RangeFacts → List (List ℕ)
+with_facts table facts =
+    if facts.returns then with_part table facts.range.entry facts.range.exit else table
+
+-- the table of the ranges that return
+abbrev pub table_by : List RangeFacts → List (List ℕ)
+table_by = fold with_facts []
 
 -- the summary has this range, and it returns
 abbrev pub Returns : List RangeFacts → ℕ → ℕ → Type 0
@@ -43,5 +60,6 @@ range_at ranges number = or_main (slice_get ranges number)
 -- which ranges return, and the order in which they stand
 pub record IsPlanOf (ranges : List RangeFacts) (returning : List (List ℕ)) (order : List Range)
     : Type 0 where
+  pub table : returning ≡ table_by ranges
   pub names : NamesReturning ranges returning
   pub stands : order ≡ map (range_at ranges) (order_of (calls_of ranges))

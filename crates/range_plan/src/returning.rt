@@ -1,19 +1,17 @@
 //! The table of the ranges that return.
 
-ghost use Rattle.std.specs.Prelude.{ℕ, ◌≡◌, ◌<◌, length, IfOk, OnOk};
-ghost use Rattle.cut_lists.specs.Told.{returns_by};
-ghost use Rattle.range_plan.specs.Planned.{AddsRange, AddsFacts, NamesReturning};
+ghost use Rattle.std.specs.Prelude.{◌≡◌, ◌<◌, length, IfOk, OnOk};
+ghost use Rattle.range_plan.specs.Planned.{NamesReturning, lengthened, with_exit, with_facts, table_by};
 
 use cob_base::{Items, NoMemory};
 use pending_returns::RangeFacts;
 use std::alloc::Global;
 
 /// Lengthens the table to this entry, where it is shorter.
-#[tactic(auto, using(crate::proofs::Tabling::grown))]
+#[tactic(auto, using(crate::proofs::Tabling::longer, crate::proofs::Tabling::long_enough))]
 pub fn lengthen(alloc: Global, table: &mut Vec<Items<u32>>, entry: u32) -> Result<(), NoMemory>
-    ensures same { OnOk result ((from to : ℕ) →
-        returns_by table.new.items from to ≡ returns_by table.old.items from to) }
     ensures long { OnOk result (entry < length table.new.items) }
+    ensures is { OnOk result (table.new.items ≡ lengthened table.old.items entry) }
 {
     let end = entry as usize + 1;
     for at in table.len()..end {
@@ -29,7 +27,7 @@ pub fn add_exit(
     entry: u32,
     exit: u32,
 ) -> Result<(), NoMemory>
-    ensures { OnOk result (AddsRange table.old.items entry exit table.new.items) }
+    ensures { OnOk result (table.new.items ≡ with_exit table.old.items entry exit) }
 {
     lengthen(alloc, table, entry)?;
     table[entry as usize].push(exit)?;
@@ -37,13 +35,12 @@ pub fn add_exit(
 }
 
 /// Adds the range of these facts, where it returns.
-#[tactic(auto, using(crate::proofs::Tabling::adds_none, crate::proofs::Tabling::adds_main, crate::proofs::Tabling::adds_part))]
 pub fn add_facts(
     alloc: Global,
     table: &mut Vec<Items<u32>>,
     facts: &RangeFacts,
 ) -> Result<(), NoMemory>
-    ensures { OnOk result (AddsFacts table.old.items facts.now table.new.items) }
+    ensures { OnOk result (table.new.items ≡ with_facts table.old.items facts.now) }
 {
     if !facts.returns {
         return Ok(());
@@ -55,9 +52,10 @@ pub fn add_facts(
 }
 
 /// For each entry the exits of the ranges that return, as far as there are any.
-#[tactic(auto, using(crate::proofs::Tabling::names_none, crate::proofs::Tabling::names_more, crate::proofs::Tabling::names_all))]
+#[tactic(auto, using(crate::proofs::Tabling::named_by))]
 pub fn returning_of(alloc: Global, ranges: &[RangeFacts]) -> Result<Items<Items<u32>>, NoMemory>
-    ensures { IfOk result (λ table. NamesReturning ranges.now table) }
+    ensures names { IfOk result (λ table. NamesReturning ranges.now table) }
+    ensures is { IfOk result (λ table. table ≡ table_by ranges.now) }
 {
     let mut table = Vec::new(alloc);
     for at in 0..ranges.len() {

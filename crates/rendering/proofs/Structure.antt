@@ -43,7 +43,7 @@ module _ (Such : ℕ → ℕ → Type 0) (nothing : Simple) where
   nests-arm : (empty : Empty) (was_given : Bool) (stmts : Stmts) (others : Arms) → StmtsNest Such stmts → ArmsNest Such others → ArmsNest Such (written_arm nothing empty was_given stmts others)
   nests-arm empty was_given (also stmt stmts) others h g = (h, g)
   nests-arm Continues was_given none others h g = ((tt, tt), g)
-  nests-arm Stays true none others h g = (tt, g)
+  nests-arm Stays true none others h g = ((tt, tt), g)
   nests-arm Stays false none others h g = g
   nests-arm Goes was_given none others h g = g
 

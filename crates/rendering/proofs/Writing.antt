@@ -113,7 +113,7 @@ module _ {Memory Other Left World : Type 0} (acting : Acting Memory) (left : Mem
   eased-arm : (empty : Empty) (was_given : Bool) (stmts : Stmts) (others : Arms) (rest plain : List Item) → before stmts rest ≡ plain → Eased (before_arm (written_arm naming.nothing empty was_given stmts others) 0 rest) plain
   eased-arm empty was_given (also stmt stmts) others rest plain e = inl e
   eased-arm Continues was_given none others rest plain e = inr (ap (λ r. Do (language.Do (Own naming.nothing)) ∷ r) e)
-  eased-arm Stays true none others rest plain e = inl e
+  eased-arm Stays true none others rest plain e = inr (ap (λ r. Do (language.Do (Own naming.nothing)) ∷ r) e)
   eased-arm Stays false none others rest plain e = inl e
   eased-arm Goes was_given none others rest plain e = inl e
 

@@ -1,17 +1,17 @@
 -- The nodes of a range of a source that may be written may be written.
-use Rattle.std.proofs.Common.{ℕ, suc, ◌+◌, Bool, true, false, if◌then◌else◌, nat_eq, List, [], ◌∷◌, Option, Some, None}
+use Rattle.std.proofs.Common.{◌≡◌, ℕ, suc, ◌+◌, Bool, true, false, if◌then◌else◌, nat_eq, List, [], ◌∷◌, Option, Some, None, inl, inr, sym, subst}
 use Rattle.std.specs.Prelude.{slice_get, length}
-use Rattle.language.specs.Language.{Paragraph, Program, Range, Main, Part}
+use Rattle.language.specs.Language.{Act, Do, Stmts, none, also, Paragraph, Program, Range, Main, Part}
 use Rattle.control.specs.Graph.{Tree, End, Return}
-use Rattle.lowering.specs.Told.{Told, IsSource, OwnParagraph, OwnParagraphs}
-use Rattle.lowering.specs.Completes.{cuts, leave_sentence, sizes}
-use Rattle.lowering.specs.Lower.{Node, nodes, fall_leaf, end_leaf, Leaving, leaving_at}
+use Rattle.lowering.specs.Told.{Told, IsSource, OwnStmts, OwnParagraph, OwnParagraphs}
+use Rattle.lowering.specs.Completes.{cuts, leave_sentence, sizes, skips}
+use Rattle.lowering.specs.Lower.{Node, nodes, build, push, fall_leaf, end_leaf, Leaving, leaving_at}
 use Rattle.lowering.specs.Rests.{Rest, Sent, rest_from, leaf_of, leaving_of, tree_of, after_loop, at_loop}
 use Rattle.lowering.specs.Lowered.{total, place_in, nodes_left, nodes_from, nodes_of}
 use Rattle.rendering.specs.Rendering.{Naming}
 use Rattle.rendering.specs.Procedures.{Writable}
-use Rattle.served_graphs.specs.Served.{ParagraphIsServed, ParagraphsAreServed, ProgramIsServed}
-use Rattle.served_graphs.proofs.Built.{IsFine, IsEnd, AllFine, all-append, leaf-fine, build-fine, nodes-fine}
+use Rattle.served_graphs.specs.Served.{SentenceIsServed, ParagraphIsServed, ParagraphsAreServed, ProgramIsServed}
+use Rattle.served_graphs.proofs.Built.{IsFine, IsEnd, AllFine, LeavingFine, all-append, leaf-fine, build-fine, nodes-fine}
 
 module _ (naming : Naming) (kinds : Writable) (told : Told) (range : Range) (program : Program) where
   abbrev places : ℕ → ℕ
@@ -28,6 +28,27 @@ module _ (naming : Naming) (kinds : Writable) (told : Told) (range : Range) (pro
 
   abbrev pub EachFine : List Node → Type 0
   EachFine xs = AllFine naming kinds told range count places xs
+
+  -- ---- sentences
+
+  idle-fine : (act : Act) (n : ℕ) (leaving : Leaving) (after : End) (behind : Tree) → skips told act ≡ true → Fine behind →
+      Fine (build told places (also (Do act) none) n leaving after behind)
+  idle-fine act n leaving after behind idle f =
+      subst (λ b. Fine (if b then behind else push told places (Do act) behind)) (sym idle) f
+
+  sentence-fine : (s : Stmts) (n : ℕ) (leaving : Leaving) (after : End) (behind : Tree) → OwnStmts told count s → SentenceIsServed naming kinds told range s →
+      LeavingFine naming kinds told range count places leaving → E after → Fine behind → Fine (build told places s n leaving after behind)
+  sentence-fine s n leaving after behind own (inl c) ws wa f = build-fine naming kinds told range count places s n leaving after behind own c ws wa f
+  sentence-fine s n leaving after behind own (inr idle) ws wa f =
+      subst (λ ss. Fine (build told places ss n leaving after behind)) (sym idle.1) (idle-fine idle.0 n leaving after behind idle.2 f)
+
+  sentence-nodes-fine : (s : Stmts) (n : ℕ) (leaving : Leaving) (after : End) (behind : Tree) → OwnStmts told count s → SentenceIsServed naming kinds told range s →
+      LeavingFine naming kinds told range count places leaving → E after → Fine behind → EachFine (nodes told places s n leaving after behind)
+  sentence-nodes-fine s n leaving after behind own (inl c) ws wa f = nodes-fine naming kinds told range count places s n leaving after behind own c ws wa f
+  sentence-nodes-fine s n leaving after behind own (inr idle) ws wa f =
+      subst (λ ss. EachFine (nodes told places ss n leaving after behind)) (sym idle.1) (idle-fine idle.0 n leaving after behind idle.2 f, tt)
+
+  -- ---- paragraphs
 
   -- the ends of paragraphs may be written
   abbrev ParagraphFine : Leaving → Type 0
@@ -60,7 +81,7 @@ module _ (naming : Naming) (kinds : Writable) (told : Told) (range : Range) (pro
       let holds = leave_sentence (cuts told s) in
       let r = rest_from told (n + sizes s) ss in
       let wl = left-leaf-fine end (n + sizes s) ss w in
-      build-fine naming kinds told range count places s n (leaving_of told places end (Sent holds r)) (leaf_of told places end r) (tree_of told places end (Sent holds r)) own.0 c.0 (left-leaving-fine end (n + sizes s) ss wl w) wl
+      sentence-fine s n (leaving_of told places end (Sent holds r)) (leaf_of told places end r) (tree_of told places end (Sent holds r)) own.0 c.0 (left-leaving-fine end (n + sizes s) ss wl w) wl
       (sent-fine end holds r wl (left-tree-fine end (n + sizes s) ss own.1 c.1 w))
 
   left-fine : (end : Leaving) (n : ℕ) (ss : Paragraph) → OwnParagraph told count ss → ParagraphIsServed naming kinds told range ss → ParagraphFine end → EachFine (nodes_left told program end (rest_from told n ss))
@@ -70,7 +91,7 @@ module _ (naming : Naming) (kinds : Writable) (told : Told) (range : Range) (pro
       let r = rest_from told (n + sizes s) ss in
       let wl = left-leaf-fine end (n + sizes s) ss w in
       all-append naming kinds told range count places (nodes told places s n (leaving_of told places end (Sent holds r)) (leaf_of told places end r) (tree_of told places end (Sent holds r))) (nodes_left told program end r)
-      (nodes-fine naming kinds told range count places s n (leaving_of told places end (Sent holds r)) (leaf_of told places end r) (tree_of told places end (Sent holds r)) own.0 c.0 (left-leaving-fine end (n + sizes s) ss wl w) wl
+      (sentence-nodes-fine s n (leaving_of told places end (Sent holds r)) (leaf_of told places end r) (tree_of told places end (Sent holds r)) own.0 c.0 (left-leaving-fine end (n + sizes s) ss wl w) wl
       (sent-fine end holds r wl (left-tree-fine end (n + sizes s) ss own.1 c.1 w)))
       (left-fine end (n + sizes s) ss own.1 c.1 w)
 

@@ -1,7 +1,8 @@
 -- Which parts of a source program may be written, whatever lowering and the rules make of it.
-use Rattle.std.specs.Prelude.{ℕ, suc, ◌≡◌, true, List, [], ◌∷◌, length}
+use Rattle.std.specs.Prelude.{ℕ, suc, ◌≡◌, ◌⊎◌, true, List, [], ◌∷◌, length}
 use Rattle.language.specs.Language.{Chooser, Act, Own, Set, Take, Lower, Test, Holds, Not, Is, Above, Picker, If, By, ByCell, Control, Times, Until, Varying, Stmt, Do, Choose, Loop, Perform, Go, GoDepending, NextSentence, ExitParagraph, ExitSection, ExitPerform, StopRun, Stmts, none, also, Arms, done, given, missing, Body, Nested, Performed, Paragraph, Program, Range}
 use Rattle.lowering.specs.Told.{Told}
+use Rattle.lowering.specs.Completes.{skips}
 use Rattle.rendering.specs.Rendering.{Naming, count_arms, standing}
 use Rattle.rendering.specs.Procedures.{Writable}
 use Rattle.headline.specs.Chain.{StartsEmpty}
@@ -66,10 +67,18 @@ module _ (naming : Naming) (kinds : Writable) (told : Told) (range : Range) wher
     BodyIsServed (Nested stmts) = StmtsAreServed stmts
     BodyIsServed (Performed entry exit) = Unit {0}
 
+  -- one act that does nothing, which lowering leaves out
+  abbrev pub IsIdle : Stmts → Type 0
+  IsIdle sentence =
+      (act : Act) × (sentence ≡ also (Do act) none) × (skips told act ≡ true)
+
+  abbrev pub SentenceIsServed : Stmts → Type 0
+  SentenceIsServed sentence = StmtsAreServed sentence ⊎ IsIdle sentence
+
   abbrev pub ParagraphIsServed : Paragraph → Type 0
   ParagraphIsServed [] = Unit {0}
   ParagraphIsServed (sentence ∷ sentences) =
-      StmtsAreServed sentence × ParagraphIsServed sentences
+      SentenceIsServed sentence × ParagraphIsServed sentences
 
   abbrev pub ParagraphsAreServed : List Paragraph → Type 0
   ParagraphsAreServed [] = Unit {0}

@@ -38,7 +38,7 @@ use Rattle.whole_counts.specs.Whole.{counts_whole}
 use Rattle.cell_serving.specs.Entries.{added_to}
 use Rattle.cell_serving.specs.Naming.{first_stands}
 use Rattle.cobol_headline.specs.Alike.{IsProper, Writing, naming_of, writable_of}
-use Rattle.served_programs.specs.Fit.{IsFit}
+use Rattle.fit_programs.specs.Fit.{IsFit}
 use Rattle.served_programs.specs.Laws.{KeepsAtEnd}
 use Rattle.served_programs.proofs.Parts.{Takes}
 use Rattle.served_programs.proofs.Walk.{paragraphs-served}

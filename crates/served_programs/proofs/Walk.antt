@@ -1,5 +1,5 @@
 -- Where named parts that count by whole numbers are taken, each statement of a program is served.
-use Rattle.std.proofs.Common.{◌≡◌, ℕ, suc, ◌≤◌, ◌^◌, Bool, true, false, ◌&&◌, List, [], ◌∷◌, map, length, Option, Some, None, is_some, refl, ap, sym, ◌∙◌, subst, arith, ltb-true}
+use Rattle.std.proofs.Common.{◌≡◌, ℕ, suc, ◌≤◌, ◌^◌, Bool, true, false, ◌&&◌, List, [], ◌∷◌, map, length, Option, Some, None, is_some, refl, ap, sym, ◌∙◌, subst, inl, arith, ltb-true}
 use Rattle.std.proofs.lemmas.Bool.{and_parts, false≢true}
 use Rattle.cob_tree.specs.declared.calc.Calc.{Calc}
 use Rattle.cob_tree.specs.declared.calc.Target.{Target}
@@ -28,7 +28,7 @@ use Rattle.named_programs.specs.Named as named
 use Rattle.named_programs.specs.Named.{arm, fit, opening_named, stmt_step, arms_step, when_step, stmt_named, arms_named, when_seen, stmts_named, sentence_named, sentences_named, paragraphs_named}
 use Rattle.named_programs.proofs.Made.{both, made-Display, made-Move, made-SetTrue, made-Opens, made-Closes, made-Write, made-Rewrite, made-Exit, made-Continue}
 use Rattle.whole_counts.specs.Whole.{control_counts_whole, whole_step, whole_arms, whole_when, stmt_counts_whole}
-use Rattle.served_programs.specs.Fit.{few_step, few_arms, few_when, stmt_names_few, arms_name_few, when_names_few}
+use Rattle.fit_programs.specs.Fit.{few_step, few_arms, few_when, stmt_names_few, arms_name_few, when_names_few}
 use Rattle.served_programs.proofs.Parts.{Takes, test-taken, move-taken, alone-named, arith-taken, TurnsTaken, control-taken}
 
 module _ (naming : Naming) (kinds : Writable) (told : Told) (range : language.Range) (counts : Counts) (entries : List Entry) (takes : Takes naming kinds told range counts entries) where
@@ -328,7 +328,7 @@ module _ (naming : Naming) (kinds : Writable) (told : Told) (range : language.Ra
         let s = and_parts (is_filled sentence.stmts) (stmts_named counts sentence.stmts) h.0 in
         let k = and_parts (all_whole sentence.stmts) (all (map (λ sentence. all (map (stmt_counts_whole entries) sentence.stmts)) sentences)) f in
         let l = and_parts (all_few sentence.stmts) (all (map (λ sentence. all (map stmt_names_few sentence.stmts)) sentences)) g in
-        (list-served sentence.stmts s.1 k.0 l.0, sentences-served sentences h.1 k.1 l.1)
+        (inl (list-served sentence.stmts s.1 k.0 l.0), sentences-served sentences h.1 k.1 l.1)
 
   -- ---- paragraphs
 

@@ -27,7 +27,7 @@ use Rattle.named_programs.specs.Part as part
 use Rattle.named_programs.proofs.Made.{both}
 use Rattle.whole_counts.specs.Whole.{is_whole_picture, is_whole_entry, place_is_whole, amount_is_whole_by, amount_is_whole}
 use Rattle.cell_serving.specs.Tested.{is_whole_form, is_whole_area, is_whole_place, is_amount_by, is_amount}
-use Rattle.served_programs.specs.Fit.{sign_fits, entry_fits}
+use Rattle.fit_programs.specs.Fit.{sign_fits, entry_fits}
 use Rattle.served_programs.proofs.Areas.{AreaFits, area-of}
 
 -- ---- an item

@@ -14,7 +14,7 @@ use Rattle.served_graphs.specs.Served.{ProgramIsServed}
 use Rattle.served_graphs.specs.Laws.{CountersAreServed}
 use Rattle.whole_counts.specs.Whole.{counts_whole}
 use Rattle.cobol_headline.specs.Alike.{IsProper, Writing, naming_of, writable_of}
-use Rattle.served_programs.specs.Fit.{IsFit}
+use Rattle.fit_programs.specs.Fit.{IsFit}
 
 -- where it is empty, the first arm of a READ continues if the source has AT END, and else it goes
 abbrev pub KeepsAtEnd : Writing → Type 0

@@ -18,7 +18,7 @@ use Rattle.choice_writing.specs.Choices.{IsIf, IsRead, IsArith}
 use Rattle.choice_writing.specs.Owning.{OwnTurns}
 use Rattle.cell_serving.specs.Naming.{first_stands}
 use Rattle.choice_writing.specs.Written.{Way, naming_in, written, all_written, or_nothing, written_if_any}
-use Rattle.choice_writing.proofs.ChoiceRows.{continues_is}
+use Rattle.choice_writing.proofs.ChoiceRows.{continues_is, stays_is}
 
 module _ (way : Way) where
   -- Parts without a word on an added item.
@@ -180,25 +180,28 @@ module _ (way : Way) where
       ∙ ap (written way) (sym (seen_read 0 file into arms))
 
   arith_choice : (calc : Calc) (into : List Target) (first second : Option language.Stmts) → (is_some first || is_some second) ≡ true →
-      language.Choose (language.By (language.Arith calc into)) (put_arm Continues (arm_is first) (put_arm Goes (arm_is second) language.done))
+      language.Choose (language.By (language.Arith calc into)) (put_arm (if_had (is_some first)) (arm_is first) (put_arm Goes (arm_is second) language.done))
       ≡ written way (arith_stmt calc into (record { first = first; second = second }))
   arith_choice calc into None None h = absurd (let e : false ≡ true = h in cc)
   arith_choice calc into None (Some second) h = refl
-  arith_choice calc into (Some first) None h = refl
-  arith_choice calc into (Some first) (Some second) h = refl
+  arith_choice calc into (Some first) None h =
+      ap (language.Choose (language.By (language.Arith calc into))) (stays_is (all_written way first) (language.missing language.done))
+  arith_choice calc into (Some first) (Some second) h =
+      ap (language.Choose (language.By (language.Arith calc into))) (stays_is (all_written way first) (put_arm Goes (all_written way second) language.done))
 
   pub arith_row : (calc : Calc) (into : List Target) (arms : Arms) (first second : List Stmt) (made : Stmt) →
       (is_some (out-Arms arms).first || is_some (out-Arms arms).second) ≡ true →
       seen_stmts 0 first ≡ written_if_any way (out-Arms arms).first → seen_stmts 0 second ≡ written_if_any way (out-Arms arms).second →
-      IsArith calc into (seen_stmts 0 first) (seen_stmts 0 second) made → seen 0 made ≡ written way (seen 0 (Arith calc into arms))
+      IsArith calc into (is_some (out-Arms arms).first) (seen_stmts 0 first) (seen_stmts 0 second) made → seen 0 made ≡ written way (seen 0 (Arith calc into arms))
   arith_row calc into arms first second made h f s is =
       let one = (out-Arms arms).first in
       let two = (out-Arms arms).second in
-      let whole : language.Stmts → language.Stmts → language.Stmt =
-      λ a b. language.Choose (language.By (language.Arith calc into)) (put_arm Continues a (put_arm Goes b language.done)) in
+      let whole : Bool → language.Stmts → language.Stmts → language.Stmt =
+      λ had a b. language.Choose (language.By (language.Arith calc into)) (put_arm (if_had had) a (put_arm Goes b language.done)) in
       is
-      ∙ ap (λ a. whole a (seen_stmts 0 second)) (f ∙ any_is one)
-      ∙ ap (whole (arm_is (seen_if_any 0 one))) (s ∙ any_is two)
+      ∙ ap (λ a. whole (is_some one) a (seen_stmts 0 second)) (f ∙ any_is one)
+      ∙ ap (whole (is_some one) (arm_is (seen_if_any 0 one))) (s ∙ any_is two)
+      ∙ ap (λ had. whole had (arm_is (seen_if_any 0 one)) (arm_is (seen_if_any 0 two))) (some_seen one)
       ∙ arith_choice calc into (seen_if_any 0 one) (seen_if_any 0 two)
       (ap (λ b. b || is_some (seen_if_any 0 two)) (sym (some_seen one)) ∙ ap (λ b. is_some one || b) (sym (some_seen two)) ∙ h)
       ∙ ap (λ both. written way (arith_stmt calc into both)) (sym (seen_both_is 0 arms))

@@ -47,8 +47,8 @@ abbrev pub IsOwnEvaluate : Subject → Result Branches NoMemory → (has_other :
 IsOwnEvaluate subject branches has_other made = (both : Branches) × (branches ≡ Ok both)
     × IsBySubject subject both.whens has_other both.other made
 
-abbrev pub has_end : Arms → Bool
-has_end arms = is_some (out-Arms arms).first
+abbrev pub has_first : Arms → Bool
+has_first arms = is_some (out-Arms arms).first
 
 abbrev pub has_phrases : Arms → Bool
 has_phrases arms = is_some (out-Arms arms).first || is_some (out-Arms arms).second

@@ -4,7 +4,7 @@ ghost use Rattle.std.specs.Prelude.{◌≡◌, Ok, IfOk, OnOk};
 ghost use Rattle.cob_tree.specs.declared.stmt.Stmt.TheVariants as stmts_as;
 ghost use Rattle.language.specs.Control.{arith_alone};
 ghost use Rattle.choice_writing.specs.Written.{IsWritten, AreWritten, AreRequired, IsArmWritten, AreWhensWritten, IsWrittenAlike};
-ghost use Rattle.stmt_writing.specs.Arms.{IsWhenWritten, ArePairWritten, IsOwnIf, IsTestIf, IsOwnEvaluate, IsBySubject, HasPhrases, has_phrases, has_end};
+ghost use Rattle.stmt_writing.specs.Arms.{IsWhenWritten, ArePairWritten, IsOwnIf, IsTestIf, IsOwnEvaluate, IsBySubject, HasPhrases, has_phrases, has_first};
 
 use choice_writing::{
     Placed, arith_stmt, evaluate_stmt, if_stmt, is_own_arith, is_own_move, is_own_subject,
@@ -377,8 +377,8 @@ fn test_if(cond: Cond, yes: Items<Stmt>, no: Items<Stmt>) -> Result<Stmt, NoMemo
     }
 }
 
-fn has_end(arms: &Arms) -> bool
-    ensures { result ≡ has_end arms.now }
+fn has_first(arms: &Arms) -> bool
+    ensures { result ≡ has_first arms.now }
 {
     arms.first.is_some()
 }
@@ -393,7 +393,7 @@ fn write_read(
 ) -> Result<Stmt, NoMemory>
     ensures { IfOk result (λ made. IsWritten places.now (stmts_as.Read file into arms) made) }
 {
-    let stands = has_end(&arms);
+    let stands = has_first(&arms);
     match write_pair(alloc, arms, places) {
         Ok(Pair { first, second }) => read_stmt(file, into, first, second, stands),
         Err(fault) => {
@@ -414,8 +414,9 @@ fn write_phrases(
     ensures { IfOk result
         (λ made. HasPhrases arms → IsWritten places.now (stmts_as.Arith calc into arms) made) }
 {
+    let stands = has_first(&arms);
     match write_pair(alloc, arms, places) {
-        Ok(Pair { first, second }) => arith_stmt(calc, into, first, second),
+        Ok(Pair { first, second }) => arith_stmt(calc, into, first, second, stands),
         Err(fault) => {
             drop(calc);
             drop(into);

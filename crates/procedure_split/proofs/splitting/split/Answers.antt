@@ -2,7 +2,7 @@ use Rattle.std.proofs.Common.{ap, sym, subst, ◌∙◌, length}
 use Rattle.cut_lists.specs.Told.{told_of}
 use Rattle.language.specs.Control.{control_of}
 use Rattle.procedure_split.proofs.Planning.{as-many, ranges-are, too-deep, too-large}
-use Rattle.procedure_split.specs.Written.{IsWrittenFrom}
+use Rattle.procedure_split.specs.Written.{IsWrittenWith}
 use Rattle.procedure_split.proofs.splitting.split.Goals as goal
 
 pub lower_ranges-requires-clause-ranges : goal.lower_ranges-requires-clause-ranges
@@ -24,20 +24,25 @@ pub returns-in-Ok-made : goal.returns-in-Ok-made
 returns-in-Ok-made c =
     let program = c.args.program.now in
     let made = c.in-Ok-made.made in
+    let written : IsWrittenWith program c.in_ok-plan.plan.order c.in-Ok-shape_all.closed.items made =
+    subst (λ o. IsWrittenWith program o c.in-Ok-shape_all.closed.items made)
+    c.as_slice.ensures
+    (subst (λ l. IsWrittenWith program c.as_slice.result.now l made)
+    c.as_slice-in-Ok-shape_all.ensures.value c.in-Ok-made.ensures) in
     record {
-      plan = record {
-        returning = c.in_ok-plan.plan.returning;
-        order = c.in_ok-plan.plan.order;
-        is = c.in_ok-plan.ensures;
+      is = record {
+        plan = record {
+          returning = c.in_ok-plan.plan.returning;
+          order = c.in_ok-plan.plan.order;
+          is = c.in_ok-plan.ensures;
+        };
+        graphs = c.in-Ok.graphs.items;
+        lowered = c.in-Ok.ensures.lowered;
+        closed = c.in-Ok-shape_all.closed.items;
+        shaped = c.in-Ok-shape_all.ensures;
+        written = written.written;
       };
-      graphs = c.in-Ok.graphs.items;
-      lowered = c.in-Ok.ensures.lowered;
-      closed = c.in-Ok-shape_all.closed.items;
-      shaped = c.in-Ok-shape_all.ensures;
-      written = subst (λ o. IsWrittenFrom program o c.in-Ok-shape_all.closed.items made)
-          c.as_slice.ensures
-          (subst (λ l. IsWrittenFrom program c.as_slice.result.now l made)
-          c.as_slice-in-Ok-shape_all.ensures.value c.in-Ok-made.ensures);
+      added = written.added;
     }
 
 pub returns-in-Ok : goal.returns-in-Ok

@@ -76,21 +76,22 @@ pub write_phrases-returns-in-Ok : goal.write_phrases-returns-in-Ok
 write_phrases-returns-in-Ok t c =
     let first = c.in-Ok.field-0.first in
     let second = c.in-Ok.field-0.second in
-    if_ok c.arith_stmt.result (IsArith c.args.calc c.args.into (seen_stmts 0 first) (seen_stmts 0 second))
+    if_ok c.arith_stmt.result (IsArith c.args.calc c.args.into c.has_first-stands.result (seen_stmts 0 first) (seen_stmts 0 second))
     (λ made. HasPhrases c.args.arms → IsWritten c.args.places.now (Arith c.args.calc c.args.into c.args.arms) made)
     (λ made h has way placed. arith_row way c.args.calc c.args.into c.args.arms first second made has
-    (c.in-Ok.ensures way placed).first_is (c.in-Ok.ensures way placed).second_is h)
+    (c.in-Ok.ensures way placed).first_is (c.in-Ok.ensures way placed).second_is
+    (subst (λ stands. IsArith c.args.calc c.args.into stands (seen_stmts 0 first) (seen_stmts 0 second) made) c.has_first-stands.ensures h))
     c.arith_stmt.ensures
 
 pub write_read-returns-in-Ok : goal.write_read-returns-in-Ok
 write_read-returns-in-Ok t c =
     let first = c.in-Ok.field-0.first in
     let second = c.in-Ok.field-0.second in
-    if_ok c.read_stmt.result (IsRead c.args.file c.args.into c.has_end-stands.result (seen_stmts 0 first) (seen_stmts 0 second))
+    if_ok c.read_stmt.result (IsRead c.args.file c.args.into c.has_first-stands.result (seen_stmts 0 first) (seen_stmts 0 second))
     (IsWritten c.args.places.now (Read c.args.file c.args.into c.args.arms))
     (λ made h way placed. read_row way c.args.file c.args.into c.args.arms first second made
     (c.in-Ok.ensures way placed).first_is (c.in-Ok.ensures way placed).second_is
-    (subst (λ stands. IsRead c.args.file c.args.into stands (seen_stmts 0 first) (seen_stmts 0 second) made) c.has_end-stands.ensures h))
+    (subst (λ stands. IsRead c.args.file c.args.into stands (seen_stmts 0 first) (seen_stmts 0 second) made) c.has_first-stands.ensures h))
     c.read_stmt.ensures
 
 pub write_stmt-returns-in-If : goal.write_stmt-returns-in-If

@@ -1,0 +1,4 @@
+-- What all rules keep of cells.
+pub mod Kept
+-- What the table has of a counter.
+pub mod Served

@@ -1,0 +1,2 @@
+-- What is stated of the counters of graphs.
+pub mod Laws

@@ -1,0 +1,2 @@
+-- a whole program
+pub mod Alone

@@ -1,0 +1,2 @@
+-- A whole program, of no more tokens than their limit.
+pub mod Few

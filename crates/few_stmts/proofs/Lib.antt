@@ -1,0 +1,10 @@
+-- What is made of parts that name few paragraphs.
+pub mod Made
+-- What the makers of forms give of few tokens.
+pub mod Giving
+-- Statements that hold no others.
+pub mod Simple
+-- Statements that hold others.
+pub mod Holding
+-- Sentences, paragraphs and the division.
+pub mod Paragraphs

@@ -1,0 +1,16 @@
+//! How many paragraphs statements name. This function does nothing; its contract is a law.
+
+ghost use Rattle.std.specs.Prelude.{ℕ, ◌≡◌, ◌<◌, ◌^◌, true};
+ghost use Rattle.few_stmts.specs.Giving.{GivesOfFew};
+ghost use Rattle.few_stmts.specs.Paragraph.{paragraphs_name_few};
+ghost use Rattle.stmt_forms.specs.Laws.{PartsAreLawful};
+ghost use Rattle.stmt_forms.specs.Paragraph.{division};
+
+use stmt_forms::Made;
+
+/// Where the tokens that are left can be counted with 18 digits, each GO TO DEPENDING of a division
+/// that is read of them names fewer than 10^18 paragraphs.
+pub fn statements_name_few<Side, Known, M: Made<Side, Known>>()
+    ensures { (bound : ℕ) → bound < 10 ^ 18 → PartsAreLawful M.parts →
+        GivesOfFew bound (division M.parts) (λ found. paragraphs_name_few found ≡ true) }
+{}

@@ -1,0 +1,2 @@
+-- What is asked of a program.
+pub mod Fit

@@ -1,0 +1,4 @@
+-- Entries and files of named programs.
+pub mod Named
+-- Programs that are read.
+pub mod Read

@@ -1,0 +1,2 @@
+-- sentences of EXIT alone
+pub mod Alone

@@ -1,0 +1,2 @@
+-- What holds of split programs.
+pub mod Laws

@@ -1,0 +1,2 @@
+-- What holds of summaries.
+pub mod Laws

@@ -1,0 +1,9 @@
+use Rattle.std.proofs.Common.{◌≡◌, drop, map}
+use Rattle.cell_table.specs.Names.{item_kind}
+use Rattle.procedure_split.specs.Counted.{counted_on, counts_of}
+use Rattle.procedure_split.proofs.counting.counts_of.Given as goal
+
+abbrev pub invariant-loop-item : goal.invariant-loop-item
+invariant-loop-item l =
+    counted_on l.counts (map item_kind (drop l.item-index l.added))
+    ≡ counts_of (map item_kind l.added)

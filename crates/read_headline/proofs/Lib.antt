@@ -1,0 +1,2 @@
+-- what is read is as splitting asks
+pub mod WellMade

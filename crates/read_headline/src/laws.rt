@@ -1,0 +1,21 @@
+//! What holds of programs that are read.
+
+ghost use Rattle.read_headline.specs.Laws.{ProgramsThatAreReadAreWellMade, ProgramsThatAreReadBehaveAlike, ProgramsThatAreReadAreStructured};
+
+/// A program that is read is as splitting asks.
+pub fn programs_that_are_read_are_well_made()
+    ensures { ProgramsThatAreReadAreWellMade }
+{}
+
+/// So where its flow has no fault, what it is split into is structured, and behaves as the program
+/// over all files.
+pub fn programs_that_are_read_behave_alike()
+    ensures { ProgramsThatAreReadBehaveAlike }
+{}
+
+/// And what it is split into is a structured program of the tree: procedures with names, in no
+/// section, of one sentence without a jump or an EXIT, each but the first performed from an earlier
+/// one, and STOP RUN last in the first.
+pub fn programs_that_are_read_are_structured()
+    ensures { ProgramsThatAreReadAreStructured }
+{}

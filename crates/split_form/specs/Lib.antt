@@ -1,0 +1,2 @@
+-- what a program is split into is structured
+pub mod Laws
