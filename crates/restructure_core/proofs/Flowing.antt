@@ -1,6 +1,5 @@
 -- What is found of a program's flow.
-use Rattle.std.proofs.Common.{◌≡◌, Option, Some, None, sym, subst}
-use Rattle.std.specs.Prelude.{MatchOption}
+use Rattle.std.proofs.Common.{◌≡◌, ℕ, List, sym, subst}
 use Rattle.cob_tree.specs.declared.fault.SplitFault.{SplitFault}
 use Rattle.cob_tree.specs.declared.fault.SplitFault.TheVariants as split
 use Rattle.cob_tree.specs.declared.program.Program.{Program}
@@ -8,22 +7,32 @@ use Rattle.language.specs.Control.{control_of}
 use Rattle.flow_paths.specs.declared.trail.Trail.{Trail}
 use Rattle.flow_paths.proofs.Showing.{accepted-faulty}
 use Rattle.flow_numbers.specs.Kinds.{never_first_of}
-use Rattle.pending_returns.specs.Summary.{IsWithin, IsPast}
+use Rattle.pending_returns.specs.declared.facts.Summary.{Summary}
+use Rattle.pending_returns.specs.Summary.{IsSummary, IsWithin, IsPast}
 use Rattle.restructure_core.specs.declared.fault.Refused.{Refused}
-use Rattle.restructure_core.specs.Flow.{HasFlowFault, IsTrailOf, IsFaultless, IsFaultyBy, IsFlowRefusal}
+use Rattle.restructure_core.specs.Flow.{HasFlowFault, IsTrailOf, IsFaultyBy, IsFlowRefusal}
+use Rattle.restructure_core.specs.Made.{IsClear}
 use Rattle.restructure_core.specs.Refusals.{of_split_fault}
 
-pub flow_found : (program : Program) (found : Option Trail) → IsWithin program → MatchOption found (HasFlowFault program → ⊥) (λ trail. IsTrailOf program trail) → MatchOption found (IsFaultless program) (λ trail. IsFaultyBy program trail)
-flow_found program None within h = record { within = within; never = h }
-flow_found program (Some trail) within h = record {
+pub clear_flow : (program : Program) (summary : Summary) → IsWithin program →
+    IsSummary (never_first_of program.files) (control_of program) summary →
+    (HasFlowFault program → ⊥) → IsClear program summary
+clear_flow program summary within is never =
+    record { faultless = record { within = within; never = never }; is = is }
+
+pub faulty_flow : (program : Program) (trail : Trail) → IsWithin program →
+    IsTrailOf program trail → IsFaultyBy program trail
+faulty_flow program trail within h = record {
   within = within;
   faulty = accepted-faulty (never_first_of program.files) (control_of program) trail h.accepted;
   shown = h;
 }
 
-past : (program : Program) (fault : SplitFault) → IsPast program fault → IsFlowRefusal program (of_split_fault fault)
+past : (program : Program) (fault : SplitFault) → IsPast program fault →
+    IsFlowRefusal program (of_split_fault fault)
 past program (split.Limit limit) h = h
 past program split.NoMemory h = tt
 
-pub flow_past : (program : Program) (fault : SplitFault) (why : Refused) → why ≡ of_split_fault fault → IsPast program fault → IsFlowRefusal program why
+pub flow_past : (program : Program) (fault : SplitFault) (why : Refused) →
+    why ≡ of_split_fault fault → IsPast program fault → IsFlowRefusal program why
 flow_past program fault why is h = subst (IsFlowRefusal program) (sym is) (past program fault h)

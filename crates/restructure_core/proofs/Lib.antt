@@ -1,24 +1,16 @@
 -- In reading order.
--- marks of the paragraphs that were seen
-pub mod Marks
--- what is left of a paragraph, and the way of control
-pub mod Leaves
-pub mod Following
--- a way that never comes back ends
-pub mod Pigeons
-pub mod Walked
-pub mod Along
-pub mod Onward
--- what is rendered is structured, and behaves as the source
-pub mod Structured
-pub mod Nested
-pub mod Alike
--- what the answer to a program tells of the bytes
-pub mod ReadSome
+-- what is found of a program's flow
 pub mod Flowing
+-- a program that is read is well made, and so is what it is split into
+pub mod ReadSome
+pub mod ReadWell
+pub mod Behaving
+-- what the answer to a program tells of the bytes
+pub mod Limits
 pub mod Answering
--- a plain program has no fault of flow
-pub mod PlainFlow
+-- a program has one report, and one result
+pub mod OneReport
 -- one answer is due, but for the trail
 pub mod Ranges
+pub mod OneResult
 pub mod OneAnswer

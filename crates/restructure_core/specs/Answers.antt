@@ -2,26 +2,25 @@
 use Rattle.std.specs.Prelude.{ℕ, ◌≡◌, ◌≢◌, ◌⊎◌, List, Some, None, Result, Ok, Err}
 use Rattle.cob_base.specs.declared.limit.Limit.{Limit}
 use Rattle.cob_tree.specs.declared.program.Program.{Program}
-use Rattle.cob_tree.specs.Structured.{IsStructured}
-use Rattle.meanings.specs.Same.{SameBehaviour}
+use Rattle.struct_form.specs.Structured.{IsStructured}
+use Rattle.cobol_meaning.specs.Same.{SameBehaviour}
 use Rattle.flow_paths.specs.declared.trail.Trail.{Trail}
 use Rattle.pending_returns.specs.Summary.{IsWithin}
+use Rattle.procedure_split.specs.declared.writing.Split.{Split}
+use Rattle.flow_report.specs.Report.{IsReportOf}
+use Rattle.flow_report.specs.declared.report.Report.{Report}
 use Rattle.cobol_read.specs.declared.refusal.ReadRefusal.{ReadRefusal}
 use Rattle.cobol_read.specs.declared.refusal.ReadRefusal.TheVariants as read
 use Rattle.cobol_read.specs.Reading as reading
 use Rattle.cobol_read.specs.Reading.{Reads}
 use Rattle.cobol_print.specs.Program.{printed}
-use Rattle.restructure_core.specs.declared.fault.Later.{Later}
-use Rattle.restructure_core.specs.declared.fault.Later.TheVariants.{Form, Loop}
 use Rattle.restructure_core.specs.declared.fault.Refused.{Refused}
 use Rattle.restructure_core.specs.declared.fault.Refused.TheVariants as refused
-use Rattle.restructure_core.specs.Plain.{IsPlain}
-use Rattle.restructure_core.specs.Control.{ComesBack}
+use Rattle.restructure_core.specs.declared.pipeline.Done.{Done}
 use Rattle.restructure_core.specs.Flow.{PassesRanges, HasFlowFault, IsFaultless, IsFaultyBy}
+use Rattle.restructure_core.specs.Made.{IsMadeOf, PassesBefore}
 use Rattle.restructure_core.specs.Refusals.{of_read_refusal}
-use Rattle.restructure_core.specs.Rendered.{rendered}
-use Rattle.restructure_core.specs.Limit.{result_limit}
-use Rattle.restructure_core.specs.Laws.{IsStraight}
+use Rattle.restructure_core.specs.Limit.{result_limit, text_limit}
 
 -- the bytes aren't read, for a cause that has this refusal
 pub record IsUnread (bytes : List ℕ) (refusal : Refused) : Type 0 where
@@ -47,50 +46,50 @@ pub record IsFaultySourceBy (bytes : List ℕ) (program : Program) (trail : Trai
   pub reads : Reads bytes program
   pub faulty : IsFaultyBy program trail
 
--- why a program isn't restructured yet: it isn't plain, or comes to a paragraph a second time
-abbrev pub IsLater : Program → Later → Type 0
-IsLater program Form = IsPlain program → ⊥
-IsLater program Loop = IsPlain program × ComesBack program
+-- the structured program that a program is split into passes this limit first
+pub record PassesAsResult (program : Program) (limit : Limit) : Type 0 where
+  pub made : Split
+  pub is : IsMadeOf program made
+  pub past : result_limit made.program ≡ Some limit
 
--- the bytes are a program without a fault of flow that isn't restructured yet
-pub record IsNotYet (bytes : List ℕ) (why : Later) : Type 0 where
+-- a program without a fault of flow passes this limit, before it is split or by the result
+abbrev pub PassesLimit : Program → Limit → Type 0
+PassesLimit program limit = PassesBefore program limit ⊎ PassesAsResult program limit
+
+-- the bytes are such a program
+pub record IsPastLimit (bytes : List ℕ) (limit : Limit) : Type 0 where
+  pub program : Program
+  pub reads : Reads bytes program
+  pub passes : PassesLimit program limit
+
+-- the text of the structured program that a program is split into, which passes no limit, and the
+-- program's report
+pub record IsResultOf (program : Program) (done : Done) : Type 0 where
+  pub made : Split
+  pub is : IsMadeOf program made
+  pub within : result_limit made.program ≡ None
+  pub written : done.text ≡ printed made.program
+  pub reported : IsReportOf program is.summary made.added done.report
+
+-- the text is that of a program which is structured and behaves as the program that the bytes are
+pub record IsRestructured (bytes : List ℕ) (done : Done) : Type 0 where
+  pub program : Program
+  pub reads : Reads bytes program
+  pub result : IsResultOf program done
+  pub structured : IsStructured result.made.program
+  pub same : SameBehaviour program result.made.program
+
+-- the report is that of a program which is restructured to some text
+abbrev pub IsReported : List ℕ → Report → Type 0
+IsReported bytes report =
+    (text : List ℕ) × IsRestructured bytes (record { text = text; report = report })
+
+-- the bytes are a program without a fault of flow that passes no limit
+pub record IsAccepted (bytes : List ℕ) : Type 0 where
   pub program : Program
   pub reads : Reads bytes program
   pub faultless : IsFaultless program
-  pub cause : IsLater program why
-
--- what is rendered of a straight program passes this limit first
-pub record PassesAsResult (program : Program) (limit : Limit) : Type 0 where
-  pub straight : IsStraight program
-  pub past : result_limit (rendered program) ≡ Some limit
-
--- the bytes are a program whose result passes a limit
-pub record IsPastResult (bytes : List ℕ) (limit : Limit) : Type 0 where
-  pub program : Program
-  pub reads : Reads bytes program
-  pub passes : PassesAsResult program limit
-
--- the bytes are a plain program that comes to no paragraph a second time, and its result passes no
--- limit
-pub record IsStraightSource (bytes : List ℕ) : Type 0 where
-  pub program : Program
-  pub reads : Reads bytes program
-  pub straight : IsStraight program
-  pub within : result_limit (rendered program) ≡ None
-
--- the text is that of the rendered program, which is structured and behaves as the plain program
--- that the bytes are
-pub record IsRestructured (bytes text : List ℕ) : Type 0 where
-  pub source : IsStraightSource bytes
-  pub written : text ≡ printed (rendered source.program)
-  pub structured : IsStructured (rendered source.program)
-  pub same : SameBehaviour source.program (rendered source.program)
-
--- the text of a straight program whose result passes no limit
-pub record IsTextOf (program : Program) (text : List ℕ) : Type 0 where
-  pub straight : IsStraight program
-  pub within : result_limit (rendered program) ≡ None
-  pub written : text ≡ printed (rendered program)
+  pub within : (limit : Limit) → PassesLimit program limit → ⊥
 
 -- the text of a result that passes no limit, or the limit that it passes first
 abbrev pub IsPrinted : Program → Result (List ℕ) Refused → Type 0
@@ -99,11 +98,17 @@ IsPrinted result (Err (refused.Limit limit)) = result_limit result ≡ Some limi
 IsPrinted result (Err refused.NoMemory) = Unit {0}
 IsPrinted result (Err _) = ⊥
 
+-- the same, of the limits of the text alone
+abbrev pub IsText : Program → Result (List ℕ) Refused → Type 0
+IsText result (Ok text) = (text ≡ printed result) × (text_limit result ≡ None)
+IsText result (Err (refused.Limit limit)) = text_limit result ≡ Some limit
+IsText result (Err refused.NoMemory) = Unit {0}
+IsText result (Err _) = ⊥
+
 -- what is answered of a program without a fault of flow
-abbrev pub IsAnswerTo : Program → Result (List ℕ) Refused → Type 0
-IsAnswerTo program (Ok text) = IsTextOf program text
-IsAnswerTo program (Err (refused.NotYet why)) = IsLater program why
-IsAnswerTo program (Err (refused.Limit limit)) = PassesAsResult program limit
+abbrev pub IsAnswerTo : Program → Result Done Refused → Type 0
+IsAnswerTo program (Ok done) = IsResultOf program done
+IsAnswerTo program (Err (refused.Limit limit)) = PassesLimit program limit
 IsAnswerTo program (Err refused.NoMemory) = Unit {0}
 IsAnswerTo program (Err _) = ⊥
 
@@ -111,9 +116,8 @@ IsAnswerTo program (Err _) = ⊥
 abbrev pub HasCause : List ℕ → Refused → Type 0
 HasCause bytes (refused.NotSubset why) = IsUnread bytes (refused.NotSubset why)
 HasCause bytes (refused.Flow program trail) = IsFaultySourceBy bytes program trail
-HasCause bytes (refused.NotYet why) = IsNotYet bytes why
 HasCause bytes (refused.Limit limit) =
-    IsUnread bytes (refused.Limit limit) ⊎ IsPastRanges bytes limit ⊎ IsPastResult bytes limit
+    IsUnread bytes (refused.Limit limit) ⊎ IsPastRanges bytes limit ⊎ IsPastLimit bytes limit
 HasCause bytes refused.NoMemory = Unit {0}
 
 -- this refusal, unless memory is wanted

@@ -1,10 +1,11 @@
--- The limits of the result. One that is rendered of a plain program can pass no others: no
--- statement of it holds another, and it has no data, no conditions and no expressions.
-use Rattle.std.specs.Prelude.{ℕ, true, nat_lt, if◌then◌else◌, List, length, Option, Some, None}
+-- The limits of the result. How deep it nests is judged as it is made.
+use Rattle.std.specs.Prelude.{ℕ, true, nat_lt, if◌then◌else◌, length, Option, Some, None}
 use Rattle.cob_base.specs.declared.limit.Limit.{Limit}
 use Rattle.cob_base.specs.declared.limit.LimitKind.{LimitKind}
 use Rattle.cob_base.specs.declared.limit.LimitKind.TheVariants as limits
 use Rattle.cob_tree.specs.declared.program.Program.{Program}
+use Rattle.data_sizes.specs.Storage.{storage_limit, storage_of}
+use Rattle.term_sizes.specs.Program.{terms_limit}
 use Rattle.program_units.specs.Division.{program_units}
 use Rattle.cobol_read.specs.Limit.{token_limit}
 use Rattle.cobol_print.specs.Unit.{all_tokens}
@@ -17,6 +18,11 @@ byte_limit = 4194304
 abbrev pub past : LimitKind → (counted limit : ℕ) → Limit
 past kind counted limit =
     record { kind = kind; of_result = true; counted = counted; limit = limit }
+
+-- the first of two, where they are passed
+abbrev pub else_limit : (first second : Option Limit) → Option Limit
+else_limit (Some limit) second = Some limit
+else_limit None second = second
 
 -- the tokens of what is printed of a program
 abbrev pub token_count : Program → ℕ
@@ -32,6 +38,14 @@ first_past tokens bytes =
     else if nat_lt byte_limit bytes then Some (past limits.Bytes bytes byte_limit)
     else None
 
--- the first limit that the result passes
+-- the limit of its text that the result passes
+abbrev pub text_limit : Program → Option Limit
+text_limit result = first_past (token_count result) (byte_count result)
+
+-- that of its items, or else of the terms of a condition or expression
+abbrev pub part_limit : Program → Option Limit
+part_limit result = else_limit (storage_limit true (storage_of result.entries)) (terms_limit result)
+
+-- the first limit that it passes
 abbrev pub result_limit : Program → Option Limit
-result_limit result = first_past (token_count result) (byte_count result)
+result_limit result = else_limit (part_limit result) (text_limit result)

@@ -3,11 +3,8 @@ use Rattle.cob_tree.specs.declared.fault.SplitFault.{SplitFault}
 use Rattle.cob_tree.specs.declared.fault.SplitFault.TheVariants as split
 use Rattle.cobol_read.specs.declared.refusal.ReadRefusal.{ReadRefusal}
 use Rattle.cobol_read.specs.declared.refusal.ReadRefusal.TheVariants as read
-use Rattle.restructure_core.specs.declared.fault.FollowFault.{FollowFault}
-use Rattle.restructure_core.specs.declared.fault.FollowFault.TheVariants as follow
-use Rattle.restructure_core.specs.declared.fault.Later.TheVariants.{Loop}
 use Rattle.restructure_core.specs.declared.fault.Refused.{Refused}
-use Rattle.restructure_core.specs.declared.fault.Refused.TheVariants.{NotSubset, NotYet, Limit, NoMemory}
+use Rattle.restructure_core.specs.declared.fault.Refused.TheVariants.{NotSubset, Limit, NoMemory}
 
 -- a limit and want of memory have refusals of their own
 abbrev pub of_read_refusal : ReadRefusal → Refused
@@ -18,7 +15,3 @@ of_read_refusal other = NotSubset other
 abbrev pub of_split_fault : SplitFault → Refused
 of_split_fault (split.Limit limit) = Limit limit
 of_split_fault split.NoMemory = NoMemory
-
-abbrev pub of_follow_fault : FollowFault → Refused
-of_follow_fault follow.ComesBack = NotYet Loop
-of_follow_fault follow.NoMemory = NoMemory

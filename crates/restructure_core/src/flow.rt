@@ -1,24 +1,37 @@
 //! Whether control of a program comes to a fault, whatever the data.
 
-ghost use Rattle.std.specs.Prelude.{◌<◌, length, IfOk, IfErr, MatchOption};
-ghost use Rattle.restructure_core.specs.Flow.{IsFaultless, IsFaultyBy, IsFlowRefusal};
+ghost use Rattle.std.specs.Prelude.{◌<◌, length, MatchResult};
+ghost use Rattle.restructure_core.specs.Flow.{IsFlowRefusal};
+ghost use Rattle.restructure_core.specs.Made.{IsFlowOf};
 
 use crate::fault::Refused;
 use cob_tree::Program;
 use flow_paths::Trail;
-use pending_returns::summarise;
+use pending_returns::{Summary, summarise};
 use std::alloc::Global;
 use trail_finding::find;
 
-/// A trail, where the program has a fault of flow. Limit where it names too many ranges.
-#[tactic(auto, using(crate::proofs::Flowing::flow_found, crate::proofs::Flowing::flow_past))]
-pub fn flow_of(alloc: Global, program: &Program) -> Result<Option<Trail>, Refused>
+/// What control of a program comes to.
+#[derive(Debug, Drop)]
+pub enum Flow {
+    /// No flow path comes to a fault; the ranges that flow paths perform are these.
+    Clear(Summary),
+    /// One does, as the trail shows.
+    Faulty(Trail),
+}
+
+/// What control of a program comes to. Limit where it names too many ranges.
+#[tactic(auto, using(crate::proofs::Flowing::clear_flow, crate::proofs::Flowing::faulty_flow, crate::proofs::Flowing::flow_past))]
+pub fn flow_of(alloc: Global, program: &Program) -> Result<Flow, Refused>
     requires { 0 < length program.now.paragraphs }
-    ensures found { IfOk result (λ found. MatchOption found (IsFaultless program.now)
-        (λ trail. IsFaultyBy program.now trail)) }
-    ensures refused { IfErr result (λ why. IsFlowRefusal program.now why) }
+    ensures { MatchResult result (IsFlowOf program.now) (IsFlowRefusal program.now) }
 {
     let summary = summarise(alloc, program)?;
-    let found = find(alloc, program, &summary)?;
-    Ok(found)
+    match find(alloc, program, &summary)? {
+        None => Ok(Flow::Clear(summary)),
+        Some(trail) => {
+            drop(summary);
+            Ok(Flow::Faulty(trail))
+        }
+    }
 }

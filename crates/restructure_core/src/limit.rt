@@ -4,14 +4,16 @@ ghost use Rattle.std.specs.Prelude.{◌≡◌, length};
 ghost use Rattle.cob_base.specs.Answers.{Makes};
 ghost use Rattle.cobol_print.specs.Unit.{all_tokens};
 ghost use Rattle.restructure_core.specs.Limit as limits;
-ghost use Rattle.restructure_core.specs.Answers.{IsPrinted};
+ghost use Rattle.restructure_core.specs.Answers.{IsPrinted, IsText};
 
 use crate::fault::Refused;
 use cob_base::{Limit, LimitKind, NoMemory, Text};
 use cob_tree::Program;
 use cobol_print::{PrintUnit, print_units};
+use data_sizes::{storage_limit, storage_of};
 use program_units::program_units;
 use std::alloc::Global;
+use term_sizes::terms_limit;
 
 /// How many tokens the result may have.
 const TOKEN_LIMIT: usize = 500_000;
@@ -20,8 +22,30 @@ const TOKEN_LIMIT: usize = 500_000;
 const BYTE_LIMIT: usize = 4_194_304;
 
 /// The text of a program that is the result, or the first limit that it passes.
+#[tactic(auto, using(crate::proofs::Limits::first_limits, crate::proofs::Limits::text_printed))]
 pub fn print_result(alloc: Global, program: &Program) -> Result<Text, Refused>
     ensures { IsPrinted program.now result }
+{
+    match first_limit(alloc, program)? {
+        Some(limit) => Err(Refused::Limit(limit)),
+        None => print_text(alloc, program),
+    }
+}
+
+/// The limit of items or else of terms that it passes.
+fn first_limit(alloc: Global, program: &Program) -> Result<Option<Limit>, NoMemory>
+    ensures { Makes (limits.part_limit program.now) result }
+{
+    let storage = storage_of(alloc, program.entries.as_slice())?;
+    match storage_limit(true, storage) {
+        Some(limit) => Ok(Some(limit)),
+        None => Ok(terms_limit(program)),
+    }
+}
+
+/// The text, or the limit of it that is passed.
+fn print_text(alloc: Global, program: &Program) -> Result<Text, Refused>
+    ensures { IsText program.now result }
 {
     let units = program_units(alloc, program)?;
     let tokens = token_count(units.as_slice())?;

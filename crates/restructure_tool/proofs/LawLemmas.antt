@@ -1,83 +1,113 @@
 -- At most one answer is due, and what is due comes.
-use Rattle.std.proofs.Common.{◌≡◌, ℕ, ◌+◌, ◌≤◌, List, [], ◌∷◌, length, Option, Some, None, Ok, Err, refl, ap, sym, ◌∙◌, subst, arith, ◌⊎◌, inl, inr, Bool, true, false}
-use Rattle.std.specs.Prelude.{codes, if◌then◌else◌, ◌↔◌}
-use Rattle.std.specs.Str.{bytes_eq}
-use Rattle.std.proofs.lemmas.Slice.Eq.{bytes_eq-Decides}
-use Rattle.std.proofs.lemmas.Option.{none-some}
+use Rattle.std.proofs.Common.{◌≡◌, ℕ, ◌+◌, ◌≤◌, List, length, Option, Some, None, Ok, Err, refl, ap, sym, ◌∙◌, subst, arith, inl, inr}
+use Rattle.std.specs.Prelude.{[], ◌∷◌, ◌≢◌, IsOk}
 use Rattle.std.proofs.Math.ListN.{drop_of_length-le}
 use Rattle.cob_base.specs.Source.{SourceCall}
 use Rattle.cob_base.specs.Sink.{SinkCall}
 use Rattle.cob_tree.specs.declared.program.Program.{Program}
 use Rattle.cobol_read.specs.Limit.{source_limit}
-use Rattle.cobol_print.specs.Program.{printed}
+use Rattle.flow_report.specs.Lines.{report_text}
+use Rattle.restructure_core.specs.declared.fault.Refused.{Refused}
 use Rattle.restructure_core.specs.declared.fault.Refused.TheVariants as refused
-use Rattle.restructure_core.specs.Rendered.{rendered}
+use Rattle.restructure_core.specs.declared.pipeline.Done.{Done}
 use Rattle.flow_paths.specs.declared.trail.Trail.{Trail}
-use Rattle.restructure_core.proofs.OneAnswer.{Outcome, IsAlike, IsDueTo, alike, text-due, cause-due}
-use Rattle.restructure_core.proofs.Structured.{rendering-structured}
-use Rattle.restructure_core.proofs.Alike.{rendering-same}
+use Rattle.restructure_core.specs.Answers.{IsAccepted, HasCause}
+use Rattle.restructure_core.proofs.OneAnswer.{Outcome, IsAlike, IsDueTo, alike, done-due, cause-due, comes-done}
 use Rattle.restructure_tool.specs.declared.ask.Ask.{Ask}
-use Rattle.restructure_tool.specs.declared.ask.Ask.TheVariants.{Restructure}
+use Rattle.restructure_tool.specs.declared.ask.Ask.TheVariants.{Restructure, Report, Check, Run, Generate, Trial}
+use Rattle.restructure_tool.specs.declared.texts.Texts.{Texts}
 use Rattle.restructure_tool.specs.declared.refusal.Refusal.{Refusal}
 use Rattle.restructure_tool.specs.declared.refusal.Refusal.TheVariants as refusal
 use Rattle.restructure_tool.specs.declared.status.Status.{Status}
 use Rattle.restructure_tool.specs.declared.status.Status.TheVariants as status
-use Rattle.restructure_tool.specs.Ask.{ask_of_word}
 use Rattle.restructure_tool.specs.Status.{IsOneOf}
 use Rattle.restructure_tool.specs.Refusal.{status_of}
-use Rattle.restructure_tool.specs.Answer.{Answer, IsUnasked, IsOfRestructure, IsDue, IsAnswered}
+use Rattle.restructure_tool.specs.Texts.{text_alone, with_report}
+use Rattle.restructure_tool.specs.Answer.{Answer, IsUnasked, IsRefusalOf, IsOfRestructure, IsOfReport, IsOfCheck, IsOfGenerate, IsDue, IsAnswered, program_text}
 use Rattle.restructure_tool.specs.Reading.{Tells}
-use Rattle.restructure_tool.specs.Tool.{IsRefused}
-use Rattle.restructure_tool.specs.Laws.{trail_answer, AreAlike, statuses_of, RestructureIsOneWord, OneAnswerIsDue, DueAnswerComes, UsageComes, StraightSourceHasText, WithinLimitAllIsRead}
+use Rattle.restructure_tool.specs.Tool.{EndsOfText, IsRefused}
+use Rattle.restructure_tool.specs.Laws.{trail_answer, AreAlike, statuses_of, OneAnswerIsDue, DueAnswerComes, AcceptedSourceIsDone, UsageComes, GeneratedComes, WithinLimitAllIsRead}
 
 unasked-is : (answer : Answer) → IsUnasked answer → answer ≡ Err refusal.Usage
-unasked-is (Ok text) h = absurd h
+unasked-is (Ok texts) h = absurd h
 unasked-is (Err refusal.Usage) h = refl
 unasked-is (Err (refusal.Refused why)) h = absurd h
+unasked-is (Err refusal.Files) h = absurd h
+unasked-is (Err (refusal.Fault program fault)) h = absurd h
+unasked-is (Err (refusal.Abend abend)) h = absurd h
+unasked-is (Err (refusal.Budget steps)) h = absurd h
 unasked-is (Err refusal.ReadFault) h = absurd h
 unasked-is (Err refusal.WriteFault) h = absurd h
 unasked-is (Err refusal.NoMemory) h = absurd h
 
--- the answer to what is due to bytes
-abbrev answer_to : Outcome → Answer
-answer_to (Ok text) = Ok text
-answer_to (Err why) = Err (refusal.Refused why)
+-- What is due to bytes, by what is written where they are restructured.
+module _ (written : Done → Texts) where
+  abbrev answer_to : Outcome → Answer
+  answer_to (Ok done) = Ok (written done)
+  answer_to (Err why) = Err (refusal.Refused why)
 
-abbrev IsOfDue : List ℕ → Answer → Type 0
-IsOfDue bytes answer = (outcome : Outcome) × (answer ≡ answer_to outcome) × IsDueTo bytes outcome
+  abbrev IsOfDue : List ℕ → Answer → Type 0
+  IsOfDue bytes answer = (outcome : Outcome) × (answer ≡ answer_to outcome) × IsDueTo bytes outcome
 
-of-due : (bytes : List ℕ) (answer : Answer) → IsOfRestructure bytes answer → IsOfDue bytes answer
-of-due bytes (Ok text) h = (Ok text, refl, text-due bytes text h)
-of-due bytes (Err refusal.Usage) h = absurd h
-of-due bytes (Err (refusal.Refused why)) h = elim (cause-due bytes why h.1) [
-  | inl none ↦ absurd (h.0 none)
-  | inr due ↦ (Err why, refl, due)
-]
-of-due bytes (Err refusal.ReadFault) h = absurd h
-of-due bytes (Err refusal.WriteFault) h = absurd h
-of-due bytes (Err refusal.NoMemory) h = absurd h
+  refusal-of-due : (bytes : List ℕ) (r : Refusal) → IsRefusalOf bytes r → IsOfDue bytes (Err r)
+  refusal-of-due bytes refusal.Usage h = absurd h
+  refusal-of-due bytes (refusal.Refused why) h = elim (cause-due bytes why h.1) [
+    | inl none ↦ absurd (h.0 none)
+    | inr due ↦ (Err why, refl, due)
+  ]
+  refusal-of-due bytes refusal.Files h = absurd h
+  refusal-of-due bytes (refusal.Fault program fault) h = absurd h
+  refusal-of-due bytes (refusal.Abend abend) h = absurd h
+  refusal-of-due bytes (refusal.Budget steps) h = absurd h
+  refusal-of-due bytes refusal.ReadFault h = absurd h
+  refusal-of-due bytes refusal.WriteFault h = absurd h
+  refusal-of-due bytes refusal.NoMemory h = absurd h
 
-alike-to : (one other : Outcome) → IsAlike one other → AreAlike (answer_to one) (answer_to other)
-alike-to one other (inl same) = inl (ap answer_to same)
-alike-to one other (inr h) = inr (h.0, h.1, h.2, ap answer_to h.3, ap answer_to h.4)
+  alike-to : (one other : Outcome) → IsAlike one other → AreAlike (answer_to one) (answer_to other)
+  alike-to one other (inl same) = inl (ap answer_to same)
+  alike-to one other (inr h) = inr (h.0, h.1, h.2, ap answer_to h.3, ap answer_to h.4)
+
+  alike-due : (bytes : List ℕ) (one other : Answer) → IsOfDue bytes one → IsOfDue bytes other → AreAlike one other
+  alike-due bytes one other due more =
+      subst (λ a. AreAlike a other) (sym due.1) (subst (λ a. AreAlike (answer_to due.0) a) (sym more.1) (alike-to due.0 more.0 (alike bytes due.0 more.0 due.2 more.2)))
+
+abbrev alone : Done → Texts
+alone done = text_alone done.text
+
+abbrev both : Done → Texts
+both done = with_report done.text (report_text done.report)
+
+abbrev lines : Done → Texts
+lines done = text_alone (report_text done.report)
+
+restructure-due : (bytes : List ℕ) (answer : Answer) → IsOfRestructure bytes answer → IsOfDue alone bytes answer
+restructure-due bytes (Ok texts) h = (Ok h.0, ap Ok h.2, done-due bytes h.0 h.1)
+restructure-due bytes (Err r) h = refusal-of-due alone bytes r h
+
+report-due : (bytes : List ℕ) (answer : Answer) → IsOfReport bytes answer → IsOfDue both bytes answer
+report-due bytes (Ok texts) h = (Ok h.0, ap Ok h.2, done-due bytes h.0 h.1)
+report-due bytes (Err r) h = refusal-of-due both bytes r h
+
+check-due : (bytes : List ℕ) (answer : Answer) → IsOfCheck bytes answer → IsOfDue lines bytes answer
+check-due bytes (Ok texts) h = (Ok (record { text = h.1.0; report = h.0 }), ap Ok h.2, done-due bytes _ h.1.1)
+check-due bytes (Err r) h = refusal-of-due lines bytes r h
+
+one-check : (bytes : List ℕ) (one other : Answer) → IsOfCheck bytes one → IsOfCheck bytes other → AreAlike one other
+one-check bytes one other h g = alike-due lines bytes one other (check-due bytes one h) (check-due bytes other g)
+
+one-generated : (n : ℕ) (one other : Answer) → IsOfGenerate n one → IsOfGenerate n other → AreAlike one other
+one-generated n (Ok one) (Ok other) h g = inl (ap Ok (h ∙ sym g))
+one-generated n (Ok one) (Err other) h g = absurd g
+one-generated n (Err one) other h g = absurd h
 
 pub one-answer : OneAnswerIsDue
 one-answer None bytes one other h g = inl (unasked-is one h ∙ sym (unasked-is other g))
-one-answer (Some Restructure) bytes one other h g =
-    let due = of-due bytes one h in
-    let more = of-due bytes other g in
-    subst (λ a. AreAlike a other) (sym due.1) (subst (λ a. AreAlike (answer_to due.0) a) (sym more.1) (alike-to due.0 more.0 (alike bytes due.0 more.0 due.2 more.2)))
-
-pub straight-text : StraightSourceHasText
-straight-text bytes h = (
-  printed (rendered h.program),
-  record {
-    source = h;
-    written = refl;
-    structured = rendering-structured h.program h.straight.plain;
-    same = rendering-same h.program h.straight;
-  },
-)
+one-answer (Some Restructure) bytes one other h g = alike-due alone bytes one other (restructure-due bytes one h) (restructure-due bytes other g)
+one-answer (Some Report) bytes one other h g = alike-due both bytes one other (report-due bytes one h) (report-due bytes other g)
+one-answer (Some Check) bytes one other h g = one-check bytes one other h g
+one-answer (Some (Run steps)) bytes one other h g = absurd h
+one-answer (Some (Generate n)) bytes one other h g = one-generated n one other h g
+one-answer (Some (Trial n)) bytes one other h g = one-check (program_text n) one other h g
 
 -- What is due comes.
 
@@ -100,37 +130,94 @@ module _ (ask : Option Ask) (source : SourceCall) (bytes : List ℕ) (due : Answ
   refused-comes out notes answer h = subst (λ ss. IsOneOf ss answer) (answered-as (Err h.refusal) h.answered) (inl h.status)
 
 read-fault-comes : (due : Answer) → IsOneOf (statuses_of due) status.ReadFault
-read-fault-comes (Ok text) = inr (inr (inl refl))
+read-fault-comes (Ok texts) = inr (inr (inl refl))
 read-fault-comes (Err refusal) = inr (inl refl)
 
 no-memory-comes : (due : Answer) → IsOneOf (statuses_of due) status.NoMemory
-no-memory-comes (Ok text) = inr (inr (inr (inl refl)))
+no-memory-comes (Ok texts) = inr (inr (inr (inl refl)))
 no-memory-comes (Err refusal) = inr (inr (inl refl))
 
+text-comes : (ask : Option Ask) (source : SourceCall) (out notes : SinkCall) (answer : Status) → EndsOfText ask source out notes answer → (bytes : List ℕ) (due : Answer) → source.told ≡ Some bytes → IsDue ask bytes due → IsOneOf (statuses_of due) answer
+text-comes ask source out notes status.Done h bytes due told is_due =
+    subst (λ ss. IsOneOf ss status.Done) (answered-as ask source bytes due told is_due (Ok h.texts) h.answered) (inl refl)
+text-comes ask source out notes status.Usage h bytes due told is_due = refused-comes ask source bytes due told is_due out notes status.Usage h
+text-comes ask source out notes status.NotSubset h bytes due told is_due = refused-comes ask source bytes due told is_due out notes status.NotSubset h
+text-comes ask source out notes status.Flow h bytes due told is_due = refused-comes ask source bytes due told is_due out notes status.Flow h
+text-comes ask source out notes status.Limit h bytes due told is_due = refused-comes ask source bytes due told is_due out notes status.Limit h
+text-comes ask source out notes status.ReadFault h bytes due told is_due = read-fault-comes due
+text-comes ask source out notes status.WriteFault h bytes due told is_due =
+    subst (λ ss. IsOneOf ss status.WriteFault) (answered-as ask source bytes due told is_due (Ok h.texts) h.answered) (inr (inl refl))
+text-comes ask source out notes status.DeviceFault h bytes due told is_due = absurd h
+text-comes ask source out notes status.Abend h bytes due told is_due = absurd h
+text-comes ask source out notes status.Budget h bytes due told is_due = absurd h
+text-comes ask source out notes status.NoMemory h bytes due told is_due = no-memory-comes due
+
 pub due-comes : DueAnswerComes
-due-comes ask source out notes status.Done h bytes due told is_due =
-    subst (λ ss. IsOneOf ss status.Done) (answered-as ask source bytes due told is_due (Ok h.text) h.answered) (inl refl)
-due-comes ask source out notes status.Usage h bytes due told is_due = refused-comes ask source bytes due told is_due out notes status.Usage h
-due-comes ask source out notes status.NotSubset h bytes due told is_due = refused-comes ask source bytes due told is_due out notes status.NotSubset h
-due-comes ask source out notes status.Flow h bytes due told is_due = refused-comes ask source bytes due told is_due out notes status.Flow h
-due-comes ask source out notes status.Limit h bytes due told is_due = refused-comes ask source bytes due told is_due out notes status.Limit h
-due-comes ask source out notes status.ReadFault h bytes due told is_due = read-fault-comes due
-due-comes ask source out notes status.WriteFault h bytes due told is_due =
-    subst (λ ss. IsOneOf ss status.WriteFault) (answered-as ask source bytes due told is_due (Ok h.text) h.answered) (inr (inl refl))
-due-comes ask source out notes status.DeviceFault h bytes due told is_due = absurd h
-due-comes ask source out notes status.Abend h bytes due told is_due = absurd h
-due-comes ask source out notes status.Budget h bytes due told is_due = absurd h
-due-comes ask source out notes status.NoMemory h bytes due told is_due = no-memory-comes due
+due-comes None source out notes answer h bytes due told is_due = text-comes None source out notes answer h bytes due told is_due
+due-comes (Some Restructure) source out notes answer h bytes due told is_due = text-comes (Some Restructure) source out notes answer h bytes due told is_due
+due-comes (Some Report) source out notes answer h bytes due told is_due = text-comes (Some Report) source out notes answer h bytes due told is_due
+due-comes (Some Check) source out notes answer h bytes due told is_due = text-comes (Some Check) source out notes answer h bytes due told is_due
+due-comes (Some (Run steps)) source out notes answer h bytes due told is_due = absurd is_due
+due-comes (Some (Generate n)) source out notes answer h bytes due told is_due = text-comes (Some (Generate n)) source out notes answer h bytes due told is_due
+due-comes (Some (Trial n)) source out notes answer h bytes due told is_due = text-comes (Some (Trial n)) source out notes answer h bytes due told is_due
+
+-- No refusal is due to bytes that are accepted.
+
+not-ok : (why : Refused) → IsOk {T = Done} (Err why) → ⊥
+not-ok why h = cc
+
+same-refused : (one other : Refused) → ◌≡◌ {A = Outcome} (Err one) (Err other) → one ≡ other
+same-refused one other h = cc
+
+accepted-clear : (bytes : List ℕ) (why : Refused) → IsAccepted bytes → why ≢ refused.NoMemory → HasCause bytes why → ⊥
+accepted-clear bytes why is some h = elim (comes-done bytes (Err why) tt h is) [
+  | inl ok ↦ not-ok why ok
+  | inr none ↦ some (same-refused why refused.NoMemory none)
+]
+
+accepted-never : (bytes : List ℕ) (r : Refusal) → IsAccepted bytes → IsRefusalOf bytes r → ⊥
+accepted-never bytes refusal.Usage h g = g
+accepted-never bytes (refusal.Refused why) h g = accepted-clear bytes why h g.0 g.1
+accepted-never bytes refusal.Files h g = g
+accepted-never bytes (refusal.Fault program fault) h g = g
+accepted-never bytes (refusal.Abend abend) h g = g
+accepted-never bytes (refusal.Budget steps) h g = g
+accepted-never bytes refusal.ReadFault h g = g
+accepted-never bytes refusal.WriteFault h g = g
+accepted-never bytes refusal.NoMemory h g = g
+
+module _ (ask : Option Ask) (source : SourceCall) (out notes : SinkCall) (bytes : List ℕ) (told : source.told ≡ Some bytes) (never : (r : Refusal) → IsDue ask bytes (Err r) → ⊥) where
+  never-refused : (answer : Status) → IsRefused ask source out notes answer → ⊥
+  never-refused answer h =
+      let same : bytes ≡ h.answered.bytes = subst (λ t. Tells t h.answered.bytes) told h.answered.told in
+      never h.refusal (subst (λ b. IsDue ask b (Err h.refusal)) (sym same) h.answered.due)
+
+  done-comes : (answer : Status) → EndsOfText ask source out notes answer → IsOneOf (status.Done ∷ status.WriteFault ∷ status.ReadFault ∷ status.NoMemory ∷ []) answer
+  done-comes status.Done h = inl refl
+  done-comes status.Usage h = absurd (never-refused status.Usage h)
+  done-comes status.NotSubset h = absurd (never-refused status.NotSubset h)
+  done-comes status.Flow h = absurd (never-refused status.Flow h)
+  done-comes status.Limit h = absurd (never-refused status.Limit h)
+  done-comes status.ReadFault h = inr (inr (inl refl))
+  done-comes status.WriteFault h = inr (inl refl)
+  done-comes status.DeviceFault h = absurd h
+  done-comes status.Abend h = absurd h
+  done-comes status.Budget h = absurd h
+  done-comes status.NoMemory h = inr (inr (inr (inl refl)))
+
+pub accepted-done : AcceptedSourceIsDone
+accepted-done Restructure source out notes answer about h bytes told is = done-comes (Some Restructure) source out notes bytes told (λ r g. accepted-never bytes r is g) answer h
+accepted-done Report source out notes answer about h bytes told is = done-comes (Some Report) source out notes bytes told (λ r g. accepted-never bytes r is g) answer h
+accepted-done Check source out notes answer about h bytes told is = done-comes (Some Check) source out notes bytes told (λ r g. accepted-never bytes r is g) answer h
+accepted-done (Run steps) source out notes answer about h bytes told is = absurd about
+accepted-done (Generate n) source out notes answer about h bytes told is = absurd about
+accepted-done (Trial n) source out notes answer about h bytes told is = absurd about
 
 -- a refusal without an ask is USAGE
 unasked-refused : (source : SourceCall) (out notes : SinkCall) (answer : Status) → IsRefused None source out notes answer → IsOneOf (status.Usage ∷ status.NoMemory ∷ []) answer
-unasked-refused source out notes answer h = inl (h.status ∙ usage h.refusal h.answered.due) where
-  usage : (r : Refusal) → IsUnasked (Err r) → status_of r ≡ status.Usage
-  usage refusal.Usage h = refl
-  usage (refusal.Refused why) h = absurd h
-  usage refusal.ReadFault h = absurd h
-  usage refusal.WriteFault h = absurd h
-  usage refusal.NoMemory h = absurd h
+unasked-refused source out notes answer h =
+    let is : h.refusal ≡ refusal.Usage = (let e = unasked-is (Err h.refusal) h.answered.due in cc) in
+    inl (h.status ∙ ap status_of is)
 
 pub usage-comes : UsageComes
 usage-comes source out notes status.Done h = absurd h.answered.due
@@ -145,20 +232,18 @@ usage-comes source out notes status.Abend h = absurd h
 usage-comes source out notes status.Budget h = absurd h
 usage-comes source out notes status.NoMemory h = inr (inl refl)
 
--- The words of restructure are one.
-
-word-asked : (word : List ℕ) → (ask_of_word word ≡ Some Restructure) ↔ (word ≡ codes "restructure")
-word-asked word = by-test (bytes_eq word (codes "restructure")) (bytes_eq-Decides word (codes "restructure")) where
-  by-test : (b : Bool) → (b ≡ true → word ≡ codes "restructure") × (word ≡ codes "restructure" → b ≡ true) → ((if b then Some Restructure else None) ≡ Some Restructure) ↔ (word ≡ codes "restructure")
-  by-test true tells = ((λ h. tells.0 refl), (λ h. refl))
-  by-test false tells = ((λ h. absurd (none-some Restructure h)), (λ h. let never : false ≡ true = tells.1 h in cc))
-
-pub one-word : RestructureIsOneWord
-one-word [] = ((λ h. absurd (none-some Restructure h)), (λ h. cc))
-one-word (word ∷ []) =
-    let asked = word-asked word in
-    ((λ h. ap (λ w. w ∷ []) (asked.0 h)), (λ h. asked.1 (let same : word ≡ codes "restructure" = cc in same)))
-one-word (first ∷ second ∷ others) = ((λ h. absurd (none-some Restructure h)), (λ h. cc))
+pub generated-comes : GeneratedComes
+generated-comes n source out notes status.Done h = inl refl
+generated-comes n source out notes status.Usage h = absurd h.answered.due
+generated-comes n source out notes status.NotSubset h = absurd h.answered.due
+generated-comes n source out notes status.Flow h = absurd h.answered.due
+generated-comes n source out notes status.Limit h = absurd h.answered.due
+generated-comes n source out notes status.ReadFault h = absurd (let some = h.fault.asked in omega (arith, some))
+generated-comes n source out notes status.WriteFault h = inr (inl refl)
+generated-comes n source out notes status.DeviceFault h = absurd h
+generated-comes n source out notes status.Abend h = absurd h
+generated-comes n source out notes status.Budget h = absurd h
+generated-comes n source out notes status.NoMemory h = inr (inr (inl refl))
 
 pub all-read : WithinLimitAllIsRead
 all-read bytes within = ap Some (drop_of_length-le bytes (let few : length bytes ≤ source_limit + 1 = omega (arith, within) in few))

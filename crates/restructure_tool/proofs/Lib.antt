@@ -7,7 +7,15 @@ pub mod ReadingLemmas
 pub mod WritingLemmas
 -- how long the bytes are that are read, or refused
 pub mod LengthLemmas
+-- what is made for an ask
+pub mod MadeLemmas
 -- how the parts of a call make its end
 pub mod EndLemmas
+-- how a call that runs a source ends
+pub mod RunLemmas
+-- which words are of an ask
+pub mod AskLemmas
 -- what follows of how a call ends
 pub mod LawLemmas
+-- at most one end of a run is due, and it comes
+pub mod RunLawLemmas

@@ -8,11 +8,13 @@ use Rattle.cob_base.specs.Faults.{Rose}
 use Rattle.cob_base.specs.Sink.{Gives, SinkCall}
 use Rattle.cob_base.specs.declared.sink.Gave.TheVariants as gave
 use Rattle.restructure_tool.specs.Writing.{Gained, Takes, Keeps, NotesLine, Notes, Writes}
+use Rattle.restructure_tool.specs.declared.texts.Texts.{Texts}
 use Rattle.restructure_tool.specs.declared.refusal.Refusal.{Refusal}
 use Rattle.restructure_tool.specs.declared.refusal.Refusal.TheVariants as refusal
 use Rattle.restructure_tool.specs.declared.status.Status.{Status}
 use Rattle.restructure_tool.specs.declared.status.Status.TheVariants as status
 use Rattle.restructure_tool.specs.Refusal.{status_of, line_of}
+use Rattle.restructure_tool.specs.Texts.{text_alone, with_report}
 
 -- a sink before and after a call
 abbrev pub call : (held now : Option (List ℕ)) (count count_now : ℕ) → SinkCall
@@ -101,6 +103,13 @@ no-memory-noted r notes answer (inl h) = inr (h.0, inl h.1)
 no-memory-noted r notes answer (inr h) = inr (h.0, inr h.1)
 
 -- where nothing is written for want of memory
-pub writes-nothing : (text : List ℕ) (out notes : SinkCall) (answer : Status) → Keeps out → Notes refusal.NoMemory notes answer → Writes text out notes answer
-writes-nothing text out notes answer kept (inl noted) = subst (Writes text out notes) (sym noted.0) (kept, inl noted.1)
-writes-nothing text out notes answer kept (inr noted) = subst (Writes text out notes) (sym noted.0) (kept, noted.1)
+pub writes-nothing : (texts : Texts) (out notes : SinkCall) (answer : Status) → Keeps out → Notes refusal.NoMemory notes answer → Writes texts out notes answer
+writes-nothing texts out notes answer kept (inl noted) = subst (Writes texts out notes) (sym noted.0) (kept, inl noted.1)
+writes-nothing texts out notes answer kept (inr noted) = subst (Writes texts out notes) (sym noted.0) (kept, noted.1)
+
+-- texts are those of their parts
+pub as-alone : (texts : Texts) (out notes : SinkCall) (answer : Status) → texts.report ≡ None → Writes (text_alone texts.text) out notes answer → Writes texts out notes answer
+as-alone texts out notes answer is h = subst (λ r. Writes (record { text = texts.text; report = r }) out notes answer) (sym is) h
+
+pub as-both : (texts : Texts) (report : List ℕ) (out notes : SinkCall) (answer : Status) → texts.report ≡ Some report → Writes (with_report texts.text report) out notes answer → Writes texts out notes answer
+as-both texts report out notes answer is h = subst (λ r. Writes (record { text = texts.text; report = r }) out notes answer) (sym is) h

@@ -6,23 +6,37 @@ use Rattle.cob_tree.specs.declared.program.Program.{Program}
 use Rattle.flow_paths.specs.declared.trail.Trail.{Trail}
 use Rattle.cobol_read.specs.Limit.{source_limit}
 use Rattle.restructure_core.specs.declared.fault.Refused.TheVariants as refused
-use Rattle.restructure_core.specs.Answers.{IsStraightSource}
+use Rattle.restructure_core.specs.Answers.{IsAccepted}
 use Rattle.restructure_tool.specs.declared.ask.Ask.{Ask}
-use Rattle.restructure_tool.specs.declared.ask.Ask.TheVariants.{Restructure}
+use Rattle.restructure_tool.specs.declared.ask.Ask.TheVariants.{Restructure, Report, Check, Run, Generate, Trial}
+use Rattle.restructure_tool.specs.declared.refusal.Refusal.{Refusal}
 use Rattle.restructure_tool.specs.declared.refusal.Refusal.TheVariants as refusal
 use Rattle.restructure_tool.specs.declared.status.Status.{Status}
 use Rattle.restructure_tool.specs.declared.status.Status.TheVariants as status
-use Rattle.restructure_tool.specs.Ask.{ask_of, reads}
+use Rattle.restructure_tool.specs.Ask.{ask_of, number_of, program_number, reads}
 use Rattle.restructure_tool.specs.Reading.{left_after}
 use Rattle.restructure_tool.specs.Status.{IsOneOf}
-use Rattle.restructure_tool.specs.Refusal.{status_of}
+use Rattle.restructure_tool.specs.Refusal.{refused_status, status_of}
 use Rattle.restructure_tool.specs.Answer.{Answer, IsDue}
+use Rattle.restructure_tool.specs.Running.{IsRunDue}
 use Rattle.restructure_tool.specs.Tool.{Ends}
 
--- the words of restructure are that one word
-abbrev pub RestructureIsOneWord : Type 0
-RestructureIsOneWord =
-    (words : List (List ℕ)) → (ask_of words ≡ Some Restructure) ↔ (words ≡ codes "restructure" ∷ [])
+-- these are the words of the ask
+abbrev pub AreWordsOf : Ask → List (List ℕ) → Type 0
+AreWordsOf Restructure words = words ≡ codes "restructure" ∷ []
+AreWordsOf Report words = words ≡ codes "restructure" ∷ codes "--report" ∷ []
+AreWordsOf Check words = words ≡ codes "check" ∷ []
+AreWordsOf (Run steps) words = (number : List ℕ) ×
+    (words ≡ codes "run" ∷ codes "--steps" ∷ number ∷ []) × (number_of number ≡ Some steps)
+AreWordsOf (Generate n) words = (number : List ℕ) ×
+    (words ≡ codes "generate" ∷ number ∷ []) × (program_number number ≡ Some n)
+AreWordsOf (Trial n) words = (number : List ℕ) ×
+    (words ≡ codes "trial" ∷ number ∷ []) × (program_number number ≡ Some n)
+
+-- words are an ask exactly where they are its own
+abbrev pub WordsAreOfTheirAsk : Type 0
+WordsAreOfTheirAsk =
+    (words : List (List ℕ)) (ask : Ask) → (ask_of words ≡ Some ask) ↔ AreWordsOf ask words
 
 abbrev pub trail_answer : Program → Trail → Answer
 trail_answer program trail = Err (refusal.Refused (refused.Flow program trail))
@@ -40,7 +54,7 @@ OneAnswerIsDue =
 
 -- the statuses with which a call ends where this answer is due
 abbrev pub statuses_of : Answer → List Status
-statuses_of (Ok text) = status.Done ∷ status.WriteFault ∷ status.ReadFault ∷ status.NoMemory ∷ []
+statuses_of (Ok texts) = status.Done ∷ status.WriteFault ∷ status.ReadFault ∷ status.NoMemory ∷ []
 statuses_of (Err refusal) = status_of refusal ∷ status.ReadFault ∷ status.NoMemory ∷ []
 
 -- where a source tells its bytes, a call ends with the answer that is due to them, or with a fault
@@ -52,21 +66,61 @@ DueAnswerComes =
     (bytes : List ℕ) (due : Answer) → source.told ≡ Some bytes → IsDue ask bytes due →
     IsOneOf (statuses_of due) answer
 
+-- the ask is to restructure a source, or to report on it
+abbrev pub IsOfSource : Ask → Type 0
+IsOfSource Restructure = Unit {0}
+IsOfSource Report = Unit {0}
+IsOfSource Check = Unit {0}
+IsOfSource other = ⊥
+
+-- where a source tells the bytes of a program without a fault of flow that passes no limit, such a
+-- call is done, but for a fault of the outside or out of memory
+abbrev pub AcceptedSourceIsDone : Type 0
+AcceptedSourceIsDone =
+    (ask : Ask) (source : SourceCall) (out notes : SinkCall) (answer : Status) → IsOfSource ask →
+    Ends (Some ask) source out notes answer →
+    (bytes : List ℕ) → source.told ≡ Some bytes → IsAccepted bytes → IsOneOf
+    (status.Done ∷ status.WriteFault ∷ status.ReadFault ∷ status.NoMemory ∷ []) answer
+
+-- at most one end of a run is due to bytes and a number of steps
+abbrev pub OneRunIsDue : Type 0
+OneRunIsDue =
+    (steps : ℕ) (bytes : List ℕ) (one other : Option Refusal) →
+    IsRunDue steps bytes one → IsRunDue steps bytes other → one ≡ other
+
+-- the statuses with which a call to run ends where this is due
+abbrev pub statuses_of_run : Option Refusal → List Status
+statuses_of_run None = status.Done ∷ status.WriteFault ∷ status.ReadFault ∷ status.NoMemory ∷ []
+statuses_of_run (Some (refusal.Refused why)) =
+    refused_status why ∷ status.ReadFault ∷ status.NoMemory ∷ []
+statuses_of_run (Some refusal.Files) = status.NotSubset ∷ status.ReadFault ∷ status.NoMemory ∷ []
+statuses_of_run (Some refusal) =
+    status_of refusal ∷ status.WriteFault ∷ status.ReadFault ∷ status.NoMemory ∷ []
+
+-- where a source tells its bytes, a call to run ends as their run does, or with a fault of the
+-- outside or out of memory
+abbrev pub DueRunComes : Type 0
+DueRunComes =
+    (steps : ℕ) (source : SourceCall) (out notes : SinkCall) (answer : Status) →
+    Ends (Some (Run steps)) source out notes answer →
+    (bytes : List ℕ) (due : Option Refusal) → source.told ≡ Some bytes →
+    IsRunDue steps bytes due → IsOneOf (statuses_of_run due) answer
+
 -- without an ask a call ends with USAGE or out of memory
 abbrev pub UsageComes : Type 0
 UsageComes =
     (source : SourceCall) (out notes : SinkCall) (answer : Status) →
     Ends None source out notes answer → IsOneOf (status.Usage ∷ status.NoMemory ∷ []) answer
 
+-- generate ends with its program, a write fault or out of memory, whatever the source
+abbrev pub GeneratedComes : Type 0
+GeneratedComes =
+    (n : ℕ) (source : SourceCall) (out notes : SinkCall) (answer : Status) →
+    Ends (Some (Generate n)) source out notes answer →
+    IsOneOf (status.Done ∷ status.WriteFault ∷ status.NoMemory ∷ []) answer
+
 -- of bytes within the limit nothing is left
 abbrev pub WithinLimitAllIsRead : Type 0
 WithinLimitAllIsRead =
     (bytes : List ℕ) → length bytes ≤ source_limit →
     left_after (reads (Some Restructure)) (Some bytes) ≡ Some []
-
--- a text is due to the bytes of a plain program in which control comes to no paragraph twice, and
--- whose result passes no limit
-abbrev pub StraightSourceHasText : Type 0
-StraightSourceHasText =
-    (bytes : List ℕ) → IsStraightSource bytes →
-    (text : List ℕ) × IsDue (Some Restructure) bytes (Ok text)

@@ -6,11 +6,15 @@ pub mod Status
 -- the kinds of what isn't in the subset
 pub mod Kind
 pub mod Refusal
+-- what is written
+pub mod Texts
 -- what is due to an ask, whatever the outside does
 pub mod Answer
 -- what is read and what is written
 pub mod Reading
 pub mod Writing
+-- how a call that runs a source ends
+pub mod Running
 -- how a call of the top call ends, and one of the program
 pub mod Tool
 pub mod Program

@@ -4,6 +4,7 @@ use Rattle.std.specs.Str.{bytes_eq}
 use Rattle.cob_base.specs.Source.{SourceCall}
 use Rattle.cob_base.specs.Sink.{SinkCall}
 use Rattle.restructure_tool.specs.declared.status.Status.{Status}
+use Rattle.restructure_tool.specs.Texts.{text_alone}
 use Rattle.restructure_tool.specs.Writing.{Writes}
 
 -- whether the word asks for a page
@@ -19,5 +20,5 @@ is_page (first ∷ second ∷ others) = false
 -- a page was written, or why not is noted; the source is as it was
 pub record ShowsPage (source : SourceCall) (out notes : SinkCall) (status : Status) : Type 0 where
   pub page : List ℕ
-  pub written : Writes page out notes status
+  pub written : Writes (text_alone page) out notes status
   pub unread : source.left ≡ source.told

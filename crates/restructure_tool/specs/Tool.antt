@@ -1,8 +1,10 @@
 -- How a call of the top call ends: the answer that is due was given, or why it wasn't.
-use Rattle.std.specs.Prelude.{ℕ, ◌≡◌, List, Option, Ok, Err}
+use Rattle.std.specs.Prelude.{◌≡◌, Option, Some, None, Ok, Err}
 use Rattle.cob_base.specs.Source.{SourceCall}
 use Rattle.cob_base.specs.Sink.{SinkCall}
 use Rattle.restructure_tool.specs.declared.ask.Ask.{Ask}
+use Rattle.restructure_tool.specs.declared.ask.Ask.TheVariants.{Restructure, Report, Check, Run, Generate, Trial}
+use Rattle.restructure_tool.specs.declared.texts.Texts.{Texts}
 use Rattle.restructure_tool.specs.declared.refusal.Refusal.{Refusal}
 use Rattle.restructure_tool.specs.declared.refusal.Refusal.TheVariants as refusal
 use Rattle.restructure_tool.specs.declared.status.Status.{Status}
@@ -10,15 +12,16 @@ use Rattle.restructure_tool.specs.declared.status.Status.TheVariants as status
 use Rattle.restructure_tool.specs.Ask.{reads}
 use Rattle.restructure_tool.specs.Answer.{IsAnswered}
 use Rattle.restructure_tool.specs.Reading.{IsReadWithin, IsReadFault}
+use Rattle.restructure_tool.specs.Running.{EndsOfRun}
 use Rattle.restructure_tool.specs.Refusal.{line_of, status_of}
-use Rattle.restructure_tool.specs.Writing.{Gains, Takes, Keeps, NotesNoMemory, IsWriteFault}
+use Rattle.restructure_tool.specs.Writing.{Gains, GainsReport, Takes, Keeps, NotesNoMemory, IsWriteFault}
 
--- the text that is due was written, and nothing was noted
+-- the text that is due was written, and nothing was noted but the report that is due
 pub record IsDone (ask : Option Ask) (source : SourceCall) (out notes : SinkCall) : Type 0 where
-  pub text : List ℕ
-  pub answered : IsAnswered ask source (Ok text)
-  pub written : Gains text out
-  pub unnoted : Keeps notes
+  pub texts : Texts
+  pub answered : IsAnswered ask source (Ok texts)
+  pub written : Gains texts.text out
+  pub noted : GainsReport texts.report notes
 
 -- the refusal that is due was noted, and nothing was written; the status is that of the refusal
 pub record IsRefused (ask : Option Ask) (source : SourceCall) (out notes : SinkCall)
@@ -35,11 +38,12 @@ pub record IsUnread (ask : Option Ask) (source : SourceCall) (out notes : SinkCa
   pub kept : Keeps out
   pub noted : Takes (line_of refusal.ReadFault) notes
 
--- a front of the text that is due was written, until the sink failed, which was noted
+-- a front of the text that is due was written, until the sink failed, which was noted; or a front
+-- of the report that is due behind it, until the notes failed
 pub record IsCut (ask : Option Ask) (source : SourceCall) (out notes : SinkCall) : Type 0 where
-  pub text : List ℕ
-  pub answered : IsAnswered ask source (Ok text)
-  pub fault : IsWriteFault text out notes
+  pub texts : Texts
+  pub answered : IsAnswered ask source (Ok texts)
+  pub fault : IsWriteFault texts out notes
 
 -- memory was wanted, and nothing was written
 pub record IsStarved (ask : Option Ask) (source : SourceCall) (out notes : SinkCall) : Type 0 where
@@ -47,16 +51,34 @@ pub record IsStarved (ask : Option Ask) (source : SourceCall) (out notes : SinkC
   pub kept : Keeps out
   pub noted : NotesNoMemory notes
 
--- what each status tells
+-- what each status tells, of an ask for a text
+abbrev pub EndsOfText : Option Ask → SourceCall → SinkCall → SinkCall → Status → Type 0
+EndsOfText ask source out notes status.Done = IsDone ask source out notes
+EndsOfText ask source out notes status.Usage = IsRefused ask source out notes status.Usage
+EndsOfText ask source out notes status.NotSubset = IsRefused ask source out notes status.NotSubset
+EndsOfText ask source out notes status.Flow = IsRefused ask source out notes status.Flow
+EndsOfText ask source out notes status.Limit = IsRefused ask source out notes status.Limit
+EndsOfText ask source out notes status.ReadFault = IsUnread ask source out notes
+EndsOfText ask source out notes status.WriteFault = IsCut ask source out notes
+EndsOfText ask source out notes status.DeviceFault = ⊥
+EndsOfText ask source out notes status.Abend = ⊥
+EndsOfText ask source out notes status.Budget = ⊥
+EndsOfText ask source out notes status.NoMemory = IsStarved ask source out notes
+
+-- how a call ends, by its ask
 abbrev pub Ends : Option Ask → SourceCall → SinkCall → SinkCall → Status → Type 0
-Ends ask source out notes status.Done = IsDone ask source out notes
-Ends ask source out notes status.Usage = IsRefused ask source out notes status.Usage
-Ends ask source out notes status.NotSubset = IsRefused ask source out notes status.NotSubset
-Ends ask source out notes status.Flow = IsRefused ask source out notes status.Flow
-Ends ask source out notes status.Limit = IsRefused ask source out notes status.Limit
-Ends ask source out notes status.ReadFault = IsUnread ask source out notes
-Ends ask source out notes status.WriteFault = IsCut ask source out notes
-Ends ask source out notes status.DeviceFault = ⊥
-Ends ask source out notes status.Abend = ⊥
-Ends ask source out notes status.Budget = ⊥
-Ends ask source out notes status.NoMemory = IsStarved ask source out notes
+Ends None source out notes answer = EndsOfText None source out notes answer
+Ends (Some Restructure) source out notes answer =
+    EndsOfText (Some Restructure) source out notes answer
+Ends (Some Report) source out notes answer = EndsOfText (Some Report) source out notes answer
+Ends (Some Check) source out notes answer = EndsOfText (Some Check) source out notes answer
+Ends (Some (Run steps)) source out notes answer = EndsOfRun steps source out notes answer
+Ends (Some (Generate n)) source out notes answer =
+    EndsOfText (Some (Generate n)) source out notes answer
+Ends (Some (Trial n)) source out notes answer =
+    EndsOfText (Some (Trial n)) source out notes answer
+
+-- how a call ends that leaves the source as it was, whatever the source
+abbrev pub EndsUnread : Option Ask → SinkCall → SinkCall → Status → Type 0
+EndsUnread ask out notes answer =
+    (source : SourceCall) → source.left ≡ source.told → Ends ask source out notes answer

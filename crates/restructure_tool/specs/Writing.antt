@@ -1,7 +1,8 @@
 -- What a sink gains.
-use Rattle.std.specs.Prelude.{ℕ, ◌≡◌, ◌⊎◌, List, ◌++◌, take, Option, Some, None}
+use Rattle.std.specs.Prelude.{ℕ, ◌≡◌, ◌⊎◌, List, ◌++◌, take, Option, Some, None, Result, Ok, Err}
 use Rattle.cob_base.specs.Faults.{Rose}
 use Rattle.cob_base.specs.Sink.{SinkCall}
+use Rattle.restructure_tool.specs.declared.texts.Texts.{Texts}
 use Rattle.restructure_tool.specs.declared.refusal.Refusal.{Refusal}
 use Rattle.restructure_tool.specs.declared.refusal.Refusal.TheVariants as refusal
 use Rattle.restructure_tool.specs.declared.status.Status.{Status}
@@ -42,15 +43,41 @@ Notes refusal notes answer =
     ((answer ≡ status_of refusal) × Takes (line_of refusal) notes)
     ⊎ ((answer ≡ status.NoMemory) × NotesNoMemory notes)
 
+-- the notes gained the report, where there is one, and nothing else
+abbrev pub GainsReport : Option (List ℕ) → SinkCall → Type 0
+GainsReport None notes = Keeps notes
+GainsReport (Some report) notes = Gains report notes
+
 -- the sink failed, a front of the text was written, and its line went to the notes
-pub record IsWriteFault (text : List ℕ) (out notes : SinkCall) : Type 0 where
+pub record IsTextCut (text : List ℕ) (out notes : SinkCall) : Type 0 where
   pub rose : Rose out.count out.count_now
   pub written : Takes text out
   pub noted : Takes (line_of refusal.WriteFault) notes
 
--- writing a text ends so
-abbrev pub Writes : List ℕ → SinkCall → SinkCall → Status → Type 0
-Writes text out notes status.Done = Gains text out × Keeps notes
-Writes text out notes status.WriteFault = IsWriteFault text out notes
-Writes text out notes status.NoMemory = Keeps out × NotesNoMemory notes
-Writes text out notes _ = ⊥
+-- the text was written, the notes failed, and a front of the report was written
+pub record IsCutBehind (text report : List ℕ) (out notes : SinkCall) : Type 0 where
+  pub rose : Rose notes.count notes.count_now
+  pub written : Gains text out
+  pub noted : Takes report notes
+
+-- the same, where there is a report
+abbrev pub IsReportCut : List ℕ → Option (List ℕ) → SinkCall → SinkCall → Type 0
+IsReportCut text None out notes = ⊥
+IsReportCut text (Some report) out notes = IsCutBehind text report out notes
+
+-- a sink failed that was written to
+abbrev pub IsWriteFault : Texts → SinkCall → SinkCall → Type 0
+IsWriteFault texts out notes =
+    IsTextCut texts.text out notes ⊎ IsReportCut texts.text texts.report out notes
+
+-- writing these ends so
+abbrev pub Writes : Texts → SinkCall → SinkCall → Status → Type 0
+Writes texts out notes status.Done = Gains texts.text out × GainsReport texts.report notes
+Writes texts out notes status.WriteFault = IsWriteFault texts out notes
+Writes texts out notes status.NoMemory = Keeps out × NotesNoMemory notes
+Writes texts out notes _ = ⊥
+
+-- an answer is given so: its texts are written, or its refusal is noted
+abbrev pub IsGiven : Result Texts Refusal → SinkCall → SinkCall → Status → Type 0
+IsGiven (Ok texts) out notes answer = Writes texts out notes answer
+IsGiven (Err refusal) out notes answer = Keeps out × Notes refusal notes answer

@@ -1,16 +1,15 @@
 //! What follows of how a call ends.
 
-ghost use Rattle.restructure_tool.specs.Laws.{RestructureIsOneWord, OneAnswerIsDue, DueAnswerComes, UsageComes, StraightSourceHasText, WithinLimitAllIsRead};
+ghost use Rattle.restructure_tool.specs.Laws.{WordsAreOfTheirAsk, OneAnswerIsDue, DueAnswerComes, AcceptedSourceIsDone, OneRunIsDue, DueRunComes, UsageComes, GeneratedComes, WithinLimitAllIsRead};
 
 /// The words of an ask are exactly its own.
 pub fn words_are_of_one_ask()
-    ensures { RestructureIsOneWord }
+    ensures { WordsAreOfTheirAsk }
 {}
 
-/// At most one answer is due, and one is due where a source is restructured.
+/// At most one answer is due.
 pub fn one_answer_is_due()
-    ensures one { OneAnswerIsDue }
-    ensures straight { StraightSourceHasText }
+    ensures { OneAnswerIsDue }
 {}
 
 /// A source within the limit is read to its end.
@@ -21,5 +20,13 @@ pub fn source_is_read_to_its_end()
 /// What is due comes, unless the outside fails or memory is wanted.
 pub fn due_answer_comes()
     ensures due { DueAnswerComes }
+    ensures accepted { AcceptedSourceIsDone }
     ensures usage { UsageComes }
+    ensures generated { GeneratedComes }
+{}
+
+/// At most one end of a run is due, and it comes, unless the outside fails or memory is wanted.
+pub fn due_run_comes()
+    ensures one { OneRunIsDue }
+    ensures due { DueRunComes }
 {}

@@ -6,41 +6,46 @@
 //! `due_answer_comes`. Only tested: that calls succeed where memory is ample, and the help's text.
 #![tactic(auto)]
 
-ghost use Rattle.std.specs.Prelude.{◌≡◌, map, string_bytes, None};
+ghost use Rattle.std.specs.Prelude.{◌≡◌, map, string_bytes};
 ghost use Rattle.cob_base.specs.Source.{source_call};
 ghost use Rattle.cob_base.specs.Sink.{sink_call};
-ghost use Rattle.restructure_tool.specs.Ask.{ask_of as asked};
+ghost use Rattle.restructure_tool.specs.Ask.{ask_of as asked, reads};
 ghost use Rattle.restructure_tool.specs.Tool.{Ends};
 
 mod answer;
 mod ask;
 mod kind;
 mod laws;
+mod made;
 mod program;
 mod reading;
 mod refusal;
+mod running;
 mod status;
 #[cfg(test)]
 mod tests;
+mod texts;
 mod writing;
 
-use answer::answer;
-use ask::ask_of;
+use answer::{answer_check, answer_generate, answer_report, answer_restructure, answer_trial};
+use ask::{Ask, ask_of};
 use cob_base::{Sink, Source, StdSink, StdSource};
 use program::{arguments, exit_code, program};
+use refusal::Refusal;
+use running::answer_run;
 use status::Status;
 use std::alloc::Global;
 use std::process::ExitCode;
-use writing::{note, write_text};
+use writing::note;
 
-/// Does what the words ask: with the one word `restructure` the source is read to its end, and the
-/// result is written to `out`. Where that isn't done, `notes` gets a line that says why, or the
-/// lines of a trail.
+/// Does what the words ask, which `Ask` lists. Where it isn't done, `notes` gets a line that says
+/// why, or the lines of a trail.
 ///
 /// The order of the refusals is that of their causes: words, a fault of the source, those of
-/// reading, too many ranges, a fault of flow, the form, a loop, the result's tokens and bytes. Both
-/// sinks have room before the first byte of the result is written. A failure of `notes` changes no
-/// status; want of room in it makes the status NoMemory.
+/// reading, too many ranges, a fault of flow, too many nodes, and the result's counts. Each ask but
+/// run makes all that it writes first, and both sinks have room for it before the first byte is
+/// written. A failure of `notes` changes no status, unless it is to get the report; want of room in
+/// it makes the status NoMemory.
 pub fn tool<S: Source, K: Sink, N: Sink>(
     alloc: Global,
     words: &[String],
@@ -53,12 +58,17 @@ pub fn tool<S: Source, K: Sink, N: Sink>(
         (sink_call K.held K.faults out.old out.new)
         (sink_call N.held N.faults notes.old notes.new) result }
 
-    // words that are no ask leave the source alone, also one that tells nothing
-    ensures unread { asked (map string_bytes words.now) ≡ None → source.new ≡ source.old }
+    // where nothing is read the source is as it was, also one that tells nothing
+    ensures unread { reads (asked (map string_bytes words.now)) ≡ 0 → source.new ≡ source.old }
 {
-    match answer(alloc, ask_of(words), source) {
-        Ok(text) => write_text(alloc, text.as_slice(), out, notes),
-        Err(refusal) => note(alloc, &refusal, notes),
+    match ask_of(words) {
+        None => note(alloc, &Refusal::Usage, notes),
+        Some(Ask::Restructure) => answer_restructure(alloc, source, out, notes),
+        Some(Ask::Report) => answer_report(alloc, source, out, notes),
+        Some(Ask::Check) => answer_check(alloc, source, out, notes),
+        Some(Ask::Run(steps)) => answer_run(alloc, steps, source, out, notes),
+        Some(Ask::Generate(n)) => answer_generate(alloc, n, out, notes),
+        Some(Ask::Trial(n)) => answer_trial(alloc, n, out, notes),
     }
 }
 

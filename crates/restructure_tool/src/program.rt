@@ -19,15 +19,27 @@ use std::process::ExitCode;
 use std::{env, io};
 
 const HELP: &str = "\
-usage: restructure_tool restructure < SOURCE > RESULT
+usage: restructure_tool restructure [--report] < SOURCE > RESULT
+       restructure_tool check < SOURCE > REPORT
+       restructure_tool run --steps N < SOURCE > DISPLAYED
+       restructure_tool generate N > SOURCE
+       restructure_tool trial N > REPORT
 
-Reads a COBOL-85 program from standard input and writes a structured program
-that behaves the same to standard output. Where it can't, standard error has a
-line that says why, and standard output stays empty, but at WRITE FAULT. At FLOW
-further lines show the way to the fault.
+restructure reads a COBOL-85 program from standard input and writes a structured
+program that behaves the same to standard output. Where it can't, standard error
+has a line that says why, and standard output stays empty, but at WRITE FAULT.
+At FLOW further lines show the way to the fault. With --report standard error
+then has the report: what was dropped and added. check writes the report alone.
 
-Exit statuses: 0 done, 1 USAGE, 2 NOT SUBSET, NOT YET FORM or NOT YET LOOP,
-3 FLOW, 4 LIMIT, 5 READ FAULT, 6 WRITE FAULT, 10 NO MEMORY.
+run reads such a program, without statements on files, and runs it for at most N
+steps, where N has 1 to 18 digits. What it displays goes to standard output, and
+standard error has a line that says why it didn't stop by itself.
+
+generate writes the program number N of 1 to 1249, full of jumps, and trial the
+report of that program.
+
+Exit statuses: 0 done, 1 USAGE, 2 NOT SUBSET or NOT YET, 3 FLOW, 4 LIMIT,
+5 READ FAULT, 6 WRITE FAULT, 8 ABEND, 9 BUDGET, 10 NO MEMORY.
 ";
 
 const VERSION: &str = "restructure_tool 0.1.0\n";

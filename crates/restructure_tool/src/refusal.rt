@@ -1,6 +1,7 @@
 //! Why an ask isn't done.
 
-ghost use Rattle.std.specs.Prelude.{◌≡◌};
+ghost use Rattle.std.specs.Prelude.{◌≡◌, ◌++◌};
+ghost use Rattle.std.specs.Fmt.{decimal};
 ghost use Rattle.cob_base.specs.Answers.{Makes};
 ghost use Rattle.cob_base.specs.Limit as limits;
 ghost use Rattle.restructure_tool.specs.Refusal as refusals;
@@ -9,10 +10,11 @@ ghost use Rattle.restructure_tool.specs.Refusal.{status_of, line_of, refusal_tex
 use crate::kind::kind_at;
 use crate::status::Status;
 use cob_base::{Limit, NoMemory, Text};
+use cob_tree::{Abend, FlowFault, Program};
 use cobol_read::ReadRefusal;
-use restructure_core::{Later, Refused};
+use restructure_core::Refused;
 use std::alloc::Global;
-use trail_notes::trail_text;
+use trail_notes::{fault_text, trail_text};
 
 /// Why an ask isn't done.
 #[derive(Debug, Drop)]
@@ -21,6 +23,13 @@ pub enum Refusal {
     Usage,
     /// The source is refused; never for want of memory, which is `NoMemory`.
     Refused(Refused),
+    /// The program has statements on files, and isn't run yet.
+    Files,
+    /// The run of this program came to a fault of PERFORM.
+    Fault(Program, FlowFault),
+    Abend(Abend),
+    /// The program still ran after so many steps, which were asked for.
+    Budget(u64),
     ReadFault,
     WriteFault,
     NoMemory,
@@ -60,6 +69,10 @@ impl Refusal {
         match self {
             Refusal::Usage => Status::Usage,
             Refusal::Refused(refused) => refused_status(refused),
+            Refusal::Files => Status::NotSubset,
+            Refusal::Fault(_, _) => Status::Flow,
+            Refusal::Abend(_) => Status::Abend,
+            Refusal::Budget(_) => Status::Budget,
             Refusal::ReadFault => Status::ReadFault,
             Refusal::WriteFault => Status::WriteFault,
             Refusal::NoMemory => Status::NoMemory,
@@ -81,6 +94,12 @@ impl Refusal {
         match self {
             Refusal::Usage => told(alloc, b"USAGE"),
             Refusal::Refused(refused) => refused_text(alloc, refused),
+            Refusal::Files => told(alloc, b"NOT YET FILES"),
+            Refusal::Fault(program, fault) => {
+                fault_text(alloc, program.paragraphs.as_slice(), fault_of(*fault))
+            }
+            Refusal::Abend(abend) => abend_text(alloc, *abend),
+            Refusal::Budget(steps) => numbered(alloc, b"BUDGET ", *steps),
             Refusal::ReadFault => told(alloc, b"READ FAULT"),
             Refusal::WriteFault => told(alloc, b"WRITE FAULT"),
             Refusal::NoMemory => told(alloc, b"NO MEMORY"),
@@ -94,7 +113,6 @@ fn refused_status(refused: &Refused) -> Status
     match refused {
         Refused::NotSubset(_) => Status::NotSubset,
         Refused::Flow(_, _) => Status::Flow,
-        Refused::NotYet(_) => Status::NotSubset,
         Refused::Limit(_) => Status::Limit,
         Refused::NoMemory => Status::NoMemory,
     }
@@ -106,8 +124,6 @@ fn refused_text(alloc: Global, refused: &Refused) -> Result<Text, NoMemory>
     match refused {
         Refused::NotSubset(why) => not_subset_text(alloc, why),
         Refused::Flow(program, trail) => trail_text(alloc, program.paragraphs.as_slice(), trail),
-        Refused::NotYet(Later::Form) => told(alloc, b"NOT YET FORM"),
-        Refused::NotYet(Later::Loop) => told(alloc, b"NOT YET LOOP"),
         Refused::Limit(limit) => limit_text(alloc, limit),
         Refused::NoMemory => told(alloc, b"NO MEMORY"),
     }
@@ -119,6 +135,35 @@ fn not_subset_text(alloc: Global, why: &ReadRefusal) -> Result<Text, NoMemory>
     let kind = kind_at(alloc, why)?;
     let mut text = told(alloc, b"NOT SUBSET ")?;
     text.add(kind.as_slice())?;
+    Ok(text)
+}
+
+// The fault of flow that a trail would show.
+fn fault_of(fault: FlowFault) -> flow_paths::FlowFault
+    ensures { result ≡ refusals.fault_of fault }
+{
+    match fault {
+        FlowFault::Overlap(paragraph) => flow_paths::FlowFault::Overlap(paragraph),
+        FlowFault::Reentry(paragraph) => flow_paths::FlowFault::Reentry(paragraph),
+    }
+}
+
+fn abend_text(alloc: Global, abend: Abend) -> Result<Text, NoMemory>
+    ensures { Makes (refusals.abend_text abend) result }
+{
+    match abend {
+        Abend::BadDigits => told(alloc, b"ABEND BAD-DIGITS"),
+        Abend::OutOfRange => told(alloc, b"ABEND OUT-OF-RANGE"),
+        Abend::Io(status) => numbered(alloc, b"ABEND IO ", u64::from(status)),
+    }
+}
+
+fn numbered(alloc: Global, words: &[u8], number: u64) -> Result<Text, NoMemory>
+    ensures { Makes (words.now ++ decimal number) result }
+{
+    let mut text = told(alloc, words)?;
+    let number = format!(in alloc; "{number}")?;
+    text.add(number.as_bytes())?;
     Ok(text)
 }
 

@@ -38,6 +38,71 @@ const ENDLESS: &str = "       IDENTIFICATION DIVISION.
            GO TO A.
 ";
 
+const ENDLESS_RESULT: &str = "       IDENTIFICATION DIVISION.
+       PROGRAM-ID. T.
+       DATA DIVISION.
+       WORKING-STORAGE SECTION.
+       01 RX-NEVER-1 PIC 9 VALUE 0.
+       PROCEDURE DIVISION.
+       A.
+           PERFORM UNTIL RX-NEVER-1 = 1
+               CONTINUE
+           END-PERFORM
+           STOP RUN.
+";
+
+const HELLO_REPORT: &str = "PROGRAM HELLO
+PARAGRAPHS 3
+RANGES 1
+UNREACHABLE 1
+DROPPED B
+NEVER 0
+FLAGS 0
+COUNTS 0
+STATES 0
+EXITS 0
+";
+
+const GENERATED: &str = "       IDENTIFICATION DIVISION.
+       PROGRAM-ID. GEN-1.
+       DATA DIVISION.
+       WORKING-STORAGE SECTION.
+       01 C PIC 9(6) VALUE 0.
+       PROCEDURE DIVISION.
+       M.
+           PERFORM G-1-1 THRU G-1-4.
+           DISPLAY C.
+           STOP RUN.
+       G-1-1.
+           ADD 1 TO C.
+           IF C < 10
+               GO TO G-1-3
+           END-IF.
+       G-1-2.
+           ADD 1 TO C.
+           IF C < 10
+               GO TO G-1-3
+           END-IF.
+       G-1-3.
+           ADD 1 TO C.
+           IF C < 10
+               GO TO G-1-2
+           END-IF.
+       G-1-4.
+           EXIT.
+";
+
+const GENERATED_REPORT: &str = "PROGRAM GEN-1
+PARAGRAPHS 5
+RANGES 2
+UNREACHABLE 0
+NEVER 0
+FLAGS 0
+COUNTS 0
+STATES 1
+EXITS 0
+";
+
 const UNENDED: &str = "       identification division.
        Program-Id. T.
       * a comment, and then no line feed
@@ -56,6 +121,16 @@ const PERFORMING: &str = "       IDENTIFICATION DIVISION.
        PROCEDURE DIVISION.
        A.
            PERFORM B.
+           STOP RUN.
+       B.
+           DISPLAY \"B\".
+";
+
+const PERFORMING_RESULT: &str = "       IDENTIFICATION DIVISION.
+       PROGRAM-ID. T.
+       PROCEDURE DIVISION.
+       A.
+           PERFORM B
            STOP RUN.
        B.
            DISPLAY \"B\".
@@ -94,6 +169,57 @@ RETURN 0 E THRU E:
 IN MAIN: INTO
 IN A THRU C: OVER 0 ARM 1 INTO
 IN D THRU D:
+";
+
+const COUNTING: &str = "       IDENTIFICATION DIVISION.
+       PROGRAM-ID. T.
+       DATA DIVISION.
+       WORKING-STORAGE SECTION.
+       01 N PIC 9 VALUE 3.
+       PROCEDURE DIVISION.
+       A.
+           PERFORM N TIMES
+               SUBTRACT 1 FROM N
+               DISPLAY N
+               IF N = 1 GO TO Z END-IF
+           END-PERFORM.
+       Z.
+           STOP RUN.
+";
+
+const UNDIGITAL: &str = "       IDENTIFICATION DIVISION.
+       PROGRAM-ID. T.
+       DATA DIVISION.
+       WORKING-STORAGE SECTION.
+       01 X PIC X(2) VALUE \"A1\".
+       01 Y REDEFINES X PIC 9(2).
+       PROCEDURE DIVISION.
+       A. DISPLAY X. ADD 1 TO Y.
+";
+
+const OUTSIDE: &str = "       IDENTIFICATION DIVISION.
+       PROGRAM-ID. T.
+       DATA DIVISION.
+       WORKING-STORAGE SECTION.
+       01 T1.
+           05 E PIC 9 OCCURS 3.
+       01 I PIC 9 VALUE 4.
+       PROCEDURE DIVISION.
+       A. MOVE 1 TO E (I).
+";
+
+const READING: &str = "       IDENTIFICATION DIVISION.
+       PROGRAM-ID. T.
+       ENVIRONMENT DIVISION.
+       INPUT-OUTPUT SECTION.
+       FILE-CONTROL.
+           SELECT F ASSIGN TO \"IN.DAT\".
+       DATA DIVISION.
+       FILE SECTION.
+       FD F.
+       01 R PIC X(4).
+       PROCEDURE DIVISION.
+       A. DISPLAY \"A\". OPEN INPUT F.
 ";
 
 /// What stands before the data of a program in `KINDS`.
@@ -290,9 +416,7 @@ fn each_answer_comes_with_its_line(rt: HostRuntime) -> Result<(), Fail> {
         },
         Case {
             source: PERFORMING,
-            status: Status::NotSubset,
-            out: "",
-            notes: "NOT YET FORM\n",
+            out: PERFORMING_RESULT,
             ..PLAIN
         },
         Case {
@@ -311,9 +435,7 @@ fn each_answer_comes_with_its_line(rt: HostRuntime) -> Result<(), Fail> {
         },
         Case {
             source: ENDLESS,
-            status: Status::NotSubset,
-            out: "",
-            notes: "NOT YET LOOP\n",
+            out: ENDLESS_RESULT,
             ..PLAIN
         },
         Case {
@@ -337,6 +459,144 @@ fn each_answer_comes_with_its_line(rt: HostRuntime) -> Result<(), Fail> {
             status: Status::NotSubset,
             out: "",
             ..PLAIN
+        },
+    ];
+    for case in &cases {
+        check(&rt, alloc, case)?;
+    }
+    Ok(())
+}
+
+/// A call that runs a source.
+fn runs(source: &'static str, status: Status, out: &'static str, notes: &'static str) -> Case {
+    Case {
+        words: &["run", "--steps", "100"],
+        source,
+        status,
+        out,
+        notes,
+        ..PLAIN
+    }
+}
+
+#[test]
+fn each_end_of_a_run_comes_with_its_line(rt: HostRuntime) -> Result<(), Fail> {
+    let alloc = rt.alloc();
+    let budget = Status::Budget;
+    let two = "ONE\nTHREE\n";
+    let cases = [
+        runs(HELLO, Status::Done, two, ""),
+        runs(HELLO_RESULT, Status::Done, two, ""),
+        runs(COUNTING, Status::Done, "2\n1\n", ""),
+        runs(ENDLESS, budget, "", "BUDGET 100\n"),
+        runs(UNDIGITAL, Status::Abend, "A1\n", "ABEND BAD-DIGITS\n"),
+        runs(OUTSIDE, Status::Abend, "", "ABEND OUT-OF-RANGE\n"),
+        runs(OVERLAPPING, Status::Done, "E\nB\nC\n", ""),
+        runs(REENTERING, Status::Flow, "", "FLOW REENTRY A\n"),
+        runs(READING, Status::NotSubset, "", "NOT YET FILES\n"),
+        runs("", Status::NotSubset, "", "NOT SUBSET SYNTAX LINE 1\n"),
+        Case {
+            words: &["run", "--steps", "000000000000000006"],
+            ..runs(HELLO, Status::Done, two, "")
+        },
+        Case {
+            words: &["run", "--steps", "5"],
+            ..runs(HELLO, budget, two, "BUDGET 5\n")
+        },
+        Case {
+            words: &["run", "--steps", "0"],
+            ..runs(HELLO, budget, "", "BUDGET 0\n")
+        },
+        Case {
+            piece: 4,
+            write_fails: 3,
+            ..runs(HELLO, Status::WriteFault, "ONE\nTHRE", "WRITE FAULT\n")
+        },
+        Case {
+            write_fails: 1,
+            note_fails: 1,
+            ..runs(HELLO, Status::WriteFault, "", "")
+        },
+        Case {
+            note_fails: 1,
+            ..runs(UNDIGITAL, Status::Abend, "A1\n", "")
+        },
+        Case {
+            read_fails: 1,
+            ..runs(HELLO, Status::ReadFault, "", "READ FAULT\n")
+        },
+    ];
+    for case in &cases {
+        check(&rt, alloc, case)?;
+    }
+    Ok(())
+}
+
+#[test]
+fn other_words_are_no_ask(rt: HostRuntime) -> Result<(), Fail> {
+    let alloc = rt.alloc();
+    let usage = runs(HELLO, Status::Usage, "", "USAGE\n");
+    let unasked: [&'static [&'static str]; 14] = [
+        &["run"],
+        &["run", "--steps"],
+        &["run", "--steps", ""],
+        &["run", "--steps", "-1"],
+        &["run", "--steps", "1x"],
+        &["run", "--steps", "0000000000000000001"],
+        &["run", "steps", "1"],
+        &["restructure", "--steps", "1"],
+        &["run", "--steps", "1", "2"],
+        &["check", "--report"],
+        &["generate"],
+        &["generate", "0"],
+        &["generate", "1250"],
+        &["trial", "1x"],
+    ];
+    for words in unasked {
+        check(&rt, alloc, &Case { words, ..usage })?;
+    }
+    Ok(())
+}
+
+/// A call with these words, of a source that they don't read or that is `HELLO`.
+fn asks(words: &'static [&'static str], out: &'static str, notes: &'static str) -> Case {
+    Case {
+        words,
+        out,
+        notes,
+        ..PLAIN
+    }
+}
+
+#[test]
+fn reports_and_generated_programs_are_written(rt: HostRuntime) -> Result<(), Fail> {
+    let alloc = rt.alloc();
+    let with_report: &'static [&'static str] = &["restructure", "--report"];
+    let cases = [
+        asks(&["check"], HELLO_REPORT, ""),
+        asks(with_report, HELLO_RESULT, HELLO_REPORT),
+        asks(&["generate", "1"], GENERATED, ""),
+        asks(&["trial", "000000000000000001"], GENERATED_REPORT, ""),
+        Case {
+            read_fails: 1,
+            ..asks(&["generate", "1"], GENERATED, "")
+        },
+        Case {
+            piece: 10,
+            note_fails: 2,
+            status: Status::WriteFault,
+            ..asks(with_report, HELLO_RESULT, "PROGRAM HE")
+        },
+        Case {
+            piece: 10,
+            write_fails: 2,
+            status: Status::WriteFault,
+            ..asks(with_report, "       IDE", "WRITE FAULT\n")
+        },
+        Case {
+            source: OVERLAPPING,
+            status: Status::Flow,
+            ..asks(&["check"], "", OVERLAPPING_NOTES)
         },
     ];
     for case in &cases {

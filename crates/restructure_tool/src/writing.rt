@@ -3,12 +3,42 @@
 ghost use Rattle.std.specs.Prelude.{◌≡◌, ◌≤◌, length, drop, true, false};
 ghost use Rattle.cob_base.specs.Faults.{Rose};
 ghost use Rattle.cob_base.specs.Sink.{sink_call};
-ghost use Rattle.restructure_tool.specs.Writing.{Gains, Takes, Writes, Notes, NotesLine};
+ghost use Rattle.restructure_tool.specs.Texts.{text_alone, with_report};
+ghost use Rattle.restructure_tool.specs.Writing.{Gains, Takes, Writes, IsGiven, Notes, NotesLine};
 
 use crate::refusal::Refusal;
 use crate::status::Status;
+use crate::texts::Texts;
 use cob_base::{Gave, NoMemory, Sink};
 use std::alloc::Global;
+
+/// Gives an answer: its texts are written, or its refusal is noted.
+pub fn give<K: Sink, N: Sink>(
+    alloc: Global,
+    answer: Result<Texts, Refusal>,
+    out: &mut K,
+    notes: &mut N,
+) -> Status
+    ensures { IsGiven answer (sink_call K.held K.faults out.old out.new)
+        (sink_call N.held N.faults notes.old notes.new) result }
+{
+    match answer {
+        Ok(texts) => write_texts(alloc, &texts, out, notes),
+        Err(refusal) => note(alloc, &refusal, notes),
+    }
+}
+
+// Writes the text, and the report behind it, where there is one.
+fn write_texts<K: Sink, N: Sink>(alloc: Global, texts: &Texts, out: &mut K, notes: &mut N) -> Status
+    ensures { Writes texts.now (sink_call K.held K.faults out.old out.new)
+        (sink_call N.held N.faults notes.old notes.new) result }
+{
+    let text = texts.text.as_slice();
+    match &texts.report {
+        None => write_text(alloc, text, out, notes),
+        Some(report) => write_both(alloc, text, report.as_slice(), out, notes),
+    }
+}
 
 /// Writes a text. Both sinks have room, for it and for the line of a failure, before its first byte
 /// is written.
@@ -18,7 +48,7 @@ pub fn write_text<K: Sink, N: Sink>(
     out: &mut K,
     notes: &mut N,
 ) -> Status
-    ensures { Writes text.now (sink_call K.held K.faults out.old out.new)
+    ensures { Writes (text_alone text.now) (sink_call K.held K.faults out.old out.new)
         (sink_call N.held N.faults notes.old notes.new) result }
 {
     let Ok(line) = Refusal::WriteFault.line(alloc) else {
@@ -34,6 +64,37 @@ pub fn write_text<K: Sink, N: Sink>(
         return Status::Done;
     }
     let _ = give_all(notes, line.as_slice());
+    Status::WriteFault
+}
+
+// Writes a text, and a report to the notes. Both sinks have room before the first byte is written.
+fn write_both<K: Sink, N: Sink>(
+    alloc: Global,
+    text: &[u8],
+    report: &[u8],
+    out: &mut K,
+    notes: &mut N,
+) -> Status
+    ensures { Writes (with_report text.now report.now)
+        (sink_call K.held K.faults out.old out.new)
+        (sink_call N.held N.faults notes.old notes.new) result }
+{
+    let Ok(line) = Refusal::WriteFault.line(alloc) else {
+        return note(alloc, &Refusal::NoMemory, notes);
+    };
+    if out.ready(text.len()).is_err() {
+        return note(alloc, &Refusal::NoMemory, notes);
+    }
+    if notes.ready(line.len().max(report.len())).is_err() {
+        return Status::NoMemory;
+    }
+    if !give_all(out, text) {
+        let _ = give_all(notes, line.as_slice());
+        return Status::WriteFault;
+    }
+    if give_all(notes, report) {
+        return Status::Done;
+    }
     Status::WriteFault
 }
 

@@ -1,4 +1,4 @@
-use Rattle.restructure_core.proofs.OneAnswer.{comes-unread, comes-past, comes-faulty, comes-later, comes-long, comes-done}
+use Rattle.restructure_core.proofs.OneAnswer.{comes-unread, comes-past, comes-faulty, comes-limited, comes-done}
 use Rattle.restructure_core.proofs.pipeline.restructure.Goals as goal
 
 pub returns-clause-unread : goal.returns-clause-unread
@@ -10,11 +10,8 @@ returns-clause-ranges c = comes-past c.args.bytes.now c.restructured.result c.re
 pub returns-clause-faulty : goal.returns-clause-faulty
 returns-clause-faulty c = comes-faulty c.args.bytes.now c.restructured.result c.restructured.ensures.done c.restructured.ensures.refused
 
-pub returns-clause-later : goal.returns-clause-later
-returns-clause-later c = comes-later c.args.bytes.now c.restructured.result c.restructured.ensures.done c.restructured.ensures.refused
-
 pub returns-clause-past : goal.returns-clause-past
-returns-clause-past c = comes-long c.args.bytes.now c.restructured.result c.restructured.ensures.done c.restructured.ensures.refused
+returns-clause-past c = comes-limited c.args.bytes.now c.restructured.result c.restructured.ensures.done c.restructured.ensures.refused
 
-pub returns-clause-straight : goal.returns-clause-straight
-returns-clause-straight c = comes-done c.args.bytes.now c.restructured.result c.restructured.ensures.done c.restructured.ensures.refused
+pub returns-clause-accepted : goal.returns-clause-accepted
+returns-clause-accepted c = comes-done c.args.bytes.now c.restructured.result c.restructured.ensures.done c.restructured.ensures.refused

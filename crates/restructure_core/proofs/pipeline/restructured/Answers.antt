@@ -1,6 +1,16 @@
-use Rattle.restructure_core.proofs.Answering.{restructured}
+use Rattle.std.proofs.Common.{subst}
+use Rattle.restructure_core.specs.Made.{IsFlowOf}
+use Rattle.restructure_core.proofs.Answering.{restructured_if}
+use Rattle.restructure_core.proofs.ReadWell.{read_flow}
 use Rattle.restructure_core.proofs.pipeline.restructured.Goals as goal
 
-pub returns-in_ok-text-in-None-clause-done : goal.returns-in_ok-text-in-None-clause-done
-returns-in_ok-text-in-None-clause-done c =
-    restructured c.args.bytes.now c.in_ok-text-in-None.text c.in_ok-program.program c.in_ok-program.ensures.found c.in_ok-text-in-None.ensures
+pub restructure_program-done-requires-clause-flow : goal.restructure_program-done-requires-clause-flow
+restructure_program-done-requires-clause-flow c =
+    let program = c.in_ok-program.program in
+    read_flow c.args.bytes.now program c.in-Clear.summary c.in_ok-program.ensures.found
+    (subst (λ found. IsFlowOf program found) c.in-Clear.is c.in_ok-trail.ensures)
+
+pub returns-in-Clear-clause-done : goal.returns-in-Clear-clause-done
+returns-in-Clear-clause-done c =
+    restructured_if c.args.bytes.now c.in_ok-program.program c.restructure_program-done.result
+    c.in_ok-program.ensures.found c.restructure_program-done.ensures

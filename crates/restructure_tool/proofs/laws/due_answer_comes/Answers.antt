@@ -1,4 +1,4 @@
-use Rattle.restructure_tool.proofs.LawLemmas.{due-comes, usage-comes}
+use Rattle.restructure_tool.proofs.LawLemmas.{due-comes, accepted-done, usage-comes, generated-comes}
 use Rattle.restructure_tool.proofs.laws.due_answer_comes.Goals as goal
 
 pub returns-clause-due : goal.returns-clause-due
@@ -6,3 +6,9 @@ returns-clause-due c = due-comes
 
 pub returns-clause-usage : goal.returns-clause-usage
 returns-clause-usage c = usage-comes
+
+pub returns-clause-generated : goal.returns-clause-generated
+returns-clause-generated c = generated-comes
+
+pub returns-clause-accepted : goal.returns-clause-accepted
+returns-clause-accepted c = accepted-done

@@ -1,0 +1,92 @@
+-- A program without a fault of flow has one result, or passes one limit first.
+use Rattle.std.proofs.Common.{◌≡◌, ℕ, List, Some, None, ap, ap₂, sym, ◌∙◌, subst, inl, inr}
+use Rattle.std.proofs.lemmas.Option.{none-some}
+use Rattle.cob_base.specs.declared.limit.Limit.{Limit}
+use Rattle.cob_tree.specs.declared.program.Program.{Program}
+use Rattle.cobol_read.specs.Reading.{Reads}
+use Rattle.cobol_print.specs.Program.{printed}
+use Rattle.procedure_split.specs.declared.writing.Split.{Split}
+use Rattle.flow_report.specs.Report.{IsReportOf}
+use Rattle.flow_report.specs.declared.report.Report.{Report}
+use Rattle.restructure_core.proofs.OneReport.{one-report}
+use Rattle.one_split.specs.Laws.{IsSplitOnce}
+use Rattle.one_split.proofs.OneSplit.{one-split}
+use Rattle.restructure_core.specs.declared.pipeline.Done.{Done}
+use Rattle.restructure_core.specs.Flow.{IsFaultless}
+use Rattle.pending_returns.specs.declared.facts.Summary.{Summary}
+use Rattle.restructure_core.specs.Made.{IsClear, IsMadeOf, PassesBefore}
+use Rattle.restructure_core.specs.Limit.{result_limit}
+use Rattle.restructure_core.specs.Answers.{PassesAsResult, PassesLimit, IsResultOf}
+use Rattle.read_headline.proofs.WellMade.{well-made}
+use Rattle.restructure_core.proofs.ReadWell.{clear-flow}
+
+pub limited-faultless : (program : Program) (limit : Limit) → PassesLimit program limit →
+    IsFaultless program
+limited-faultless program limit (inl before) = before.clear.faultless
+limited-faultless program limit (inr long) = long.is.clear.faultless
+
+pub done-faultless : (program : Program) (done : Done) → IsResultOf program done →
+    IsFaultless program
+done-faultless program done h = h.is.clear.faultless
+
+some-same : (a b : Limit) → Some a ≡ Some b → a ≡ b
+some-same a b e = cc
+
+module _ (bytes : List ℕ) (program : Program) (reads : Reads bytes program) where
+  once : (one other : Summary) → IsClear program one → IsClear program other →
+      IsSplitOnce program one other
+  once one other is also_is =
+      one-split program one other (well-made bytes program reads) (clear-flow program one is)
+      (clear-flow program other also_is)
+
+  made-same : (one other : Split) → IsMadeOf program one → IsMadeOf program other → one ≡ other
+  made-same one other h g =
+      (once h.summary g.summary h.clear g.clear).made one other h.split g.split
+
+  before-same : (one other : Limit) → PassesBefore program one → PassesBefore program other →
+      one ≡ other
+  before-same one other h g =
+      (once h.summary g.summary h.clear g.clear).limit one other h.past g.past
+
+  made-within : (made : Split) (limit : Limit) → IsMadeOf program made →
+      PassesBefore program limit → ⊥
+  made-within made limit h g =
+      (once h.summary g.summary h.clear g.clear).within made.program limit h.split.is g.past
+
+  -- a limit that is passed is that of each program that it is split into
+  result-passes : (made : Split) (limit : Limit) → IsMadeOf program made →
+      PassesAsResult program limit → result_limit made.program ≡ Some limit
+  result-passes made limit is long =
+      ap (λ (m : Split). result_limit m.program) (made-same made long.made is long.is) ∙ long.past
+
+  pub limits-one : (one other : Limit) → PassesLimit program one → PassesLimit program other →
+      one ≡ other
+  limits-one one other (inl h) (inl g) = before-same one other h g
+  limits-one one other (inl h) (inr g) = absurd (made-within g.made one g.is h)
+  limits-one one other (inr h) (inl g) = absurd (made-within h.made other h.is g)
+  limits-one one other (inr h) (inr g) =
+      some-same one other (sym h.past ∙ result-passes h.made other h.is g)
+
+  pub done-unlimited : (done : Done) (limit : Limit) → IsResultOf program done →
+      PassesLimit program limit → ⊥
+  done-unlimited done limit h (inl g) = made-within h.made limit h.is g
+  done-unlimited done limit h (inr g) =
+      none-some limit (sym h.within ∙ result-passes h.made limit h.is g)
+
+  done-same : (one other : Done) → one.text ≡ other.text → one.report ≡ other.report →
+      one ≡ other
+  done-same one other texts reports =
+      ap₂ (λ (t : List ℕ) (r : Report). (
+      let done : Done = record { text = t; report = r } in done
+      )) texts reports
+
+  pub dones-one : (one other : Done) → IsResultOf program one → IsResultOf program other →
+      one ≡ other
+  dones-one one other h g =
+      let made = made-same h.made g.made h.is g.is in
+      done-same one other
+      (h.written ∙ ap (λ (m : Split). printed m.program) made ∙ sym g.written)
+      (one-report program h.is.summary g.is.summary h.made.added one.report other.report
+      h.is.clear.is g.is.clear.is h.reported
+      (subst (λ (m : Split). IsReportOf program g.is.summary m.added other.report) (sym made)
+      g.reported))

@@ -1,0 +1,26 @@
+-- A program that is read, and has no fault of flow, may be split.
+use Rattle.std.proofs.Common.{ℕ, List}
+use Rattle.cob_tree.specs.declared.program.Program.{Program}
+use Rattle.pending_returns.specs.declared.facts.Summary.{Summary}
+use Rattle.cobol_read.specs.Reading.{Reads}
+use Rattle.shaped_ranges.specs.Laws.{HasFlow}
+use Rattle.split_behaviour.specs.Alike.{IsWellMade, FlowsSo}
+use Rattle.read_headline.proofs.WellMade.{well-made}
+use Rattle.restructure_core.specs.Made.{IsClear}
+use Rattle.restructure_core.proofs.ReadSome.{read_some}
+
+pub clear-flow : (program : Program) (summary : Summary) → IsClear program summary →
+    FlowsSo program summary
+clear-flow program summary clear = record { fair = clear.faultless.never; is = clear.is }
+
+pub read_flow : (bytes : List ℕ) (program : Program) (summary : Summary) → Reads bytes program →
+    IsClear program summary → HasFlow program summary
+read_flow bytes program summary reads clear =
+    let proper = (well-made bytes program reads).proper in
+    record {
+      items = proper.own_items;
+      paragraphs = proper.own_paragraphs;
+      some = read_some bytes program reads;
+      fair = clear.faultless.never;
+      is = clear.is;
+    }

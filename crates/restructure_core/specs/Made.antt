@@ -1,0 +1,35 @@
+-- The structured program that a program is restructured to.
+use Rattle.cob_base.specs.declared.limit.Limit.{Limit}
+use Rattle.cob_tree.specs.declared.fault.SplitFault.TheVariants as split
+use Rattle.cob_tree.specs.declared.program.Program.{Program}
+use Rattle.language.specs.Control.{control_of}
+use Rattle.flow_numbers.specs.Kinds.{never_first_of}
+use Rattle.pending_returns.specs.declared.facts.Summary.{Summary}
+use Rattle.pending_returns.specs.Summary.{IsSummary}
+use Rattle.procedure_split.specs.declared.writing.Split.{Split}
+use Rattle.procedure_split.specs.Split.{IsSplitFault, IsSplitWith}
+use Rattle.restructure_core.specs.declared.flow.Flow.{Flow}
+use Rattle.restructure_core.specs.declared.flow.Flow.TheVariants as flow
+use Rattle.restructure_core.specs.Flow.{IsFaultless, IsFaultyBy}
+
+-- no flow path comes to a fault, and this is the summary of the ranges that they perform
+pub record IsClear (program : Program) (summary : Summary) : Type 0 where
+  pub faultless : IsFaultless program
+  pub is : IsSummary (never_first_of program.files) (control_of program) summary
+
+-- what control of the program comes to
+abbrev pub IsFlowOf : Program → Flow → Type 0
+IsFlowOf program (flow.Clear summary) = IsClear program summary
+IsFlowOf program (flow.Faulty trail) = IsFaultyBy program trail
+
+-- by its summary the program is split into this one, with items that are counted
+pub record IsMadeOf (program : Program) (made : Split) : Type 0 where
+  pub summary : Summary
+  pub clear : IsClear program summary
+  pub split : IsSplitWith program summary made
+
+-- by its summary it passes a limit before it is split
+pub record PassesBefore (program : Program) (limit : Limit) : Type 0 where
+  pub summary : Summary
+  pub clear : IsClear program summary
+  pub past : IsSplitFault program summary (split.Limit limit)

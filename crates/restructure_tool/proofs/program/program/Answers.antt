@@ -1,0 +1,19 @@
+use Rattle.std.proofs.Common.{◌≡◌, map, string_bytes, false, Result, Ok, sym, subst}
+use Rattle.std.specs.Prelude.{IfOk}
+use Rattle.cob_base.specs.Source.{source_call}
+use Rattle.cob_base.specs.Sink.{sink_call}
+use Rattle.restructure_tool.specs.Ask.{ask_of}
+use Rattle.restructure_tool.specs.Tool.{Ends}
+use Rattle.restructure_tool.specs.Program.{is_page}
+use Rattle.restructure_tool.proofs.program.program.Goals as goal
+
+if-ok : {T E : Type 0} (r : Result T E) (x : T) (P : T → Type 0) → r ≡ Ok x → P x → IfOk r P
+if-ok r x P is h = subst (λ q. IfOk q P) (sym is) h
+
+pub returns-in-Ok-clause-ask : goal.returns-in-Ok-clause-ask
+returns-in-Ok-clause-ask g c =
+    let source = source_call g.S.Source.left g.S.Source.faults c.args.source.now c.serve.new.source in
+    let out = sink_call g.K.Sink.held g.K.Sink.faults c.args.out.now c.serve.new.out in
+    let notes = sink_call g.N.Sink.held g.N.Sink.faults c.args.notes.now c.serve.new.notes in
+    if-ok c.args.words c.in-Ok.words _ c.in-Ok.is
+    (subst (λ ws. is_page (map string_bytes ws) ≡ false → Ends (ask_of (map string_bytes ws)) source out notes c.serve.result) c.as_slice.ensures.value c.serve.ensures.ask)

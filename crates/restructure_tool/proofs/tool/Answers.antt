@@ -1,0 +1,42 @@
+use Rattle.std.proofs.Common.{◌≡◌, Some, refl, subst}
+use Rattle.cob_base.specs.Source.{source_call}
+use Rattle.cob_base.specs.Sink.{sink_call}
+use Rattle.restructure_tool.specs.declared.ask.Ask.TheVariants.{Run, Generate, Trial}
+use Rattle.restructure_tool.specs.Tool.{Ends}
+use Rattle.restructure_tool.proofs.EndLemmas.{usage-ends}
+use Rattle.restructure_tool.proofs.tool.Goals as goal
+
+pub returns-in-None-clause-ends : goal.returns-in-None-clause-ends
+returns-in-None-clause-ends g c =
+    let source = source_call g.S.Source.left g.S.Source.faults c.args.source.now c.args.source.now in
+    let out = sink_call g.K.Sink.held g.K.Sink.faults c.args.out.now c.args.out.now in
+    let notes = sink_call g.N.Sink.held g.N.Sink.faults c.args.notes.now c.note.new.notes in
+    subst (λ a. Ends a source out notes c.note.result) c.in-None.ensures.asked
+    (usage-ends out notes c.note.result refl c.note.ensures source refl)
+
+pub returns-in-Some-Run-clause-ends : goal.returns-in-Some-Run-clause-ends
+returns-in-Some-Run-clause-ends g c =
+    let source = source_call g.S.Source.left g.S.Source.faults c.args.source.now c.answer_run.new.source in
+    let out = sink_call g.K.Sink.held g.K.Sink.faults c.args.out.now c.answer_run.new.out in
+    let notes = sink_call g.N.Sink.held g.N.Sink.faults c.args.notes.now c.answer_run.new.notes in
+    let same : Run c.in-Some-Run.steps ≡ c.in-Some-Run.field-0 = (let a = c.in-Some-Run.field-0-is in let b = c.in-Some-Run.steps-is in cc) in
+    subst (λ a. Ends a source out notes c.answer_run.result) c.in-Some-Run.ensures.asked
+    (subst (λ x. Ends (Some x) source out notes c.answer_run.result) same c.answer_run.ensures)
+
+pub returns-in-Some-Generate-clause-ends : goal.returns-in-Some-Generate-clause-ends
+returns-in-Some-Generate-clause-ends g c =
+    let source = source_call g.S.Source.left g.S.Source.faults c.args.source.now c.args.source.now in
+    let out = sink_call g.K.Sink.held g.K.Sink.faults c.args.out.now c.answer_generate.new.out in
+    let notes = sink_call g.N.Sink.held g.N.Sink.faults c.args.notes.now c.answer_generate.new.notes in
+    let same : Generate c.in-Some-Generate.n ≡ c.in-Some-Generate.field-0 = (let a = c.in-Some-Generate.field-0-is in let b = c.in-Some-Generate.n-is in cc) in
+    subst (λ a. Ends a source out notes c.answer_generate.result) c.in-Some-Generate.ensures.asked
+    (subst (λ x. Ends (Some x) source out notes c.answer_generate.result) same (c.answer_generate.ensures source refl))
+
+pub returns-in-Some-Trial-clause-ends : goal.returns-in-Some-Trial-clause-ends
+returns-in-Some-Trial-clause-ends g c =
+    let source = source_call g.S.Source.left g.S.Source.faults c.args.source.now c.args.source.now in
+    let out = sink_call g.K.Sink.held g.K.Sink.faults c.args.out.now c.answer_trial.new.out in
+    let notes = sink_call g.N.Sink.held g.N.Sink.faults c.args.notes.now c.answer_trial.new.notes in
+    let same : Trial c.in-Some-Trial.n ≡ c.in-Some-Trial.field-0 = (let a = c.in-Some-Trial.field-0-is in let b = c.in-Some-Trial.n-is in cc) in
+    subst (λ a. Ends a source out notes c.answer_trial.result) c.in-Some-Trial.ensures.asked
+    (subst (λ x. Ends (Some x) source out notes c.answer_trial.result) same (c.answer_trial.ensures source refl))

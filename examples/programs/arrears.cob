@@ -1,0 +1,38 @@
+       IDENTIFICATION DIVISION.
+       PROGRAM-ID. ARREARS.
+       ENVIRONMENT DIVISION.
+       INPUT-OUTPUT SECTION.
+       FILE-CONTROL.
+           SELECT RENTS ASSIGN TO "RENTS.DAT".
+       DATA DIVISION.
+       FILE SECTION.
+       FD RENTS.
+       01 RENT.
+           05 TENANT PIC X(12).
+           05 DUE PIC 9(4).
+           05 PAID PIC 9(4).
+       WORKING-STORAGE SECTION.
+       77 OWED PIC 9(4).
+       77 TENANTS-LATE PIC 9(4) VALUE 0.
+       PROCEDURE DIVISION.
+       MAIN-LINE.
+           OPEN INPUT RENTS.
+       READ-RENT.
+           READ RENTS AT END GO TO WIND-UP.
+           PERFORM LOOK-AT-RENT THRU LOOK-EXIT.
+           GO TO READ-RENT.
+       LOOK-AT-RENT.
+           IF PAID NOT < DUE GO TO LOOK-EXIT.
+           SUBTRACT PAID FROM DUE GIVING OWED.
+           IF OWED < 10 GO TO SMALL-SUM.
+           ADD 1 TO TENANTS-LATE.
+           DISPLAY TENANT " OWES " OWED.
+           GO TO LOOK-EXIT.
+       SMALL-SUM.
+           DISPLAY TENANT " IS SHORT".
+       LOOK-EXIT.
+           EXIT.
+       WIND-UP.
+           CLOSE RENTS.
+           DISPLAY "LATE: " TENANTS-LATE.
+           STOP RUN.

@@ -1,0 +1,11 @@
+       IDENTIFICATION DIVISION.
+       PROGRAM-ID. T.
+       DATA DIVISION.
+       WORKING-STORAGE SECTION.
+       01 RX-NEVER-1 PIC 9 VALUE 0.
+       PROCEDURE DIVISION.
+       A.
+           PERFORM UNTIL RX-NEVER-1 = 1
+               DISPLAY "ONE"
+           END-PERFORM
+           STOP RUN.

@@ -1,0 +1,18 @@
+       IDENTIFICATION DIVISION.
+       PROGRAM-ID. EARLY.
+       DATA DIVISION.
+       WORKING-STORAGE SECTION.
+       01 N PIC 9 VALUE 2.
+       PROCEDURE DIVISION.
+       START-HERE.
+           PERFORM CHECK-ONE THRU CHECK-EXIT.
+           ADD 7 TO N.
+           PERFORM CHECK-ONE THRU CHECK-EXIT.
+           STOP RUN.
+       CHECK-ONE.
+           IF N < 5 GO TO CHECK-EXIT.
+           DISPLAY "LARGE".
+       CHECK-TWO.
+           IF N = 9 DISPLAY "NINE".
+       CHECK-EXIT.
+           EXIT.

@@ -1,0 +1,13 @@
+       IDENTIFICATION DIVISION.
+       PROGRAM-ID. ENDLESS.
+       DATA DIVISION.
+       WORKING-STORAGE SECTION.
+       01 TURNS PIC 9(4) VALUE 0.
+       01 RX-NEVER-1 PIC 9 VALUE 0.
+       PROCEDURE DIVISION.
+       AGAIN.
+           PERFORM UNTIL RX-NEVER-1 = 1
+               ADD 1 TO TURNS
+               DISPLAY TURNS
+           END-PERFORM
+           STOP RUN.

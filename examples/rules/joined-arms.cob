@@ -1,0 +1,15 @@
+       IDENTIFICATION DIVISION.
+       PROGRAM-ID. JOINED.
+       DATA DIVISION.
+       WORKING-STORAGE SECTION.
+       01 AGE PIC 99 VALUE 17.
+       PROCEDURE DIVISION.
+       START-HERE.
+           IF AGE < 18 GO TO YOUNG.
+           DISPLAY "FULL FARE".
+           GO TO PAID.
+       YOUNG.
+           DISPLAY "HALF FARE".
+       PAID.
+           DISPLAY "THANK YOU".
+           STOP RUN.

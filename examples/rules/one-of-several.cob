@@ -1,0 +1,16 @@
+       IDENTIFICATION DIVISION.
+       PROGRAM-ID. SEVERAL.
+       DATA DIVISION.
+       WORKING-STORAGE SECTION.
+       01 KIND PIC 9 VALUE 2.
+       PROCEDURE DIVISION.
+       START-HERE.
+           GO TO CASH CARD DEPENDING ON KIND.
+           DISPLAY "UNKNOWN".
+           STOP RUN.
+       CASH.
+           DISPLAY "CASH".
+           STOP RUN.
+       CARD.
+           DISPLAY "CARD".
+           STOP RUN.

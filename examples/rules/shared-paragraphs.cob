@@ -1,0 +1,13 @@
+       IDENTIFICATION DIVISION.
+       PROGRAM-ID. SHARED.
+       PROCEDURE DIVISION.
+       START-HERE.
+           PERFORM FIRST-ONE.
+           PERFORM FIRST-ONE THRU LAST-ONE.
+           STOP RUN.
+       FIRST-ONE.
+           DISPLAY "FIRST".
+       LAST-ONE.
+           DISPLAY "LAST".
+       NEVER-ONE.
+           DISPLAY "NEVER".

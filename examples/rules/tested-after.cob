@@ -1,0 +1,12 @@
+       IDENTIFICATION DIVISION.
+       PROGRAM-ID. COUNTED-AFTER.
+       DATA DIVISION.
+       WORKING-STORAGE SECTION.
+       01 N PIC 99 VALUE 3.
+       PROCEDURE DIVISION.
+       COUNT-DOWN.
+           DISPLAY N.
+           SUBTRACT 1 FROM N.
+           IF N > 0 GO TO COUNT-DOWN.
+           DISPLAY "GO".
+           STOP RUN.

@@ -1,0 +1,13 @@
+       IDENTIFICATION DIVISION.
+       PROGRAM-ID. COUNTED-AFTER.
+       DATA DIVISION.
+       WORKING-STORAGE SECTION.
+       01 N PIC 9(2) VALUE 3.
+       PROCEDURE DIVISION.
+       COUNT-DOWN.
+           PERFORM WITH TEST AFTER UNTIL NOT (N > 0)
+               DISPLAY N
+               SUBTRACT 1 FROM N
+           END-PERFORM
+           DISPLAY "GO"
+           STOP RUN.

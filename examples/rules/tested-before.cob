@@ -1,0 +1,14 @@
+       IDENTIFICATION DIVISION.
+       PROGRAM-ID. COUNTED-BEFORE.
+       DATA DIVISION.
+       WORKING-STORAGE SECTION.
+       01 N PIC 99 VALUE 3.
+       PROCEDURE DIVISION.
+       COUNT-DOWN.
+           IF N = 0 GO TO LANDED.
+           DISPLAY N.
+           SUBTRACT 1 FROM N.
+           GO TO COUNT-DOWN.
+       LANDED.
+           DISPLAY "GO".
+           STOP RUN.
