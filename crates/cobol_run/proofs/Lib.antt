@@ -10,6 +10,8 @@ pub mod HeldLemmas
 pub mod WayLemmas
 -- what a statement comes to is what control says of it
 pub mod StatementLemmas
+-- statements on files stand in no plain program
+pub mod FilingLemmas
 -- the machine's parts as those of the source machine
 pub mod MachineLemmas
 -- what a run has come to so far

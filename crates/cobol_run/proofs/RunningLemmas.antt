@@ -1,8 +1,9 @@
 -- What a run has come to so far.
-use Rattle.std.proofs.Common.{◌≡◌, ℕ, zero, suc, ◌+◌, ◌-◌, ◌<◌, ◌≤◌, List, [], ◌∷◌, ◌++◌, take, Option, Some, None, arith, refl, ap, sym, ◌∙◌, subst, append_assoc, append-nil}
+use Rattle.std.proofs.Common.{◌≡◌, ℕ, zero, suc, ◌+◌, ◌-◌, ◌<◌, ◌≤◌, false, List, [], ◌∷◌, ◌++◌, replicate, take, Option, Some, None, arith, refl, ap, sym, ◌∙◌, subst, append_assoc, append-nil}
 use Rattle.cob_base.specs.Sink.{SinkCall}
 use Rattle.cob_tree.specs.declared.program.Program.{Program}
 use Rattle.file_model.specs.World.{World}
+use Rattle.file_model.specs.Status.{closed_row}
 use Rattle.statements.specs.Does.{declared_in}
 use Rattle.runs.specs.Run.{Over}
 use Rattle.runs.specs.Machine.{iterate}
@@ -18,11 +19,18 @@ use Rattle.cobol_run.specs.declared.machine.Ending.{Ending}
 use Rattle.cobol_run.specs.declared.machine.Step.{Step}
 use Rattle.cobol_run.specs.declared.machine.Step.TheVariants as step
 use Rattle.cobol_run.specs.declared.running.Ran.TheVariants as ran
+use Rattle.cobol_run.specs.Filing.{some_open}
 use Rattle.cobol_run.specs.Machine.{Follows, ending_seen, state_in, steps_by}
 use Rattle.cobol_run.specs.Plain.{IsPlain, PlainAct, PlainPicker, PlainState}
 use Rattle.cobol_run.specs.Plan.{declared_by}
 use Rattle.cobol_run.specs.Running.{BreaksOff, BreaksWithin, RunsAs, SoFar, after, displayed, next_state, shown_by}
 use Rattle.cobol_run.proofs.Standing.{begun-has, iterate-has}
+
+-- ---- files
+
+pub none_open : (n : ℕ) → some_open (replicate n closed_row) ≡ false
+none_open zero = refl
+none_open (suc n) = none_open n
 
 -- ---- steps
 
@@ -82,6 +90,12 @@ module _ (program : Program) (machine : Machine) (done steps : ℕ) (held now : 
       subst (λ n. RunsAs program files n (record { held = held; now = now; count = count; count_now = count_now }) ran.Budget) end
       (ap (λ (s : State). s.run.standing) r.1, subst (λ trace. Gained (displayed trace) held now) (sym (ap (λ (s : State). s.run.trace) r.1)) r.2)
 
+  -- the state before the step is a plain one
+  pub plain-before : (files : Files) (plain : IsPlain program) → PlainState (state_in machine (world_with (declared_in program) files) (so_far.reached files plain).0)
+  plain-before files plain =
+      let r = so_far.reached files plain in
+      subst PlainState r.1 (iterate-has PlainAct OwnTest PlainPicker (doing_in (declared_in program)) files_left (control_of program) plain done (begun_in program (declared_in program) files) (begun-has PlainAct OwnTest PlainPicker (doing_in (declared_in program)) files_left (control_of program) plain (first_memory (declared_in program) files)))
+
   module _ (new : Machine) (plan : new.plan ≡ machine.plan) (made : Step)
       (follows : (world : World) (trace : Trace) → PlainState (state_in machine world trace) → Follows made new world trace (steps_by machine.plan (state_in machine world trace))) where
     next-follows : (files : Files) (plain : IsPlain program) → Follows made new (world_with (declared_in program) files) (so_far.reached files plain).0 (after program files (suc done))
@@ -94,7 +108,7 @@ module _ (program : Program) (machine : Machine) (done steps : ℕ) (held now : 
         ∙ ap (next_state program) r.1
         ∙ sym (ap (λ p. step_in p (declared_by machine.plan) state) so_far.same ∙ ap (λ d. step_in program d state) so_far.declared) in
         subst (λ s. Follows made new world r.0 s) (sym whole)
-        (follows world r.0 (subst PlainState r.1 (iterate-has PlainAct OwnTest PlainPicker (doing_in (declared_in program)) files_left (control_of program) plain done (begun_in program (declared_in program) files) (begun-has PlainAct OwnTest PlainPicker (doing_in (declared_in program)) files_left (control_of program) plain (first_memory (declared_in program) files)))))
+        (follows world r.0 (plain-before files plain))
 
     declared-then : declared_by new.plan ≡ declared_in program
     declared-then = ap declared_by plan ∙ so_far.declared
@@ -151,3 +165,14 @@ module _ (program : Program) (machine : Machine) (done steps : ℕ) (held now : 
         ∙ over-stays program (steps - suc done) (after program files (suc done)) (ending_seen ending files) (ap (λ run. run.standing) there) in
         let run : source_run program files steps ≡ record { trace = r.0; standing = Over (ending_seen ending files) } = ap (λ (s : State). s.run) stays ∙ there in
         (ap (λ run. run.standing) run, subst (λ trace. Gained (displayed trace) held now) (sym (ap (λ run. run.trace) run)) r.2)
+
+    -- no device fails
+    pub never_failed : made ≡ step.Failed → (files : Files) → IsPlain program → ⊥
+    never_failed is files plain = subst (λ s. Follows s new (world_with (declared_in program) files) (so_far.reached files plain).0 (after program files (suc done))) is (next-follows files plain)
+
+-- what a step keeps where the state is a plain one, the turn keeps
+pub turn_kept : (old : Machine) (Same : Type 0) (program : Program) (done : ℕ) (sink : SinkCall) → SoFar program old done sink → IsPlain program → ((world : World) (trace : Trace) → PlainState (state_in old world trace) → Same) → Same
+turn_kept old Same program done sink so_far plain kept =
+    let r = so_far.reached [] plain in
+    kept (world_with (declared_in program) []) r.0
+    (subst PlainState r.1 (iterate-has PlainAct OwnTest PlainPicker (doing_in (declared_in program)) files_left (control_of program) plain done (begun_in program (declared_in program) []) (begun-has PlainAct OwnTest PlainPicker (doing_in (declared_in program)) files_left (control_of program) plain (first_memory (declared_in program) []))))

@@ -8,6 +8,8 @@ pub mod Standing
 pub mod Plain
 -- the same as a test of the tree
 pub mod PlainTests
+-- statements on files
+pub mod Filing
 -- what the head of the rest comes to
 pub mod Ways
 -- the machine as a state of the source machine

@@ -50,13 +50,14 @@ ending_seen ending.Stopped left = Stopped Normally left
 ending_seen (ending.Abended abend) left = Stopped (outcome.Abend (abend_number abend)) left
 ending_seen (ending.Faulted fault) left = Faulted (fault_seen fault)
 
--- the state is that of the machine, and goes on; or its run came to this end
+-- the state is that of the machine, and goes on; or its run came to this end. No device fails.
 abbrev pub Follows : Step → Machine → World → Trace → State → Type 0
 Follows step.On machine world trace state = state ≡ state_in machine world trace
 Follows step.Shown machine world trace state =
     state ≡ state_in machine world (trace ++ (0 ∷ machine.held.shown) ∷ [])
 Follows (step.Over ending) machine world trace state =
     state.run ≡ record { trace = trace; standing = Over (ending_seen ending world.shelves) }
+Follows step.Failed machine world trace state = ⊥
 
 -- ---- steps of the source machine, by what the machine plans
 

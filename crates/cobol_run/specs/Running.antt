@@ -52,6 +52,7 @@ abbrev pub RunsAs : Program → Files → ℕ → SinkCall → Ran → Type 0
 RunsAs program files steps sink (ran.Ended ending) =
     Stands program files steps (Over (ending_seen ending files)) sink
 RunsAs program files steps sink ran.Budget = Stands program files steps Going sink
+RunsAs program files steps sink (ran.DeviceFault name) = ⊥
 RunsAs program files steps sink ran.WriteFault = BreaksWithin program files steps sink
 RunsAs program files steps sink ran.NoMemory = BreaksOff program files steps sink
 
@@ -79,6 +80,7 @@ TurnsTo program machine done sink turned.On = SoFar program machine (suc done) s
 TurnsTo program machine done sink (turned.Over ending) =
     (steps : ℕ) (files : Files) → done < steps → IsPlain program →
     RunsAs program files steps sink (ran.Ended ending)
+TurnsTo program machine done sink turned.Failed = (files : Files) → IsPlain program → ⊥
 TurnsTo program machine done sink turned.WriteFault =
     (steps : ℕ) (files : Files) → done < steps → IsPlain program →
     RunsAs program files steps sink ran.WriteFault

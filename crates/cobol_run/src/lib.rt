@@ -8,6 +8,7 @@
 //! `statement` what each statement does (ISO 1989:1985, PROCEDURE DIVISION).
 #![tactic(auto)]
 
+mod filing;
 mod frame;
 mod frames;
 mod held;

@@ -14,14 +14,18 @@ ghost use Rattle.cobol_run.specs.Plain.{PlainState};
 ghost use Rattle.cobol_run.specs.Plan.{memory_in};
 ghost use Rattle.cobol_run.specs.Ways.{KeepsPending, way_seen};
 
+use crate::filing::{filed, is_filing};
 use crate::frame::Frame;
 use crate::frames::{Head, is_pending, leave, next, push_sentences, take_return};
 use crate::held::{Held, Plan};
 use crate::statement::{performed_once, stmt_way};
 use crate::way::{Way, turning_way};
+use cob_act::Done;
 use cob_base::{NoMemory, Text};
 use cob_store::Stack;
-use cob_tree::{Abend, FlowFault, Paragraph};
+use cob_tree::{Abend, FlowFault, Paragraph, Stmt};
+use file_acts::Fault;
+use file_model::{Bench, FileTable};
 
 /// How a run ends by itself.
 #[derive(Clone, Copy)]
@@ -38,6 +42,8 @@ pub enum Step {
     /// It goes on, and showed bytes.
     Shown,
     Over(Ending),
+    /// A device failed, and stands right behind the bench.
+    Failed,
 }
 
 /// A program that runs.
@@ -48,6 +54,8 @@ pub struct Machine<'a> {
     pub frames: Stack<Frame<'a>>,
     pub paragraph: u32,
     pub held: Held,
+    /// How its files stand.
+    pub table: FileTable,
 }
 
 fn clear(shown: &mut Text)
@@ -80,6 +88,7 @@ impl<'a> Machine<'a> {
         ensures paragraph { IfOk result (λ u. self.new.paragraph ≡ number) }
         ensures plan { self.new.plan ≡ self.old.plan }
         ensures held { self.new.held ≡ self.old.held }
+        ensures table { self.new.table ≡ self.old.table }
     {
         leave(&mut self.frames)?;
         self.paragraph = number;
@@ -98,6 +107,7 @@ impl<'a> Machine<'a> {
             Follows step self.new world trace (falls_by self.old.plan self.old.paragraph
             (state_with self.old rest (memory_in self.old.held.store world) trace))) }
         ensures plan { self.new.plan ≡ self.old.plan }
+        ensures table { self.new.table ≡ self.old.table }
     {
         if (self.paragraph as usize) + 1 < self.plan.program.paragraphs.len() {
             self.go_to(self.paragraph + 1)?;
@@ -115,6 +125,7 @@ impl<'a> Machine<'a> {
             (pending_of self.old.plan.program.now self.old.frames)
             (state_with self.old rest (memory_in self.old.held.store world) trace))) }
         ensures plan { self.new.plan ≡ self.old.plan }
+        ensures table { self.new.table ≡ self.old.table }
     {
         match take_return(&mut self.frames) {
             None => self.fall(),
@@ -143,6 +154,7 @@ impl<'a> Machine<'a> {
             (rest_in self.old)
             (state_with self.old rest (memory_in self.old.held.store world) trace))) }
         ensures plan { self.new.plan ≡ self.old.plan }
+        ensures table { self.new.table ≡ self.old.table }
     {
         if is_pending(&self.frames, exit) {
             let fault = FlowFault::Reentry(exit);
@@ -165,6 +177,7 @@ impl<'a> Machine<'a> {
             self.old.held.shown (memory_in self.old.held.store world) (rest_in self.old))
             (state_with self.old rest memory trace))) }
         ensures plan { self.new.plan ≡ self.old.plan }
+        ensures table { self.new.table ≡ self.old.table }
     {
         match way {
             Way::On => Ok(Step::On),
@@ -185,20 +198,50 @@ impl<'a> Machine<'a> {
         }
     }
 
-    /// One step of a program without statements on files. Bytes that it shows are in `held.shown`.
-    pub fn step(&mut self) -> Result<Step, NoMemory>
-        requires few { IsNumbered self.old.plan }
+    // A statement on files.
+    fn file_step(&mut self, bench: &mut Bench, stmt: &'a Stmt) -> Result<Step, NoMemory>
+        ensures plan { self.new.plan ≡ self.old.plan }
+    {
+        let done = filed(
+            &self.plan,
+            &mut self.frames,
+            &mut self.held,
+            &mut self.table,
+            bench,
+            stmt,
+        );
+        match done {
+            Ok(Done::Abended(abend)) => Ok(Step::Over(Ending::Abended(abend))),
+            Ok(_) => Ok(Step::On),
+            Err(Fault::Device) => Ok(Step::Failed),
+            Err(Fault::NoMemory) => Err(NoMemory),
+        }
+    }
+
+    /// One step. Bytes that it shows are in `held.shown`. Its statements on files are done over the
+    /// bench, and a device that fails is taken off it.
+    pub fn step(&mut self, bench: &mut Bench) -> Result<Step, NoMemory>
         ensures step { IfOk result (λ step. (world : World) (trace : Trace) →
             PlainState (state_in self.old world trace) → Follows step self.new world trace
             (steps_by self.old.plan (state_in self.old world trace))) }
         ensures plan { self.new.plan ≡ self.old.plan }
+
+        // without statements on files the devices are left alone
+        ensures kept { (world : World) (trace : Trace) → PlainState (state_in self.old world trace) →
+            (bench.new ≡ bench.old) × (self.new.table ≡ self.old.table) }
     {
+        if self.plan.program.paragraphs.len() >= 1 << 32 {
+            return Err(NoMemory);
+        }
         clear(&mut self.held.shown);
         match next(&mut self.frames)? {
             Head::Nothing => self.end(),
             Head::Stmt(stmt) => {
                 if let Some(range) = performed_once(stmt) {
                     return self.perform(range.entry, range.exit);
+                }
+                if is_filing(stmt) {
+                    return self.file_step(bench, stmt);
                 }
                 let way = stmt_way(&self.plan, &mut self.frames, &mut self.held, stmt)?;
                 self.go(way)

@@ -1,15 +1,16 @@
 //! A whole run.
 
-ghost use Rattle.std.specs.Prelude.{◌≡◌, ◌<◌, ◌^◌, [], ℕ, List, IfOk, length};
+ghost use Rattle.std.specs.Prelude.{◌≡◌, ◌≢◌, ◌<◌, ◌≤◌, vec_len, ◌^◌, [], ℕ, List, IfOk, false, length};
 ghost use Rattle.std.specs.declared.option.Option.{Option};
 ghost use Rattle.cob_tree.specs.declared.program.Program.{Program};
 ghost use Rattle.cob_base.specs.Answers.{Makes};
 ghost use Rattle.cob_base.specs.Faults.{Rose};
-ghost use Rattle.cob_base.specs.Sink.{sink_call};
+ghost use Rattle.cob_base.specs.Sink.{SinkCall, sink_call};
 ghost use Rattle.cob_store.specs.Laying.{layout_of};
 ghost use Rattle.statements.specs.Does.{declared_in};
 ghost use Rattle.cobol_meaning.specs.Runs.{Files, begun_in, world_with};
-ghost use Rattle.cobol_run.specs.Machine.{IsNumbered, state_in};
+ghost use Rattle.cobol_run.specs.Filing.{some_open};
+ghost use Rattle.cobol_run.specs.Machine.{state_in};
 ghost use Rattle.cobol_run.specs.Plain.{IsPlain};
 ghost use Rattle.cobol_run.specs.Plan.{declared_by};
 ghost use Rattle.cobol_run.specs.Running.{RunsAs, SoFar, TurnsTo, since};
@@ -19,15 +20,19 @@ use crate::machine::{Ending, Machine, Step};
 use cob_base::{NoMemory, Sink, Text};
 use cob_store::{Areas, Stack, Store, layout};
 use cob_tree::{Entry, Program};
+use file_acts::close_left;
+use file_model::{Bench, FileTable};
 use sink_giving::give_all;
 use std::alloc::Global;
 
 /// How a run ended.
-#[derive(Clone, Copy)]
+#[derive(Drop)]
 pub enum Ran {
     Ended(Ending),
     /// It is still going after its last step.
     Budget,
+    /// The device of that name failed, and is behind the bench.
+    DeviceFault(Text),
     /// The sink failed.
     WriteFault,
     NoMemory,
@@ -43,6 +48,18 @@ fn areas_of(alloc: Global, entries: &[Entry]) -> Result<Areas, NoMemory>
     }
 }
 
+// No file is open.
+#[tactic(auto, using(crate::proofs::RunningLemmas::none_open))]
+fn table_of(alloc: Global, program: &Program) -> Result<FileTable, NoMemory>
+    ensures { IfOk result (λ table. some_open table.rows ≡ false) }
+{
+    let files = program.files.len();
+    if files >= 1 << 32 {
+        return Err(NoMemory);
+    }
+    FileTable::new(alloc, files as u32)
+}
+
 /// A program at its start.
 pub fn start<'a>(alloc: Global, program: &'a Program) -> Result<Machine<'a>, NoMemory>
     requires entries { length program.now.entries < 2 ^ 31 }
@@ -51,7 +68,9 @@ pub fn start<'a>(alloc: Global, program: &'a Program) -> Result<Machine<'a>, NoM
         ≡ begun_in program.now (declared_in program.now) files) }
     ensures declared { IfOk result (λ machine. declared_by machine.plan ≡ declared_in program.now) }
     ensures program { IfOk result (λ machine. machine.plan.program.now ≡ program.now) }
+    ensures shut { IfOk result (λ machine. some_open machine.table.rows ≡ false) }
 {
+    let table = table_of(alloc, program)?;
     let areas = areas_of(alloc, program.entries.as_slice())?;
     let store = Store::initial(alloc, &areas, program.entries.as_slice())?;
     let mut machine = Machine {
@@ -63,6 +82,7 @@ pub fn start<'a>(alloc: Global, program: &'a Program) -> Result<Machine<'a>, NoM
             scratch: Vec::new(alloc),
             shown: Text::new(alloc),
         },
+        table,
     };
     machine.go_to(0)?;
     Ok(machine)
@@ -73,23 +93,32 @@ pub fn start<'a>(alloc: Global, program: &'a Program) -> Result<Machine<'a>, NoM
 pub enum Turned {
     On,
     Over(Ending),
+    /// A device failed, and stands right behind the bench.
+    Failed,
     WriteFault,
     NoMemory,
 }
 
 // A step, and what it displays into the sink.
-fn make_turn<K: Sink>(machine: &mut Machine, out: &mut K) -> Turned
-    requires few { IsNumbered machine.old.plan }
+fn make_turn<K: Sink>(machine: &mut Machine, bench: &mut Bench, out: &mut K) -> Turned
     ensures turned { (program : Program) (done : ℕ) (held : Option (List ℕ)) (count : ℕ) →
         SoFar program machine.old done (since held count (K.held out.old) (K.faults out.old)) →
         TurnsTo program machine.new done (since held count (K.held out.new) (K.faults out.new))
         result }
     ensures cause { result ≡ Turned.WriteFault → Rose (K.faults out.old) (K.faults out.new) }
+    ensures later { K.faults out.old ≤ K.faults out.new }
+    ensures plan { machine.new.plan ≡ machine.old.plan }
+
+    // without statements on files the devices are left alone
+    ensures kept { (program : Program) (done : ℕ) (sink : SinkCall) →
+        SoFar program machine.old done sink → IsPlain program →
+        (bench.new ≡ bench.old) × (machine.new.table ≡ machine.old.table) }
 {
-    match machine.step() {
+    match machine.step(bench) {
         Err(_) => Turned::NoMemory,
         Ok(Step::On) => Turned::On,
         Ok(Step::Over(ending)) => Turned::Over(ending),
+        Ok(Step::Failed) => Turned::Failed,
         Ok(Step::Shown) => {
             let shown = machine.held.shown.as_slice();
             if out.ready(shown.len()).is_err() {
@@ -103,25 +132,108 @@ fn make_turn<K: Sink>(machine: &mut Machine, out: &mut K) -> Turned
     }
 }
 
-/// Runs a program without statements on files for at most so many steps. What it displays goes to
-/// `out`, which is made ready before each display.
-pub fn run<K: Sink>(alloc: Global, program: &Program, out: &mut K, steps: u64) -> Ran
-    requires entries { length program.now.entries < 2 ^ 31 }
-    requires few { length program.now.paragraphs < 2 ^ 32 }
-    ensures run { (files : Files) → IsPlain program.now → RunsAs program.now files steps
+// The answer where the device at that place failed.
+fn device_fault(alloc: Global, bench: &Bench, at: usize) -> Ran
+    ensures { result ≢ Ran.WriteFault }
+{
+    if at >= bench.devices.len() {
+        return Ran::NoMemory;
+    }
+    let mut name = Text::new(alloc);
+    match name.add(bench.devices[at].name()) {
+        Ok(()) => Ran::DeviceFault(name),
+        Err(_) => Ran::NoMemory,
+    }
+}
+
+// At most so many steps.
+fn run_on<K: Sink>(
+    alloc: Global,
+    machine: &mut Machine,
+    bench: &mut Bench,
+    out: &mut K,
+    steps: u64,
+) -> Ran
+    ensures run { (program : Program) (files : Files) →
+        SoFar program machine.old 0 (since (K.held out.old) (K.faults out.old)
+        (K.held out.old) (K.faults out.old)) → IsPlain program → RunsAs program files steps
         (sink_call K.held K.faults out.old out.new) result }
     ensures cause { result ≡ Ran.WriteFault → Rose (K.faults out.old) (K.faults out.new) }
+    ensures kept { (program : Program) → SoFar program machine.old 0 (since (K.held out.old)
+        (K.faults out.old) (K.held out.old) (K.faults out.old)) → IsPlain program →
+        (bench.new ≡ bench.old) × (machine.new.table ≡ machine.old.table) }
 {
-    let Ok(mut machine) = start(alloc, program) else {
-        return Ran::NoMemory;
-    };
     for turn in 0..steps {
-        match make_turn(&mut machine, out) {
+        match make_turn(machine, bench, out) {
             Turned::On => {}
             Turned::Over(ending) => return Ran::Ended(ending),
+            Turned::Failed => return device_fault(alloc, bench, bench.left),
             Turned::WriteFault => return Ran::WriteFault,
             Turned::NoMemory => return Ran::NoMemory,
         }
     }
     Ran::Budget
+}
+
+fn some_open(table: &FileTable) -> bool
+    ensures { result ≡ some_open table.now.rows }
+{
+    table.rows.as_slice().iter().any(|row| row.how.is_some())
+}
+
+fn breaks_off(ran: &Ran) -> bool {
+    match ran {
+        Ran::Ended(_) => false,
+        Ran::Budget => false,
+        Ran::DeviceFault(_) => true,
+        Ran::WriteFault => true,
+        Ran::NoMemory => true,
+    }
+}
+
+// Closes the files that are open, on the devices that are left. A device that fails there is told,
+// unless the run broke off before.
+fn close_files(alloc: Global, machine: &mut Machine, bench: &mut Bench, ran: Ran) -> Ran
+    ensures shut { some_open machine.old.table.rows ≡ false →
+        (result ≡ ran) × (bench.new ≡ bench.old) }
+    ensures cause { result ≡ Ran.WriteFault → ran ≡ Ran.WriteFault }
+{
+    if !some_open(&machine.table) {
+        return ran;
+    }
+    let left = bench.left;
+    let files = machine.plan.program.files.as_slice();
+    let failed = close_left(bench, &mut machine.table, files);
+    if failed && !breaks_off(&ran) && left > 0 {
+        device_fault(alloc, bench, left - 1)
+    } else {
+        ran
+    }
+}
+
+/// Runs a program over a bench for at most so many steps. What it displays goes to `out`, which is
+/// made ready before each display. At the end its files that are open are closed.
+pub fn run<K: Sink>(
+    alloc: Global,
+    program: &Program,
+    bench: &mut Bench,
+    out: &mut K,
+    steps: u64,
+) -> Ran
+    requires within { bench.old.left ≤ vec_len bench.old.devices }
+    ensures run { (files : Files) → IsPlain program.now → RunsAs program.now files steps
+        (sink_call K.held K.faults out.old out.new) result }
+    ensures cause { result ≡ Ran.WriteFault → Rose (K.faults out.old) (K.faults out.new) }
+
+    // without statements on files the devices are left alone
+    ensures kept { IsPlain program.now → bench.new ≡ bench.old }
+{
+    if program.entries.len() >= 1 << 31 {
+        return Ran::NoMemory;
+    }
+    let Ok(mut machine) = start(alloc, program) else {
+        return Ran::NoMemory;
+    };
+    let ran = run_on(alloc, &mut machine, bench, out, steps);
+    close_files(alloc, &mut machine, bench, ran)
 }

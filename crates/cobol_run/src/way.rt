@@ -86,7 +86,7 @@ pub fn if_way<'a>(
     }
 }
 
-fn stmts_or_none(stmts: &Option<Items<Stmt>>) -> &[Stmt]
+pub fn stmts_or_none(stmts: &Option<Items<Stmt>>) -> &[Stmt]
     ensures { result.now ≡ stmts_or_none stmts.now }
 {
     match stmts {

@@ -24,7 +24,7 @@ pub struct Judged {
 
 fn judge(
     bases: &[Entry],
-    sizes: &[u64],
+    sizes: &[u32],
     tables: &Tables,
     judged: Judged,
     draft: &EntryDraft,
@@ -49,7 +49,7 @@ fn judge(
 #[tactic(auto, using(crate::proofs::StepLemmas::fold_step))]
 fn judge_all(
     bases: &[Entry],
-    sizes: &[u64],
+    sizes: &[u32],
     tables: &Tables,
     judged: Judged,
     drafts: &[EntryDraft],
@@ -68,7 +68,7 @@ fn judge_all(
 #[tactic(auto, using(crate::proofs::StepLemmas::fold_step))]
 fn judge_records(
     bases: &[Entry],
-    sizes: &[u64],
+    sizes: &[u32],
     tables: &Tables,
     judged: Judged,
     fds: &[FdDraft],
@@ -97,7 +97,7 @@ fn files_fault(divisions: &Divisions, names: &FileNames) -> Option<Note>
 /// The first fault of the files and entries, which are named so and whose bytes lie so.
 pub fn fault_by(
     bases: &[Entry],
-    sizes: &[u64],
+    sizes: &[u32],
     tables: &Tables,
     names: &FileNames,
     divisions: &Divisions,

@@ -12,7 +12,7 @@ pub struct Target {
     pub group: bool,
     /// None where it has none, or a text that is no picture.
     pub picture: Option<Picture>,
-    pub size: u64,
+    pub size: u32,
 }
 
 fn is_zero(digit: u8) -> bool
@@ -96,17 +96,17 @@ fn fits_number(literal: &Operand, signed: bool, whole: u8, part: u8) -> bool
 }
 
 /// Whether it is a text of at most so many bytes, or a figurative constant.
-fn fits_text(literal: &Operand, size: u64) -> bool
+fn fits_text(literal: &Operand, size: u32) -> bool
     ensures { result ≡ literals.fits_text literal.now size }
 {
     match literal {
-        Operand::Text(text) => text.len() as u64 <= size,
+        Operand::Text(text) => text.len() <= size as usize,
         Operand::Figure(_) => true,
         _ => false,
     }
 }
 
-fn fits_picture(literal: &Operand, picture: Option<Picture>, size: u64) -> bool
+fn fits_picture(literal: &Operand, picture: Option<Picture>, size: u32) -> bool
     ensures { result ≡ literals.fits_picture literal.now picture size }
 {
     match picture {

@@ -80,7 +80,7 @@ fn name_fault(names: &WordPlaces, name: &Word, at: Position) -> Option<Note>
 }
 
 /// The bytes of an entry.
-pub fn size_at(sizes: &[u64], at: usize) -> u64
+pub fn size_at(sizes: &[u32], at: usize) -> u32
     ensures { result ≡ redefining.size_at (slice_get sizes.now at) }
 {
     match sizes.get(at) {
@@ -89,7 +89,7 @@ pub fn size_at(sizes: &[u64], at: usize) -> u64
     }
 }
 
-fn is_short(sizes: &[u64], at: usize, entry: &Entry, item: usize) -> bool
+fn is_short(sizes: &[u32], at: usize, entry: &Entry, item: usize) -> bool
     ensures { result ≡ redefining.is_short sizes.now at entry.now item }
 {
     entry.level == 1 || size_at(sizes, at) <= size_at(sizes, item)
@@ -97,7 +97,7 @@ fn is_short(sizes: &[u64], at: usize, entry: &Entry, item: usize) -> bool
 
 fn redefined_fault(
     bases: &[Entry],
-    sizes: &[u64],
+    sizes: &[u32],
     tables: &Tables,
     at: usize,
     entry: &Entry,
@@ -122,7 +122,7 @@ fn redefined_fault(
 /// The fault of a REDEFINES clause.
 pub fn redefines_fault(
     bases: &[Entry],
-    sizes: &[u64],
+    sizes: &[u32],
     tables: &Tables,
     at: usize,
     entry: &Entry,

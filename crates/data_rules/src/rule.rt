@@ -21,7 +21,7 @@ use data_names::{Nesting, nesting_at};
 use grammar_forms::{NameKind, Note};
 
 /// What a literal for this entry is to fit.
-fn target_by(group: bool, sizes: &[u64], at: usize, entry: &Entry) -> Target
+fn target_by(group: bool, sizes: &[u32], at: usize, entry: &Entry) -> Target
     ensures { result ≡ rules.target_by group sizes.now at entry.now }
 {
     Target {
@@ -39,7 +39,7 @@ fn base_at(bases: &[Entry], at: usize) -> Option<&Entry>
 
 fn fits_at(
     bases: &[Entry],
-    sizes: &[u64],
+    sizes: &[u32],
     nestings: &[Nesting],
     draft: &EntryDraft,
     item: usize,
@@ -58,7 +58,7 @@ fn fits_at(
 
 fn fits_fault(
     bases: &[Entry],
-    sizes: &[u64],
+    sizes: &[u32],
     nestings: &[Nesting],
     draft: &EntryDraft,
     item: Option<usize>,
@@ -74,7 +74,7 @@ fn fits_fault(
 
 fn condition_fault(
     bases: &[Entry],
-    sizes: &[u64],
+    sizes: &[u32],
     nestings: &[Nesting],
     draft: &EntryDraft,
     item: Option<usize>,
@@ -110,7 +110,7 @@ fn clauses_fault(
 
 fn item_fault(
     bases: &[Entry],
-    sizes: &[u64],
+    sizes: &[u32],
     tables: &Tables,
     at: usize,
     entry: &Entry,
@@ -133,7 +133,7 @@ fn item_fault(
 
 fn held_fault(
     bases: &[Entry],
-    sizes: &[u64],
+    sizes: &[u32],
     tables: &Tables,
     at: usize,
     entry: &Entry,
@@ -158,7 +158,7 @@ fn held_fault(
 /// The first fault of an entry.
 pub fn entry_fault(
     bases: &[Entry],
-    sizes: &[u64],
+    sizes: &[u32],
     tables: &Tables,
     at: usize,
     entry: &Entry,

@@ -7,9 +7,9 @@ use Rattle.cob_tree.specs.declared.picture.Sign.TheVariants.{Within, SeparateLea
 use Rattle.cob_tree.specs.declared.entry.Entry.{Entry}
 use Rattle.data_sizes.specs.declared.size.Piece.{Piece}
 
--- a size past the last number of 64 bits counts as that number
+-- a size past the last number of 32 bits counts as that number
 abbrev pub capped : ℕ → ℕ
-capped bytes = min bytes (2 ^ 64 - 1)
+capped bytes = min bytes (2 ^ 32 - 1)
 
 abbrev pub sign_size : Sign → ℕ
 sign_size Within = 0

@@ -14,10 +14,10 @@ use std::alloc::Global;
 #[derive(Clone, Copy, Debug)]
 pub struct Piece {
     pub depth: u8,
-    pub bytes: u64,
+    pub bytes: u32,
 }
 
-fn sign_size(sign: Sign) -> u64
+fn sign_size(sign: Sign) -> u32
     ensures { result ≡ sign_size sign }
 {
     match sign {
@@ -27,13 +27,13 @@ fn sign_size(sign: Sign) -> u64
     }
 }
 
-fn picture_size(picture: Picture, sign: Sign) -> u64
+fn picture_size(picture: Picture, sign: Sign) -> u32
     ensures { result ≡ picture_size picture sign }
 {
     match picture {
-        Picture::Number { whole, part, .. } => u64::from(whole) + u64::from(part) + sign_size(sign),
-        Picture::Letters(size) => u64::from(size),
-        Picture::Any(size) => u64::from(size),
+        Picture::Number { whole, part, .. } => u32::from(whole) + u32::from(part) + sign_size(sign),
+        Picture::Letters(size) => size,
+        Picture::Any(size) => size,
     }
 }
 
@@ -49,16 +49,16 @@ fn is_apart(entry: &Entry) -> bool
     entry.level == 77
 }
 
-fn times(occurs: Option<u32>, size: u64) -> u64
+fn times(occurs: Option<u32>, size: u32) -> u32
     ensures { result ≡ times occurs size }
 {
     match occurs {
         None => size,
-        Some(count) => size.saturating_mul(u64::from(count)),
+        Some(count) => size.saturating_mul(count),
     }
 }
 
-fn added(redefines: Option<u32>, bytes: u64) -> u64
+fn added(redefines: Option<u32>, bytes: u32) -> u32
     ensures { result ≡ added redefines bytes }
 {
     match redefines {
@@ -67,7 +67,7 @@ fn added(redefines: Option<u32>, bytes: u64) -> u64
     }
 }
 
-fn size_by(picture: Option<Picture>, sign: Sign, bytes: u64) -> u64
+fn size_by(picture: Option<Picture>, sign: Sign, bytes: u32) -> u32
     ensures { result ≡ size_by picture sign bytes }
 {
     match picture {
@@ -77,11 +77,11 @@ fn size_by(picture: Option<Picture>, sign: Sign, bytes: u64) -> u64
 }
 
 // Takes the pieces below an item, and answers their bytes.
-fn take_inside(pieces: &mut Stack<Piece>, depth: u8) -> u64
+fn take_inside(pieces: &mut Stack<Piece>, depth: u8) -> u32
     ensures bytes { result ≡ inside depth 0 pieces.old }
     ensures left { pieces.new ≡ behind depth pieces.old }
 {
-    let mut bytes = 0u64;
+    let mut bytes = 0u32;
     while let Some(piece) = pieces.top() {
         if piece.depth <= depth {
             return bytes;
@@ -93,7 +93,7 @@ fn take_inside(pieces: &mut Stack<Piece>, depth: u8) -> u64
 }
 
 // The sizes of all entries, the first in front.
-fn sizes_back(alloc: Global, entries: &[Entry]) -> Result<Stack<u64>, NoMemory>
+fn sizes_back(alloc: Global, entries: &[Entry]) -> Result<Stack<u32>, NoMemory>
     ensures { Makes (sized entries.now).sizes result }
 {
     let mut sizes = Stack::new(alloc);
@@ -120,7 +120,7 @@ fn sizes_back(alloc: Global, entries: &[Entry]) -> Result<Stack<u64>, NoMemory>
 }
 
 // What is stacked, from the front on.
-fn in_order(alloc: Global, mut stack: Stack<u64>) -> Result<Items<u64>, NoMemory>
+fn in_order(alloc: Global, mut stack: Stack<u32>) -> Result<Items<u32>, NoMemory>
     ensures { Makes stack result }
 {
     let mut sizes = Items::new(alloc);
@@ -130,9 +130,9 @@ fn in_order(alloc: Global, mut stack: Stack<u64>) -> Result<Items<u64>, NoMemory
     Ok(sizes)
 }
 
-/// The bytes of one occurrence of each entry; a size past the last number of 64 bits counts as
+/// The bytes of one occurrence of each entry; a size past the last number of 32 bits counts as
 /// that.
-pub fn sizes_of(alloc: Global, entries: &[Entry]) -> Result<Items<u64>, NoMemory>
+pub fn sizes_of(alloc: Global, entries: &[Entry]) -> Result<Items<u32>, NoMemory>
     ensures { Makes (sized entries.now).sizes result }
 {
     let sizes = sizes_back(alloc, entries)?;

@@ -18,7 +18,7 @@ const STORAGE_LIMIT: u64 = 16_777_216;
 #[derive(Debug, Drop)]
 pub struct Roots {
     pub of: Items<usize>,
-    pub sizes: Items<u64>,
+    pub sizes: Items<u32>,
     pub file: Option<u32>,
 }
 
@@ -49,7 +49,7 @@ fn number_at(numbers: &[usize], at: usize) -> usize
     }
 }
 
-fn size_at(sizes: &[u64], at: usize) -> u64
+fn size_at(sizes: &[u32], at: usize) -> u32
     ensures { result ≡ unwrap_or (slice_get sizes.now at) 0 }
 {
     match sizes.get(at) {
@@ -73,7 +73,7 @@ fn root_by(roots: &Roots, file: Option<u32>, redefines: Option<u32>) -> usize
     }
 }
 
-fn lengthen(sizes: &mut Items<u64>, root: usize, size: u64) -> Result<(), NoMemory>
+fn lengthen(sizes: &mut Items<u32>, root: usize, size: u32) -> Result<(), NoMemory>
     ensures { OnOk result (sizes.new ≡ storages.lengthened sizes.old root size) }
 {
     if root < sizes.len() {
@@ -85,7 +85,7 @@ fn lengthen(sizes: &mut Items<u64>, root: usize, size: u64) -> Result<(), NoMemo
     }
 }
 
-fn add_root(roots: &mut Roots, entry: &Entry, size: u64) -> Result<(), NoMemory>
+fn add_root(roots: &mut Roots, entry: &Entry, size: u32) -> Result<(), NoMemory>
     ensures { OnOk result (roots.new ≡ storages.rooted roots.old entry.now size) }
 {
     if !is_root(entry) {
@@ -98,14 +98,14 @@ fn add_root(roots: &mut Roots, entry: &Entry, size: u64) -> Result<(), NoMemory>
     Ok(())
 }
 
-fn add_next(roots: &mut Roots, entry: &Entry, sizes: &[u64]) -> Result<(), NoMemory>
+fn add_next(roots: &mut Roots, entry: &Entry, sizes: &[u32]) -> Result<(), NoMemory>
     ensures { OnOk result (roots.new ≡ storages.rooted_next sizes.now roots.old entry.now) }
 {
     let size = size_at(sizes, roots.of.len());
     add_root(roots, entry, size)
 }
 
-fn roots_of(alloc: Global, sizes: &[u64], entries: &[Entry]) -> Result<Roots, NoMemory>
+fn roots_of(alloc: Global, sizes: &[u32], entries: &[Entry]) -> Result<Roots, NoMemory>
     ensures { Makes (storages.roots_of sizes.now entries.now) result }
 {
     let mut roots = Roots {
@@ -119,12 +119,12 @@ fn roots_of(alloc: Global, sizes: &[u64], entries: &[Entry]) -> Result<Roots, No
     Ok(roots)
 }
 
-fn total(sizes: &[u64]) -> u64
+fn total(sizes: &[u32]) -> u64
     ensures { result ≡ min (sum sizes.now) (2 ^ 64 - 1) }
 {
     let mut total = 0u64;
     for size in sizes {
-        total = total.saturating_add(*size);
+        total = total.saturating_add(u64::from(*size));
     }
     total
 }

@@ -11,9 +11,10 @@ fn pictures(rt: HostRuntime) -> Result<(), Fail> {
         whole,
         part,
     });
-    let rows: [(&[u8], Result<Picture, PictureFault>); 24] = [
+    let rows: [(&[u8], Result<Picture, PictureFault>); 25] = [
         (b"9", number(false, 1, 0)),
         (b"s9(4)v99", number(true, 4, 2)),
+        (b"S9(5)V99", number(true, 5, 2)),
         (b"V9", number(false, 0, 1)),
         (b"9(018)V", number(false, 18, 0)),
         (b"A(3)a", Ok(Picture::Letters(4))),

@@ -11,15 +11,16 @@ use Rattle.stmt_forms.specs.Laws.{PartsAreLawful}
 use Rattle.stmt_forms.specs.Arms.{Found}
 use Rattle.stmt_forms.specs.Stmt.{max_nesting}
 use Rattle.stmt_forms.specs.Paragraph as paragraphs
-use Rattle.stmt_forms.proofs.HoldingLaws as holding_law
 use Rattle.stmt_forms.proofs.ParagraphLaws as law
-use Rattle.language.specs.All.{all}
 use Rattle.named_programs.proofs.Made.{both}
 use Rattle.named_forms.specs.Giving.{Gives, Each}
 use Rattle.named_forms.proofs.Giving.{full-one, any, hence, still, pure, refuse, note, key, period, ended, chosen, where_next, loop, items_all, ◌>>=◌, ◌>>◌}
 use Rattle.printable_tokens.specs.Header.{IsHeaderName}
 use Rattle.printable_tokens.specs.Printable.{IsPrintable}
-use Rattle.printable_stmts.specs.Printable.{is_printable_stmt, is_printable_sentence, IsPrintableParagraph, PartsPrint}
+use Rattle.printable_programs.specs.Statement.{is_printable_stmt, is_printable_sentence, are_printable_sentences}
+use Rattle.printable_programs.specs.Whole.{IfNamed, IsPrintableParagraph}
+use Rattle.printable_programs.proofs.Made.{made-Exit}
+use Rattle.printable_stmts.specs.Printable.{PartsPrint}
 use Rattle.printable_stmts.proofs.Simple as simple
 use Rattle.printable_stmts.proofs.Holding as holding
 use Rattle.printable_stmts.proofs.Holding.{Stmts}
@@ -37,63 +38,69 @@ module _ {Side Known : Type 0} {parts : Parts Side Known} (lawful : PartsAreLawf
   Paragraphs done = Each IsPrintableParagraph done
 
   -- a section without a paragraph
-  pending-fine : (section : Option (List ℕ)) (done : List Paragraph) → Paragraphs done → Paragraphs (paragraphs.with_pending section done)
-  pending-fine None done h = h
-  pending-fine (Some section) done h = each-added IsPrintableParagraph done _ h (record { name = tt; sentences = refl })
+  pending-fine : (section : Option (List ℕ)) (done : List Paragraph) → IfNamed section → Paragraphs done → Paragraphs (paragraphs.with_pending section done)
+  pending-fine None done n h = h
+  pending-fine (Some section) done n h = each-added IsPrintableParagraph done _ h (record { name = tt; section = n; sentences = refl })
 
   one-fine : (done : List Paragraph) → Paragraphs done → Paragraphs (paragraphs.at_least_one done)
-  one-fine [] h = (record { name = tt; sentences = refl }, tt)
+  one-fine [] h = (record { name = tt; section = tt; sentences = refl }, tt)
   one-fine (paragraph ∷ done) h = h
 
   sentence : (scope : Scope) → Gives IsPrintable (paragraphs.sentence parts scope) (λ sentence. is_printable_sentence sentence ≡ true)
   unfolding paragraphs.sentence
-  sentence scope = holding.stmts_with lawful P (holding_law.level lawful max_nesting) scope >>= sentence_end
+  sentence scope = holding.stmts_with lawful P (holding.level lawful P max_nesting) scope >>= sentence_end
 
   sentences_from : (scope : Scope) {before : List Sentence} → Gives IsPrintable (paragraphs.sentences_from parts scope before)
-      (λ list. all (map is_printable_sentence before) ≡ true → all (map is_printable_sentence list) ≡ true)
+      (λ list. are_printable_sentences before ≡ true → are_printable_sentences list ≡ true)
   sentences_from scope = items_all is_printable_sentence (sentence scope)
 
   exit_sentence : (scope : Scope) (position : Position) → Gives IsPrintable (paragraphs.exit_sentence parts scope position) (λ sentence. is_printable_sentence sentence ≡ true)
   unfolding paragraphs.exit_sentence
   exit_sentence scope position = simple.exit_behind scope position >>= (λ first.
-      loop {P = λ (found : Found). Stmts found.0} (holding.stmts_turn lawful P (holding_law.level lawful max_nesting) scope)
+      loop {P = λ (found : Found). Stmts found.0} (holding.stmts_turn lawful P (holding.level lawful P max_nesting) scope)
       >>= (λ found. hence (λ sentence h w f. h (w (full-one is_printable_stmt first f))) (sentence_end found)))
 
-  exit_sentences : (scope : Scope) (position : Position) → Gives IsPrintable (paragraphs.exit_sentences parts scope position) (λ list. all (map is_printable_sentence list) ≡ true)
+  exit_sentences : (scope : Scope) (position : Position) → Gives IsPrintable (paragraphs.exit_sentences parts scope position) (λ list. are_printable_sentences list ≡ true)
   unfolding paragraphs.exit_sentences
   exit_sentences scope position = exit_sentence scope position >>= (λ first. hence (λ list h f. h (both f refl)) (sentences_from scope))
 
-  sentences : (scope : Scope) → Gives IsPrintable (paragraphs.sentences parts scope) (λ list. all (map is_printable_sentence list) ≡ true)
+  sentences : (scope : Scope) → Gives IsPrintable (paragraphs.sentences parts scope) (λ list. are_printable_sentences list ≡ true)
   unfolding paragraphs.sentences paragraphs.sentences_by_exit paragraphs.exit_alone
   sentences scope =
-      where_next (key (codes "EXIT") >>= (λ position. where_next (still (exit_sentences scope position)) (period >> pure (λ _ _. refl))))
+      where_next (key (codes "EXIT") >>= (λ position. where_next (still (exit_sentences scope position)) (period >> pure (λ _ _. both (both made-Exit refl) refl))))
       (hence (λ list h. h refl) (sentences_from scope))
 
+  -- what is read, and the name of a section that has no paragraph yet
   abbrev Done : Outline → Type 0
-  Done state = Paragraphs state.done
+  Done state = Paragraphs state.done × IfNamed state.pending
 
-  section : (name : List ℕ) (state : Outline) → Gives IsPrintable (paragraphs.section parts name state) (λ last. Done state → Done last)
+  section : (name : List ℕ) (state : Outline) → Gives IsPrintable (paragraphs.section parts name state) (λ last. IsHeaderName name → Done state → Done last)
   unfolding paragraphs.section paragraphs.section_start
   section name state = key (codes "SECTION") >> (period >> where_next
-      (sentences _ >>= (λ found. pure (λ f _ _ d. each-added IsPrintableParagraph (paragraphs.with_pending state.pending state.done) _ (pending-fine state.pending state.done d) (record { name = tt; sentences = f }))))
-      (pure (λ _ _ d. pending-fine state.pending state.done d)))
+      (sentences _ >>= (λ found. pure (λ f _ _ n d. (
+        each-added IsPrintableParagraph (paragraphs.with_pending state.pending state.done) _ (pending-fine state.pending state.done d.1 d.0)
+            (record { name = tt; section = n; sentences = f }),
+        tt,
+      ))))
+      (pure (λ _ _ n d. (pending-fine state.pending state.done d.1 d.0, n))))
 
   paragraph : (name : List ℕ) (state : Outline) → Gives IsPrintable (paragraphs.paragraph parts name state) (λ last. IsHeaderName name → Done state → Done last)
   unfolding paragraphs.paragraph
-  paragraph name state = period >> (sentences _ >>= (λ found. pure (λ f _ n d. each-added IsPrintableParagraph state.done _ d (record { name = n; sentences = f }))))
+  paragraph name state = period >> (sentences _ >>= (λ found.
+      pure (λ f _ n d. (each-added IsPrintableParagraph state.done _ d.0 (record { name = n; section = d.1; sentences = f }), tt))))
 
   headed : (state : Outline) → Gives IsPrintable (paragraphs.headed parts state) (λ last. Done state → Done last)
   unfolding paragraphs.headed
-  headed state = P.header_name >>= (λ name. note >> where_next (still (still (section name.0 state))) (hence (λ last h _ n. h n) (paragraph name.0 state)))
+  headed state = P.header_name >>= (λ name. note >> where_next (hence (λ last h _ n. h n) (section name.0 state)) (hence (λ last h _ n. h n) (paragraph name.0 state)))
 
   start : Gives IsPrintable (paragraphs.start parts) Done
   unfolding paragraphs.start paragraphs.unnamed_start
-  start = where_next (sentences _ >>= (λ found. pure (λ f. (record { name = tt; sentences = f }, tt)))) (pure tt)
+  start = where_next (sentences _ >>= (λ found. pure (λ f. ((record { name = tt; section = tt; sentences = f }, tt), tt)))) (pure (tt, tt))
 
   all_paragraphs : Gives IsPrintable (paragraphs.paragraphs parts) Paragraphs
   unfolding paragraphs.paragraphs
   all_paragraphs = start >>= (λ first. loop {P = Done} headed >>= (λ state.
-      pure (λ h d. one-fine (paragraphs.with_pending state.pending state.done) (pending-fine state.pending state.done (h d)))))
+      pure (λ h d. let last = h d in one-fine (paragraphs.with_pending state.pending state.done) (pending-fine state.pending state.done last.1 last.0))))
 
   pub division : Gives IsPrintable (paragraphs.division parts) Paragraphs
   unfolding paragraphs.division

@@ -1,2 +1,2 @@
--- Which statements and paragraphs can be printed.
+-- What parts of statements are to give.
 pub mod Printable

@@ -1,5 +1,5 @@
-//! What is read of tokens that can be printed can be printed, as far as the names of paragraphs and
-//! the literals of DISPLAY go. The crate has no code.
+//! Statements and paragraphs that are read of tokens that can be printed can be printed, over open
+//! forms of operands and conditions. The crate has no code.
 #![tactic(auto)]
 
 mod laws;

@@ -2,7 +2,8 @@
 //! paragraph of one sentence, and behind its own entries those of the added items.
 //!
 //! `split` makes it of a program and the summary of its ranges, which say that no flow path faults
-//! (`specs/Split.antt`), and counts the items that are added (`specs/Counted.antt`). `specs/Written.antt` says what is written of shaped ranges.
+//! (`specs/Split.antt`), and counts the items that are added (`specs/Counted.antt`).
+//! `specs/Written.antt` says what is written of shaped ranges.
 #![tactic(auto)]
 
 mod counting;

@@ -81,7 +81,7 @@ module _ (source : SourceCall) (text : List ℕ) (read : IsRead source text) whe
   refusal-due : (r : Refusal) → IsRefusalOf text r → IsRefusalOf read.bytes r
   refusal-due refusal.Usage h = h
   refusal-due (refusal.Refused why) h = (h.0, cause why h.1)
-  refusal-due refusal.Files h = h
+  refusal-due (refusal.Device name) h = h
   refusal-due (refusal.Fault program fault) h = h
   refusal-due (refusal.Abend abend) h = h
   refusal-due (refusal.Budget steps) h = h
@@ -162,7 +162,7 @@ IsNeverDue other = Unit {0}
 unasked-never : (r : Refusal) → IsNeverDue r → IsUnasked (Err r) → ⊥
 unasked-never refusal.Usage never h = never
 unasked-never (refusal.Refused why) never h = h
-unasked-never refusal.Files never h = h
+unasked-never (refusal.Device name) never h = h
 unasked-never (refusal.Fault program fault) never h = h
 unasked-never (refusal.Abend abend) never h = h
 unasked-never (refusal.Budget steps) never h = h
@@ -173,7 +173,7 @@ unasked-never refusal.NoMemory never h = h
 refusal-never : (bytes : List ℕ) (r : Refusal) → IsNeverDue r → IsRefusalOf bytes r → ⊥
 refusal-never bytes refusal.Usage never h = h
 refusal-never bytes (refusal.Refused why) never h = h.0 never
-refusal-never bytes refusal.Files never h = h
+refusal-never bytes (refusal.Device name) never h = h
 refusal-never bytes (refusal.Fault program fault) never h = h
 refusal-never bytes (refusal.Abend abend) never h = h
 refusal-never bytes (refusal.Budget steps) never h = h
@@ -200,7 +200,7 @@ module _ (ask : Option Ask) (source : SourceCall) (out notes : SinkCall) where
   noted-ends (refusal.Refused (refused.Flow program trail)) h kept noted = record { refusal = refusal.Refused (refused.Flow program trail); answered = h; status = refl; kept = kept; noted = noted }
   noted-ends (refusal.Refused (refused.Limit limit)) h kept noted = record { refusal = refusal.Refused (refused.Limit limit); answered = h; status = refl; kept = kept; noted = noted }
   noted-ends (refusal.Refused refused.NoMemory) h kept noted = absurd (never-due ask h.bytes (refusal.Refused refused.NoMemory) refl h.due)
-  noted-ends refusal.Files h kept noted = absurd (never-due ask h.bytes refusal.Files tt h.due)
+  noted-ends (refusal.Device name) h kept noted = absurd (never-due ask h.bytes (refusal.Device name) tt h.due)
   noted-ends (refusal.Fault program fault) h kept noted = absurd (never-due ask h.bytes (refusal.Fault program fault) tt h.due)
   noted-ends (refusal.Abend abend) h kept noted = absurd (never-due ask h.bytes (refusal.Abend abend) tt h.due)
   noted-ends (refusal.Budget steps) h kept noted = absurd (never-due ask h.bytes (refusal.Budget steps) tt h.due)

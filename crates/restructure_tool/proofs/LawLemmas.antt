@@ -32,7 +32,7 @@ unasked-is : (answer : Answer) → IsUnasked answer → answer ≡ Err refusal.U
 unasked-is (Ok texts) h = absurd h
 unasked-is (Err refusal.Usage) h = refl
 unasked-is (Err (refusal.Refused why)) h = absurd h
-unasked-is (Err refusal.Files) h = absurd h
+unasked-is (Err (refusal.Device name)) h = absurd h
 unasked-is (Err (refusal.Fault program fault)) h = absurd h
 unasked-is (Err (refusal.Abend abend)) h = absurd h
 unasked-is (Err (refusal.Budget steps)) h = absurd h
@@ -55,7 +55,7 @@ module _ (written : Done → Texts) where
     | inl none ↦ absurd (h.0 none)
     | inr due ↦ (Err why, refl, due)
   ]
-  refusal-of-due bytes refusal.Files h = absurd h
+  refusal-of-due bytes (refusal.Device name) h = absurd h
   refusal-of-due bytes (refusal.Fault program fault) h = absurd h
   refusal-of-due bytes (refusal.Abend abend) h = absurd h
   refusal-of-due bytes (refusal.Budget steps) h = absurd h
@@ -178,7 +178,7 @@ accepted-clear bytes why is some h = elim (comes-done bytes (Err why) tt h is) [
 accepted-never : (bytes : List ℕ) (r : Refusal) → IsAccepted bytes → IsRefusalOf bytes r → ⊥
 accepted-never bytes refusal.Usage h g = g
 accepted-never bytes (refusal.Refused why) h g = accepted-clear bytes why h g.0 g.1
-accepted-never bytes refusal.Files h g = g
+accepted-never bytes (refusal.Device name) h g = g
 accepted-never bytes (refusal.Fault program fault) h g = g
 accepted-never bytes (refusal.Abend abend) h g = g
 accepted-never bytes (refusal.Budget steps) h g = g

@@ -1,6 +1,6 @@
 -- At most one end of a run is due, and what is due comes.
 use Rattle.std.proofs.Common.{◌≡◌, ℕ, ◌+◌, List, [], Option, Some, None, refl, ap, sym, ◌∙◌, subst, arith, inl, inr}
-use Rattle.std.specs.Prelude.{true, false}
+use Rattle.std.specs.Prelude.{true}
 use Rattle.cob_base.specs.Source.{SourceCall}
 use Rattle.cob_base.specs.Sink.{SinkCall}
 use Rattle.cob_tree.specs.declared.ending.Abend.{Abend}
@@ -101,7 +101,6 @@ module _ (files : Files) where
 -- what is due, by what the bytes are
 data IsOf (steps : ℕ) (bytes : List ℕ) (due : Option Refusal) : Type 0 where
   of-refused : (why : Refused) → due ≡ Some (refusal.Refused why) → IsUnread bytes why → IsOf steps bytes due
-  of-files : (program : Program) → due ≡ Some refusal.Files → Reads bytes program → is_plain program ≡ false → IsOf steps bytes due
   of-ended : (program : Program) (end : Ending) → due ≡ refusal_of_ending program end → EndsAs bytes steps program end → IsOf steps bytes due
   of-going : (program : Program) → due ≡ Some (refusal.Budget steps) → StandsSo bytes steps program (λ files. Going) → IsOf steps bytes due
 
@@ -109,10 +108,10 @@ of-due : (steps : ℕ) (bytes : List ℕ) (due : Option Refusal) → IsRunDue st
 of-due steps bytes None h = of-ended h.0 ending.Stopped refl h.1
 of-due steps bytes (Some refusal.Usage) h = absurd h
 of-due steps bytes (Some (refusal.Refused why)) h = of-refused why refl h
-of-due steps bytes (Some refusal.Files) h = of-files h.0 refl h.1 h.2
 of-due steps bytes (Some (refusal.Fault program fault)) h = of-ended program (ending.Faulted fault) refl h
 of-due steps bytes (Some (refusal.Abend abend)) h = of-ended h.0 (ending.Abended abend) refl h.1
 of-due steps bytes (Some (refusal.Budget most)) h = of-going h.1.0 (ap (λ n. Some (refusal.Budget n)) h.0) h.1.1
+of-due steps bytes (Some (refusal.Device name)) h = absurd h
 of-due steps bytes (Some refusal.ReadFault) h = absurd h
 of-due steps bytes (Some refusal.WriteFault) h = absurd h
 of-due steps bytes (Some refusal.NoMemory) h = absurd h
@@ -122,10 +121,11 @@ module _ (steps : ℕ) (bytes : List ℕ) where
   never-both : (program : Program) (why : Refused) → Reads bytes program → IsUnread bytes why → ⊥
   never-both program why reads h = one_way.refused bytes program h.why reads h.some h.cause
 
-  never-plain : (one other : Program) → Reads bytes one → Reads bytes other → is_plain one ≡ false → is_plain other ≡ true → ⊥
-  never-plain one other h g filed plain =
-      let same : one ≡ other = one_way.program bytes one other h g in
-      let e : false ≡ true = sym filed ∙ ap is_plain same ∙ plain in cc
+  -- what is due to a program is said of one without statements on files
+  plain-due : (program : Program) (due : Option Refusal) → Reads bytes program → IsOf steps bytes due → is_plain program ≡ true
+  plain-due program due reads (of-refused why is h) = absurd (never-both program why reads h)
+  plain-due program due reads (of-ended p e is h) = ap is_plain (one_way.program bytes program p reads h.reads) ∙ h.plain
+  plain-due program due reads (of-going p is h) = ap is_plain (one_way.program bytes program p reads h.reads) ∙ h.plain
 
   ends-same : (one other : Program) (e f : Ending) → EndsAs bytes steps one e → EndsAs bytes steps other f → refusal_of_ending one e ≡ refusal_of_ending other f
   ends-same one other e f h g =
@@ -145,19 +145,12 @@ module _ (steps : ℕ) (bytes : List ℕ) where
 
   alike : (one other : Option Refusal) → IsOf steps bytes one → IsOf steps bytes other → one ≡ other
   alike one other (of-refused why is h) (of-refused how was g) = is ∙ ap (λ w. Some (refusal.Refused w)) (unread-same why how h g) ∙ sym was
-  alike one other (of-refused why is h) (of-files p was g plain) = absurd (never-both p why g h)
   alike one other (of-refused why is h) (of-ended p e was g) = absurd (never-both p why g.reads h)
   alike one other (of-refused why is h) (of-going p was g) = absurd (never-both p why g.reads h)
-  alike one other (of-files p is h plain) (of-refused why was g) = absurd (never-both p why h g)
-  alike one other (of-files p is h plain) (of-files q was g plane) = is ∙ sym was
-  alike one other (of-files p is h plain) (of-ended q e was g) = absurd (never-plain p q h g.reads plain g.plain)
-  alike one other (of-files p is h plain) (of-going q was g) = absurd (never-plain p q h g.reads plain g.plain)
   alike one other (of-ended p e is h) (of-refused why was g) = absurd (never-both p why h.reads g)
-  alike one other (of-ended p e is h) (of-files q was g plain) = absurd (never-plain q p g h.reads plain h.plain)
   alike one other (of-ended p e is h) (of-ended q f was g) = is ∙ ends-same p q e f h g ∙ sym was
   alike one other (of-ended p e is h) (of-going q was g) = absurd (never-going p q e h g)
   alike one other (of-going p is h) (of-refused why was g) = absurd (never-both p why h.reads g)
-  alike one other (of-going p is h) (of-files q was g plain) = absurd (never-plain q p g h.reads plain h.plain)
   alike one other (of-going p is h) (of-ended q e was g) = absurd (never-going q p e g h)
   alike one other (of-going p is h) (of-going q was g) = is ∙ sym was
 
@@ -170,10 +163,10 @@ read-fault-comes : (due : Option Refusal) → IsOneOf (statuses_of_run due) stat
 read-fault-comes None = inr (inr (inl refl))
 read-fault-comes (Some refusal.Usage) = inr (inr (inl refl))
 read-fault-comes (Some (refusal.Refused why)) = inr (inl refl)
-read-fault-comes (Some refusal.Files) = inr (inl refl)
 read-fault-comes (Some (refusal.Fault program fault)) = inr (inr (inl refl))
 read-fault-comes (Some (refusal.Abend abend)) = inr (inr (inl refl))
 read-fault-comes (Some (refusal.Budget most)) = inr (inr (inl refl))
+read-fault-comes (Some (refusal.Device name)) = inr (inr (inl refl))
 read-fault-comes (Some refusal.ReadFault) = inl refl
 read-fault-comes (Some refusal.WriteFault) = inr (inr (inl refl))
 read-fault-comes (Some refusal.NoMemory) = inr (inr (inl refl))
@@ -182,26 +175,26 @@ no-memory-comes : (due : Option Refusal) → IsOneOf (statuses_of_run due) statu
 no-memory-comes None = inr (inr (inr (inl refl)))
 no-memory-comes (Some refusal.Usage) = inr (inr (inr (inl refl)))
 no-memory-comes (Some (refusal.Refused why)) = inr (inr (inl refl))
-no-memory-comes (Some refusal.Files) = inr (inr (inl refl))
 no-memory-comes (Some (refusal.Fault program fault)) = inr (inr (inr (inl refl)))
 no-memory-comes (Some (refusal.Abend abend)) = inr (inr (inr (inl refl)))
 no-memory-comes (Some (refusal.Budget most)) = inr (inr (inr (inl refl)))
+no-memory-comes (Some (refusal.Device name)) = inr (inr (inr (inl refl)))
 no-memory-comes (Some refusal.ReadFault) = inr (inr (inr (inl refl)))
 no-memory-comes (Some refusal.WriteFault) = inr (inr (inr (inl refl)))
 no-memory-comes (Some refusal.NoMemory) = inl refl
 
--- a program without statements on files whose run was cut off
-write-fault-comes : (steps : ℕ) (bytes : List ℕ) (program : Program) (due : Option Refusal) → Reads bytes program → is_plain program ≡ true → IsRunDue steps bytes due → IsOneOf (statuses_of_run due) status.WriteFault
-write-fault-comes steps bytes program None reads plain h = inr (inl refl)
-write-fault-comes steps bytes program (Some refusal.Usage) reads plain h = absurd h
-write-fault-comes steps bytes program (Some (refusal.Refused why)) reads plain h = absurd (never-both steps bytes program why reads h)
-write-fault-comes steps bytes program (Some refusal.Files) reads plain h = absurd (never-plain steps bytes h.0 program h.1 reads h.2 plain)
-write-fault-comes steps bytes program (Some (refusal.Fault other fault)) reads plain h = inr (inl refl)
-write-fault-comes steps bytes program (Some (refusal.Abend abend)) reads plain h = inr (inl refl)
-write-fault-comes steps bytes program (Some (refusal.Budget most)) reads plain h = inr (inl refl)
-write-fault-comes steps bytes program (Some refusal.ReadFault) reads plain h = absurd h
-write-fault-comes steps bytes program (Some refusal.WriteFault) reads plain h = absurd h
-write-fault-comes steps bytes program (Some refusal.NoMemory) reads plain h = absurd h
+-- a program whose run was cut off
+write-fault-comes : (steps : ℕ) (bytes : List ℕ) (program : Program) (due : Option Refusal) → Reads bytes program → IsRunDue steps bytes due → IsOneOf (statuses_of_run due) status.WriteFault
+write-fault-comes steps bytes program None reads h = inr (inl refl)
+write-fault-comes steps bytes program (Some refusal.Usage) reads h = absurd h
+write-fault-comes steps bytes program (Some (refusal.Refused why)) reads h = absurd (never-both steps bytes program why reads h)
+write-fault-comes steps bytes program (Some (refusal.Fault other fault)) reads h = inr (inl refl)
+write-fault-comes steps bytes program (Some (refusal.Abend abend)) reads h = inr (inl refl)
+write-fault-comes steps bytes program (Some (refusal.Budget most)) reads h = inr (inl refl)
+write-fault-comes steps bytes program (Some (refusal.Device name)) reads h = absurd h
+write-fault-comes steps bytes program (Some refusal.ReadFault) reads h = absurd h
+write-fault-comes steps bytes program (Some refusal.WriteFault) reads h = absurd h
+write-fault-comes steps bytes program (Some refusal.NoMemory) reads h = absurd h
 
 noted : (r : Refusal) (due : Option Refusal) (notes : SinkCall) (answer : Status) → IsOneOf (statuses_of_run due) (status_of r) → Notes r notes answer → IsOneOf (statuses_of_run due) answer
 noted r due notes answer h (inl g) = subst (IsOneOf (statuses_of_run due)) (sym g.0) h
@@ -212,6 +205,13 @@ module _ (steps : ℕ) (bytes : List ℕ) (due : Option Refusal) (is_due : IsRun
   due-noted : (r : Refusal) (notes : SinkCall) (answer : Status) → IsRunDue steps bytes (Some r) → IsOneOf (statuses_of_run (Some r)) (status_of r) → Notes r notes answer → IsOneOf (statuses_of_run due) answer
   due-noted r notes answer h first g =
       noted r due notes answer (subst (λ d. IsOneOf (statuses_of_run d) (status_of r)) (one-run steps bytes (Some r) due h is_due) first) g
+
+  -- a program that is read runs so over all files
+  is-plain : (program : Program) → Reads bytes program → is_plain program ≡ true
+  is-plain program reads = plain-due steps bytes program due reads (of-due steps bytes due is_due)
+
+  stands-so : (program : Program) (end : Ending) (out : SinkCall) → Comes bytes steps out (came.Ran program (ran.Ended end)) → EndsAs bytes steps program end
+  stands-so program end out h = record { reads = h.0; plain = is-plain program h.0; stands = λ files. (h.1 (is-plain program h.0) files).0 }
 
   done-comes : (program : Program) → EndsAs bytes steps program ending.Stopped → IsOneOf (statuses_of_run due) status.Done
   done-comes program h = subst (λ d. IsOneOf (statuses_of_run d) status.Done) (one-run steps bytes None due (program, h) is_due) (inl refl)
@@ -227,19 +227,20 @@ module _ (steps : ℕ) (bytes : List ℕ) (due : Option Refusal) (is_due : IsRun
 
   came-told : (c : Came) (out notes : SinkCall) (answer : Status) → Comes bytes steps out c → TellsCame (refusal_of steps c) notes answer → IsOneOf (statuses_of_run due) answer
   came-told (came.Ran program (ran.Ended ending.Stopped)) out notes answer h g =
-      subst (IsOneOf (statuses_of_run due)) (sym g.0) (done-comes program (record { reads = h.0; plain = h.1; stands = λ files. (h.2 files).0 }))
+      subst (IsOneOf (statuses_of_run due)) (sym g.0) (done-comes program (stands-so program ending.Stopped out h))
   came-told (came.Ran program (ran.Ended (ending.Abended abend))) out notes answer h g =
-      due-noted (refusal.Abend abend) notes answer (program, record { reads = h.0; plain = h.1; stands = λ files. (h.2 files).0 }) (inl refl) g
+      due-noted (refusal.Abend abend) notes answer (program, stands-so program (ending.Abended abend) out h) (inl refl) g
   came-told (came.Ran program (ran.Ended (ending.Faulted fault))) out notes answer h g =
-      due-noted (refusal.Fault program fault) notes answer (record { reads = h.0; plain = h.1; stands = λ files. (h.2 files).0 }) (inl refl) g
+      due-noted (refusal.Fault program fault) notes answer (stands-so program (ending.Faulted fault) out h) (inl refl) g
   came-told (came.Ran program ran.Budget) out notes answer h g =
-      due-noted (refusal.Budget steps) notes answer (refl, (program, record { reads = h.0; plain = h.1; stands = λ files. (h.2 files).0 })) (inl refl) g
+      let plain = is-plain program h.0 in
+      due-noted (refusal.Budget steps) notes answer (refl, (program, record { reads = h.0; plain = plain; stands = λ files. (h.1 plain files).0 })) (inl refl) g
+  came-told (came.Ran program (ran.DeviceFault name)) out notes answer h g = absurd (h.1 (is-plain program h.0) [])
   came-told (came.Ran program ran.WriteFault) out notes answer h g =
-      subst (IsOneOf (statuses_of_run due)) (sym g.0) (write-fault-comes steps bytes program due h.0 h.1 is_due)
+      subst (IsOneOf (statuses_of_run due)) (sym g.0) (write-fault-comes steps bytes program due h.0 is_due)
   came-told (came.Ran program ran.NoMemory) out notes answer h g = noted refusal.NoMemory due notes answer (no-memory-comes due) g
   came-told (came.Refused why) out notes answer h g =
       refused-told why notes answer (record { why = why; some = h.1; cause = h.0; is = refl }) g
-  came-told came.NotYet out notes answer h g = due-noted refusal.Files notes answer (h.0, h.1, h.2) (inl refl) g
   came-told came.NoMemory out notes answer h g = noted refusal.NoMemory due notes answer (no-memory-comes due) g
 
 unrun-comes : (due : Option Refusal) (source : SourceCall) (out notes : SinkCall) (answer : Status) → IsUnrun source out notes answer → IsOneOf (statuses_of_run due) answer

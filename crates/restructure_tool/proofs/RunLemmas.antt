@@ -37,7 +37,6 @@ module _ (steps : ℕ) (source : SourceCall) (out : SinkCall) (text : List ℕ) 
     | inl few ↦ short (came.Refused why) few h
     | inr past ↦ long why past.0 past.1 h.1 h.2
   ]
-  was-run came.NotYet h = short came.NotYet (short-read text h.0 h.1) h
   was-run came.NoMemory h = run-of came.NoMemory h
 
   pub told-run : (c : Came) (notes : SinkCall) (answer : Status) → Comes text steps out c → TellsCame (refusal_of steps c) notes answer → (IsWriteFault c → Rose out.count out.count_now) → EndsOfRun steps source out notes answer
@@ -55,10 +54,10 @@ unrun steps source out notes r answer which rose within kept noted = inr (record
 pub told-refusal : (r : Refusal) (notes : SinkCall) (answer : Status) → (r ≡ refusal.WriteFault → ⊥) → Notes r notes answer → TellsCame (Some r) notes answer
 told-refusal refusal.Usage notes answer other g = g
 told-refusal (refusal.Refused why) notes answer other g = g
-told-refusal refusal.Files notes answer other g = g
 told-refusal (refusal.Fault program fault) notes answer other g = g
 told-refusal (refusal.Abend abend) notes answer other g = g
 told-refusal (refusal.Budget most) notes answer other g = g
+told-refusal (refusal.Device name) notes answer other g = g
 told-refusal refusal.ReadFault notes answer other g = g
 told-refusal refusal.WriteFault notes answer other g = absurd (other refl)
 told-refusal refusal.NoMemory notes answer other g = g

@@ -1,5 +1,5 @@
 -- What the words ask.
-use Rattle.std.specs.Prelude.{ℕ, ◌≤◌, ◌+◌, nat_lt, if◌then◌else◌, List, [], ◌∷◌, Option, Some, None, option_map, option_and_then, codes}
+use Rattle.std.specs.Prelude.{ℕ, ◌≤◌, ◌+◌, nat_lt, if◌then◌else◌, Bool, true, false, List, [], ◌∷◌, Option, Some, None, option_map, option_and_then, codes}
 use Rattle.std.specs.Str.{bytes_eq}
 use Rattle.cob_store.specs.Number.{digits_value}
 use Rattle.cobol_read.specs.Limit.{source_limit}
@@ -71,6 +71,11 @@ abbrev pub HasProgram : Ask → Type 0
 HasProgram (Generate n) = IsProgramNumber n
 HasProgram (Trial n) = IsProgramNumber n
 HasProgram other = Unit {0}
+
+-- whether the ask is to run a source
+abbrev pub is_run : Option Ask → Bool
+is_run (Some (Run steps)) = true
+is_run _ = false
 
 -- how many bytes of the source are read: to its end, or to the first byte past the limit
 abbrev pub reads : Option Ask → ℕ

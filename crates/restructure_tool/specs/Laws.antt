@@ -93,7 +93,6 @@ abbrev pub statuses_of_run : Option Refusal → List Status
 statuses_of_run None = status.Done ∷ status.WriteFault ∷ status.ReadFault ∷ status.NoMemory ∷ []
 statuses_of_run (Some (refusal.Refused why)) =
     refused_status why ∷ status.ReadFault ∷ status.NoMemory ∷ []
-statuses_of_run (Some refusal.Files) = status.NotSubset ∷ status.ReadFault ∷ status.NoMemory ∷ []
 statuses_of_run (Some refusal) =
     status_of refusal ∷ status.WriteFault ∷ status.ReadFault ∷ status.NoMemory ∷ []
 

@@ -35,10 +35,10 @@ refused_status refused.NoMemory = status.NoMemory
 abbrev pub status_of : Refusal → Status
 status_of refusal.Usage = status.Usage
 status_of (refusal.Refused refused) = refused_status refused
-status_of refusal.Files = status.NotSubset
 status_of (refusal.Fault program fault) = status.Flow
 status_of (refusal.Abend abend) = status.Abend
 status_of (refusal.Budget steps) = status.Budget
+status_of (refusal.Device name) = status.DeviceFault
 status_of refusal.ReadFault = status.ReadFault
 status_of refusal.WriteFault = status.WriteFault
 status_of refusal.NoMemory = status.NoMemory
@@ -62,13 +62,16 @@ abend_text abends.BadDigits = codes "ABEND BAD-DIGITS"
 abend_text abends.OutOfRange = codes "ABEND OUT-OF-RANGE"
 abend_text (abends.Io status) = codes "ABEND IO " ++ decimal status
 
+abbrev pub device_text : List ℕ → List ℕ
+device_text name = codes "DEVICE FAULT " ++ name
+
 abbrev pub refusal_text : Refusal → List ℕ
 refusal_text refusal.Usage = codes "USAGE"
 refusal_text (refusal.Refused refused) = refused_text refused
-refusal_text refusal.Files = codes "NOT YET FILES"
 refusal_text (refusal.Fault program fault) = fault_text program.paragraphs (fault_of fault)
 refusal_text (refusal.Abend abend) = abend_text abend
 refusal_text (refusal.Budget steps) = codes "BUDGET " ++ decimal steps
+refusal_text (refusal.Device name) = device_text name
 refusal_text refusal.ReadFault = codes "READ FAULT"
 refusal_text refusal.WriteFault = codes "WRITE FAULT"
 refusal_text refusal.NoMemory = codes "NO MEMORY"

@@ -1,5 +1,5 @@
 -- How a call that runs a source ends.
-use Rattle.std.specs.Prelude.{ℕ, ◌≡◌, ◌+◌, ◌⊎◌, true, false, List, Option, Some, None}
+use Rattle.std.specs.Prelude.{ℕ, ◌≡◌, ◌+◌, ◌⊎◌, true, List, Option, Some, None}
 use Rattle.cob_base.specs.Faults.{Rose}
 use Rattle.cob_base.specs.Source.{SourceCall}
 use Rattle.cob_base.specs.Sink.{SinkCall}
@@ -43,13 +43,13 @@ refusal_of_ending program (ending.Faulted fault) = Some (refusals.Fault program 
 abbrev pub refusal_of_run : ℕ → Program → Ran → Option Refusal
 refusal_of_run steps program (ran.Ended ending) = refusal_of_ending program ending
 refusal_of_run steps program ran.Budget = Some (refusals.Budget steps)
+refusal_of_run steps program (ran.DeviceFault name) = Some (refusals.Device name)
 refusal_of_run steps program ran.WriteFault = Some refusals.WriteFault
 refusal_of_run steps program ran.NoMemory = Some refusals.NoMemory
 
 -- the refusal that tells what came of a source; none where its run stopped normally
 abbrev pub refusal_of : ℕ → Came → Option Refusal
 refusal_of steps (came.Refused why) = Some (unread why)
-refusal_of steps came.NotYet = Some refusals.Files
 refusal_of steps came.NoMemory = Some refusals.NoMemory
 refusal_of steps (came.Ran program ran) = refusal_of_run steps program ran
 
@@ -66,12 +66,11 @@ abbrev pub EndsAs : List ℕ → ℕ → Program → Ending → Type 0
 EndsAs bytes steps program ending =
     StandsSo bytes steps program (λ files. Over (ending_seen ending files))
 
--- what is due to bytes that are to be run: their run stops normally, or why it doesn't
+-- what is due to bytes that are to be run: their run stops normally, or why it doesn't; of a
+-- program with statements on files nothing is said
 abbrev pub IsRunDue : ℕ → List ℕ → Option Refusal → Type 0
 IsRunDue steps bytes None = (program : Program) × EndsAs bytes steps program ending.Stopped
 IsRunDue steps bytes (Some (refusals.Refused why)) = IsUnread bytes why
-IsRunDue steps bytes (Some refusals.Files) =
-    (program : Program) × Reads bytes program × (is_plain program ≡ false)
 IsRunDue steps bytes (Some (refusals.Fault program fault)) =
     EndsAs bytes steps program (ending.Faulted fault)
 IsRunDue steps bytes (Some (refusals.Abend abend)) =

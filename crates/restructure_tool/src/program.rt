@@ -14,6 +14,7 @@ use crate::status::Status;
 use crate::tool;
 use crate::writing::{note, write_text};
 use cob_base::{NoMemory, Sink, Source};
+use file_model::Bench;
 use std::alloc::Global;
 use std::process::ExitCode;
 use std::{env, io};
@@ -31,20 +32,21 @@ has a line that says why, and standard output stays empty, but at WRITE FAULT.
 At FLOW further lines show the way to the fault. With --report standard error
 then has the report: what was dropped and added. check writes the report alone.
 
-run reads such a program, without statements on files, and runs it for at most N
-steps, where N has 1 to 18 digits. What it displays goes to standard output, and
-standard error has a line that says why it didn't stop by itself.
+run reads such a program and runs it for at most N steps, where N has 1 to 18
+digits. What it displays goes to standard output, and standard error has a line
+that says why it didn't stop by itself. Its files are those of the current
+folder; ASSIGN \"NULL:NAME\" is a file that is always empty.
 
 generate writes the program number N of 1 to 1249, full of jumps, and trial the
 report of that program.
 
-Exit statuses: 0 done, 1 USAGE, 2 NOT SUBSET or NOT YET, 3 FLOW, 4 LIMIT,
-5 READ FAULT, 6 WRITE FAULT, 8 ABEND, 9 BUDGET, 10 NO MEMORY.
+Exit statuses: 0 done, 1 USAGE, 2 NOT SUBSET, 3 FLOW, 4 LIMIT, 5 READ FAULT,
+6 WRITE FAULT, 7 DEVICE FAULT, 8 ABEND, 9 BUDGET, 10 NO MEMORY.
 ";
 
 const VERSION: &str = "restructure_tool 0.1.0\n";
 
-/// Does what the command line asks, over any source and sinks: `--help` and `--version` show a
+/// Does what the command line asks, over any source, sinks and bench: `--help` and `--version` show a
 /// page, and other words are those of `tool`.
 pub fn program<S: Source, K: Sink, N: Sink>(
     alloc: Global,
@@ -52,6 +54,7 @@ pub fn program<S: Source, K: Sink, N: Sink>(
     source: &mut S,
     out: &mut K,
     notes: &mut N,
+    bench: &mut Bench,
 ) -> Status
     ensures page { IfOk words (λ words. is_page (map string_bytes words.items) ≡ true →
         ShowsPage (source_call S.left S.faults source.old source.new)
@@ -70,7 +73,7 @@ pub fn program<S: Source, K: Sink, N: Sink>(
         (sink_call N.held N.faults notes.old notes.new) result) }
 {
     match words {
-        Ok(words) => serve(alloc, words.as_slice(), source, out, notes),
+        Ok(words) => serve(alloc, words.as_slice(), source, out, notes, bench),
         Err(NoMemory) => note(alloc, &Refusal::NoMemory, notes),
     }
 }
@@ -82,6 +85,7 @@ fn serve<S: Source, K: Sink, N: Sink>(
     source: &mut S,
     out: &mut K,
     notes: &mut N,
+    bench: &mut Bench,
 ) -> Status
     ensures page { is_page (map string_bytes words.now) ≡ true →
         ShowsPage (source_call S.left S.faults source.old source.new)
@@ -95,7 +99,7 @@ fn serve<S: Source, K: Sink, N: Sink>(
 {
     match page_of(words) {
         Some(page) => write_text(alloc, page.as_bytes(), out, notes),
-        None => tool(alloc, words, source, out, notes),
+        None => tool(alloc, words, source, out, notes, bench),
     }
 }
 

@@ -23,13 +23,13 @@ pub enum Refusal {
     Usage,
     /// The source is refused; never for want of memory, which is `NoMemory`.
     Refused(Refused),
-    /// The program has statements on files, and isn't run yet.
-    Files,
     /// The run of this program came to a fault of PERFORM.
     Fault(Program, FlowFault),
     Abend(Abend),
     /// The program still ran after so many steps, which were asked for.
     Budget(u64),
+    /// The device of that name failed.
+    Device(Text),
     ReadFault,
     WriteFault,
     NoMemory,
@@ -69,10 +69,10 @@ impl Refusal {
         match self {
             Refusal::Usage => Status::Usage,
             Refusal::Refused(refused) => refused_status(refused),
-            Refusal::Files => Status::NotSubset,
             Refusal::Fault(_, _) => Status::Flow,
             Refusal::Abend(_) => Status::Abend,
             Refusal::Budget(_) => Status::Budget,
+            Refusal::Device(_) => Status::DeviceFault,
             Refusal::ReadFault => Status::ReadFault,
             Refusal::WriteFault => Status::WriteFault,
             Refusal::NoMemory => Status::NoMemory,
@@ -94,12 +94,12 @@ impl Refusal {
         match self {
             Refusal::Usage => told(alloc, b"USAGE"),
             Refusal::Refused(refused) => refused_text(alloc, refused),
-            Refusal::Files => told(alloc, b"NOT YET FILES"),
             Refusal::Fault(program, fault) => {
                 fault_text(alloc, program.paragraphs.as_slice(), fault_of(*fault))
             }
             Refusal::Abend(abend) => abend_text(alloc, *abend),
             Refusal::Budget(steps) => numbered(alloc, b"BUDGET ", *steps),
+            Refusal::Device(name) => device_text(alloc, name.as_slice()),
             Refusal::ReadFault => told(alloc, b"READ FAULT"),
             Refusal::WriteFault => told(alloc, b"WRITE FAULT"),
             Refusal::NoMemory => told(alloc, b"NO MEMORY"),
@@ -156,6 +156,14 @@ fn abend_text(alloc: Global, abend: Abend) -> Result<Text, NoMemory>
         Abend::OutOfRange => told(alloc, b"ABEND OUT-OF-RANGE"),
         Abend::Io(status) => numbered(alloc, b"ABEND IO ", u64::from(status)),
     }
+}
+
+fn device_text(alloc: Global, name: &[u8]) -> Result<Text, NoMemory>
+    ensures { Makes (refusals.device_text name.now) result }
+{
+    let mut text = told(alloc, b"DEVICE FAULT ")?;
+    text.add(name)?;
+    Ok(text)
 }
 
 fn numbered(alloc: Global, words: &[u8], number: u64) -> Result<Text, NoMemory>

@@ -16,18 +16,20 @@ use cob_base::{Sink, Source};
 use cob_tree::Program;
 use cobol_read::ReadRefusal;
 use cobol_run::{Ending, Ran};
+use file_model::Bench;
 use restructure_core::Refused;
 use run_answer::{Came, run_source};
 use std::alloc::Global;
 
-/// Reads a source and runs it for at most so many steps. What it displays goes to `out`; where it
-/// isn't run, or doesn't stop by itself, `notes` gets a line that says why.
+/// Reads a source and runs it over a bench for at most so many steps. What it displays goes to
+/// `out`; where it isn't run, or doesn't stop by itself, `notes` gets a line that says why.
 pub fn answer_run<S: Source, K: Sink, N: Sink>(
     alloc: Global,
     steps: u64,
     source: &mut S,
     out: &mut K,
     notes: &mut N,
+    bench: &mut Bench,
 ) -> Status
     ensures { EndsOfRun steps
         (source_call S.left S.faults source.old source.new)
@@ -37,7 +39,7 @@ pub fn answer_run<S: Source, K: Sink, N: Sink>(
     match read_source(alloc, source) {
         Err(refusal) => note(alloc, &refusal, notes),
         Ok(bytes) => {
-            let came = run_source(alloc, bytes.as_slice(), out, steps);
+            let came = run_source(alloc, bytes.as_slice(), bench, out, steps);
             tell(alloc, steps, came, notes)
         }
     }
@@ -50,11 +52,22 @@ fn tell<N: Sink>(alloc: Global, steps: u64, came: Came, notes: &mut N) -> Status
 {
     match refusal_of(steps, came) {
         None => Status::Done,
-        Some(Refusal::WriteFault) => {
-            let _ = note(alloc, &Refusal::WriteFault, notes);
+        Some(refusal) => tell_why(alloc, &refusal, notes),
+    }
+}
+
+// Notes why a run didn't stop by itself. At a write fault of the sink the status says so, whatever
+// becomes of the notes.
+fn tell_why<N: Sink>(alloc: Global, refusal: &Refusal, notes: &mut N) -> Status
+    ensures { TellsCame (Some refusal.now)
+        (sink_call N.held N.faults notes.old notes.new) result }
+{
+    match refusal {
+        Refusal::WriteFault => {
+            let _ = note(alloc, refusal, notes);
             Status::WriteFault
         }
-        Some(refusal) => note(alloc, &refusal, notes),
+        _ => note(alloc, refusal, notes),
     }
 }
 
@@ -64,7 +77,6 @@ fn refusal_of(steps: u64, came: Came) -> Option<Refusal>
 {
     match came {
         Came::Refused(refusal) => Some(unread(refusal)),
-        Came::NotYet => Some(Refusal::Files),
         Came::NoMemory => Some(Refusal::NoMemory),
         Came::Ran(program, ran) => refusal_of_run(steps, program, ran),
     }
@@ -76,6 +88,7 @@ fn refusal_of_run(steps: u64, program: Program, ran: Ran) -> Option<Refusal>
     match ran {
         Ran::Ended(ending) => refusal_of_ending(program, ending),
         Ran::Budget => Some(Refusal::Budget(steps)),
+        Ran::DeviceFault(name) => Some(Refusal::Device(name)),
         Ran::WriteFault => Some(Refusal::WriteFault),
         Ran::NoMemory => Some(Refusal::NoMemory),
     }

@@ -4,14 +4,13 @@ ghost use Rattle.std.specs.Prelude.{◌≡◌};
 ghost use Rattle.restructure_tool.specs.Status.{status_number};
 
 /// How an ask ended; the numbers, 0 to 10 in this order, are the exit statuses, and don't change.
-/// Some can't come yet, and `Ends` says so.
 #[derive(Clone, Copy, Debug, PartialEq, Eq)]
 pub enum Status {
     /// The ask was done.
     Done,
     /// The words are no ask.
     Usage,
-    /// The source is no program of the language, or isn't restructured yet.
+    /// The source is no program of the language.
     NotSubset,
     /// Control of the program runs into a fault of PERFORM.
     Flow,

@@ -4,6 +4,7 @@ use crate::program::program;
 use crate::status::Status;
 use crate::tool;
 use cob_base::{MemSink, MemSource, NoMemory, Source, StdSink, StdSource, Text, Took};
+use file_model::Bench;
 use std::alloc::{AllocError, Global};
 use std::io::{self, ErrorKind, Write};
 use std::process::Abort;
@@ -208,32 +209,6 @@ const OUTSIDE: &str = "       IDENTIFICATION DIVISION.
        A. MOVE 1 TO E (I).
 ";
 
-const READING: &str = "       IDENTIFICATION DIVISION.
-       PROGRAM-ID. T.
-       ENVIRONMENT DIVISION.
-       INPUT-OUTPUT SECTION.
-       FILE-CONTROL.
-           SELECT F ASSIGN TO \"IN.DAT\".
-       DATA DIVISION.
-       FILE SECTION.
-       FD F.
-       01 R PIC X(4).
-       PROCEDURE DIVISION.
-       A. DISPLAY \"A\". OPEN INPUT F.
-";
-
-/// What stands before the data of a program in `KINDS`.
-const HEAD: &str = "       IDENTIFICATION DIVISION.
-       PROGRAM-ID. T.
-       DATA DIVISION.
-       WORKING-STORAGE SECTION.
-       ";
-
-/// What stands before its statements.
-const PROCEDURES: &str = "       PROCEDURE DIVISION.
-       A.
-           ";
-
 /// Which call is made.
 #[derive(Clone, Copy, PartialEq, Eq)]
 enum By {
@@ -302,7 +277,7 @@ impl Source for Drip<'_> {
     }
 }
 
-fn text(alloc: Global, text: &str) -> Result<Text, AllocError> {
+pub fn text(alloc: Global, text: &str) -> Result<Text, AllocError> {
     Ok(Text {
         bytes: text.as_bytes().to_vec(alloc)?,
     })
@@ -312,7 +287,7 @@ fn numbers(alloc: Global, number: u64) -> Result<Vec<u64>, AllocError> {
     Ok(vec![in alloc; number]?)
 }
 
-fn sink(alloc: Global, piece: usize, failing: u64) -> Result<MemSink, AllocError> {
+pub fn sink(alloc: Global, piece: usize, failing: u64) -> Result<MemSink, AllocError> {
     Ok(MemSink {
         held: Vec::new(alloc),
         piece,
@@ -322,7 +297,7 @@ fn sink(alloc: Global, piece: usize, failing: u64) -> Result<MemSink, AllocError
     })
 }
 
-fn words(alloc: Global, words: &[&str]) -> Result<Vec<String>, AllocError> {
+pub fn words(alloc: Global, words: &[&str]) -> Result<Vec<String>, AllocError> {
     let mut all = Vec::new(alloc);
     for word in words {
         all.push(String::from_str(alloc, word)?)?;
@@ -341,9 +316,17 @@ fn check(rt: &impl Abort, alloc: Global, case: &Case) -> Result<(), AllocError> 
     let mut out = sink(alloc, case.piece, case.write_fails)?;
     let mut notes = sink(alloc, case.piece, case.note_fails)?;
     let words = words(alloc, case.words)?;
+    let bench = &mut Bench::new(Vec::new(alloc));
     let status = match case.by {
-        By::Tool => tool(alloc, words.as_slice(), &mut source, &mut out, &mut notes),
-        By::Program => program(alloc, Ok(words), &mut source, &mut out, &mut notes),
+        By::Tool => tool(
+            alloc,
+            words.as_slice(),
+            &mut source,
+            &mut out,
+            &mut notes,
+            bench,
+        ),
+        By::Program => program(alloc, Ok(words), &mut source, &mut out, &mut notes, bench),
     };
     assert_eq!(rt; status, case.status);
     assert_eq!(rt; out.held.as_slice(), case.out.as_bytes());
@@ -493,7 +476,6 @@ fn each_end_of_a_run_comes_with_its_line(rt: HostRuntime) -> Result<(), Fail> {
         runs(OUTSIDE, Status::Abend, "", "ABEND OUT-OF-RANGE\n"),
         runs(OVERLAPPING, Status::Done, "E\nB\nC\n", ""),
         runs(REENTERING, Status::Flow, "", "FLOW REENTRY A\n"),
-        runs(READING, Status::NotSubset, "", "NOT YET FILES\n"),
         runs("", Status::NotSubset, "", "NOT SUBSET SYNTAX LINE 1\n"),
         Case {
             words: &["run", "--steps", "000000000000000006"],
@@ -632,6 +614,7 @@ fn what_main_is_made_of_tells_each_failure(rt: HostRuntime) -> Result<(), Fail> 
             &mut source,
             &mut StdSink::new(Full),
             &mut notes,
+            &mut Bench::new(Vec::new(alloc)),
         );
         assert_eq!(rt; status, Status::WriteFault);
         assert_eq!(rt; notes.held.as_slice(), b"WRITE FAULT\n".as_slice());
@@ -642,7 +625,15 @@ fn what_main_is_made_of_tells_each_failure(rt: HostRuntime) -> Result<(), Fail> 
     };
     let mut out = sink(alloc, 4096, 0)?;
     let mut notes = sink(alloc, 4096, 0)?;
-    let status = program(alloc, Err(NoMemory), &mut source, &mut out, &mut notes);
+    let bench = &mut Bench::new(Vec::new(alloc));
+    let status = program(
+        alloc,
+        Err(NoMemory),
+        &mut source,
+        &mut out,
+        &mut notes,
+        bench,
+    );
     assert_eq!(rt; status, Status::NoMemory);
     assert_eq!(rt; out.held.len(), 0);
     assert_eq!(rt; notes.held.as_slice(), b"NO MEMORY\n".as_slice());
@@ -659,92 +650,18 @@ fn a_source_of_one_byte_a_call_gives_the_same(rt: HostRuntime) -> Result<(), Fai
     let mut out = sink(alloc, 4096, 0)?;
     let mut notes = sink(alloc, 4096, 0)?;
     let words = words(alloc, &["restructure"])?;
-    let status = tool(alloc, words.as_slice(), &mut source, &mut out, &mut notes);
+    let bench = &mut Bench::new(Vec::new(alloc));
+    let status = tool(
+        alloc,
+        words.as_slice(),
+        &mut source,
+        &mut out,
+        &mut notes,
+        bench,
+    );
     assert_eq!(rt; status, Status::Done);
     assert_eq!(rt; out.held.as_slice(), HELLO_RESULT.as_bytes());
     assert_eq!(rt; notes.held.len(), 0);
-    Ok(())
-}
-
-/// The data and the statements of a program, and the line that refuses it.
-const KINDS: [(&str, &str, &str); 17] = [
-    ("03 N PIC 9.", "STOP RUN.", "NOT SUBSET LEVEL LINE 5\n"),
-    ("01 N PIC 9Q.", "STOP RUN.", "NOT SUBSET PICTURE LINE 5\n"),
-    (
-        "01 G. 02 N PIC 9. 02 M REDEFINES N PIC 99.",
-        "STOP RUN.",
-        "NOT SUBSET REDEFINES LINE 5\n",
-    ),
-    (
-        "01 N PIC 9 VALUE 12.",
-        "STOP RUN.",
-        "NOT SUBSET VALUE LINE 5\n",
-    ),
-    ("01 N PIC X.", "ADD 1 TO N.", "NOT SUBSET USAGE LINE 8\n"),
-    ("01 N PIC 9.", "ADD 1 TO M.", "NOT SUBSET UNKNOWN LINE 8\n"),
-    (
-        "01 G. 02 N PIC 9. 01 H. 02 N PIC 9.",
-        "ADD 1 TO N.",
-        "NOT SUBSET AMBIGUOUS LINE 8\n",
-    ),
-    (
-        "01 N PIC 9.",
-        "STOP RUN. A.",
-        "NOT SUBSET DUPLICATE LINE 8\n",
-    ),
-    (
-        "01 N PIC 9.",
-        "COMPUTE N = N ** 2.",
-        "NOT SUBSET LEFT-OUT ** LINE 8\n",
-    ),
-    (
-        "01 N PIC 9.",
-        "ALTER A TO PROCEED TO B.",
-        "NOT SUBSET LEFT-OUT ALTER LINE 8\n",
-    ),
-    ("01 N PIC 9.", "DISPLAY N GO.", "NOT SUBSET SYNTAX LINE 8\n"),
-    (
-        "01 N PIC 9.",
-        "DISPLAY 1234567890123456789.",
-        "NOT SUBSET TOO-MANY-DIGITS LINE 8\n",
-    ),
-    (
-        "01 N PIC 9.",
-        "DISPLAY 1.2.3.",
-        "NOT SUBSET BAD-NUMBER LINE 8\n",
-    ),
-    ("01 N PIC 9.", "DISPLAY N-.", "NOT SUBSET BAD-WORD LINE 8\n"),
-    (
-        "01 N PIC 9.",
-        "DISPLAY \"N.",
-        "NOT SUBSET OPEN-LITERAL LINE 8\n",
-    ),
-    (
-        "01 N PIC 9.",
-        "DISPLAY \u{1}.",
-        "NOT SUBSET BAD-BYTE LINE 8\n",
-    ),
-    (
-        "01 N PIC 9.",
-        "STOP RUN.\n      X",
-        "NOT SUBSET BAD-INDICATOR LINE 9\n",
-    ),
-];
-
-#[test]
-fn each_kind_has_its_line(rt: HostRuntime) -> Result<(), Fail> {
-    let alloc = rt.alloc();
-    for (data, statements, line) in &KINDS {
-        let source = format!(in alloc; "{HEAD}{data}\n{PROCEDURES}{statements}\n")?;
-        let mut source = StdSource::new(source.as_bytes());
-        let mut out = sink(alloc, 4096, 0)?;
-        let mut notes = sink(alloc, 4096, 0)?;
-        let words = words(alloc, &["restructure"])?;
-        let status = tool(alloc, words.as_slice(), &mut source, &mut out, &mut notes);
-        assert_eq!(rt; status, Status::NotSubset);
-        assert_eq!(rt; out.held.len(), 0);
-        assert_eq!(rt; notes.held.as_slice(), line.as_bytes());
-    }
     Ok(())
 }
 
@@ -788,7 +705,15 @@ fn a_source_of_300_kilobytes_is_restructured(rt: HostRuntime) -> Result<(), Fail
     let mut out = sink(alloc, 4096, 0)?;
     let mut notes = sink(alloc, 4096, 0)?;
     let words = words(alloc, &["restructure"])?;
-    let status = tool(alloc, words.as_slice(), &mut source, &mut out, &mut notes);
+    let bench = &mut Bench::new(Vec::new(alloc));
+    let status = tool(
+        alloc,
+        words.as_slice(),
+        &mut source,
+        &mut out,
+        &mut notes,
+        bench,
+    );
     assert_eq!(rt; status, Status::Done);
     assert!(rt; out.held.as_slice() == result.as_slice());
     assert_eq!(rt; notes.held.len(), 0);

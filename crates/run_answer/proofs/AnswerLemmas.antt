@@ -11,7 +11,6 @@ use Rattle.run_answer.specs.declared.Came.TheVariants as came
 use Rattle.run_answer.specs.Answers.{CameOf, Comes}
 
 pub comes_of : (bytes : List ℕ) (program : Program) (steps : ℕ) (sink : SinkCall) (answer : Came) → Reads bytes program → CameOf program steps sink answer → Comes bytes steps sink answer
-comes_of bytes program steps sink (came.Ran other ran) reads h = subst (λ p. Reads bytes p × (is_plain p ≡ true) × ((files : Files) → RunsAs p files steps sink ran)) (sym h.0) (reads, h.1, h.2)
+comes_of bytes program steps sink (came.Ran other ran) reads h = subst (λ p. Reads bytes p × (is_plain p ≡ true → (files : Files) → RunsAs p files steps sink ran)) (sym h.0) (reads, h.1)
 comes_of bytes program steps sink (came.Refused refusal) reads h = absurd h
-comes_of bytes program steps sink came.NotYet reads h = (program, reads, h.0, h.1)
 comes_of bytes program steps sink came.NoMemory reads h = h

@@ -1,5 +1,5 @@
 -- What comes of a source that is to run.
-use Rattle.std.specs.Prelude.{ℕ, ◌≡◌, ◌≢◌, true, false, List}
+use Rattle.std.specs.Prelude.{ℕ, ◌≡◌, ◌≢◌, true, List}
 use Rattle.cob_base.specs.Sink.{SinkCall}
 use Rattle.cob_tree.specs.declared.program.Program.{Program}
 use Rattle.cobol_meaning.specs.Runs.{Files}
@@ -15,24 +15,22 @@ use Rattle.run_answer.specs.declared.Came.TheVariants as came
 abbrev pub Keeps : SinkCall → Type 0
 Keeps sink = sink.now ≡ sink.held
 
--- what comes of a program: its run, over all files, or nothing that a sink sees
+-- what comes of a program: its run, which over all files is this one where no statement on files
+-- stands in it, or nothing that a sink sees
 abbrev pub CameOf : Program → ℕ → SinkCall → Came → Type 0
 CameOf program steps sink (came.Ran other ran) =
-    (other ≡ program) × (is_plain program ≡ true)
-    × ((files : Files) → RunsAs program files steps sink ran)
+    (other ≡ program)
+    × (is_plain program ≡ true → (files : Files) → RunsAs program files steps sink ran)
 CameOf program steps sink (came.Refused refusal) = ⊥
-CameOf program steps sink came.NotYet = (is_plain program ≡ false) × Keeps sink
 CameOf program steps sink came.NoMemory = Keeps sink
 
--- the program that the bytes are ran so; it has statements on files; or the bytes are refused
+-- the program that the bytes are ran so, or the bytes are refused
 abbrev pub Comes : List ℕ → ℕ → SinkCall → Came → Type 0
 Comes bytes steps sink (came.Ran program ran) =
-    Reads bytes program × (is_plain program ≡ true)
-    × ((files : Files) → RunsAs program files steps sink ran)
+    Reads bytes program
+    × (is_plain program ≡ true → (files : Files) → RunsAs program files steps sink ran)
 Comes bytes steps sink (came.Refused refusal) =
     HasCause bytes refusal × (refusal ≢ refusals.NoMemory) × Keeps sink
-Comes bytes steps sink came.NotYet =
-    (program : Program) × Reads bytes program × (is_plain program ≡ false) × Keeps sink
 Comes bytes steps sink came.NoMemory = Keeps sink
 
 -- the sink failed while the program displayed

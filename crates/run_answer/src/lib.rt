@@ -1,15 +1,16 @@
 //! A source to what comes of its run.
 //!
-//! `run_source` reads a source and runs its program for at most so many steps, where the program
-//! runs without devices. Hold `Comes` in specs/Answers.antt against what it answers, a clause an
-//! answer: `Reads` and `HasCause` of `cobol_read` say which program the source is, or why it is
-//! none, and `RunsAs` of `cobol_run` what its run comes to (ISO 1989:1985).
+//! `run_source` reads a source and runs its program over a bench for at most so many steps. Hold
+//! `Comes` in specs/Answers.antt against what it answers, a clause an answer: `Reads` and `HasCause`
+//! of `cobol_read` say which program the source is, or why it is none, and where the program has no
+//! statement on files (`is_plain`) `RunsAs` of `cobol_run` says what its run comes to (ISO
+//! 1989:1985).
 #![tactic(auto)]
 
 #[cfg(test)]
 mod tests;
 
-ghost use Rattle.std.specs.Prelude.{◌≡◌};
+ghost use Rattle.std.specs.Prelude.{◌≤◌, vec_len};
 ghost use Rattle.cob_base.specs.Faults.{Rose};
 ghost use Rattle.cob_base.specs.Sink.{sink_call};
 ghost use Rattle.run_answer.specs.Answers.{CameOf, Comes, IsWriteFault};
@@ -17,7 +18,8 @@ ghost use Rattle.run_answer.specs.Answers.{CameOf, Comes, IsWriteFault};
 use cob_base::Sink;
 use cob_tree::Program;
 use cobol_read::{ReadRefusal, read};
-use cobol_run::{Ran, is_plain, run};
+use cobol_run::{Ran, run};
+use file_model::Bench;
 use std::alloc::Global;
 
 /// What came of a source.
@@ -27,37 +29,41 @@ pub enum Came {
     Ran(Program, Ran),
     /// It is refused; never for want of memory, which is `NoMemory`.
     Refused(ReadRefusal),
-    /// Its program has statements on files.
-    NotYet,
     /// Memory was wanted before the program ran.
     NoMemory,
 }
 
-/// Reads a source and runs its program for at most so many steps. What it displays goes to `out`,
-/// which is made ready before each display, and stays as it is where nothing ran.
+/// Reads a source and runs its program over a bench for at most so many steps. What it displays
+/// goes to `out`, which is made ready before each display. Both stay as they are where nothing ran.
 #[tactic(auto, using(crate::proofs::AnswerLemmas::comes_of))]
-pub fn run_source<K: Sink>(alloc: Global, bytes: &[u8], out: &mut K, steps: u64) -> Came
+pub fn run_source<K: Sink>(
+    alloc: Global,
+    bytes: &[u8],
+    bench: &mut Bench,
+    out: &mut K,
+    steps: u64,
+) -> Came
+    requires within { bench.old.left ≤ vec_len bench.old.devices }
     ensures came { Comes bytes.now steps (sink_call K.held K.faults out.old out.new) result }
     ensures cause { IsWriteFault result → Rose (K.faults out.old) (K.faults out.new) }
 {
     match read(alloc, bytes) {
         Err(ReadRefusal::NoMemory) => Came::NoMemory,
         Err(refusal) => Came::Refused(refusal),
-        Ok(program) => run_program(alloc, program, out, steps),
+        Ok(program) => run_program(alloc, program, bench, out, steps),
     }
 }
 
-// Runs a program, where it runs without devices.
-fn run_program<K: Sink>(alloc: Global, program: Program, out: &mut K, steps: u64) -> Came
+fn run_program<K: Sink>(
+    alloc: Global,
+    program: Program,
+    bench: &mut Bench,
+    out: &mut K,
+    steps: u64,
+) -> Came
     ensures came { CameOf program steps (sink_call K.held K.faults out.old out.new) result }
     ensures cause { IsWriteFault result → Rose (K.faults out.old) (K.faults out.new) }
 {
-    if !is_plain(&program) {
-        return Came::NotYet;
-    }
-    if program.entries.len() >= 1 << 31 || program.paragraphs.len() >= 1 << 31 {
-        return Came::NoMemory;
-    }
-    let ran = run(alloc, &program, out, steps);
+    let ran = run(alloc, &program, bench, out, steps);
     Came::Ran(program, ran)
 }

@@ -4,6 +4,7 @@ use crate::{Came, run_source};
 use cob_base::MemSink;
 use cob_tree::{Abend, FlowFault};
 use cobol_run::{Ending, Ran};
+use file_model::Bench;
 use std::alloc::{AllocError, Global};
 use std::process::Abort;
 use std::test::Fail;
@@ -89,11 +90,11 @@ fn word_of(came: &Came) -> &'static str {
         Came::Ran(_, Ran::Ended(Ending::Abended(Abend::BadDigits))) => "bad digits",
         Came::Ran(_, Ran::Ended(Ending::Abended(Abend::OutOfRange))) => "out of range",
         Came::Ran(_, Ran::Ended(Ending::Faulted(FlowFault::Overlap(_)))) => "overlap",
+        Came::Ran(_, Ran::Ended(Ending::Abended(Abend::Io(30)))) => "io 30",
         Came::Ran(_, Ran::Budget) => "budget",
         Came::Ran(_, Ran::WriteFault) => "write fault",
         Came::Ran(_, _) => "another end",
         Came::Refused(_) => "refused",
-        Came::NotYet => "not yet",
         Came::NoMemory => "no memory",
     }
 }
@@ -125,7 +126,14 @@ fn check(rt: &impl Abort, alloc: Global, case: &Case) -> Result<(), AllocError> 
         failing: vec![in alloc; case.write_fails]?,
         count: 0,
     };
-    let came = run_source(alloc, case.source.as_bytes(), &mut out, case.steps);
+    let mut bench = Bench::new(Vec::new(alloc));
+    let came = run_source(
+        alloc,
+        case.source.as_bytes(),
+        &mut bench,
+        &mut out,
+        case.steps,
+    );
     assert_eq!(rt; word_of(&came), case.answer);
     assert_eq!(rt; out.held.as_slice(), case.out.as_bytes());
     Ok(())
@@ -145,7 +153,7 @@ fn each_program_ends_as_it_should(rt: HostRuntime) -> Result<(), Fail> {
         ends(COUNTING, 100, "2\n1\n", "stopped"),
         ends(UNDIGITAL, 100, "", "bad digits"),
         ends(OUTSIDE, 100, "", "out of range"),
-        ends(READING, 100, "", "not yet"),
+        ends(READING, 100, "", "io 30"),
         ends("", 100, "", "refused"),
     ];
     for case in &cases {

@@ -1,7 +1,8 @@
-use Rattle.std.proofs.Common.{◌≡◌, Some, refl, subst}
+use Rattle.std.proofs.Common.{◌≡◌, ◌∙◌, true, false, Some, ap, refl, subst}
 use Rattle.cob_base.specs.Source.{source_call}
 use Rattle.cob_base.specs.Sink.{sink_call}
 use Rattle.restructure_tool.specs.declared.ask.Ask.TheVariants.{Run, Generate, Trial}
+use Rattle.restructure_tool.specs.Ask.{is_run}
 use Rattle.restructure_tool.specs.Tool.{Ends}
 use Rattle.restructure_tool.proofs.EndLemmas.{usage-ends}
 use Rattle.restructure_tool.proofs.tool.Goals as goal
@@ -40,3 +41,9 @@ returns-in-Some-Trial-clause-ends g c =
     let same : Trial c.in-Some-Trial.n ≡ c.in-Some-Trial.field-0 = (let a = c.in-Some-Trial.field-0-is in let b = c.in-Some-Trial.n-is in cc) in
     subst (λ a. Ends a source out notes c.answer_trial.result) c.in-Some-Trial.ensures.asked
     (subst (λ x. Ends (Some x) source out notes c.answer_trial.result) same (c.answer_trial.ensures source refl))
+
+-- an ask to run is one to run
+pub returns-in-Some-Run-clause-unrun : goal.returns-in-Some-Run-clause-unrun
+returns-in-Some-Run-clause-unrun g c = λ other.
+    let same : Run c.in-Some-Run.steps ≡ c.in-Some-Run.field-0 = (let a = c.in-Some-Run.field-0-is in let b = c.in-Some-Run.steps-is in cc) in
+    let e : true ≡ false = ap is_run (ap Some same ∙ c.in-Some-Run.ensures.asked) ∙ other in cc

@@ -1,9 +1,7 @@
-use Rattle.std.proofs.Common.{refl, sym}
+use Rattle.std.proofs.Common.{refl}
+use Rattle.cobol_run.proofs.PlainLemmas.{passes_plain}
 use Rattle.run_answer.proofs.run_program.Goals as goal
 
 pub returns-clause-came : goal.returns-clause-came
-returns-clause-came g c = (
-  refl,
-  sym c.if-not-is_plain.ensures.test,
-  λ files. c.run-ran.ensures.run files (c.if-not-is_plain.ensures.plain refl),
-)
+returns-clause-came g c =
+    (refl, λ plain files. c.run-ran.ensures.run files (passes_plain c.args.program plain))

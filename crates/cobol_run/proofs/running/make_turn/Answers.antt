@@ -1,6 +1,6 @@
 use Rattle.std.proofs.Common.{arith, refl, subst}
 use Rattle.sink_giving.specs.Giving.{Gained, Takes}
-use Rattle.cobol_run.proofs.RunningLemmas.{breaks_off, broke_within, ended, showed, went_on}
+use Rattle.cobol_run.proofs.RunningLemmas.{breaks_off, broke_within, ended, never_failed, showed, turn_kept, went_on}
 use Rattle.cobol_run.proofs.running.make_turn.Goals as goal
 
 pub returns-in-Err-clause-turned : goal.returns-in-Err-clause-turned
@@ -30,3 +30,28 @@ pub returns-else-give_all-clause-turned : goal.returns-else-give_all-clause-turn
 returns-else-give_all-clause-turned g c = λ program done held count so_far steps files within plain.
     broke_within program c.args.machine.now done steps held (g.K.Sink.held c.args.out.now) count (g.K.Sink.faults c.args.out.now) so_far c.step.new.self c.in-Ok-Shown.ensures.plan c.in-Ok-Shown.field-0 c.in-Ok-Shown.ensures.step c.in-Ok-Shown.field-0-is within (g.K.Sink.held c.ready.new.self) (g.K.Sink.held c.give_all.new.sink) (g.K.Sink.faults c.ready.new.self) (g.K.Sink.faults c.give_all.new.sink) c.ready.ensures.kept
     (subst (λ bytes. Takes bytes (record { held = g.K.Sink.held c.ready.new.self; now = g.K.Sink.held c.give_all.new.sink; count = g.K.Sink.faults c.ready.new.self; count_now = g.K.Sink.faults c.give_all.new.sink })) c.as_slice-shown.ensures c.give_all.ensures.front) files plain
+
+pub returns-in-Ok-Failed-clause-turned : goal.returns-in-Ok-Failed-clause-turned
+returns-in-Ok-Failed-clause-turned g c = λ program done held count so_far files plain.
+    never_failed program c.args.machine.now done 0 held (g.K.Sink.held c.args.out.now) count (g.K.Sink.faults c.args.out.now) so_far c.step.new.self c.in-Ok-Failed.ensures.plan c.in-Ok-Failed.field-0 c.in-Ok-Failed.ensures.step c.in-Ok-Failed.field-0-is files plain
+
+pub returns-in-Err-clause-kept : goal.returns-in-Err-clause-kept
+returns-in-Err-clause-kept g c = λ program done sink so_far plain. turn_kept c.args.machine.now _ program done sink so_far plain c.step.ensures.kept
+
+pub returns-in-Ok-On-clause-kept : goal.returns-in-Ok-On-clause-kept
+returns-in-Ok-On-clause-kept g c = λ program done sink so_far plain. turn_kept c.args.machine.now _ program done sink so_far plain c.step.ensures.kept
+
+pub returns-in-Ok-Over-clause-kept : goal.returns-in-Ok-Over-clause-kept
+returns-in-Ok-Over-clause-kept g c = λ program done sink so_far plain. turn_kept c.args.machine.now _ program done sink so_far plain c.step.ensures.kept
+
+pub returns-in-Ok-Failed-clause-kept : goal.returns-in-Ok-Failed-clause-kept
+returns-in-Ok-Failed-clause-kept g c = λ program done sink so_far plain. turn_kept c.args.machine.now _ program done sink so_far plain c.step.ensures.kept
+
+pub returns-then-is_err-clause-kept : goal.returns-then-is_err-clause-kept
+returns-then-is_err-clause-kept g c = λ program done sink so_far plain. turn_kept c.args.machine.now _ program done sink so_far plain c.step.ensures.kept
+
+pub returns-then-give_all-clause-kept : goal.returns-then-give_all-clause-kept
+returns-then-give_all-clause-kept g c = λ program done sink so_far plain. turn_kept c.args.machine.now _ program done sink so_far plain c.step.ensures.kept
+
+pub returns-else-give_all-clause-kept : goal.returns-else-give_all-clause-kept
+returns-else-give_all-clause-kept g c = λ program done sink so_far plain. turn_kept c.args.machine.now _ program done sink so_far plain c.step.ensures.kept

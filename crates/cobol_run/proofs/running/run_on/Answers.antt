@@ -1,0 +1,65 @@
+use Rattle.std.proofs.Common.{◌∙◌, arith, refl}
+use Rattle.cobol_run.specs.Running.{since}
+use Rattle.cobol_run.proofs.RunningLemmas.{breaks_off, goes_on_yet, one_more}
+use Rattle.cobol_run.proofs.running.run_on.Goals as goal
+
+pub loop-turn-preserved : goal.loop-turn-preserved
+loop-turn-preserved g c = record {
+  plan = c.make_turn.ensures.plan ∙ c.loop-turn.invariant.plan;
+  later = omega (arith, c.make_turn.ensures.later, c.loop-turn.invariant.later);
+  so_far = λ program start.
+      one_more _ _ _ _ (c.in-On.ensures.turned program c.loop-turn.turn (g.K.Sink.held c.args.out.now) (g.K.Sink.faults c.args.out.now) (c.loop-turn.invariant.so_far program start));
+  kept = λ program start plain.
+      let was = c.loop-turn.invariant.kept program start plain in
+      let now = c.make_turn.ensures.kept program c.loop-turn.turn _ (c.loop-turn.invariant.so_far program start) plain in
+      (now.0 ∙ was.0, now.1 ∙ was.1);
+}
+
+pub returns-in-Over-clause-run : goal.returns-in-Over-clause-run
+returns-in-Over-clause-run g c = λ program files start plain.
+    c.in-Over.ensures.turned program c.loop-turn.turn (g.K.Sink.held c.args.out.now) (g.K.Sink.faults c.args.out.now) (c.loop-turn.invariant.so_far program start) c.args.steps files c.loop-turn-test.true plain
+
+pub returns-in-WriteFault-clause-run : goal.returns-in-WriteFault-clause-run
+returns-in-WriteFault-clause-run g c = λ program files start plain.
+    c.in-WriteFault.ensures.turned program c.loop-turn.turn (g.K.Sink.held c.args.out.now) (g.K.Sink.faults c.args.out.now) (c.loop-turn.invariant.so_far program start) c.args.steps files c.loop-turn-test.true plain
+
+pub returns-in-NoMemory-clause-run : goal.returns-in-NoMemory-clause-run
+returns-in-NoMemory-clause-run g c = λ program files start plain.
+    c.in-NoMemory.ensures.turned program c.loop-turn.turn (g.K.Sink.held c.args.out.now) (g.K.Sink.faults c.args.out.now) (c.loop-turn.invariant.so_far program start) c.args.steps files c.loop-turn-test.true plain
+
+pub returns-in-Failed-clause-run : goal.returns-in-Failed-clause-run
+returns-in-Failed-clause-run g c = λ program files start plain.
+    absurd (c.in-Failed.ensures.turned program c.loop-turn.turn (g.K.Sink.held c.args.out.now) (g.K.Sink.faults c.args.out.now) (c.loop-turn.invariant.so_far program start) files plain)
+
+pub returns-clause-run : goal.returns-clause-run
+returns-clause-run g c = λ program files start plain.
+    goes_on_yet program c.loop-turn.machine c.loop-turn.turn c.args.steps (g.K.Sink.held c.args.out.now) (g.K.Sink.held c.loop-turn.out) (g.K.Sink.faults c.args.out.now) (g.K.Sink.faults c.loop-turn.out) (c.loop-turn.invariant.so_far program start) (omega (arith, c.loop-turn-test.false, c.loop-turn.auto.turn-end)) files plain
+
+pub returns-in-Over-clause-kept : goal.returns-in-Over-clause-kept
+returns-in-Over-clause-kept g c = λ program start plain.
+    let was = c.loop-turn.invariant.kept program start plain in
+    let now = c.make_turn.ensures.kept program c.loop-turn.turn _ (c.loop-turn.invariant.so_far program start) plain in
+    (now.0 ∙ was.0, now.1 ∙ was.1)
+
+pub returns-in-Failed-clause-kept : goal.returns-in-Failed-clause-kept
+returns-in-Failed-clause-kept g c = λ program start plain.
+    let was = c.loop-turn.invariant.kept program start plain in
+    let now = c.make_turn.ensures.kept program c.loop-turn.turn _ (c.loop-turn.invariant.so_far program start) plain in
+    (now.0 ∙ was.0, now.1 ∙ was.1)
+
+pub returns-in-WriteFault-clause-kept : goal.returns-in-WriteFault-clause-kept
+returns-in-WriteFault-clause-kept g c = λ program start plain.
+    let was = c.loop-turn.invariant.kept program start plain in
+    let now = c.make_turn.ensures.kept program c.loop-turn.turn _ (c.loop-turn.invariant.so_far program start) plain in
+    (now.0 ∙ was.0, now.1 ∙ was.1)
+
+pub returns-in-NoMemory-clause-kept : goal.returns-in-NoMemory-clause-kept
+returns-in-NoMemory-clause-kept g c = λ program start plain.
+    let was = c.loop-turn.invariant.kept program start plain in
+    let now = c.make_turn.ensures.kept program c.loop-turn.turn _ (c.loop-turn.invariant.so_far program start) plain in
+    (now.0 ∙ was.0, now.1 ∙ was.1)
+
+pub returns-in-WriteFault-clause-cause : goal.returns-in-WriteFault-clause-cause
+returns-in-WriteFault-clause-cause g c = λ is.
+    let rose = c.in-WriteFault.ensures.cause refl in
+    omega (arith, rose, c.loop-turn.invariant.later)

@@ -1,0 +1,15 @@
+use Rattle.std.proofs.Common.{◌≡◌, ◌≤◌}
+use Rattle.cob_tree.specs.declared.program.Program.{Program}
+use Rattle.cobol_run.specs.Plain.{IsPlain}
+use Rattle.cobol_run.specs.Running.{SoFar, since}
+use Rattle.cobol_run.proofs.running.run_on.Given as goal
+
+abbrev pub invariant-loop-turn : goal.invariant-loop-turn
+invariant-loop-turn g l = record {
+  plan : l.machine.plan ≡ l.initial.machine.plan;
+  later : g.K.Sink.faults l.initial.out ≤ g.K.Sink.faults l.out;
+  so_far : (program : Program) → SoFar program l.initial.machine 0 (since (g.K.Sink.held l.initial.out) (g.K.Sink.faults l.initial.out) (g.K.Sink.held l.initial.out) (g.K.Sink.faults l.initial.out)) →
+      SoFar program l.machine l.turn (since (g.K.Sink.held l.initial.out) (g.K.Sink.faults l.initial.out) (g.K.Sink.held l.out) (g.K.Sink.faults l.out));
+  kept : (program : Program) → SoFar program l.initial.machine 0 (since (g.K.Sink.held l.initial.out) (g.K.Sink.faults l.initial.out) (g.K.Sink.held l.initial.out) (g.K.Sink.faults l.initial.out)) → IsPlain program →
+      (l.bench ≡ l.initial.bench) × (l.machine.table ≡ l.initial.machine.table);
+}

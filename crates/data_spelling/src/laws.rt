@@ -1,0 +1,29 @@
+//! What is printed before the PROCEDURE DIVISION, and what it spells. These functions do nothing;
+//! their contracts are laws.
+
+ghost use Rattle.std.specs.Prelude.{ℕ, List};
+ghost use Rattle.cob_tree.specs.declared.entry.Entry.{Entry};
+ghost use Rattle.cob_tree.specs.declared.program.Program.{Program};
+ghost use Rattle.data_forms.specs.Divisions.{divisions};
+ghost use Rattle.data_spelling.specs.Drafts.{AreDivisions};
+ghost use Rattle.data_spelling.specs.Kinds.{divisions_kinds};
+ghost use Rattle.data_spelling.specs.Laws.{DivisionsHaveTokens};
+ghost use Rattle.data_spelling.specs.Printable.{BeforeProcedures, IsPrintable};
+ghost use Rattle.data_spelling.specs.Sections.{Fd};
+ghost use Rattle.spelled_forms.specs.Spelling.{Spelled};
+
+use data_forms::Refers;
+
+/// The tokens that a program is printed with are those of its divisions up to the PROCEDURE
+/// DIVISION, and then those of that division.
+pub fn divisions_have_tokens()
+    ensures { DivisionsHaveTokens }
+{}
+
+/// They spell drafts that say of its files and entries what these are.
+pub fn printed_divisions_are_spelled<R: Refers>()
+    ensures { (taken : ℕ) (program : Program) (fds : List Fd) (storage : List Entry) →
+        IsPrintable R.status program fds storage →
+        Spelled (divisions R.status) taken (divisions_kinds program fds storage) BeforeProcedures
+        (AreDivisions program fds storage) }
+{}

@@ -1,0 +1,18 @@
+//! Statements on files, done over devices (ISO 1989:1985, Sequential I-O).
+//!
+//! Each statement is done in the order that `statements` says (Filing there): FROM, the status item
+//! is reached, the device is asked, the record and the status are stored, then INTO, and what the
+//! statement comes to. The parts that ask no device have that meaning as their contracts. What a
+//! device is asked is done by `file_desk`. A condition that each bench meets tells callers in other
+//! crates that no device is made here.
+#![tactic(auto)]
+
+mod acts;
+mod desk;
+mod fault;
+mod record;
+mod status;
+
+pub use acts::{Reading, all_opened, all_shut, read_one, rewritten, written};
+pub use desk::close_left;
+pub use fault::Fault;

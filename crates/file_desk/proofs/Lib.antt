@@ -1,0 +1,13 @@
+pub mod FileLemmas
+pub mod DeviceLemmas
+pub mod StandLemmas
+pub mod CallLemmas
+pub mod AddressLemmas
+pub mod TakingLemmas
+pub mod NameLemmas
+pub mod TakenLemmas
+pub mod BenchLemmas
+pub mod OpLemmas
+pub mod EndLemmas
+pub mod OpenLemmas
+pub mod ReadLemmas

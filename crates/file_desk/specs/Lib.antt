@@ -1,0 +1,6 @@
+-- what contracts see of the devices of a bench
+pub mod Seen
+-- how the files of a program stand over the devices on a bench, in a world
+pub mod Standing
+-- what a call makes of the devices of a bench, and what an operation comes to in a world
+pub mod Calls

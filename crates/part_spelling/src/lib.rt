@@ -1,0 +1,10 @@
+//! The parts of statements that a program is read with spell what they are printed with. The crate
+//! has no code.
+#![tactic(auto)]
+
+mod laws;
+
+pub use laws::{
+    parts_are_spelled, parts_are_told, printed_procedures_are_spelled, terms_have_room,
+    uses_are_free,
+};

@@ -1,0 +1,2 @@
+-- What holds of the division.
+pub mod Laws

@@ -1,0 +1,2 @@
+-- A whole program, over what its own tokens declare.
+pub mod Whole

@@ -1,0 +1,4 @@
+-- Pictures, symbol by symbol.
+pub mod Pictures
+-- How long their text is.
+pub mod Lengths

@@ -1,0 +1,18 @@
+       IDENTIFICATION DIVISION.
+       PROGRAM-ID. ABBREVIATED.
+       DATA DIVISION.
+       WORKING-STORAGE SECTION.
+       01 AGE PIC 99 VALUE 17.
+           88 OLD VALUE 65 THRU 99.
+       01 FARE PIC 9 VALUE 0.
+       PROCEDURE DIVISION.
+       FIND-FARE.
+           IF AGE = 7 OR 9 AND < 15 OR NOT > 17 MOVE 1 TO FARE.
+           IF AGE NOT < 18 AND NOT > 64 MOVE 2 TO FARE.
+           IF OLD OR AGE = 15 OR 16 GO TO FREE.
+           IF FARE > 0 AND AGE POSITIVE AND NOT OLD
+               DISPLAY "FARE " FARE
+               STOP RUN.
+       FREE.
+           DISPLAY "NO FARE".
+           STOP RUN.

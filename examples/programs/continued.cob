@@ -1,0 +1,13 @@
+       IDENTIFICATION DIVISION.
+       PROGRAM-ID. CONTINUED.
+       AUTHOR. J. O'BRIEN.
+           THIS IS 'NOT READ.
+       PROCEDURE DIVISION.
+       SHOW-IT.
+           DISPLAY "THIS LITERAL IS NOT CLOSED IN ITS FIRST LINE,
+      -    "AND THE SPACES UP TO COLUMN 72 ARE ITS OWN: ""SO"
+      -    " IT ENDS".
+           DISP
+      -    LAY 'IT''S A WORD IN TWO LINES'.
+           STOP
+      -        RUN.

@@ -1,0 +1,5 @@
+       IDENTIFICATION DIVISION.
+       PROGRAM-ID. NOTHING.
+       PROCEDURE DIVISION.
+       RX-PARA-1.
+           STOP RUN.
