@@ -2,8 +2,9 @@
 """Runs spoiled programs through the built program: none may crash, take a second, or be answered halfway.
 
     python3 tools/mutate.py PROGRAM COUNT [SEED]
+    python3 tools/mutate.py PROGRAM prefixes
 
-Each run takes one of the examples, cuts it at a random place or changes, drops, doubles or moves some of its
+The second runs each prefix of each example. Each run of the first takes one of the examples, cuts it at a random place or changes, drops, doubles or moves some of its
 bytes, words or lines, and looks at the answer: 0 with a result and no note, 2 or 4 with one note alone, or 3
 with the lines of a trail alone."""
 import collections
@@ -68,21 +69,36 @@ def fault(program, source):
     return (f"{took:.1f} seconds" if took > 1 else None), run.returncode
 
 
+def spoiled_sources(sources, count, seed):
+    r = random.Random(seed)
+    for _ in range(count):
+        yield spoiled(r.choice(sources), sources, r)
+
+
+def prefixes(sources):
+    for source in sources:
+        for length in range(len(source)):
+            yield source[:length]
+
+
 def main():
-    program, count = sys.argv[1], int(sys.argv[2])
-    r = random.Random(int(sys.argv[3]) if len(sys.argv) > 3 else 1)
+    program, wanted = sys.argv[1], sys.argv[2]
     sources = []
     for name in sorted(glob.glob(HERE + "/examples/*/*.cob")):
         with open(name, "rb") as file:
             sources.append(file.read())
-    statuses, bad = collections.Counter(), 0
-    for number in range(count):
-        source = spoiled(r.choice(sources), sources, r)
+    if wanted == "prefixes":
+        tried = prefixes(sources)
+    else:
+        tried = spoiled_sources(sources, int(wanted), int(sys.argv[3]) if len(sys.argv) > 3 else 1)
+    count, statuses, bad = 0, collections.Counter(), 0
+    for source in tried:
         found, status = fault(program, source)
         statuses[status] += 1
         if found:
             bad += 1
-            print(f"run {number}: {found}: {source!r}")
+            print(f"run {count}: {found}: {source!r}")
+        count += 1
     print(f"{count} runs, statuses {dict(sorted(statuses.items(), key=str))}, {bad} bad")
     return bad != 0
 

@@ -1,5 +1,5 @@
 -- The devices on a bench after a call, and after a device is taken off.
-use Rattle.std.proofs.Common.{◌≡◌, ◌∙◌, sym, subst, ℕ, zero, suc, ◌<◌, ◌≤◌, Bool, true, false, List, [], ◌∷◌, ◌++◌, length, take, drop, Option, Some, None, IfSome, refl, ap, arith, slice_get, slice_set, if◌then◌else◌, length-take, min}
+use Rattle.std.proofs.Common.{◌≡◌, ◌∙◌, sym, subst, ℕ, zero, suc, ◌<◌, Bool, true, false, List, [], ◌∷◌, ◌++◌, length, take, drop, Option, Some, None, IfSome, refl, ap, arith, slice_get, slice_set, if◌then◌else◌, length-take, min}
 use Rattle.std.specs.Str.{bytes_eq}
 use Rattle.file_model.specs.declared.mem_file.MemFile.{MemFile}
 use Rattle.file_model.specs.declared.table.FileRow.{FileRow}

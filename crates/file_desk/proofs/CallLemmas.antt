@@ -1,6 +1,6 @@
 -- What a call of one device, or a rotation, makes of the devices of a bench.
 use Rattle.std.proofs.Common.{◌≡◌, ◌∙◌, sym, subst, ℕ, zero, suc, ◌<◌, ◌≤◌, ◌+◌, ◌-◌, Bool, true, false, List, [], ◌∷◌, ◌++◌, map, length, take, drop, Option, Some, None, refl, ap, arith, slice_get, slice_set, if◌then◌else◌, get_or}
-use Rattle.std.proofs.Common.{min, inl, inr, IfSome, length-append, length-take, length-drop}
+use Rattle.std.proofs.Common.{inl, inr, IfSome, length-append, length-take, length-drop}
 use Rattle.std.proofs.lemmas.Bool.{cases_lt}
 use Rattle.std.proofs.lemmas.List.{map-set, map-append, length-map, take-map, drop-map, take-append-le}
 use Rattle.std.specs.Str.{bytes_eq}

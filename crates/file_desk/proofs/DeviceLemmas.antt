@@ -1,10 +1,8 @@
 -- The first device of a name, after a change.
-use Rattle.std.proofs.Common.{◌≡◌, ◌∙◌, sym, subst, ℕ, zero, suc, ◌<◌, ◌+◌, Bool, true, false, List, [], ◌∷◌, ◌++◌, map, length, take, drop, Option, Some, None, IfSome, refl, ap, arith, slice_get, slice_set, if◌then◌else◌, get_or}
-use Rattle.std.proofs.lemmas.Option.{slice_get_read, slice_get-map}
-use Rattle.std.specs.Option.{option_map}
+use Rattle.std.proofs.Common.{◌≡◌, ◌∙◌, sym, subst, ℕ, zero, suc, ◌<◌, Bool, true, false, List, [], ◌∷◌, ◌++◌, length, take, drop, Some, refl, ap, arith, slice_get, slice_set, if◌then◌else◌}
 use Rattle.std.specs.Str.{bytes_eq}
-use Rattle.file_desk.specs.Seen.{IsFirstAt, Nowhere, Seen, device_found, device_put, device_taken}
-use Rattle.file_desk.proofs.FileLemmas.{name_refl, not_other}
+use Rattle.file_desk.specs.Seen.{IsFirstAt, Seen, device_found, device_put, device_taken}
+use Rattle.file_desk.proofs.FileLemmas.{not_other}
 
 -- ---- by place
 

@@ -1,5 +1,5 @@
 -- The ends of an operation, from what its calls promise.
-use Rattle.std.proofs.Common.{◌≡◌, ◌∙◌, ◌++◌, sym, subst, ℕ, zero, suc, ◌<◌, ◌≤◌, Bool, true, false, List, [], ◌∷◌, map, length, take, Option, Some, None, IfSome, IsTrue, is_some, refl, ap, arith, slice_get, slice_set, get_or}
+use Rattle.std.proofs.Common.{◌≡◌, ◌∙◌, ◌++◌, sym, subst, ℕ, ◌<◌, Bool, true, false, List, [], length, take, Option, Some, None, IfSome, IsTrue, is_some, refl, ap, arith, slice_get, slice_set, get_or}
 use Rattle.std.proofs.lemmas.Option.{slice_get_read, slice_get-map}
 use Rattle.std.specs.Option.{option_map}
 use Rattle.cob_tree.specs.declared.file.FileEntry.{FileEntry}
@@ -7,17 +7,17 @@ use Rattle.file_model.specs.declared.device.Put.TheVariants as put
 use Rattle.file_model.specs.declared.mem_file.MemFile.{MemFile}
 use Rattle.file_model.specs.declared.table.FileRow.{FileRow}
 use Rattle.file_model.specs.Attempts.{Address, Attempt, address_of, bytes_at, closed, noted, permitted, rewritten_of, state_of, with_bytes, with_state}
-use Rattle.file_model.specs.Status.{closed_row, may_close, may_rewrite, may_write, other_row}
-use Rattle.file_model.specs.Told.{Changes, appended, replaced, shut}
+use Rattle.file_model.specs.Status.{other_row}
+use Rattle.file_model.specs.Told.{Changes}
 use Rattle.file_model.specs.World.{World}
 use Rattle.file_desk.specs.declared.tried.Tried.{Tried}
 use Rattle.file_desk.specs.declared.tried.Tried.TheVariants as tried
 use Rattle.file_desk.specs.Seen.{IsFirstAt, Nowhere, Seen, device_put}
-use Rattle.file_desk.specs.Standing.{Stands, rows_closed_on, without}
+use Rattle.file_desk.specs.Standing.{Stands, rows_closed_on}
 use Rattle.file_desk.specs.Calls.{Breaks, Called, Comes, Kept, Leaves, TakenOff, addresses_of}
 use Rattle.file_desk.proofs.StandLemmas.{some_same}
 use Rattle.file_desk.proofs.BenchLemmas.{at_some, bench_called, failed_stands, found_before, kept_called, kept_same, put_itself, took_off}
-use Rattle.file_desk.proofs.OpLemmas.{RowAt, closes, device_there, refused_comes, rewrites, row_at, writes}
+use Rattle.file_desk.proofs.OpLemmas.{RowAt, device_there, refused_comes, row_at}
 
 -- a file of the program, by its device and its name there
 pub record Site (files : List FileEntry) (table : List FileRow) (file : ℕ) (device name : List ℕ) : Type 0 where

@@ -11,3 +11,5 @@ pub mod OpLemmas
 pub mod EndLemmas
 pub mod OpenLemmas
 pub mod ReadLemmas
+pub mod ShutLemmas
+pub mod FallLemmas

@@ -1,5 +1,5 @@
 -- Whether a name can be opened, from its parts.
-use Rattle.std.proofs.Common.{◌≡◌, ◌∙◌, sym, ℕ, suc, ◌≤◌, ◌-◌, ◌==◌, Bool, true, false, ◌&&◌, not, nat_le, List, [], ◌∷◌, length, take, drop, refl, ap, arith, get_or}
+use Rattle.std.proofs.Common.{◌≡◌, ◌∙◌, ℕ, ◌≤◌, ◌-◌, ◌==◌, Bool, false, ◌&&◌, not, nat_le, List, [], ◌∷◌, length, take, drop, refl, ap, arith, get_or}
 use Rattle.std.specs.List.{list_all}
 use Rattle.file_model.specs.Attempts.{can_be_opened, name_byte}
 use Rattle.file_desk.proofs.CallLemmas.{take_all}

@@ -1,11 +1,9 @@
 -- What each operation comes to in a world: where it is refused, and where its device did it.
-use Rattle.std.proofs.Common.{◌≡◌, ◌≢◌, ◌∙◌, sym, subst, ℕ, zero, suc, ◌<◌, ◌≤◌, ◌+◌, ◌==◌, Bool, true, false, List, [], ◌∷◌, ◌++◌, map, length, take, drop, Option, Some, None, IfSome, IsSomeAnd, IsTrue, is_some, refl, ap, arith, slice_get, slice_set, if◌then◌else◌, length-append, length-take, length-drop, unwrap_or, eqb-true, min, not}
+use Rattle.std.proofs.Common.{◌≡◌, ◌∙◌, sym, subst, ℕ, zero, suc, ◌<◌, ◌≤◌, ◌+◌, ◌==◌, Bool, true, false, List, [], ◌∷◌, ◌++◌, map, length, take, Option, Some, None, IfSome, IsSomeAnd, IsTrue, is_some, refl, ap, arith, slice_get, slice_set, if◌then◌else◌, length-append, length-take, length-drop, unwrap_or, eqb-true, not}
 use Rattle.std.proofs.lemmas.Option.{slice_get-map}
 use Rattle.std.specs.Option.{option_map}
 use Rattle.std.specs.Str.{bytes_eq}
 use Rattle.cob_tree.specs.declared.file.How.{How}
-use Rattle.cob_tree.specs.declared.file.How.TheVariants as how
-use Rattle.file_model.specs.declared.device.Put.{Put}
 use Rattle.file_model.specs.declared.device.Put.TheVariants as put
 use Rattle.file_model.specs.declared.mem_file.MemFile.{MemFile}
 use Rattle.file_model.specs.declared.table.FileRow.{FileRow}
@@ -13,13 +11,12 @@ use Rattle.file_model.specs.Attempts.{Address, Attempt, bytes_at, closed, closed
 use Rattle.file_model.specs.Status.{can_write, closed_row, is_in_out, may_close, may_rewrite, may_write, other_row}
 use Rattle.file_model.specs.Told.{Changes, appended, changed, found, replaced, replaced_from, shut}
 use Rattle.file_model.specs.World.{File, FileState, Shelf, World, bytes_of_file, file_found, file_put, files_of_shelf, shelf_found, shelf_put}
-use Rattle.file_desk.specs.declared.tried.Tried.{Tried}
 use Rattle.file_desk.specs.declared.tried.Tried.TheVariants as tried
-use Rattle.file_desk.specs.Seen.{IsFirstAt, Nowhere, Seen, device_found, device_put}
+use Rattle.file_desk.specs.Seen.{IsFirstAt, Nowhere, Seen, device_found}
 use Rattle.file_desk.specs.Standing.{LastAt, OpenAmong, OpenAs, OpenOn, SameFiles, SameShelf, Stands, StandsOn, as_file, row_of}
 use Rattle.file_desk.specs.Calls.{Called, Comes}
 use Rattle.file_desk.proofs.FileLemmas.{file_found_shown, found_changed, found_changed_other, shelf_put_found, shelf_put_other, shown_changed, with_files}
-use Rattle.file_desk.proofs.StandLemmas.{Alone, SameFound, moved, open_alone, restated, some_same}
+use Rattle.file_desk.proofs.StandLemmas.{SameFound, moved, open_alone, restated, some_same}
 use Rattle.file_desk.proofs.BenchLemmas.{at_some, bench_called, found_before}
 
 -- ---- states and statuses

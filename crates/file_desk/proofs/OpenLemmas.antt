@@ -7,17 +7,17 @@ use Rattle.cob_tree.specs.declared.file.How.TheVariants as how
 use Rattle.file_model.specs.declared.device.Opened.TheVariants as opened
 use Rattle.file_model.specs.declared.mem_file.MemFile.{MemFile}
 use Rattle.file_model.specs.declared.table.FileRow.{FileRow}
-use Rattle.file_model.specs.Attempts.{Address, Attempt, address_of, can_be_opened, closed, is_output, is_taken, noted, opened_at, opened_from, opened_on, opened_with, permitted, refused, same_address, start_at, state_of, with_bytes, with_state}
+use Rattle.file_model.specs.Attempts.{Address, Attempt, address_of, can_be_opened, is_output, is_taken, noted, opened_at, opened_from, opened_on, opened_with, permitted, refused, same_address, start_at, state_of, with_bytes}
 use Rattle.file_model.specs.Status.{may_open, opened_row, other_row}
 use Rattle.file_model.specs.Told.{Opens, changed, found, made, opened_as, opening}
 use Rattle.file_model.specs.World.{File, FileState, Shelf, World, file_found, file_put, shelf_found, shelf_put}
 use Rattle.file_desk.specs.declared.tried.Tried.{Tried}
 use Rattle.file_desk.specs.declared.tried.Tried.TheVariants as tried
 use Rattle.file_desk.specs.Seen.{IsFirstAt, Nowhere, Seen, device_found}
-use Rattle.file_desk.specs.Standing.{IsTold, OpenAmong, OpenAs, SameFiles, SameShelf, Stands, StandsOn, as_file, is_open_there, row_of}
+use Rattle.file_desk.specs.Standing.{IsTold, OpenAmong, OpenAs, SameFiles, SameShelf, Stands, as_file, is_open_there, row_of}
 use Rattle.file_desk.specs.Calls.{Breaks, Called, Comes}
 use Rattle.file_desk.proofs.FileLemmas.{file_found_shown, found_changed, found_changed_other, found_made, found_made_other, name_refl, shelf_put_found, shelf_put_other, shown_changed, shown_made, with_files}
-use Rattle.file_desk.proofs.StandLemmas.{Alone, SameFound, moved, some_same}
+use Rattle.file_desk.proofs.StandLemmas.{SameFound, moved, some_same}
 use Rattle.file_desk.proofs.BenchLemmas.{at_some, bench_called, found_before}
 use Rattle.file_desk.proofs.OpLemmas.{RowAt, StateOf, allowed, noted_stands, row_at, state_at}
 use Rattle.file_desk.proofs.EndLemmas.{unchanged}

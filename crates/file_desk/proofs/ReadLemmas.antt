@@ -1,27 +1,29 @@
 -- What READ comes to, on a device that tells its files.
-use Rattle.std.proofs.Common.{◌≡◌, ◌∙◌, sym, subst, ℕ, zero, suc, ◌<◌, ◌≤◌, ◌+◌, ◌-◌, ◌==◌, Bool, true, false, not, List, [], ◌∷◌, ◌++◌, map, length, take, drop, min, Option, Some, None, IfSome, IsSome, IsSomeAnd, IsTrue, is_some, refl, ap, arith, slice_get, slice_set, if◌then◌else◌, length-append, length-take, length-drop, replicate, eqb-true}
+use Rattle.std.proofs.Common.{◌≡◌, ◌∙◌, sym, subst, ℕ, zero, suc, ◌<◌, ◌≤◌, ◌+◌, ◌==◌, Bool, true, false, not, List, [], ◌∷◌, ◌++◌, map, length, take, drop, Option, Some, None, IfSome, IsSome, IsSomeAnd, IsTrue, is_some, refl, ap, arith, slice_get, slice_set, if◌then◌else◌, length-take, length-drop, eqb-true}
 use Rattle.std.proofs.lemmas.List.{take-append-le}
 use Rattle.std.specs.Option.{option_map}
 use Rattle.std.specs.Str.{bytes_eq}
 use Rattle.cob_tree.specs.declared.file.How.{How}
-use Rattle.file_model.specs.declared.device.Got.{Got}
+use Rattle.cob_tree.specs.declared.file.FileEntry.{FileEntry}
 use Rattle.file_model.specs.declared.device.Got.TheVariants as got
 use Rattle.file_model.specs.declared.mem_file.MemFile.{MemFile}
 use Rattle.file_model.specs.declared.table.FileRow.{FileRow}
-use Rattle.file_model.specs.Attempts.{Address, Attempt, bytes_at, closed, padded_to, permitted, read_at, read_of, state_of, with_state}
+use Rattle.file_model.specs.Attempts.{Address, Attempt, bytes_at, padded_to, read_at, read_of, state_of, with_state}
 use Rattle.file_model.specs.Status.{can_read, may_read, read_row}
-use Rattle.file_model.specs.Told.{Gives, Reads, ReadsFrom, changed, found, next_of, read_on}
-use Rattle.file_model.specs.World.{File, FileState, Shelf, World, bytes_of_file, file_found, files_of_shelf, shelf_found}
+use Rattle.file_model.specs.Told.{Reads, ReadsFrom, changed, found, next_of, read_on}
+use Rattle.file_model.specs.World.{FileState, Shelf, World, bytes_of_file, file_found, files_of_shelf, shelf_found}
 use Rattle.file_desk.specs.declared.tried.Tried.{Tried}
 use Rattle.file_desk.specs.declared.tried.Tried.TheVariants as tried
 use Rattle.file_desk.specs.Seen.{IsFirstAt, Seen, device_found}
-use Rattle.file_desk.specs.Standing.{LastAt, OpenAmong, OpenAs, SameFiles, SameShelf, Stands, StandsOn, as_file, row_of}
-use Rattle.file_desk.specs.Calls.{Called, Comes}
+use Rattle.file_desk.specs.Standing.{IsTold, OpenAmong, OpenAs, SameFiles, SameShelf, Stands, StandsOn, as_file}
+use Rattle.file_desk.specs.Calls.{Called, Comes, addresses_of}
 use Rattle.file_desk.proofs.FileLemmas.{found_changed, found_changed_other}
-use Rattle.file_desk.proofs.StandLemmas.{SameFound, moved, open_alone, some_same}
+use Rattle.file_desk.proofs.StandLemmas.{SameFound, moved, open_alone}
 use Rattle.file_desk.proofs.BenchLemmas.{at_some, bench_called, found_before}
 use Rattle.file_desk.proofs.OpLemmas.{RowAt, StateOf, allowed, open_mode, row_at, state_at, state_is}
-use Rattle.file_desk.proofs.OpenLemmas.{none_there, shelf_told, shown_kept}
+use Rattle.file_desk.proofs.OpenLemmas.{none_there, shelf_told, shown_kept, told_first}
+use Rattle.file_desk.proofs.EndLemmas.{Site, called_named, first_named}
+use Rattle.file_desk.proofs.TakingLemmas.{take_whole}
 
 -- what stands of a read: the bytes that the world says come next, and the device's files then
 pub record ReadSo (world : World) (address : Address) (mode : How) (state : FileState) (size n : ℕ) (after : Option (List MemFile)) (before : Option (List MemFile)) (Fills : List ℕ → Type 0) : Type 0 where
@@ -95,7 +97,7 @@ so_ended world address mode state size files after shelf here same told e as_bef
 abbrev pub Filled : ℕ → List ℕ → List ℕ → List ℕ → Type 0
 Filled n old new next = new ≡ next ++ drop n old
 
-bytes_so : (world : World) (address : Address) (mode : How) (state : FileState) (n : ℕ) (before after : Option (List MemFile)) (o : Option Shelf) (old new : List ℕ) → shelf_found address.device world.shelves ≡ o → SameFiles before o → OpenAmong before address.name mode state → IsSome before →
+pub bytes_so : (world : World) (address : Address) (mode : How) (state : FileState) (n : ℕ) (before after : Option (List MemFile)) (o : Option Shelf) (old new : List ℕ) → shelf_found address.device world.shelves ≡ o → SameFiles before o → OpenAmong before address.name mode state → IsSome before →
     Reads before address.name (got.Bytes n) old new after → ReadSo world address mode state (length old) n after before (Filled n old new)
 bytes_so world address mode state n None after o old new here same as_before told call = absurd (none_there None refl told)
 bytes_so world address mode state n (Some files) after None old new here same as_before told call = absurd same
@@ -105,7 +107,7 @@ bytes_so world address mode state n (Some files) after (Some shelf) old new here
     go None e as_before call = absurd as_before
     go (Some told) e as_before call = so_read (Filled n old new) world address mode state (length old) n files after shelf here same told e as_before call.0 call.2 call.1
 
-end_so : (world : World) (address : Address) (mode : How) (state : FileState) (before after : Option (List MemFile)) (o : Option Shelf) (old new : List ℕ) → shelf_found address.device world.shelves ≡ o → SameFiles before o → OpenAmong before address.name mode state → IsSome before →
+pub end_so : (world : World) (address : Address) (mode : How) (state : FileState) (before after : Option (List MemFile)) (o : Option Shelf) (old new : List ℕ) → shelf_found address.device world.shelves ≡ o → SameFiles before o → OpenAmong before address.name mode state → IsSome before →
     Reads before address.name got.End old new after → ReadSo world address mode state (length old) 0 after before (λ next. Unit {0})
 end_so world address mode state None after o old new here same as_before told call = absurd (none_there None refl told)
 end_so world address mode state (Some files) after None old new here same as_before told call = absurd same
@@ -115,7 +117,7 @@ end_so world address mode state (Some files) after (Some shelf) old new here sam
     go None e as_before call = absurd as_before
     go (Some told) e as_before call = so_ended world address mode state (length old) files after shelf here same told e as_before call.0 call.1
 
-can_read_open : (on : Option How) (ended : Bool) → ◌≡◌ {A = ℕ} (if not (can_read on) then 47 else (if ended then 46 else 0)) 0 → IsTrue (is_some on)
+pub can_read_open : (on : Option How) (ended : Bool) → ◌≡◌ {A = ℕ} (if not (can_read on) then 47 else (if ended then 46 else 0)) 0 → IsTrue (is_some on)
 can_read_open None ended e = absurd (let x : ◌≡◌ {A = ℕ} 47 0 = e in omega (arith, x))
 can_read_open (Some mode) ended e = refl
 
@@ -212,3 +214,53 @@ reads addresses old devices table now world left left_now at file address size n
     stands_now false e =
         subst (λ (h : Option How). StandsOn h (Some called.after) address.name (read_state false n s.state)) (sym mode.1)
         (so.open_now (read_state false n s.state) refl (λ z t. let x : (0 == 0) ≡ false = ap (λ m. m == 0) (sym z) ∙ e in let y : true ≡ false = x in cc) (λ t. refl))
+
+-- ---- the answers of READ
+
+pub status_as : (b : Bool) → ◌≡◌ {A = ℕ} (if b then 10 else 0) (read_status b)
+status_as true = refl
+status_as false = refl
+
+abbrev pub read_tried : World → ℕ → Address → ℕ → Attempt
+read_tried world file address size = read_of world file (state_of world file) size (take size (drop (state_of world file).at (bytes_at world address)))
+
+pub no_record : (result : Tried) (status : ℕ) → result ≡ tried.Status status → (status ≡ 0 → ⊥) → result ≡ tried.Status 0 → ⊥
+no_record result status is other none = other (let e : tried.Status status ≡ tried.Status 0 = sym is ∙ none in cc)
+
+pub read_bytes : (files : List FileEntry) (old devices : List Seen) (table now : List FileRow) (world : World) (left left_now at file : ℕ) (device name : List ℕ) (address : Address) (n status : ℕ) (into mid : List ℕ) (result : Tried) →
+    Site files table file device name → slice_get (addresses_of files) file ≡ Some address → left_now ≡ left → result ≡ tried.Status (if n == 0 then 10 else 0) → Stands (addresses_of files) (take left old) table world → IsTold (device_found address.device (take left old)) →
+    IsFirstAt device (take left old) at → IfSome (slice_get table file) (λ row. status ≡ may_read row) → status ≡ 0 → Called at (λ before after. Reads before name (got.Bytes n) into mid after) false old devices →
+    IfSome (slice_get table file) (λ row. now ≡ slice_set table file (read_row (n == 0) row)) → ReadEnd (addresses_of files) address (take left_now devices) now world file (length into) n result (Filled n into mid)
+read_bytes files old devices table now world left left_now at file device name address n status into mid result site here same answer stands told first asked ok asked_of after =
+    let at_first : IsFirstAt address.device (take left old) at = first_named files table file device name site address here (take left old) at first in
+    let called : Called at (λ before after. Reads before address.name (got.Bytes n) into mid after) false old devices = called_named files table file device name site address here (λ (m : List ℕ) (before after : Option (List MemFile)). Reads before m (got.Bytes n) into mid after) false old devices at asked_of in
+    reads (addresses_of files) old devices table now world left left_now at file address (length into) n status result (λ before after. Reads before address.name (got.Bytes n) into mid after) (Filled n into mid) same
+    (answer ∙ ap tried.Status (status_as (n == 0))) stands here site.within at_first asked ok called
+    (λ mode state kept open_so. bytes_so world address mode state n called.before.files called.after.files (shelf_found address.device world.shelves) into mid refl kept open_so
+    (told_first (take left old) address.device called.before (found_before address.device old left at called.before at_first called.here) told) called.tells)
+    after
+
+pub read_end : (files : List FileEntry) (old devices : List Seen) (table now : List FileRow) (world : World) (left left_now at file : ℕ) (device name : List ℕ) (address : Address) (status : ℕ) (into mid : List ℕ) (result : Tried) →
+    Site files table file device name → slice_get (addresses_of files) file ≡ Some address → left_now ≡ left → result ≡ tried.Status 10 → Stands (addresses_of files) (take left old) table world → IsTold (device_found address.device (take left old)) →
+    IsFirstAt device (take left old) at → IfSome (slice_get table file) (λ row. status ≡ may_read row) → status ≡ 0 → Called at (λ before after. Reads before name got.End into mid after) false old devices →
+    IfSome (slice_get table file) (λ row. now ≡ slice_set table file (read_row true row)) → ReadEnd (addresses_of files) address (take left_now devices) now world file (length into) 0 result (λ next. Unit {0})
+read_end files old devices table now world left left_now at file device name address status into mid result site here same answer stands told first asked ok asked_of after =
+    let at_first : IsFirstAt address.device (take left old) at = first_named files table file device name site address here (take left old) at first in
+    let called : Called at (λ before after. Reads before address.name got.End into mid after) false old devices = called_named files table file device name site address here (λ (m : List ℕ) (before after : Option (List MemFile)). Reads before m got.End into mid after) false old devices at asked_of in
+    reads (addresses_of files) old devices table now world left left_now at file address (length into) 0 status result (λ before after. Reads before address.name got.End into mid after) (λ next. Unit {0}) same
+    answer stands here site.within at_first asked ok called
+    (λ mode state kept open_so. end_so world address mode state called.before.files called.after.files (shelf_found address.device world.shelves) into mid refl kept open_so
+    (told_first (take left old) address.device called.before (found_before address.device old left at called.before at_first called.here) told) called.tells)
+    after
+
+-- a record that was read is the padded one
+pub record_read : (addresses : List Address) (address : Address) (devices : List Seen) (now : List FileRow) (world : World) (file size n : ℕ) (result : Tried) (old mid new : List ℕ) → ReadEnd addresses address devices now world file size n result (Filled n old mid) →
+    result ≡ tried.Status (if n == 0 then 10 else 0) → length mid ≡ size → ((n == 0) ≡ false → new ≡ padded_to (length mid) (take n mid)) → result ≡ tried.Status 0 → new ≡ (read_at world file address size).bytes
+record_read addresses address devices now world file size n result old mid new end answer long padded none = go (n == 0) refl
+  where
+    front : take n mid ≡ end.next
+    front = ap (take n) end.fills ∙ ap (λ k. take k (end.next ++ drop n old)) end.count ∙ take-append-le (length end.next) end.next (drop n old) (omega arith) ∙ take_whole end.next (length end.next) (omega arith)
+
+    go : (b : Bool) → (n == 0) ≡ b → new ≡ (read_at world file address size).bytes
+    go true e = absurd (let x : ◌≡◌ {A = Tried} (tried.Status (if true then 10 else 0)) (tried.Status 0) = ap (λ (b : Bool). tried.Status (if b then 10 else 0)) (sym e) ∙ sym answer ∙ none in let y : ◌≡◌ {A = ℕ} 10 0 = cc in omega (arith, y))
+    go false e = padded e ∙ ap (λ k. padded_to k (take n mid)) long ∙ ap (padded_to size) front ∙ sym (end.bytes e)

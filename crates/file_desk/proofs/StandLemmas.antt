@@ -1,6 +1,6 @@
 -- What stands still stands after a change of one file's state, of its device, or of its shelf, and
 -- after its device is gone.
-use Rattle.std.proofs.Common.{◌≡◌, ◌∙◌, inl, inr, sym, subst, ℕ, zero, suc, ◌<◌, Bool, true, false, List, [], ◌∷◌, ◌++◌, map, length, Option, Some, None, refl, ap, arith, slice_get, slice_set, if◌then◌else◌, IsTrue, IsSomeAnd, is_some}
+use Rattle.std.proofs.Common.{◌≡◌, ◌∙◌, inl, inr, sym, subst, ℕ, zero, suc, Bool, true, false, List, [], ◌∷◌, ◌++◌, map, Option, Some, None, refl, ap, slice_get, slice_set, if◌then◌else◌, IsTrue, IsSomeAnd, is_some}
 use Rattle.std.proofs.lemmas.Bool.{cases_eq}
 use Rattle.std.proofs.lemmas.List.{map-set}
 use Rattle.std.specs.Str.{bytes_eq}
@@ -10,9 +10,9 @@ use Rattle.file_model.specs.declared.table.FileRow.{FileRow}
 use Rattle.file_model.specs.Attempts.{Address, closed, with_state}
 use Rattle.file_model.specs.Status.{closed_row}
 use Rattle.file_model.specs.Told.{found}
-use Rattle.file_model.specs.World.{File, FileState, Shelf, World, shelf_found}
+use Rattle.file_model.specs.World.{FileState, Shelf, World, shelf_found}
 use Rattle.file_desk.specs.Seen.{Seen, device_found, device_put, device_taken}
-use Rattle.file_desk.specs.Standing.{OpenAmong, OpenAs, OpenOn, SameFiles, SameShelf, Stands, StandsOn, as_file, closed_on, next_shelf, row_of, rows_closed_on, shelves_without, without}
+use Rattle.file_desk.specs.Standing.{OpenAmong, OpenAs, SameFiles, SameShelf, Stands, StandsOn, as_file, closed_on, next_shelf, row_of, rows_closed_on, shelves_without, without}
 use Rattle.file_desk.proofs.FileLemmas.{get_set_other, get_set_same, name_refl, name_same, shelf_without, shelf_without_other}
 use Rattle.file_desk.proofs.DeviceLemmas.{found_named, found_put, found_put_other, found_taken_other}
 

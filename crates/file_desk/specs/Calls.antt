@@ -1,5 +1,5 @@
 -- What a call makes of the devices of a bench.
-use Rattle.std.specs.Prelude.{ℕ, suc, ◌≡◌, ◌-◌, Bool, true, List, [], ◌∷◌, ◌++◌, map, take, drop, Option, Some, None, slice_get, slice_set}
+use Rattle.std.specs.Prelude.{ℕ, suc, ◌≡◌, Bool, true, List, ◌∷◌, ◌++◌, map, take, drop, Option, Some, None, slice_get, slice_set}
 use Rattle.cob_tree.specs.declared.file.FileEntry.{FileEntry}
 use Rattle.file_model.specs.declared.mem_file.MemFile.{MemFile}
 use Rattle.file_model.specs.declared.table.FileRow.{FileRow}

@@ -1,10 +1,12 @@
 //! CLOSE, and the end of a run.
 
-ghost use Rattle.std.specs.Prelude.{◌≡◌, ◌<◌, ◌^◌, Some, length, map, slice_get, slice_set, take};
+ghost use Rattle.std.specs.Prelude.{◌≡◌, ◌≢◌, ◌<◌, ◌^◌, Some, length, map, slice_get, slice_set, take};
 ghost use Rattle.file_model.specs.Status.{closed_row};
 ghost use Rattle.file_model.specs.Attempts.{Address, closed_at};
 ghost use Rattle.file_model.specs.World.{World};
 ghost use Rattle.file_desk.specs.Calls.{Comes, Leaves, addresses_of};
+ghost use Rattle.file_desk.specs.Falling.{FallsIf};
+ghost use Rattle.file_desk.specs.Shutting.{ShutsAll, ShutsOne};
 ghost use Rattle.file_desk.specs.Standing.{Stands};
 
 use crate::address::{device_of, name_of};
@@ -32,6 +34,7 @@ pub fn close(bench: &mut Bench, table: &mut FileTable, files: &[FileEntry], file
     requires few { length files.now < 2 ^ 32 }
     requires file { file < length files.now }
     ensures rows { length table.new.rows ≡ length table.old.rows }
+    ensures memory { result ≢ Tried.NoMemory }
     ensures bench { (address : Address) → slice_get (addresses_of files.now) file ≡ Some address →
         Leaves result address.device bench.old.left bench.new.left
         (map ⟦<Box<dyn Device> as Watched>⟧.seen bench.old.devices.items)
@@ -65,7 +68,17 @@ fn close_if_open(bench: &mut Bench, table: &mut FileTable, files: &[FileEntry], 
     requires rows { length table.old.rows ≡ length files.now }
     requires few { length files.now < 2 ^ 32 }
     requires file { file < length files.now }
-    ensures { length table.new.rows ≡ length table.old.rows }
+    ensures rows { length table.new.rows ≡ length table.old.rows }
+    ensures bench { FallsIf result bench.old.left bench.new.left
+        (map ⟦<Box<dyn Device> as Watched>⟧.seen bench.old.devices.items)
+        (map ⟦<Box<dyn Device> as Watched>⟧.seen bench.new.devices.items) }
+    ensures world { (world : World) →
+        Stands (addresses_of files.now)
+        (take bench.old.left (map ⟦<Box<dyn Device> as Watched>⟧.seen bench.old.devices.items))
+        table.old.rows world →
+        ShutsOne (addresses_of files.now)
+        (take bench.new.left (map ⟦<Box<dyn Device> as Watched>⟧.seen bench.new.devices.items))
+        table.new.rows file result world }
 {
     if table.may_close(file) != 0 {
         return false;
@@ -82,7 +95,17 @@ fn close_if_open(bench: &mut Bench, table: &mut FileTable, files: &[FileEntry], 
 pub fn close_open(bench: &mut Bench, table: &mut FileTable, files: &[FileEntry]) -> bool
     requires rows { length table.old.rows ≡ length files.now }
     requires few { length files.now < 2 ^ 32 }
-    ensures { length table.new.rows ≡ length table.old.rows }
+    ensures rows { length table.new.rows ≡ length table.old.rows }
+    ensures bench { FallsIf result bench.old.left bench.new.left
+        (map ⟦<Box<dyn Device> as Watched>⟧.seen bench.old.devices.items)
+        (map ⟦<Box<dyn Device> as Watched>⟧.seen bench.new.devices.items) }
+    ensures world { (world : World) →
+        Stands (addresses_of files.now)
+        (take bench.old.left (map ⟦<Box<dyn Device> as Watched>⟧.seen bench.old.devices.items))
+        table.old.rows world →
+        ShutsAll (addresses_of files.now)
+        (take bench.new.left (map ⟦<Box<dyn Device> as Watched>⟧.seen bench.new.devices.items))
+        table.new.rows (length files.now) result world }
 {
     let mut failed = false;
     for file in 0..files.len() {

@@ -1,11 +1,12 @@
 //! READ.
 
-ghost use Rattle.std.specs.Prelude.{◌≡◌, ◌==◌, if◌then◌else◌, true, ◌≤◌, ◌<◌, ◌^◌, IfSome, Some, length, map, slice_get, slice_set, take};
-ghost use Rattle.file_model.specs.Attempts.{Address};
+ghost use Rattle.std.specs.Prelude.{◌≡◌, ◌==◌, if◌then◌else◌, true, false, ◌≤◌, ◌<◌, ◌^◌, IfSome, Some, length, map, slice_get, slice_set, take};
+ghost use Rattle.file_model.specs.Attempts.{Address, padded_to, read_at};
 ghost use Rattle.file_model.specs.Status.{read_row};
 ghost use Rattle.file_model.specs.World.{World};
-ghost use Rattle.file_desk.specs.Calls.{Breaks, Leaves, addresses_of};
-ghost use Rattle.file_desk.specs.Standing.{Stands};
+ghost use Rattle.file_desk.specs.Calls.{Breaks, Comes, Leaves, addresses_of};
+ghost use Rattle.file_desk.specs.Seen.{device_found};
+ghost use Rattle.file_desk.specs.Standing.{IsTold, Stands};
 
 use crate::address::{device_of, name_of};
 use crate::calls::read_at;
@@ -19,10 +20,9 @@ use file_model::{Bench, Device, FileTable, Got};
 // Puts spaces behind so many bytes.
 fn pad(into: &mut [u8], from: usize)
     requires { from ≤ length into.old }
+    ensures { into.new ≡ padded_to (length into.old) (take from into.old) }
 {
-    for at in from..into.len() {
-        into[at] = b' ';
-    }
+    into[from..].fill(b' ');
 }
 
 fn ended(table: &mut FileTable, file: u32) -> Tried
@@ -44,6 +44,8 @@ fn given(table: &mut FileTable, file: u32, into: &mut [u8], size: usize) -> Trie
     ensures answer { result ≡ Tried.Status (if size == 0 then 10 else 0) }
     ensures table { IfSome (slice_get table.old.rows file)
         (λ row. table.new.rows ≡ slice_set table.old.rows file (read_row (size == 0) row)) }
+    ensures record { (size == 0) ≡ false →
+        into.new ≡ padded_to (length into.old) (take size into.old) }
 {
     if size == 0 {
         return ended(table, file);
@@ -70,6 +72,25 @@ pub fn read(
         Leaves result address.device bench.old.left bench.new.left
         (map ⟦<Box<dyn Device> as Watched>⟧.seen bench.old.devices.items)
         (map ⟦<Box<dyn Device> as Watched>⟧.seen bench.new.devices.items) }
+    ensures world { (world : World) (address : Address) →
+        slice_get (addresses_of files.now) file ≡ Some address →
+        Stands (addresses_of files.now)
+        (take bench.old.left (map ⟦<Box<dyn Device> as Watched>⟧.seen bench.old.devices.items))
+        table.old.rows world →
+        IsTold (device_found address.device
+        (take bench.old.left (map ⟦<Box<dyn Device> as Watched>⟧.seen bench.old.devices.items))) →
+        Comes result (addresses_of files.now) address.device
+        (take bench.new.left (map ⟦<Box<dyn Device> as Watched>⟧.seen bench.new.devices.items))
+        table.new.rows world (read_at world file address (length into.old)) }
+    ensures record { (world : World) (address : Address) →
+        slice_get (addresses_of files.now) file ≡ Some address →
+        Stands (addresses_of files.now)
+        (take bench.old.left (map ⟦<Box<dyn Device> as Watched>⟧.seen bench.old.devices.items))
+        table.old.rows world →
+        IsTold (device_found address.device
+        (take bench.old.left (map ⟦<Box<dyn Device> as Watched>⟧.seen bench.old.devices.items))) →
+        result ≡ Tried.Status 0 →
+        into.new ≡ (read_at world file address (length into.old)).bytes }
     ensures gone { (world : World) (address : Address) →
         slice_get (addresses_of files.now) file ≡ Some address →
         Stands (addresses_of files.now)

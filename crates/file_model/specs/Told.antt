@@ -129,6 +129,12 @@ GivesAtMost most (got.Bytes n) = n ≤ most
 GivesAtMost most got.End = Unit {0}
 GivesAtMost most got.Failed = Unit {0}
 
+-- where no bytes were given the buffer stays as it was
+abbrev pub StaysUngiven : Got → (old new : List ℕ) → Type 0
+StaysUngiven (got.Bytes n) old new = n ≡ 0 → new ≡ old
+StaysUngiven got.End old new = new ≡ old
+StaysUngiven got.Failed old new = Unit {0}
+
 -- the first file of that name is changed where it was done, and else the files stay
 abbrev pub Changes : Option (List MemFile) → List ℕ → (MemFile → MemFile) → Put →
     Option (List MemFile) → Type 0

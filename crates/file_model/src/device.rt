@@ -34,7 +34,7 @@ pub enum Put {
 pub trait Device: Drop {
     ghost use Rattle.std.specs.Prelude.{List, ℕ, Option, ◌≡◌, ◌≢◌, length};
     ghost use Rattle.file_model.specs.declared.mem_file.MemFile.{MemFile};
-    ghost use Rattle.file_model.specs.Told.{Changes, Counts, GivesAtMost, Opens, Reads, appended, open_fails, put_fails, read_fails, replaced, shut};
+    ghost use Rattle.file_model.specs.Told.{Changes, Counts, GivesAtMost, Opens, Reads, StaysUngiven, appended, open_fails, put_fails, read_fails, replaced, shut};
 
     ghost named: { Self → List ℕ };
 
@@ -51,10 +51,12 @@ pub trait Device: Drop {
         ensures told { Opens (told self.old) file.now how result (told self.new) }
         ensures cause { Counts (open_fails result) (faults self.old) (faults self.new) };
 
-    /// Puts what comes next of a file into the front of `into`.
+    /// Puts what comes next of a file into the front of `into`, which stays as it was where nothing
+    /// comes.
     fn read_next(&mut self, file: &[u8], into: &mut [u8]) -> Got
         ensures name { named self.new ≡ named self.old }
         ensures bound { GivesAtMost (length into.old) result }
+        ensures ungiven { StaysUngiven result into.old into.new }
         ensures told { Reads (told self.old) file.now result into.old into.new (told self.new) }
         ensures cause { Counts (read_fails result) (faults self.old) (faults self.new) };
 

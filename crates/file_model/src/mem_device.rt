@@ -5,7 +5,7 @@ ghost use Rattle.std.specs.Str.{bytes_eq};
 ghost use Rattle.cob_base.specs.Answers.{Makes};
 ghost use Rattle.cob_base.specs.Faults.{counted_on};
 ghost use Rattle.file_model.specs.First.{GivesNext, HasNone, IsFirst};
-ghost use Rattle.file_model.specs.Told.{Changes, Counts, GivesAtMost, Opens, Reads, appended, changed, made, open_fails, opened_as, put_fails, read_fails, replaced, replaced_from, shut};
+ghost use Rattle.file_model.specs.Told.{Changes, Counts, GivesAtMost, Opens, Reads, StaysUngiven, appended, changed, made, open_fails, opened_as, put_fails, read_fails, replaced, replaced_from, shut};
 
 use crate::device::{Device, Got, Opened, Put};
 use crate::mem_file::MemFile;
@@ -59,6 +59,7 @@ fn open_as(file: &mut MemFile, how: How)
 // What comes next of a file, as much as fits.
 fn read_on(file: &mut MemFile, into: &mut [u8]) -> Got
     ensures bound { GivesAtMost (length into.old) result }
+    ensures ungiven { StaysUngiven result into.old into.new }
     ensures given { GivesNext file.old result into.old into.new file.new }
     ensures live { result ≢ Got.Failed }
 {
@@ -153,6 +154,7 @@ fn open_in(files: &mut Vec<MemFile>, name: &[u8], how: How) -> Opened
 
 fn read_in(files: &mut [MemFile], name: &[u8], into: &mut [u8]) -> Got
     ensures bound { GivesAtMost (length into.old) result }
+    ensures ungiven { StaysUngiven result into.old into.new }
     ensures told { Reads (Some files.old) name.now result into.old into.new (Some files.new) }
     ensures live { result ≢ Got.Failed }
 {
@@ -247,6 +249,7 @@ impl Device for MemDevice {
     fn read_next(&mut self, file: &[u8], into: &mut [u8]) -> Got
         ensures name { self.new.name ≡ self.old.name }
         ensures bound { GivesAtMost (length into.old) result }
+        ensures ungiven { StaysUngiven result into.old into.new }
         ensures told { Reads (Some self.old.files.items) file.now result into.old into.new
             (Some self.new.files.items) }
         ensures cause { Counts (read_fails result) self.old.count self.new.count }

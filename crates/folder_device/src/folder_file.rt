@@ -1,6 +1,6 @@
 //! A file of the folder that is open.
 
-ghost use Rattle.std.specs.Prelude.{◌≤◌, length, IfOk};
+ghost use Rattle.std.specs.Prelude.{◌≡◌, ◌≤◌, length, IfOk};
 
 use crate::slot::Slot;
 use cob_base::Text;
@@ -77,19 +77,28 @@ fn handle_for<R: Files>(
     }
 }
 
-// Reads until the buffer is full or the file ends.
+const PIECE: usize = 512;
+
+// Reads until the buffer is full or the file ends. What a reader leaves in a buffer of which it says
+// that it gave nothing isn't known, so the bytes come by a buffer of its own.
 fn fill<F: Read>(file: &mut F, into: &mut [u8]) -> IoResult<usize>
-    ensures { IfOk result (λ n. n ≤ length into.old) }
+    ensures bound { IfOk result (λ n. n ≤ length into.old) }
+    ensures ungiven { IfOk result (λ n. n ≡ 0 → into.new ≡ into.old) }
 {
+    let mut piece = [0u8; PIECE];
     let size = into.len();
     let mut count = 0usize;
     for _ in 0..u64::MAX {
         if count >= size {
             return Ok(size);
         }
-        match file.read(&mut into[count..]) {
+        let room = (size - count).min(PIECE);
+        match file.read(&mut piece[..room]) {
             Ok(0) => return Ok(count),
-            Ok(more) => count += more,
+            Ok(more) => {
+                into[count..count + more].copy_from_slice(&piece[..more]);
+                count += more;
+            }
             Err(error) if error.kind() == ErrorKind::Interrupted => {}
             Err(error) => return Err(error),
         }
@@ -122,7 +131,8 @@ impl<F: Read + Write + Seek + Drop> FolderFile<F> {
 
     /// Puts what comes next into the front of `into`, and gives how many bytes there were.
     pub fn read(&mut self, into: &mut [u8]) -> IoResult<usize>
-        ensures { IfOk result (λ n. n ≤ length into.old) }
+        ensures bound { IfOk result (λ n. n ≤ length into.old) }
+        ensures ungiven { IfOk result (λ n. n ≡ 0 → into.new ≡ into.old) }
     {
         let count = match &mut self.handle {
             Handle::Input(reader) => fill(reader, into)?,

@@ -98,6 +98,7 @@ impl<R: Files + Drop> FolderDevice<R> {
         ensures name { self.new.name ≡ self.old.name }
         ensures count { self.new.count ≡ self.old.count }
         ensures bound { IfOk result (λ n. n ≤ length into.old) }
+        ensures ungiven { IfOk result (λ n. n ≡ 0 → into.new ≡ into.old) }
     {
         match self.place_of(file) {
             None => Err(Error::from(ErrorKind::NotFound)),

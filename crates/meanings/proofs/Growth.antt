@@ -1,14 +1,15 @@
 -- A step of the source shows more, and a state that is over stays.
-use Rattle.std.proofs.Common.{◌≡◌, ◌≢◌, suc, Bool, true, false, if◌then◌else◌, ◌==◌, List, [], ◌∷◌, Option, Some, None, slice_get, refl, sym, append-nil}
+use Rattle.std.proofs.Common.{◌≡◌, ◌≢◌, ℕ, suc, Bool, true, false, if◌then◌else◌, ◌==◌, List, [], ◌∷◌, Option, Some, None, slice_get, refl, sym, append-nil}
 use Rattle.runs.specs.Run.{Going, Over, Begins, Covers}
 use Rattle.runs.specs.Tied.{Steady}
 use Rattle.runs.specs.Machine.{meaning, Grows}
 use Rattle.runs.proofs.Ties.{covers-refl}
 use Rattle.runs.proofs.Machines.{machine-steady}
-use Rattle.meanings.specs.Language.{Stmt, Display, Go, StopRun, Other, Paragraph, Program, Item, Do, SentenceEnd}
-use Rattle.meanings.specs.World.{Event, Trace, Overlap, Faulted, Standing, displayed}
+use Rattle.cob_tree.specs.declared.ending.FlowFault.TheVariants.{Overlap, Reentry}
+use Rattle.meanings.specs.Language.{Stmt, Display, Go, Perform, StopRun, Other, Paragraph, Program, Item, Do, SentenceEnd}
+use Rattle.meanings.specs.World.{Event, Trace, Faulted, Standing, displayed}
 use Rattle.meanings.specs.World as outside
-use Rattle.meanings.specs.Source.{Pending, SourceState, ends_at, comes_to, stmt_step, falls, end_step, rest_step, step_by, source_machine}
+use Rattle.meanings.specs.Source.{Pending, SourceState, ends_at, comes_to, goes_to, stmt_step, falls, end_step, rest_step, step_by, source_machine}
 
 begins-itself : (trace : Trace) → Begins trace trace
 begins-itself trace = ([], sym (append-nil trace))
@@ -18,9 +19,16 @@ module _ (p : Program) (state : SourceState) where
   abbrev ShowsMore : SourceState → Type 0
   ShowsMore next = Begins state.run.trace next.run.trace
 
+  performs-shows : (rest : List Item) (entry exit : ℕ) (t : Bool) →
+      ShowsMore (if t then comes_to (Faulted (Reentry exit)) state
+      else goes_to p entry (record state { pending = record { end = exit; paragraph = state.paragraph; rest = rest } ∷ state.pending }))
+  performs-shows rest entry exit true = begins-itself state.run.trace
+  performs-shows rest entry exit false = begins-itself state.run.trace
+
   stmt-shows : (rest : List Item) (stmt : Stmt) → ShowsMore (stmt_step p state rest stmt)
   stmt-shows rest (Display items advance) = (outside.Display (displayed items advance) ∷ [], refl)
   stmt-shows rest (Go to) = begins-itself state.run.trace
+  stmt-shows rest (Perform entry exit) = performs-shows rest entry exit (ends_at exit state.pending)
   stmt-shows rest StopRun = begins-itself state.run.trace
   stmt-shows rest Other = begins-itself state.run.trace
 

@@ -1,12 +1,12 @@
 -- With more units nested statements show more.
-use Rattle.std.proofs.Common.{◌≡◌, ℕ, zero, suc, ◌+◌, ◌-◌, ◌≤◌, [], ◌∷◌, ◌++◌, refl, ap, sym, ◌∙◌, subst, append_assoc, arith}
+use Rattle.std.proofs.Common.{◌≡◌, ℕ, zero, suc, ◌==◌, true, false, if◌then◌else◌, List, ◌+◌, ◌-◌, ◌≤◌, [], ◌∷◌, ◌++◌, refl, ap, sym, ◌∙◌, subst, append_assoc, arith}
 use Rattle.runs.specs.Run.{Going, Over, Begins, Covers}
 use Rattle.runs.specs.Tied.{Meaning, Steady}
 use Rattle.runs.proofs.Ties.{covers-refl, covers-trans, covers-is}
-use Rattle.meanings.specs.Language.{Stmt, Display, Go, StopRun, Other, Sentence, Paragraph, Program, paragraph_at}
+use Rattle.meanings.specs.Language.{Stmt, Display, Go, Perform, StopRun, Other, Sentence, Paragraph, Program}
 use Rattle.meanings.specs.World.{World, Normally, Stopped, Trace, displayed}
 use Rattle.meanings.specs.World as outside
-use Rattle.meanings.specs.Structural.{Outcome, Went, Stands, Does, nothing, behind, then_do, unit_of, stmt_does, sentence_does, paragraph_does, run_of, structural}
+use Rattle.meanings.specs.Structural.{Outcome, Went, Stands, Does, nothing, meaningless, behind, then_do, unit_of, Performing, stmt_does, sentence_does, paragraph_does, performing, program_does, run_of, structural}
 
 abbrev shown_by : Outcome → Trace
 shown_by (Went trace world left) = trace
@@ -85,22 +85,43 @@ unit_of-more does g world (suc n) = g.more world n
 pub unit_of-grows : (does : Does) → GrowsInUnits does → GrowsInUnits (unit_of does)
 unit_of-grows does g = record { bound = unit_of-bound does g; more = unit_of-more does g }
 
-stmt-grows : (stmt : Stmt) → GrowsInUnits (stmt_does stmt)
-stmt-grows (Display items advance) =
-    unit_of-grows (λ world units. Went (outside.Display (displayed items advance) ∷ []) world units) (record { bound = λ world n. omega arith; more = λ world n. refl })
-stmt-grows (Go to) = record { bound = λ world n. tt; more = λ world n. ([], refl) }
-stmt-grows StopRun =
-    unit_of-grows (λ world units. Stands [] (Over (Stopped Normally world.files))) (record { bound = λ world n. tt; more = λ world n. refl })
-stmt-grows Other = unit_of-grows nothing nothing-grows
+meaningless-grows : GrowsInUnits meaningless
+meaningless-grows = record { bound = λ world n. tt; more = λ world n. ([], refl) }
 
-pub sentence-grows : (stmts : Sentence) → GrowsInUnits (sentence_does stmts)
-sentence-grows [] = nothing-grows
-sentence-grows (stmt ∷ stmts) = then-grows (stmt_does stmt) (sentence_does stmts) (stmt-grows stmt) (sentence-grows stmts)
+-- each paragraph that is performed does
+abbrev pub GrowsPerforming : Performing → Type 0
+GrowsPerforming perform = (number : ℕ) → GrowsInUnits (perform number)
 
-pub paragraph-grows : (sentences : Paragraph) → GrowsInUnits (paragraph_does sentences)
-paragraph-grows [] = nothing-grows
-paragraph-grows (sentence ∷ sentences) =
-    then-grows (sentence_does sentence) (paragraph_does sentences) (sentence-grows sentence) (paragraph-grows sentences)
+module _ (perform : Performing) (grows : GrowsPerforming perform) where
+  stmt-grows : (stmt : Stmt) → GrowsInUnits (stmt_does perform stmt)
+  stmt-grows (Display items advance) =
+      unit_of-grows (λ world units. Went (outside.Display (displayed items advance) ∷ []) world units) (record { bound = λ world n. omega arith; more = λ world n. refl })
+  stmt-grows (Go to) = meaningless-grows
+  stmt-grows (Perform entry exit) = unit_of-grows (perform entry) (grows entry)
+  stmt-grows StopRun =
+      unit_of-grows (λ world units. Stands [] (Over (Stopped Normally world.files))) (record { bound = λ world n. tt; more = λ world n. refl })
+  stmt-grows Other = unit_of-grows nothing nothing-grows
+
+  sentence-grows : (stmts : Sentence) → GrowsInUnits (sentence_does perform stmts)
+  sentence-grows [] = nothing-grows
+  sentence-grows (stmt ∷ stmts) = then-grows (stmt_does perform stmt) (sentence_does perform stmts) (stmt-grows stmt) (sentence-grows stmts)
+
+  paragraph-grows : (sentences : Paragraph) → GrowsInUnits (paragraph_does perform sentences)
+  paragraph-grows [] = nothing-grows
+  paragraph-grows (sentence ∷ sentences) =
+      then-grows (sentence_does perform sentence) (paragraph_does perform sentences) (sentence-grows sentence) (paragraph-grows sentences)
+
+performing-grows : (first : ℕ) (paragraphs : List Paragraph) → GrowsPerforming (performing first paragraphs)
+performing-grows first [] number = meaningless-grows
+performing-grows first (paragraph ∷ others) number =
+    elim (number == first) as (λ t. GrowsInUnits (if t then paragraph_does (performing (suc first) others) paragraph else performing (suc first) others number)) [
+      | true ↦ paragraph-grows (performing (suc first) others) (performing-grows (suc first) others) paragraph
+      | false ↦ performing-grows (suc first) others number
+    ]
+
+program-grows : (paragraphs : List Paragraph) → GrowsInUnits (program_does paragraphs)
+program-grows [] = nothing-grows
+program-grows (paragraph ∷ others) = paragraph-grows (performing 1 others) (performing-grows 1 others) paragraph
 
 run_of-shown : (o : Outcome) → (run_of o).trace ≡ shown_by o
 run_of-shown (Went trace world left) = refl
@@ -120,6 +141,6 @@ more-steady a next w (suc k) n =
 
 pub structural-steady : (p : Program) → Steady (structural p)
 structural-steady p w m n le =
-    let next = λ (w : World) (n : ℕ). more-covers (paragraph_does (paragraph_at p 0) w n) (paragraph_does (paragraph_at p 0) w (suc n)) ((paragraph-grows (paragraph_at p 0)).more w n) in
+    let next = λ (w : World) (n : ℕ). more-covers (program_does p.paragraphs w n) (program_does p.paragraphs w (suc n)) ((program-grows p.paragraphs).more w n) in
     let e : (n - m) + m ≡ n = omega arith in
     subst (λ k. Covers (structural p w m) (structural p w k)) e (more-steady (structural p) next w (n - m) m)

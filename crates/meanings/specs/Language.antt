@@ -1,6 +1,8 @@
 -- The language as its meanings see it: paragraphs of sentences of statements.
 use Rattle.std.specs.Prelude.{ℕ, Bool, List, [], ◌∷◌, map, Option, Some, None, slice_get}
 use Rattle.cob_tree.specs.declared.place.Operand.{Operand}
+use Rattle.cob_tree.specs.declared.control.Control.{Control}
+use Rattle.cob_tree.specs.declared.control.Control.TheVariants.{Once, Times, Until, Varying}
 use Rattle.cob_tree.specs.declared.stmt.Stmt as tree_stmt
 use Rattle.cob_tree.specs.declared.stmt.Stmt.TheVariants as tree_stmts
 use Rattle.cob_tree.specs.declared.program.Sentence as tree_sentence
@@ -11,6 +13,8 @@ use Rattle.cob_tree.specs.declared.program.Program as tree_program
 pub data Stmt : Type 0 where
   Display : (items : List Operand) → (advance : Bool) → Stmt
   Go : (to : ℕ) → Stmt
+  -- PERFORM of paragraphs, once
+  Perform : (entry : ℕ) → (exit : ℕ) → Stmt
   StopRun : Stmt
   Other : Stmt
 
@@ -48,9 +52,17 @@ paragraph_at program number = unless_absent (slice_get program.paragraphs number
 
 -- The tree as the meanings see it.
 
+-- a PERFORM that isn't a loop
+abbrev pub performing : ℕ → ℕ → Control → Stmt
+performing entry exit Once = Perform entry exit
+performing entry exit (Times amount) = Other
+performing entry exit (Until after until) = Other
+performing entry exit (Varying after item from by until) = Other
+
 abbrev pub seen_stmt : tree_stmt.Stmt → Stmt
 seen_stmt (tree_stmts.Display items advance) = Display items advance
 seen_stmt (tree_stmts.Go to) = Go to
+seen_stmt (tree_stmts.Perform entry exit control) = performing entry exit control
 seen_stmt tree_stmts.StopRun = StopRun
 seen_stmt _ = Other
 

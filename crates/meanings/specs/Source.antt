@@ -4,8 +4,9 @@ use Rattle.std.specs.Prelude.{ℕ, suc, Bool, true, false, if◌then◌else◌, 
 use Rattle.runs.specs.Run.{Going, Over}
 use Rattle.runs.specs.Machine.{Machine, meaning}
 use Rattle.cob_tree.specs.declared.program.Program as tree
-use Rattle.meanings.specs.Language.{Stmt, Display, Go, StopRun, Other, Paragraph, Program, Item, Do, SentenceEnd, items_of, paragraph_at, seen}
-use Rattle.meanings.specs.World.{World, Event, Stopping, Normally, FlowFault, Overlap, Ending, Stopped, Faulted, Run, Standing, displayed}
+use Rattle.cob_tree.specs.declared.ending.FlowFault.TheVariants.{Overlap, Reentry}
+use Rattle.meanings.specs.Language.{Stmt, Display, Go, Perform, StopRun, Other, Paragraph, Program, Item, Do, SentenceEnd, items_of, paragraph_at, seen}
+use Rattle.meanings.specs.World.{World, Event, Stopping, Normally, Ending, Stopped, Faulted, Run, Standing, displayed}
 use Rattle.meanings.specs.World as outside
 
 -- a return that is pending: the paragraph at whose end it is made, with the paragraph and the rest
@@ -49,12 +50,22 @@ stops how state = comes_to (Stopped how state.world.files) state
 abbrev pub goes_to : Program → ℕ → SourceState → SourceState
 goes_to program number state = record state { paragraph = number; rest = rest_of program number }
 
+-- a range that ends where one does that is pending is a fault
+abbrev pub performs : Program → SourceState → List Item → ℕ → ℕ → SourceState
+performs program state rest entry exit =
+    if ends_at exit state.pending
+    then comes_to (Faulted (Reentry exit)) state
+    else goes_to program entry (record state {
+      pending = record { end = exit; paragraph = state.paragraph; rest = rest } ∷ state.pending;
+    })
+
 -- a statement at the head of the rest; one that isn't of the plain form has no meaning yet, and is
 -- dropped
 abbrev pub stmt_step : Program → SourceState → List Item → Stmt → SourceState
 stmt_step program state rest (Display items advance) =
     shows (displayed items advance) (record state { rest = rest })
 stmt_step program state rest (Go to) = goes_to program to state
+stmt_step program state rest (Perform entry exit) = performs program state rest entry exit
 stmt_step program state rest StopRun = stops Normally state
 stmt_step program state rest Other = record state { rest = rest }
 

@@ -1,8 +1,8 @@
 -- What nested statements mean, by recursion on the statement, within a number of units.
-use Rattle.std.specs.Prelude.{ℕ, zero, suc, List, [], ◌∷◌, ◌++◌, map}
+use Rattle.std.specs.Prelude.{ℕ, zero, suc, if◌then◌else◌, ◌==◌, List, [], ◌∷◌, ◌++◌, map}
 use Rattle.runs.specs.Run.{Going, Over}
 use Rattle.cob_tree.specs.declared.program.Program as tree
-use Rattle.meanings.specs.Language.{Stmt, Display, Go, StopRun, Other, Sentence, Paragraph, Program, paragraph_at, seen}
+use Rattle.meanings.specs.Language.{Stmt, Display, Go, Perform, StopRun, Other, Sentence, Paragraph, Program, seen}
 use Rattle.meanings.specs.World.{World, Event, Normally, Stopped, Run, Standing, Trace, displayed}
 use Rattle.meanings.specs.World as outside
 
@@ -18,6 +18,10 @@ Does = World → ℕ → Outcome
 
 abbrev pub nothing : Does
 nothing world units = Went [] world units
+
+-- a jump has no meaning here, and structured programs have none
+abbrev pub meaningless : Does
+meaningless world units = Stands [] Going
 
 abbrev pub behind : Trace → Outcome → Outcome
 behind shown (Went trace world left) = Went (shown ++ trace) world left
@@ -38,20 +42,35 @@ abbrev pub unit_of : Does → Does
 unit_of does world zero = Stands [] Going
 unit_of does world (suc units) = does world units
 
--- each statement that is begun takes one unit; a jump has no meaning here, and structured programs
--- have none; one that isn't of the plain form does nothing yet
-abbrev pub stmt_does : Stmt → Does
-stmt_does (Display items advance) =
+-- what a PERFORM of the paragraph with this number does
+abbrev pub Performing : Type 0
+Performing = ℕ → Does
+
+-- each statement that is begun takes one unit; one that isn't of the plain form does nothing yet
+abbrev pub stmt_does : Performing → Stmt → Does
+stmt_does perform (Display items advance) =
     unit_of (λ world units. Went (outside.Display (displayed items advance) ∷ []) world units)
-stmt_does (Go to) = λ world units. Stands [] Going
-stmt_does StopRun = unit_of (λ world units. Stands [] (Over (Stopped Normally world.files)))
-stmt_does Other = unit_of nothing
+stmt_does perform (Go to) = meaningless
+stmt_does perform (Perform entry exit) = unit_of (perform entry)
+stmt_does perform StopRun = unit_of (λ world units. Stands [] (Over (Stopped Normally world.files)))
+stmt_does perform Other = unit_of nothing
 
-abbrev pub sentence_does : Sentence → Does
-sentence_does sentence = all (map stmt_does sentence)
+abbrev pub sentence_does : Performing → Sentence → Does
+sentence_does perform sentence = all (map (stmt_does perform) sentence)
 
-abbrev pub paragraph_does : Paragraph → Does
-paragraph_does paragraph = all (map sentence_does paragraph)
+abbrev pub paragraph_does : Performing → Paragraph → Does
+paragraph_does perform paragraph = all (map (sentence_does perform) paragraph)
+
+-- a paragraph sees only those behind it; the first of these has this number
+abbrev pub performing : ℕ → List Paragraph → Performing
+performing first [] number = meaningless
+performing first (paragraph ∷ others) number =
+    if number == first then paragraph_does (performing (suc first) others) paragraph
+    else performing (suc first) others number
+
+abbrev pub program_does : List Paragraph → Does
+program_does [] = nothing
+program_does (paragraph ∷ others) = paragraph_does (performing 1 others) paragraph
 
 -- a program is its first paragraph, and stops behind it
 abbrev pub run_of : Outcome → Run
@@ -60,7 +79,7 @@ run_of (Went trace world left) = record
 run_of (Stands trace standing) = record { trace = trace; standing = standing }
 
 abbrev pub structural : Program → World → ℕ → Run
-structural program world units = run_of (paragraph_does (paragraph_at program 0) world units)
+structural program world units = run_of (program_does program.paragraphs world units)
 
 -- what the program shows within this many units, and how it stands then
 abbrev pub structural_run : tree.Program → World → ℕ → Run

@@ -3,6 +3,7 @@ use Rattle.std.specs.Prelude.{ℕ, Bool, if◌then◌else◌, List, [], ◌∷�
 use Rattle.std.specs.List.{flat_map}
 use Rattle.cob_tree.specs.declared.place.Operand.{Operand}
 use Rattle.cob_tree.specs.declared.place.Operand.TheVariants.{Text}
+use Rattle.cob_tree.specs.declared.ending.FlowFault.{FlowFault}
 use Rattle.runs.specs.Run as runs
 
 -- a file, by its name and its bytes
@@ -21,11 +22,6 @@ pub data Event : Type 0 where
 -- how a run stops
 pub data Stopping : Type 0 where
   Normally : Stopping
-
--- a return that can't be made: a pending range ends at the end of this paragraph, and the innermost
--- one doesn't
-pub data FlowFault : Type 0 where
-  Overlap : (paragraph : ℕ) → FlowFault
 
 -- what a run comes to: it stops, and leaves these files, or it met a fault
 pub data Ending : Type 0 where

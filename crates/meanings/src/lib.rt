@@ -1,10 +1,21 @@
 //! What a source program means, what a structured one means, and when the two are the same.
 //!
-//! There is no code here: each function states a law of the definitions.
+//! `plain_step` makes one step of a plain program, for tests of the source meaning. The other
+//! functions have no code: each states a law of the definitions.
 #![tactic(auto)]
 
 ghost use Rattle.meanings.specs.Laws.{TheSourceGrows, MoreStepsShowMore, ReachingRunsOn, TheFirstStateRuns, MoreUnitsShowMore, CoveringMatches, TiedBehavesTheSame};
 ghost use Rattle.meanings.specs.Example.{RunsAs};
+
+mod next;
+mod rest;
+mod state;
+mod step;
+#[cfg(test)]
+mod tests;
+
+pub use state::{Item, Over, PlainState, Waiting};
+pub use step::{begun, plain_step};
 
 /// A small program with a jump, step by step, and the nested one that does the same.
 pub fn a_small_program_runs_as_said()

@@ -11,8 +11,8 @@ use Rattle.restructure_core.specs.declared.fault.Refused.{Refused}
 use Rattle.restructure_core.specs.declared.fault.Refused.TheVariants as refused
 use Rattle.restructure_core.specs.declared.pipeline.Done.{Done}
 use Rattle.flow_paths.specs.declared.trail.Trail.{Trail}
-use Rattle.restructure_core.specs.Answers.{IsAccepted, HasCause}
-use Rattle.restructure_core.proofs.OneAnswer.{Outcome, IsAlike, IsDueTo, alike, done-due, cause-due, comes-done}
+use Rattle.restructure_core.specs.Answers.{IsRestructured, IsFaultySource, IsAccepted, IsRefusedByTrail, HasCause}
+use Rattle.restructure_core.proofs.OneAnswer.{Outcome, IsAlike, IsDueTo, alike, done-due, cause-due, comes-faulty, comes-done}
 use Rattle.restructure_tool.specs.declared.ask.Ask.{Ask}
 use Rattle.restructure_tool.specs.declared.ask.Ask.TheVariants.{Restructure, Report, Check, Run, Generate, Trial}
 use Rattle.restructure_tool.specs.declared.texts.Texts.{Texts}
@@ -21,12 +21,12 @@ use Rattle.restructure_tool.specs.declared.refusal.Refusal.TheVariants as refusa
 use Rattle.restructure_tool.specs.declared.status.Status.{Status}
 use Rattle.restructure_tool.specs.declared.status.Status.TheVariants as status
 use Rattle.restructure_tool.specs.Status.{IsOneOf}
-use Rattle.restructure_tool.specs.Refusal.{status_of}
+use Rattle.restructure_tool.specs.Refusal.{refused_status, status_of}
 use Rattle.restructure_tool.specs.Texts.{text_alone, with_report}
 use Rattle.restructure_tool.specs.Answer.{Answer, IsUnasked, IsRefusalOf, IsOfRestructure, IsOfReport, IsOfCheck, IsOfGenerate, IsDue, IsAnswered, program_text}
 use Rattle.restructure_tool.specs.Reading.{Tells}
 use Rattle.restructure_tool.specs.Tool.{EndsOfText, IsRefused}
-use Rattle.restructure_tool.specs.Laws.{trail_answer, AreAlike, statuses_of, OneAnswerIsDue, DueAnswerComes, AcceptedSourceIsDone, UsageComes, GeneratedComes, WithinLimitAllIsRead}
+use Rattle.restructure_tool.specs.Laws.{trail_answer, AreAlike, statuses_of, OneAnswerIsDue, DueAnswerComes, AcceptedSourceIsDone, FaultySourceIsRefused, RefusedForFlowIsFaulty, UsageComes, GeneratedComes, WithinLimitAllIsRead}
 
 unasked-is : (answer : Answer) → IsUnasked answer → answer ≡ Err refusal.Usage
 unasked-is (Ok texts) h = absurd h
@@ -212,6 +212,90 @@ accepted-done Check source out notes answer about h bytes told is = done-comes (
 accepted-done (Run steps) source out notes answer about h bytes told is = absurd about
 accepted-done (Generate n) source out notes answer about h bytes told is = absurd about
 accepted-done (Trial n) source out notes answer about h bytes told is = absurd about
+
+-- Bytes with a fault of flow are refused for it alone.
+
+not-trail : (program : Program) (done : Done) → IsRefusedByTrail {T = Done} program (Ok done) → ⊥
+not-trail program done (inl h) = (let e = h.1 in cc)
+not-trail program done (inr e) = cc
+
+faulty-undone : (bytes : List ℕ) (program : Program) (done : Done) → IsFaultySource bytes program → IsRestructured bytes done → ⊥
+faulty-undone bytes program done is h = not-trail program done (comes-faulty bytes (Ok done) h tt program is)
+
+flow-status : (why : Refused) (program : Program) → why ≢ refused.NoMemory → IsRefusedByTrail {T = Done} program (Err why) → refused_status why ≡ status.Flow
+flow-status why program some (inl h) = ap refused_status (same-refused why (refused.Flow program h.0) h.1)
+flow-status why program some (inr none) = absurd (some (same-refused why refused.NoMemory none))
+
+faulty-status : (bytes : List ℕ) (program : Program) (r : Refusal) → IsFaultySource bytes program → IsRefusalOf bytes r → status_of r ≡ status.Flow
+faulty-status bytes program refusal.Usage is g = absurd g
+faulty-status bytes program (refusal.Refused why) is g = flow-status why program g.0 (comes-faulty bytes (Err why) tt g.1 program is)
+faulty-status bytes program (refusal.Device name) is g = absurd g
+faulty-status bytes program (refusal.Fault of fault) is g = absurd g
+faulty-status bytes program (refusal.Abend abend) is g = absurd g
+faulty-status bytes program (refusal.Budget steps) is g = absurd g
+faulty-status bytes program refusal.ReadFault is g = absurd g
+faulty-status bytes program refusal.WriteFault is g = absurd g
+faulty-status bytes program refusal.NoMemory is g = absurd g
+
+-- whose refusal has the status FLOW
+flow-cause : (bytes : List ℕ) (r : Refusal) → IsRefusalOf bytes r → status.Flow ≡ status_of r → (program : Program) × IsFaultySource bytes program
+flow-cause bytes refusal.Usage g e = absurd g
+flow-cause bytes (refusal.Refused (refused.NotSubset why)) g e = absurd (let e = e in cc)
+flow-cause bytes (refusal.Refused (refused.Flow program trail)) g e =
+    (program, record { reads = g.1.reads; within = g.1.faulty.within; faulty = g.1.faulty.faulty })
+flow-cause bytes (refusal.Refused (refused.Limit limit)) g e = absurd (let e = e in cc)
+flow-cause bytes (refusal.Refused refused.NoMemory) g e = absurd (let e = e in cc)
+flow-cause bytes (refusal.Device name) g e = absurd g
+flow-cause bytes (refusal.Fault program fault) g e = absurd g
+flow-cause bytes (refusal.Abend abend) g e = absurd g
+flow-cause bytes (refusal.Budget steps) g e = absurd g
+flow-cause bytes refusal.ReadFault g e = absurd g
+flow-cause bytes refusal.WriteFault g e = absurd g
+flow-cause bytes refusal.NoMemory g e = absurd g
+
+module _ (ask : Option Ask) (source : SourceCall) (out notes : SinkCall) (bytes : List ℕ) (told : source.told ≡ Some bytes) where
+  due-here : (answer : Answer) → IsAnswered ask source answer → IsDue ask bytes answer
+  due-here answer h = subst (λ b. IsDue ask b answer) (sym (subst (λ t. Tells t h.bytes) told h.told)) h.due
+
+  module _ (never : (texts : Texts) → IsDue ask bytes (Ok texts) → ⊥) (flow : (r : Refusal) → IsDue ask bytes (Err r) → status_of r ≡ status.Flow) where
+    flow-comes : (answer : Status) → IsRefused ask source out notes answer → IsOneOf (status.Flow ∷ status.ReadFault ∷ status.NoMemory ∷ []) answer
+    flow-comes answer h = inl (h.status ∙ flow h.refusal (due-here (Err h.refusal) h.answered))
+
+    fault-comes : (answer : Status) → EndsOfText ask source out notes answer → IsOneOf (status.Flow ∷ status.ReadFault ∷ status.NoMemory ∷ []) answer
+    fault-comes status.Done h = absurd (never h.texts (due-here (Ok h.texts) h.answered))
+    fault-comes status.Usage h = flow-comes status.Usage h
+    fault-comes status.NotSubset h = flow-comes status.NotSubset h
+    fault-comes status.Flow h = flow-comes status.Flow h
+    fault-comes status.Limit h = flow-comes status.Limit h
+    fault-comes status.ReadFault h = inr (inl refl)
+    fault-comes status.WriteFault h = absurd (never h.texts (due-here (Ok h.texts) h.answered))
+    fault-comes status.DeviceFault h = absurd h
+    fault-comes status.Abend h = absurd h
+    fault-comes status.Budget h = absurd h
+    fault-comes status.NoMemory h = inr (inr (inl refl))
+
+  module _ (refusal : (r : Refusal) → IsDue ask bytes (Err r) → IsRefusalOf bytes r) where
+    flow-faulty : IsRefused ask source out notes status.Flow → (program : Program) × IsFaultySource bytes program
+    flow-faulty h = flow-cause bytes h.refusal (refusal h.refusal (due-here (Err h.refusal) h.answered)) h.status
+
+pub faulty-refused : FaultySourceIsRefused
+faulty-refused Restructure source out notes answer about h bytes program told is =
+    fault-comes (Some Restructure) source out notes bytes told (λ texts g. faulty-undone bytes program g.0 is g.1) (λ r g. faulty-status bytes program r is g) answer h
+faulty-refused Report source out notes answer about h bytes program told is =
+    fault-comes (Some Report) source out notes bytes told (λ texts g. faulty-undone bytes program g.0 is g.1) (λ r g. faulty-status bytes program r is g) answer h
+faulty-refused Check source out notes answer about h bytes program told is =
+    fault-comes (Some Check) source out notes bytes told (λ texts g. faulty-undone bytes program _ is g.1.1) (λ r g. faulty-status bytes program r is g) answer h
+faulty-refused (Run steps) source out notes answer about h bytes program told is = absurd about
+faulty-refused (Generate n) source out notes answer about h bytes program told is = absurd about
+faulty-refused (Trial n) source out notes answer about h bytes program told is = absurd about
+
+pub refused-faulty : RefusedForFlowIsFaulty
+refused-faulty Restructure source out notes about h bytes told = flow-faulty (Some Restructure) source out notes bytes told (λ r g. g) h
+refused-faulty Report source out notes about h bytes told = flow-faulty (Some Report) source out notes bytes told (λ r g. g) h
+refused-faulty Check source out notes about h bytes told = flow-faulty (Some Check) source out notes bytes told (λ r g. g) h
+refused-faulty (Run steps) source out notes about h bytes told = absurd about
+refused-faulty (Generate n) source out notes about h bytes told = absurd about
+refused-faulty (Trial n) source out notes about h bytes told = absurd about
 
 -- a refusal without an ask is USAGE
 unasked-refused : (source : SourceCall) (out notes : SinkCall) (answer : Status) → IsRefused None source out notes answer → IsOneOf (status.Usage ∷ status.NoMemory ∷ []) answer

@@ -6,7 +6,7 @@ use Rattle.cob_tree.specs.declared.program.Program.{Program}
 use Rattle.flow_paths.specs.declared.trail.Trail.{Trail}
 use Rattle.cobol_read.specs.Limit.{source_limit}
 use Rattle.restructure_core.specs.declared.fault.Refused.TheVariants as refused
-use Rattle.restructure_core.specs.Answers.{IsAccepted}
+use Rattle.restructure_core.specs.Answers.{IsAccepted, IsFaultySource}
 use Rattle.restructure_tool.specs.declared.ask.Ask.{Ask}
 use Rattle.restructure_tool.specs.declared.ask.Ask.TheVariants.{Restructure, Report, Check, Run, Generate, Trial}
 use Rattle.restructure_tool.specs.declared.refusal.Refusal.{Refusal}
@@ -81,6 +81,23 @@ AcceptedSourceIsDone =
     Ends (Some ask) source out notes answer →
     (bytes : List ℕ) → source.told ≡ Some bytes → IsAccepted bytes → IsOneOf
     (status.Done ∷ status.WriteFault ∷ status.ReadFault ∷ status.NoMemory ∷ []) answer
+
+-- where a source tells the bytes of a program some flow path of which comes to a fault, such a call
+-- ends with FLOW, but for a fault of the outside or out of memory
+abbrev pub FaultySourceIsRefused : Type 0
+FaultySourceIsRefused =
+    (ask : Ask) (source : SourceCall) (out notes : SinkCall) (answer : Status) → IsOfSource ask →
+    Ends (Some ask) source out notes answer →
+    (bytes : List ℕ) (program : Program) → source.told ≡ Some bytes →
+    IsFaultySource bytes program →
+    IsOneOf (status.Flow ∷ status.ReadFault ∷ status.NoMemory ∷ []) answer
+
+-- and with FLOW no other one ends
+abbrev pub RefusedForFlowIsFaulty : Type 0
+RefusedForFlowIsFaulty =
+    (ask : Ask) (source : SourceCall) (out notes : SinkCall) → IsOfSource ask →
+    Ends (Some ask) source out notes status.Flow →
+    (bytes : List ℕ) → source.told ≡ Some bytes → (program : Program) × IsFaultySource bytes program
 
 -- at most one end of a run is due to bytes and a number of steps
 abbrev pub OneRunIsDue : Type 0

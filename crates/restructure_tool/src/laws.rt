@@ -1,6 +1,6 @@
 //! What follows of how a call ends.
 
-ghost use Rattle.restructure_tool.specs.Laws.{WordsAreOfTheirAsk, OneAnswerIsDue, DueAnswerComes, AcceptedSourceIsDone, OneRunIsDue, DueRunComes, UsageComes, GeneratedComes, WithinLimitAllIsRead};
+ghost use Rattle.restructure_tool.specs.Laws.{WordsAreOfTheirAsk, OneAnswerIsDue, DueAnswerComes, AcceptedSourceIsDone, FaultySourceIsRefused, RefusedForFlowIsFaulty, OneRunIsDue, DueRunComes, UsageComes, GeneratedComes, WithinLimitAllIsRead};
 
 /// The words of an ask are exactly its own.
 pub fn words_are_of_one_ask()
@@ -21,6 +21,8 @@ pub fn source_is_read_to_its_end()
 pub fn due_answer_comes()
     ensures due { DueAnswerComes }
     ensures accepted { AcceptedSourceIsDone }
+    ensures faulty { FaultySourceIsRefused }
+    ensures flow { RefusedForFlowIsFaulty }
     ensures usage { UsageComes }
     ensures generated { GeneratedComes }
 {}

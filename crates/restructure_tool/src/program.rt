@@ -40,11 +40,21 @@ folder; ASSIGN \"NULL:NAME\" is a file that is always empty.
 generate writes the program number N of 1 to 1249, full of jumps, and trial the
 report of that program.
 
+Examples:
+       restructure_tool restructure < OLD.cob > NEW.cob
+       restructure_tool restructure --report < OLD.cob > NEW.cob 2> OLD.report
+       restructure_tool check < OLD.cob
+       restructure_tool run --steps 1000000 < OLD.cob
+       restructure_tool generate 12 > JUMPS.cob
+       restructure_tool trial 12
+
 Exit statuses: 0 done, 1 USAGE, 2 NOT SUBSET, 3 FLOW, 4 LIMIT, 5 READ FAULT,
 6 WRITE FAULT, 7 DEVICE FAULT, 8 ABEND, 9 BUDGET, 10 NO MEMORY.
 ";
 
-const VERSION: &str = "restructure_tool 0.1.0\n";
+const VERSION: &str = "restructure_tool 0.1.0
+proved with rattle-kit-13f logic dac8208d650f15bf
+";
 
 /// Does what the command line asks, over any source, sinks and bench: `--help` and `--version` show a
 /// page, and other words are those of `tool`.

@@ -1,4 +1,4 @@
-use Rattle.file_desk.proofs.NameLemmas.{no_name, opened_name}
+use Rattle.file_desk.proofs.NameLemmas.{opened_name}
 use Rattle.file_desk.proofs.address.can_be_opened.Goals as goal
 
 pub returns : goal.returns

@@ -1,4 +1,4 @@
-use Rattle.std.proofs.Common.{◌∙◌, arith, sym}
+use Rattle.std.proofs.Common.{◌∙◌, sym}
 use Rattle.file_model.specs.Attempts.{address_of}
 use Rattle.file_desk.proofs.TakenLemmas.{taken_all, taken_here, taken_step}
 use Rattle.file_desk.proofs.address.is_taken.Goals as goal

@@ -1,4 +1,4 @@
-use Rattle.std.proofs.Common.{◌≡◌, ◌≤◌, ◌+◌, ◌-◌, ◌∙◌, arith, drop, length, length-drop}
+use Rattle.std.proofs.Common.{◌≤◌, ◌+◌, ◌-◌, ◌∙◌, arith, drop, length, length-drop}
 use Rattle.file_desk.proofs.AddressLemmas.{cut_name}
 use Rattle.file_desk.proofs.CallLemmas.{take_all}
 use Rattle.file_desk.proofs.address.name_of.Goals as goal

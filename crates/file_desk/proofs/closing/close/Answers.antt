@@ -1,13 +1,12 @@
-use Rattle.std.proofs.Common.{◌≡◌, ◌∙◌, ◌<◌, List, ℕ, Option, ap, arith, length, refl, sym}
+use Rattle.std.proofs.Common.{◌∙◌, ◌<◌, List, ℕ, Option, ap, arith, length, refl, sym}
 use Rattle.cob_tree.specs.declared.file.FileEntry.{FileEntry}
 use Rattle.file_model.specs.declared.device.Put.TheVariants as put
 use Rattle.file_model.specs.declared.mem_file.MemFile.{MemFile}
 use Rattle.file_model.specs.Attempts.{address_of, closed_at}
 use Rattle.file_model.specs.Status.{may_close}
 use Rattle.file_model.specs.Told.{Changes, shut}
-use Rattle.file_desk.specs.declared.tried.Tried.TheVariants as tried
 use Rattle.file_desk.specs.Calls.{addresses_of}
-use Rattle.file_desk.proofs.EndLemmas.{called_named, done_bench, done_world, failed_bench, failed_world, first_named, nowhere_world, refused_bench, refused_world, site_of, wanted_bench, wanted_world, close_tried}
+use Rattle.file_desk.proofs.EndLemmas.{called_named, done_bench, done_world, failed_bench, failed_world, first_named, nowhere_world, refused_bench, refused_world, site_of, close_tried}
 use Rattle.file_desk.proofs.OpLemmas.{may_close_open, closes}
 use Rattle.file_desk.proofs.closing.close.Goals as goal
 

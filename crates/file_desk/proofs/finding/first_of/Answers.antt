@@ -1,6 +1,5 @@
 use Rattle.std.proofs.Common.{arith}
 use Rattle.std.proofs.lemmas.List.{length-map}
-use Rattle.file_desk.specs.contracts.watched.BoxDynDeviceWatched.TheImpl.{seen-value}
 use Rattle.file_desk.proofs.CallLemmas.{first_at, nowhere, others_more}
 use Rattle.file_desk.proofs.finding.first_of.Goals as goal
 

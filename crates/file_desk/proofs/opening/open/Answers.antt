@@ -1,4 +1,4 @@
-use Rattle.std.proofs.Common.{◌≡◌, ◌∙◌, ◌<◌, ◌||◌, Bool, List, ℕ, Option, ap, arith, false, length, not, refl, sym, true}
+use Rattle.std.proofs.Common.{◌≡◌, ◌∙◌, ◌<◌, ◌||◌, List, ℕ, Option, ap, arith, false, length, not, refl, sym, true}
 use Rattle.cob_tree.specs.declared.file.FileEntry.{FileEntry}
 use Rattle.file_model.specs.declared.device.Opened.TheVariants as opened
 use Rattle.file_model.specs.declared.mem_file.MemFile.{MemFile}
@@ -7,7 +7,6 @@ use Rattle.file_model.specs.Status.{may_open}
 use Rattle.file_model.specs.Told.{Opens}
 use Rattle.file_desk.specs.declared.tried.Tried.TheVariants as tried
 use Rattle.file_desk.specs.Calls.{addresses_of}
-use Rattle.file_desk.specs.Seen.{Nowhere}
 use Rattle.file_desk.specs.Standing.{is_open_there}
 use Rattle.file_desk.proofs.BenchLemmas.{found_before}
 use Rattle.file_desk.proofs.EndLemmas.{called_named, done_bench, done_world, entry_address, failed_bench, failed_breaks, failed_world, first_named, refused_bench, refused_world, site_of, wanted_bench}

@@ -1,4 +1,4 @@
-use Rattle.std.proofs.Common.{◌≡◌, ◌∙◌, ◌<◌, List, ℕ, Option, ap, arith, length, refl, sym}
+use Rattle.std.proofs.Common.{◌∙◌, ◌<◌, List, ℕ, Option, ap, arith, length, refl, sym}
 use Rattle.cob_tree.specs.declared.file.FileEntry.{FileEntry}
 use Rattle.file_model.specs.declared.device.Put.TheVariants as put
 use Rattle.file_model.specs.declared.mem_file.MemFile.{MemFile}

@@ -1,4 +1,4 @@
-use Rattle.restructure_tool.proofs.LawLemmas.{due-comes, accepted-done, usage-comes, generated-comes}
+use Rattle.restructure_tool.proofs.LawLemmas.{due-comes, accepted-done, faulty-refused, refused-faulty, usage-comes, generated-comes}
 use Rattle.restructure_tool.proofs.laws.due_answer_comes.Goals as goal
 
 pub returns-clause-due : goal.returns-clause-due
@@ -12,3 +12,9 @@ returns-clause-generated c = generated-comes
 
 pub returns-clause-accepted : goal.returns-clause-accepted
 returns-clause-accepted c = accepted-done
+
+pub returns-clause-faulty : goal.returns-clause-faulty
+returns-clause-faulty c = faulty-refused
+
+pub returns-clause-flow : goal.returns-clause-flow
+returns-clause-flow c = refused-faulty

@@ -1,0 +1,11 @@
+//! Statements that have in them what they are to, told by tests: they spell what is printed of them,
+//! and those of a PROCEDURE DIVISION that is read with no fault pass the tests, over open parts and
+//! open tests of parts (`specs/Fits.antt`). The crate has no code.
+#![tactic(auto)]
+
+mod laws;
+
+pub use laws::{
+    Asks, Tests, fit_paragraphs_pass, fit_sentences_spell, fit_statements_spell,
+    read_statements_fit,
+};

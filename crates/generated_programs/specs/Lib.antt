@@ -1,0 +1,2 @@
+-- What is stated of the generated programs.
+pub mod Laws

@@ -1,0 +1,4 @@
+-- Trees that are built have arms.
+pub mod Built
+-- So have graphs.
+pub mod Graphs

@@ -1,0 +1,2 @@
+-- how deep what a program is split into nests
+pub mod Laws

@@ -1,0 +1,2 @@
+-- What programs declare.
+pub mod Laws

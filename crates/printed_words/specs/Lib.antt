@@ -1,0 +1,2 @@
+-- What holds of the words that programs are printed with.
+pub mod Laws

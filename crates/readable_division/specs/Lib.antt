@@ -1,0 +1,2 @@
+-- What is printed of programs that are read.
+pub mod Laws

@@ -1,0 +1,2 @@
+-- Generated programs are readable.
+pub mod Joint

@@ -1,0 +1,2 @@
+-- What is printed of generated programs.
+pub mod Laws

@@ -1,0 +1,7 @@
+//! What is printed of a generated program reads to that very program, where its text passes no limit
+//! of reading. The crate has no code.
+#![tactic(auto)]
+
+mod laws;
+
+pub use laws::{generated_programs_are_readable, generated_programs_read_back};

@@ -1,0 +1,35 @@
+-- References, files and records as they are read, where what is printed of them is read the same.
+use Rattle.std.specs.Prelude.{ℕ, true, Option, Some, None}
+use Rattle.cob_tree.specs.declared.place.Operand.TheVariants as operands
+use Rattle.cob_tree.specs.declared.program.Program.{Program}
+use Rattle.data_names.specs.Names.{Names}
+use Rattle.expr_forms.specs.declared.side.Side.{Side}
+use Rattle.expr_forms.specs.Levels.{data_reference}
+use Rattle.expr_spelling.specs.Printable.{IsPrintablePlace}
+use Rattle.expr_spelling.specs.Spelled.{IsOperandSide, PlaceHasRoom}
+use Rattle.named_forms.specs.Giving.{Gives}
+use Rattle.part_spelling.specs.Kept.{IsEntrySide}
+use Rattle.part_spelling.specs.Named.{IsNamedFile, IsNamedRecord}
+use Rattle.printable_tokens.specs.Printable.{IsPrintable}
+use Rattle.statement_grammar.specs.Use.{entry_of, place_of}
+
+module _ (names : Names) (program : Program) where
+  -- a reference whose place can be printed so that it is read back
+  pub record IsFitReference (side : Side) : Type 0 where
+    pub fit : IsPrintablePlace names program (place_of side.what)
+    pub room : PlaceHasRoom true 501 0 (place_of side.what)
+    pub kept : IsOperandSide names program (operands.Place (place_of side.what)) side
+
+  -- all that are read with no fault are
+  abbrev pub ReferencesAreFit : Type 0
+  ReferencesAreFit = Gives IsPrintable (data_reference names) IsFitReference
+
+  -- a file that was found
+  abbrev pub IsFitFile : Option ℕ → Type 0
+  IsFitFile None = ⊥
+  IsFitFile (Some file) = IsNamedFile names program file
+
+  -- a record that was found
+  pub record IsFitRecord (side : Side) : Type 0 where
+    pub named : IsNamedRecord names program program.entries (entry_of side.what)
+    pub kept : IsEntrySide names program (entry_of side.what) side

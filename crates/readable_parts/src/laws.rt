@@ -1,0 +1,37 @@
+//! What is read so that it can be read back. These functions do nothing; their contracts are laws.
+
+ghost use Rattle.std.specs.Prelude.{ℕ, List};
+ghost use Rattle.cob_tree.specs.declared.program.Program.{Program};
+ghost use Rattle.cobol_read.specs.Reading.{Reads};
+ghost use Rattle.kept_rules.specs.Laws.{ReadBack};
+ghost use Rattle.kept_rules.specs.Named.{AreStated};
+ghost use Rattle.readable_parts.specs.Laws.{NamesAreReadable, ProgramsThatAreReadAreStated, ProgramsThatAreReadAreTitled, ProgramsThatAreReadKeepRules};
+
+use data_forms::Refers;
+
+/// Files and records that are read are found by their names where they are printed, and status
+/// items are spelled.
+pub fn names_are_readable()
+    ensures { NamesAreReadable }
+{}
+
+/// The names of a program that is read may be names, and its values are literals.
+pub fn programs_that_are_read_are_titled()
+    ensures { ProgramsThatAreReadAreTitled }
+{}
+
+/// Its files and entries keep the rules.
+pub fn programs_that_are_read_keep_rules()
+    ensures { ProgramsThatAreReadKeepRules }
+{}
+
+/// Its status items are spelled, where references are fit.
+pub fn programs_that_are_read_are_stated()
+    ensures { ProgramsThatAreReadAreStated }
+{}
+
+/// What is printed of its divisions declares the same, whatever form spells its status items.
+pub fn declarations_that_are_read_read_back<R: Refers>()
+    ensures { (taken : ℕ) (bytes : List ℕ) (program : Program) → Reads bytes program →
+        AreStated R.status program program.files → ReadBack R.status taken program }
+{}

@@ -1,0 +1,18 @@
+//! What holds of how deep split programs nest. These functions do nothing; their contracts are laws.
+
+ghost use Rattle.split_depth.specs.Laws.{NamedStatementsHaveArms, SplitProgramsNestWithin, WrittenStmtsNestAsJudged};
+
+/// What is written of a body whose choices have arms nests just as deep as is judged of it.
+pub fn written_stmts_nest_as_judged()
+    ensures { WrittenStmtsNestAsJudged }
+{}
+
+/// The choices of statements that are as they are read have arms.
+pub fn named_statements_have_arms()
+    ensures { NamedStatementsHaveArms }
+{}
+
+/// What a program is split into nests within the limit, where the choices of its bodies have arms.
+pub fn split_programs_nest_within()
+    ensures { SplitProgramsNestWithin }
+{}
