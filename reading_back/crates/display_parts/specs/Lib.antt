@@ -1,0 +1,2 @@
+-- What the parts of statements give and spell.
+pub mod Laws
