@@ -16,3 +16,7 @@ pub mod FilingLemmas
 pub mod MachineLemmas
 -- what a run has come to so far
 pub mod RunningLemmas
+-- what a run leaves of the devices of its bench
+pub mod FallLemmas
+-- where no file is open, nothing is left to close
+pub mod ShutLemmas

@@ -16,3 +16,5 @@ pub mod Ways
 pub mod Machine
 -- what a run comes to
 pub mod Running
+-- what a run leaves of the devices of its bench
+pub mod Falling

@@ -1,6 +1,7 @@
 //! Statements on files.
 
-ghost use Rattle.std.specs.Prelude.{IsTrue};
+ghost use Rattle.std.specs.Prelude.{◌≡◌, IfErr, IsTrue, map};
+ghost use Rattle.file_acts.specs.Ends.{DoneOver};
 ghost use Rattle.cobol_run.specs.Filing.{StandsInNone};
 
 use crate::frame::Frame;
@@ -11,7 +12,8 @@ use cob_act::{Done, has_arms};
 use cob_store::Stack;
 use cob_tree::{Arms, Place, Stmt};
 use file_acts::{Fault, Reading, all_opened, all_shut, read_one, rewritten, written};
-use file_model::{Bench, FileTable};
+use file_desk::Watched;
+use file_model::{Bench, Device, FileTable};
 
 /// Whether a statement is one on files.
 #[tactic(auto, using(crate::proofs::FilingLemmas::opens_none, crate::proofs::FilingLemmas::closes_none, crate::proofs::FilingLemmas::read_none, crate::proofs::FilingLemmas::write_none, crate::proofs::FilingLemmas::rewrite_none))]
@@ -36,7 +38,9 @@ fn place_of(place: &Option<Place>) -> Option<&Place> {
 }
 
 // The arm that a READ chose is to be done first.
-fn push_arm<'a>(frames: &mut Stack<Frame<'a>>, arms: &'a Arms, done: Done) -> Result<Done, Fault> {
+fn push_arm<'a>(frames: &mut Stack<Frame<'a>>, arms: &'a Arms, done: Done) -> Result<Done, Fault>
+    ensures { IfErr result (λ fault. fault ≡ Fault.NoMemory) }
+{
     match done {
         Done::Chose(1) => push_stmts(frames, stmts_or_none(&arms.first))?,
         Done::Chose(_) => push_stmts(frames, stmts_or_none(&arms.second))?,
@@ -46,6 +50,7 @@ fn push_arm<'a>(frames: &mut Stack<Frame<'a>>, arms: &'a Arms, done: Done) -> Re
 }
 
 /// Does a statement on files; any other does nothing.
+#[tactic(auto, using(crate::proofs::FallLemmas::arm_asks_none))]
 pub fn filed<'a>(
     plan: &Plan,
     frames: &mut Stack<Frame<'a>>,
@@ -53,7 +58,11 @@ pub fn filed<'a>(
     table: &mut FileTable,
     bench: &mut Bench,
     stmt: &'a Stmt,
-) -> Result<Done, Fault> {
+) -> Result<Done, Fault>
+    ensures bench { DoneOver result bench.old.left bench.new.left
+        (map ⟦<Box<dyn Device> as Watched>⟧.seen bench.old.devices.items)
+        (map ⟦<Box<dyn Device> as Watched>⟧.seen bench.new.devices.items) }
+{
     let Held { store, scratch, .. } = held;
     let program = plan.program;
     let areas = &plan.areas;

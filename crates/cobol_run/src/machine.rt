@@ -1,6 +1,6 @@
 //! A program as it runs, step by step.
 
-ghost use Rattle.std.specs.Prelude.{◌≡◌, ◌<◌, ◌^◌, [], ℕ, List, IfOk, length};
+ghost use Rattle.std.specs.Prelude.{◌≡◌, ◌≢◌, ◌<◌, ◌^◌, [], ℕ, List, IfOk, length, map};
 ghost use Rattle.file_model.specs.World.{World};
 ghost use Rattle.cob_tree.specs.declared.program.Program.{Program};
 ghost use Rattle.control.specs.Outcome.{Trace};
@@ -8,6 +8,7 @@ ghost use Rattle.control.specs.Source as source;
 ghost use Rattle.cobol_meaning.specs.Acting.{Memory};
 ghost use Rattle.language.specs.Control.{control_of};
 ghost use Rattle.language.specs.Items.{Item};
+ghost use Rattle.cobol_run.specs.Falling.{StepFalls};
 ghost use Rattle.cobol_run.specs.Frames.{last_in, last_of, pending_of, rest_of};
 ghost use Rattle.cobol_run.specs.Machine.{Follows, IsNumbered, ends_by, falls_by, goes_by, performs_by, rest_in, state_in, state_with, steps_by};
 ghost use Rattle.cobol_run.specs.Plain.{PlainState};
@@ -25,7 +26,8 @@ use cob_base::{NoMemory, Text};
 use cob_store::Stack;
 use cob_tree::{Abend, FlowFault, Paragraph, Stmt};
 use file_acts::Fault;
-use file_model::{Bench, FileTable};
+use file_desk::Watched;
+use file_model::{Bench, Device, FileTable};
 
 /// How a run ends by itself.
 #[derive(Clone, Copy)]
@@ -106,6 +108,7 @@ impl<'a> Machine<'a> {
         ensures step { IfOk result (λ step. (world : World) (trace : Trace) (rest : List Item) →
             Follows step self.new world trace (falls_by self.old.plan self.old.paragraph
             (state_with self.old rest (memory_in self.old.held.store world) trace))) }
+        ensures live { IfOk result (λ step. step ≢ Step.Failed) }
         ensures plan { self.new.plan ≡ self.old.plan }
         ensures table { self.new.table ≡ self.old.table }
     {
@@ -124,6 +127,7 @@ impl<'a> Machine<'a> {
             Follows step self.new world trace (ends_by self.old.plan
             (pending_of self.old.plan.program.now self.old.frames)
             (state_with self.old rest (memory_in self.old.held.store world) trace))) }
+        ensures live { IfOk result (λ step. step ≢ Step.Failed) }
         ensures plan { self.new.plan ≡ self.old.plan }
         ensures table { self.new.table ≡ self.old.table }
     {
@@ -153,6 +157,7 @@ impl<'a> Machine<'a> {
             Follows step self.new world trace (performs_by self.old.plan entry exit
             (rest_in self.old)
             (state_with self.old rest (memory_in self.old.held.store world) trace))) }
+        ensures live { IfOk result (λ step. step ≢ Step.Failed) }
         ensures plan { self.new.plan ≡ self.old.plan }
         ensures table { self.new.table ≡ self.old.table }
     {
@@ -176,6 +181,7 @@ impl<'a> Machine<'a> {
             (way_seen (last_of self.old.plan.program.now self.old.paragraph) way
             self.old.held.shown (memory_in self.old.held.store world) (rest_in self.old))
             (state_with self.old rest memory trace))) }
+        ensures live { IfOk result (λ step. step ≢ Step.Failed) }
         ensures plan { self.new.plan ≡ self.old.plan }
         ensures table { self.new.table ≡ self.old.table }
     {
@@ -200,6 +206,9 @@ impl<'a> Machine<'a> {
 
     // A statement on files.
     fn file_step(&mut self, bench: &mut Bench, stmt: &'a Stmt) -> Result<Step, NoMemory>
+        ensures falls { IfOk result (λ step. StepFalls step bench.old.left bench.new.left
+            (map ⟦<Box<dyn Device> as Watched>⟧.seen bench.old.devices.items)
+            (map ⟦<Box<dyn Device> as Watched>⟧.seen bench.new.devices.items)) }
         ensures plan { self.new.plan ≡ self.old.plan }
     {
         let done = filed(
@@ -220,10 +229,14 @@ impl<'a> Machine<'a> {
 
     /// One step. Bytes that it shows are in `held.shown`. Its statements on files are done over the
     /// bench, and a device that fails is taken off it.
+    #[tactic(auto, using(crate::proofs::FallLemmas::asks_none))]
     pub fn step(&mut self, bench: &mut Bench) -> Result<Step, NoMemory>
         ensures step { IfOk result (λ step. (world : World) (trace : Trace) →
             PlainState (state_in self.old world trace) → Follows step self.new world trace
             (steps_by self.old.plan (state_in self.old world trace))) }
+        ensures falls { IfOk result (λ step. StepFalls step bench.old.left bench.new.left
+            (map ⟦<Box<dyn Device> as Watched>⟧.seen bench.old.devices.items)
+            (map ⟦<Box<dyn Device> as Watched>⟧.seen bench.new.devices.items)) }
         ensures plan { self.new.plan ≡ self.old.plan }
 
         // without statements on files the devices are left alone

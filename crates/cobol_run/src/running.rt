@@ -1,6 +1,6 @@
 //! A whole run.
 
-ghost use Rattle.std.specs.Prelude.{◌≡◌, ◌≢◌, ◌<◌, ◌≤◌, vec_len, ◌^◌, [], ℕ, List, IfOk, false, length};
+ghost use Rattle.std.specs.Prelude.{◌≡◌, ◌≢◌, ◌<◌, ◌≤◌, vec_len, ◌^◌, [], ℕ, List, IfOk, false, length, map, slice_get, take};
 ghost use Rattle.std.specs.declared.option.Option.{Option};
 ghost use Rattle.cob_tree.specs.declared.program.Program.{Program};
 ghost use Rattle.cob_base.specs.Answers.{Makes};
@@ -9,6 +9,11 @@ ghost use Rattle.cob_base.specs.Sink.{SinkCall, sink_call};
 ghost use Rattle.cob_store.specs.Laying.{layout_of};
 ghost use Rattle.statements.specs.Does.{declared_in};
 ghost use Rattle.cobol_meaning.specs.Runs.{Files, begun_in, world_with};
+ghost use Rattle.file_model.specs.World.{World};
+ghost use Rattle.file_desk.specs.Calls.{addresses_of};
+ghost use Rattle.file_desk.specs.Seen.{Seen};
+ghost use Rattle.file_desk.specs.Standing.{Stands};
+ghost use Rattle.cobol_run.specs.Falling.{ClosesAll, NamesDevice, RunFalls, StepsFall, TurnFalls, breaks_off};
 ghost use Rattle.cobol_run.specs.Filing.{some_open};
 ghost use Rattle.cobol_run.specs.Machine.{state_in};
 ghost use Rattle.cobol_run.specs.Plain.{IsPlain};
@@ -21,7 +26,8 @@ use cob_base::{NoMemory, Sink, Text};
 use cob_store::{Areas, Stack, Store, layout};
 use cob_tree::{Entry, Program};
 use file_acts::close_left;
-use file_model::{Bench, FileTable};
+use file_desk::Watched;
+use file_model::{Bench, Device, FileTable};
 use sink_giving::give_all;
 use std::alloc::Global;
 
@@ -108,6 +114,9 @@ fn make_turn<K: Sink>(machine: &mut Machine, bench: &mut Bench, out: &mut K) -> 
     ensures cause { result ≡ Turned.WriteFault → Rose (K.faults out.old) (K.faults out.new) }
     ensures later { K.faults out.old ≤ K.faults out.new }
     ensures plan { machine.new.plan ≡ machine.old.plan }
+    ensures falls { TurnFalls result bench.old.left bench.new.left
+        (map ⟦<Box<dyn Device> as Watched>⟧.seen bench.old.devices.items)
+        (map ⟦<Box<dyn Device> as Watched>⟧.seen bench.new.devices.items) }
 
     // without statements on files the devices are left alone
     ensures kept { (program : Program) (done : ℕ) (sink : SinkCall) →
@@ -132,15 +141,23 @@ fn make_turn<K: Sink>(machine: &mut Machine, bench: &mut Bench, out: &mut K) -> 
     }
 }
 
+fn device_name(device: &Box<dyn Device>) -> &[u8]
+    ensures { result.now ≡ (⟦<Box<dyn Device> as Watched>⟧.seen device.now).name }
+{
+    device.name()
+}
+
 // The answer where the device at that place failed.
 fn device_fault(alloc: Global, bench: &Bench, at: usize) -> Ran
-    ensures { result ≢ Ran.WriteFault }
+    ensures live { result ≢ Ran.WriteFault }
+    ensures named { NamesDevice result
+        (slice_get (map ⟦<Box<dyn Device> as Watched>⟧.seen bench.now.devices.items) at) }
 {
     if at >= bench.devices.len() {
         return Ran::NoMemory;
     }
     let mut name = Text::new(alloc);
-    match name.add(bench.devices[at].name()) {
+    match name.add(device_name(&bench.devices[at])) {
         Ok(()) => Ran::DeviceFault(name),
         Err(_) => Ran::NoMemory,
     }
@@ -162,12 +179,16 @@ fn run_on<K: Sink>(
     ensures kept { (program : Program) → SoFar program machine.old 0 (since (K.held out.old)
         (K.faults out.old) (K.held out.old) (K.faults out.old)) → IsPlain program →
         (bench.new ≡ bench.old) × (machine.new.table ≡ machine.old.table) }
+    ensures falls { StepsFall result bench.old.left bench.new.left
+        (map ⟦<Box<dyn Device> as Watched>⟧.seen bench.old.devices.items)
+        (map ⟦<Box<dyn Device> as Watched>⟧.seen bench.new.devices.items) }
 {
+    let left = bench.left;
     for turn in 0..steps {
         match make_turn(machine, bench, out) {
             Turned::On => {}
             Turned::Over(ending) => return Ran::Ended(ending),
-            Turned::Failed => return device_fault(alloc, bench, bench.left),
+            Turned::Failed => return device_fault(alloc, bench, left.saturating_sub(1)),
             Turned::WriteFault => return Ran::WriteFault,
             Turned::NoMemory => return Ran::NoMemory,
         }
@@ -181,7 +202,9 @@ fn some_open(table: &FileTable) -> bool
     table.rows.as_slice().iter().any(|row| row.how.is_some())
 }
 
-fn breaks_off(ran: &Ran) -> bool {
+fn breaks_off(ran: &Ran) -> bool
+    ensures { result ≡ breaks_off ran.now }
+{
     match ran {
         Ran::Ended(_) => false,
         Ran::Budget => false,
@@ -197,6 +220,18 @@ fn close_files(alloc: Global, machine: &mut Machine, bench: &mut Bench, ran: Ran
     ensures shut { some_open machine.old.table.rows ≡ false →
         (result ≡ ran) × (bench.new ≡ bench.old) }
     ensures cause { result ≡ Ran.WriteFault → ran ≡ Ran.WriteFault }
+    ensures falls { (left : ℕ) (old : List Seen) → StepsFall ran left bench.old.left old
+        (map ⟦<Box<dyn Device> as Watched>⟧.seen bench.old.devices.items) →
+        RunFalls result left bench.new.left old
+        (map ⟦<Box<dyn Device> as Watched>⟧.seen bench.new.devices.items) }
+    ensures world { let files = machine.old.plan.program.now.files in
+        length machine.old.table.rows ≡ length files → length files < 2 ^ 32 → (world : World) →
+        Stands (addresses_of files)
+        (take bench.old.left (map ⟦<Box<dyn Device> as Watched>⟧.seen bench.old.devices.items))
+        machine.old.table.rows world →
+        ClosesAll (addresses_of files)
+        (take bench.new.left (map ⟦<Box<dyn Device> as Watched>⟧.seen bench.new.devices.items))
+        machine.new.table.rows (length files) world }
 {
     if !some_open(&machine.table) {
         return ran;
@@ -224,6 +259,9 @@ pub fn run<K: Sink>(
     ensures run { (files : Files) → IsPlain program.now → RunsAs program.now files steps
         (sink_call K.held K.faults out.old out.new) result }
     ensures cause { result ≡ Ran.WriteFault → Rose (K.faults out.old) (K.faults out.new) }
+    ensures falls { RunFalls result bench.old.left bench.new.left
+        (map ⟦<Box<dyn Device> as Watched>⟧.seen bench.old.devices.items)
+        (map ⟦<Box<dyn Device> as Watched>⟧.seen bench.new.devices.items) }
 
     // without statements on files the devices are left alone
     ensures kept { IsPlain program.now → bench.new ≡ bench.old }

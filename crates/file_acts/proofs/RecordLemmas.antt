@@ -13,7 +13,7 @@ use Rattle.cob_store.specs.Place as place
 use Rattle.cob_store.specs.Place.{Memory, memory_of, OfMemory, Value, reached}
 use Rattle.statements.specs.Filing.{item_form}
 use Rattle.statements.specs.Moving.{Sender, all_groups, area_form, form_of, is_group, item_reached, moved, operand_sent, place_sent, put_answer, receive, received, sent, sent_on}
-use Rattle.statements.specs.Outcome.{Outcome, done, each, go_on}
+use Rattle.statements.specs.Outcome.{done, each, go_on}
 use Rattle.file_acts.specs.Record.{item_place}
 
 reached-item : (item : ℕ) (memory : Memory) → reached (item_place item) memory ≡ item_reached item memory

@@ -1,6 +1,7 @@
 //! The statements.
 
-ghost use Rattle.std.specs.Prelude.{◌≤◌, vec_len};
+ghost use Rattle.std.specs.Prelude.{◌≤◌, map, vec_len};
+ghost use Rattle.file_acts.specs.Ends.{DoneOver};
 
 use crate::desk::{close, open, read, rewrite, write};
 use crate::fault::Fault;
@@ -10,7 +11,8 @@ use cob_act::Done;
 use cob_base::NoMemory;
 use cob_store::{Areas, Spot, Store};
 use cob_tree::{Abend, Opening, Operand, Place, Program};
-use file_model::{Bench, FileTable};
+use file_desk::Watched;
+use file_model::{Bench, Device, FileTable};
 
 // OPEN of one file.
 fn opened(
@@ -20,7 +22,11 @@ fn opened(
     bench: &mut Bench,
     table: &mut FileTable,
     opening: Opening,
-) -> Result<Done, Fault> {
+) -> Result<Done, Fault>
+    ensures bench { DoneOver result bench.old.left bench.new.left
+        (map ⟦<Box<dyn Device> as Watched>⟧.seen bench.old.devices.items)
+        (map ⟦<Box<dyn Device> as Watched>⟧.seen bench.new.devices.items) }
+{
     match status_spot(program, areas, store, opening.file) {
         Err(abend) => Ok(Done::Abended(abend)),
         Ok(item) => {
@@ -31,6 +37,7 @@ fn opened(
 }
 
 /// OPEN: each file in turn, up to one that ends the run.
+#[tactic(auto, using(crate::proofs::BenchLemmas::broke_after))]
 pub fn all_opened(
     program: &Program,
     areas: &Areas,
@@ -40,6 +47,9 @@ pub fn all_opened(
     openings: &[Opening],
 ) -> Result<Done, Fault>
     requires within { bench.old.left ≤ vec_len bench.old.devices }
+    ensures bench { DoneOver result bench.old.left bench.new.left
+        (map ⟦<Box<dyn Device> as Watched>⟧.seen bench.old.devices.items)
+        (map ⟦<Box<dyn Device> as Watched>⟧.seen bench.new.devices.items) }
 {
     for opening in openings {
         if let Done::Abended(abend) = opened(program, areas, store, bench, table, *opening)? {
@@ -57,7 +67,11 @@ fn shut(
     bench: &mut Bench,
     table: &mut FileTable,
     file: u32,
-) -> Result<Done, Fault> {
+) -> Result<Done, Fault>
+    ensures bench { DoneOver result bench.old.left bench.new.left
+        (map ⟦<Box<dyn Device> as Watched>⟧.seen bench.old.devices.items)
+        (map ⟦<Box<dyn Device> as Watched>⟧.seen bench.new.devices.items) }
+{
     match status_spot(program, areas, store, file) {
         Err(abend) => Ok(Done::Abended(abend)),
         Ok(item) => {
@@ -68,6 +82,7 @@ fn shut(
 }
 
 /// CLOSE: each file in turn, up to one that ends the run.
+#[tactic(auto, using(crate::proofs::BenchLemmas::broke_after))]
 pub fn all_shut(
     program: &Program,
     areas: &Areas,
@@ -77,6 +92,9 @@ pub fn all_shut(
     files: &[u32],
 ) -> Result<Done, Fault>
     requires within { bench.old.left ≤ vec_len bench.old.devices }
+    ensures bench { DoneOver result bench.old.left bench.new.left
+        (map ⟦<Box<dyn Device> as Watched>⟧.seen bench.old.devices.items)
+        (map ⟦<Box<dyn Device> as Watched>⟧.seen bench.new.devices.items) }
 {
     for file in files {
         if let Done::Abended(abend) = shut(program, areas, store, bench, table, *file)? {
@@ -143,6 +161,9 @@ pub fn read_one(
     reading: Reading,
 ) -> Result<Done, Fault>
     requires within { bench.old.left ≤ vec_len bench.old.devices }
+    ensures bench { DoneOver result bench.old.left bench.new.left
+        (map ⟦<Box<dyn Device> as Watched>⟧.seen bench.old.devices.items)
+        (map ⟦<Box<dyn Device> as Watched>⟧.seen bench.new.devices.items) }
 {
     let item = match status_spot(program, areas, store, reading.file) {
         Err(abend) => return Ok(Done::Abended(abend)),
@@ -189,6 +210,9 @@ pub fn written(
     from: Option<&Operand>,
 ) -> Result<Done, Fault>
     requires within { bench.old.left ≤ vec_len bench.old.devices }
+    ensures bench { DoneOver result bench.old.left bench.new.left
+        (map ⟦<Box<dyn Device> as Watched>⟧.seen bench.old.devices.items)
+        (map ⟦<Box<dyn Device> as Watched>⟧.seen bench.new.devices.items) }
 {
     match put_out(program, areas, store, scratch, entry, from)? {
         Err(abend) => Ok(Done::Abended(abend)),
@@ -213,6 +237,9 @@ pub fn rewritten(
     from: Option<&Operand>,
 ) -> Result<Done, Fault>
     requires within { bench.old.left ≤ vec_len bench.old.devices }
+    ensures bench { DoneOver result bench.old.left bench.new.left
+        (map ⟦<Box<dyn Device> as Watched>⟧.seen bench.old.devices.items)
+        (map ⟦<Box<dyn Device> as Watched>⟧.seen bench.new.devices.items) }
 {
     match put_out(program, areas, store, scratch, entry, from)? {
         Err(abend) => Ok(Done::Abended(abend)),

@@ -1,13 +1,23 @@
 //! What devices are asked. A file that the program hasn't is never open, and has no name.
 
-ghost use Rattle.std.specs.Prelude.{◌≡◌, ◌<◌, ◌≤◌, ◌^◌, IsTrue, length, vec_len};
+ghost use Rattle.std.specs.Prelude.{ℕ, List, ◌≡◌, ◌<◌, ◌≤◌, ◌^◌, IsTrue, length, map, take, vec_len};
+ghost use Rattle.file_model.specs.World.{World};
+ghost use Rattle.file_desk.specs.Calls.{addresses_of};
+ghost use Rattle.file_desk.specs.Falling.{Falls, FallsIf};
+ghost use Rattle.file_desk.specs.Seen.{Seen};
+ghost use Rattle.file_desk.specs.Shutting.{ShutsAll};
+ghost use Rattle.file_desk.specs.Standing.{Stands};
+ghost use Rattle.file_acts.specs.Ends.{DoneOver};
 
 use crate::fault::Fault;
 use cob_tree::{FileEntry, Opening};
-use file_desk::Tried;
-use file_model::{Bench, FileTable};
+use file_desk::{Tried, Watched};
+use file_model::{Bench, Device, FileTable};
 
-fn status_of(tried: Tried) -> Result<u8, Fault> {
+fn status_of(tried: Tried) -> Result<u8, Fault>
+    ensures { (left left_now : ℕ) (old new : List Seen) →
+        Falls tried left left_now old new → DoneOver result left left_now old new }
+{
     match tried {
         Tried::Status(status) => Ok(status),
         Tried::Failed => Err(Fault::Device),
@@ -19,6 +29,8 @@ fn status_of(tried: Tried) -> Result<u8, Fault> {
 fn has_rows(table: &FileTable, files: &[FileEntry]) -> bool
     ensures rows { IsTrue result → length table.now.rows ≡ length files.now }
     ensures few { IsTrue result → length files.now < 2 ^ 32 }
+    ensures has { length table.now.rows ≡ length files.now → length files.now < 2 ^ 32 →
+        IsTrue result }
 {
     table.rows.len() == files.len() && files.len() < 1 << 32
 }
@@ -37,7 +49,11 @@ pub fn open(
     table: &mut FileTable,
     files: &[FileEntry],
     opening: Opening,
-) -> Result<u8, Fault> {
+) -> Result<u8, Fault>
+    ensures bench { DoneOver result bench.old.left bench.new.left
+        (map ⟦<Box<dyn Device> as Watched>⟧.seen bench.old.devices.items)
+        (map ⟦<Box<dyn Device> as Watched>⟧.seen bench.new.devices.items) }
+{
     if !has_row(table, files, opening.file) {
         return Ok(30);
     }
@@ -50,7 +66,11 @@ pub fn close(
     table: &mut FileTable,
     files: &[FileEntry],
     file: u32,
-) -> Result<u8, Fault> {
+) -> Result<u8, Fault>
+    ensures bench { DoneOver result bench.old.left bench.new.left
+        (map ⟦<Box<dyn Device> as Watched>⟧.seen bench.old.devices.items)
+        (map ⟦<Box<dyn Device> as Watched>⟧.seen bench.new.devices.items) }
+{
     if !has_row(table, files, file) {
         return Ok(42);
     }
@@ -64,7 +84,11 @@ pub fn read(
     files: &[FileEntry],
     file: u32,
     into: &mut [u8],
-) -> Result<u8, Fault> {
+) -> Result<u8, Fault>
+    ensures bench { DoneOver result bench.old.left bench.new.left
+        (map ⟦<Box<dyn Device> as Watched>⟧.seen bench.old.devices.items)
+        (map ⟦<Box<dyn Device> as Watched>⟧.seen bench.new.devices.items) }
+{
     if !has_row(table, files, file) {
         return Ok(47);
     }
@@ -78,7 +102,11 @@ pub fn write(
     files: &[FileEntry],
     file: u32,
     bytes: &[u8],
-) -> Result<u8, Fault> {
+) -> Result<u8, Fault>
+    ensures bench { DoneOver result bench.old.left bench.new.left
+        (map ⟦<Box<dyn Device> as Watched>⟧.seen bench.old.devices.items)
+        (map ⟦<Box<dyn Device> as Watched>⟧.seen bench.new.devices.items) }
+{
     if !has_row(table, files, file) {
         return Ok(48);
     }
@@ -92,7 +120,11 @@ pub fn rewrite(
     files: &[FileEntry],
     file: u32,
     bytes: &[u8],
-) -> Result<u8, Fault> {
+) -> Result<u8, Fault>
+    ensures bench { DoneOver result bench.old.left bench.new.left
+        (map ⟦<Box<dyn Device> as Watched>⟧.seen bench.old.devices.items)
+        (map ⟦<Box<dyn Device> as Watched>⟧.seen bench.new.devices.items) }
+{
     if !has_row(table, files, file) {
         return Ok(49);
     }
@@ -103,6 +135,16 @@ pub fn rewrite(
 /// Closes the files that are open, on the devices that are left, and says whether one failed.
 pub fn close_left(bench: &mut Bench, table: &mut FileTable, files: &[FileEntry]) -> bool
     requires within { bench.old.left ≤ vec_len bench.old.devices }
+    ensures bench { FallsIf result bench.old.left bench.new.left
+        (map ⟦<Box<dyn Device> as Watched>⟧.seen bench.old.devices.items)
+        (map ⟦<Box<dyn Device> as Watched>⟧.seen bench.new.devices.items) }
+    ensures world { length table.old.rows ≡ length files.now → length files.now < 2 ^ 32 →
+        (world : World) → Stands (addresses_of files.now)
+        (take bench.old.left (map ⟦<Box<dyn Device> as Watched>⟧.seen bench.old.devices.items))
+        table.old.rows world →
+        ShutsAll (addresses_of files.now)
+        (take bench.new.left (map ⟦<Box<dyn Device> as Watched>⟧.seen bench.new.devices.items))
+        table.new.rows (length files.now) result world }
 {
     has_rows(table, files) && file_desk::close_open(bench, table, files)
 }

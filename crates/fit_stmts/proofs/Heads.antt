@@ -34,7 +34,7 @@ use Rattle.named_forms.proofs.Giving.{any, hence, still, pure, refuse, note, key
 use Rattle.stmt_spelling.specs.Part.{Kept}
 use Rattle.stmt_spelling.specs.Stmt.{Some_of, IfAny}
 use Rattle.fit_stmts.specs.Fits.{Fits}
-use Rattle.fit_stmts.specs.Given.{OperandFits, FileFits, PartsFit}
+use Rattle.fit_stmts.specs.Given.{NumberFits, FileFits, PartsFit}
 use Rattle.fit_stmts.proofs.Shape.{IsFile, FitsControl, FitsTurns, FitsSubject, Compares, FitsTest, TakesRecord, FitsStmt}
 use Rattle.readable_stmts.proofs.From.{GivesFrom, Begins, bind_from, word_from, where_begun, digits}
 use Rattle.readable_stmts.proofs.Lists.{some-one, items}
@@ -186,16 +186,16 @@ module _ {Side Known : Type 0} {parts : Parts Side Known} {kept : Kept Side} {fi
   unfolding loops.until_control
   until_control = any law.test_part >>= (λ after. where_next (still (varying_cond after)) (still (until_cond after)))
 
-  times_fine : (side : Side) → OperandFits parts kept fits side → parts.whole_fault side ≡ None → FitsControl fits (controls.Times (parts.operand_of side))
+  times_fine : (side : Side) → NumberFits parts kept fits side → parts.whole_fault side ≡ None → FitsControl fits (controls.Times (parts.operand_of side))
   times_fine side f n = f.whole n
 
-  times_behind : (side : Side) → Gives Kind (loops.times_behind parts side) (λ control. OperandFits parts kept fits side → Turns control)
+  times_behind : (side : Side) → Gives Kind (loops.times_behind parts side) (λ control. NumberFits parts kept fits side → Turns control)
   unfolding loops.times_behind
   times_behind side = note >> (key (codes "TIMES") >> pure (λ _ n f. ((times_fine side f n.1, f.turns n.1), times_fine side f n.1)))
 
   times_control : Gives Kind (loops.times_control parts) Turns
   unfolding loops.times_control
-  times_control = F.operand >>= times_behind
+  times_control = F.operand >>= (λ side. hence (λ control h f. h f.as_number) (times_behind side))
 
   control_part : Gives Kind (loops.control_part parts) (λ control. FitsControl fits control.0)
   unfolding loops.control_part loops.times_or_once
@@ -262,7 +262,7 @@ module _ {Side Known : Type 0} {parts : Parts Side Known} {kept : Kept Side} {fi
       unfolding loops.until_head loops.inline
       until_head = any E >> (until_control >>= (λ control. chosen control.1 refuse (pure (λ c _. c.0))))
 
-      times_head : (side : Side) → Gives Kind (loops.times_head parts side) (λ head. OperandFits parts kept fits side → PerformFine head)
+      times_head : (side : Side) → Gives Kind (loops.times_head parts side) (λ head. NumberFits parts kept fits side → PerformFine head)
       unfolding loops.times_head
       times_head side = times_behind side >>= (λ control. pure (λ h f. (h f).0))
 
@@ -278,7 +278,7 @@ module _ {Side Known : Type 0} {parts : Parts Side Known} {kept : Kept Side} {fi
 
       operand_head : Gives Kind (loops.operand_head parts enter) PerformFine
       unfolding loops.operand_head
-      operand_head = any E >> (F.operand >>= (λ side. hence (λ head h f _. h f) (times_head side)))
+      operand_head = any E >> (F.operand >>= (λ side. hence (λ head h f _. h f.as_number) (times_head side)))
 
       perform_name : GivesFrom (Begins parts.is_name) Kind (loops.perform_name parts enter) PerformFine
       unfolding loops.perform_name

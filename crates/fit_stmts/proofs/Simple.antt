@@ -60,7 +60,7 @@ module _ {Side Known : Type 0} {parts : Parts Side Known} {kept : Kept Side} {fi
 
   pub number_operand : Gives Kind (arithmetic.number_operand parts) (Number fits)
   unfolding arithmetic.number_operand
-  number_operand = F.operand >>= (λ side. note >> pure (λ n f. f.number n.1))
+  number_operand = F.operand >>= (λ side. note >> pure (λ n f. f.as_number.number n.1))
 
   -- ---- arithmetic
 
@@ -117,7 +117,7 @@ module _ {Side Known : Type 0} {parts : Parts Side Known} {kept : Kept Side} {fi
   item_goal : Gives Kind (arithmetic.item_goal parts) GoalFine
   unfolding arithmetic.item_goal arithmetic.item_goal_behind
   item_goal = F.reference >>= (λ side. note >> where_next
-      (hence (λ goal h n f. h (f.operand.number n.1)) (giving_goal (parts.operand_of side)))
+      (hence (λ goal h n f. h (f.as_number.number n.1)) (giving_goal (parts.operand_of side)))
       (hence (λ goal h n f. h (f.number n.1)) (targets_goal side)))
 
   goal : Gives Kind (arithmetic.goal parts) GoalFine

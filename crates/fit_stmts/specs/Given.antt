@@ -24,14 +24,19 @@ use Rattle.fit_stmts.specs.Statement.{are_fit_stmts}
 -- ---- parts
 
 module _ {Side Known : Type 0} (parts : Parts Side Known) (kept : Kept Side) (fits : Fits) where
-  pub record OperandFits (side : Side) : Type 0 where
-    pub value : parts.value_fault side ≡ None → fits.value (parts.operand_of side) ≡ true
+  -- where arithmetic reads it, and as a count
+  pub record NumberFits (side : Side) : Type 0 where
     pub number : parts.number_fault side ≡ None → fits.number (parts.operand_of side) ≡ true
     pub whole : parts.whole_fault side ≡ None → fits.whole (parts.operand_of side) ≡ true
     pub turns : parts.whole_fault side ≡ None → fits.turns (parts.operand_of side) ≡ true
+
+  pub record OperandFits (side : Side) : Type 0 where
+    pub value : parts.value_fault side ≡ None → fits.value (parts.operand_of side) ≡ true
+    pub as_number : NumberFits side
     pub side_kept : kept.operand (parts.operand_of side) side
 
-  -- an item, which may be an operand too
+  -- An item, which may be an operand too where it is a number. As another value it needn't fit: an
+  -- operand counts as one term more, behind which its window may have no room.
   pub record PlaceFits (side : Side) : Type 0 where
     pub receives : parts.value_fault side ≡ None → fits.receives (parts.place_of side) ≡ true
     pub number : parts.number_fault side ≡ None → fits.number_place (parts.place_of side) ≡ true
@@ -42,7 +47,7 @@ module _ {Side Known : Type 0} (parts : Parts Side Known) (kept : Kept Side) (fi
     pub into : (file : ℕ) → parts.into_fault (Some file) side ≡ None →
         fits.into file (parts.place_of side) ≡ true
     pub side_kept : kept.operand (operands.Place (parts.place_of side)) side
-    pub operand : OperandFits side
+    pub as_number : NumberFits side
 
   pub record ExprFits (side : Side) : Type 0 where
     pub value : parts.value_fault side ≡ None → fits.expr_value (parts.expr_of side) ≡ true
@@ -75,13 +80,13 @@ module _ {Side Known : Type 0} (parts : Parts Side Known) (kept : Kept Side) (fi
   pub record PartsFit (Kind : TokenKind → Type 0) : Type 0 where
     pub operand : Gives Kind parts.operand OperandFits
     pub reference : Gives Kind parts.reference PlaceFits
-    -- behind a word that may be a name
+    -- behind a word that may be a name, where it counts turns
     pub reference_behind : (name : List ℕ) (position : Position) →
         Gives Kind (parts.reference_behind name position)
         (λ side. Kind (kinds.Word name) → parts.is_name (kinds.Word name) ≡ true →
-        OperandFits side)
+        NumberFits side)
     pub digits_side : (digits : List ℕ) (position : Position) → Kind (kinds.Digits digits) →
-        OperandFits (parts.digits_side digits position)
+        NumberFits (parts.digits_side digits position)
     pub expr : Gives Kind parts.expr ExprFits
     pub cond : Gives Kind parts.cond (λ found. fits.cond found.0 ≡ true)
     pub file : Gives Kind parts.file FileFits

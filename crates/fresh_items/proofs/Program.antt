@@ -21,7 +21,7 @@ use Rattle.fresh_items.specs.Fresh.{stem_of}
 
 -- ---- lists
 
-any-left : {A : Type 0} (test : A → Bool) (list more : List A) → list_any test list ≡ true → list_any test (list ++ more) ≡ true
+pub any-left : {A : Type 0} (test : A → Bool) (list more : List A) → list_any test list ≡ true → list_any test (list ++ more) ≡ true
 any-left test [] more h = absurd cc
 any-left {A = A} test (x ∷ list) more h = go (test x) refl (any-left test list more) h
   where
@@ -29,11 +29,11 @@ any-left {A = A} test (x ∷ list) more h = go (test x) refl (any-left test list
     go true is later h = or_left (test x) (list_any test (list ++ more)) is
     go false is later h = or_right (test x) (list_any test (list ++ more)) (later h)
 
-any-right : {A : Type 0} (test : A → Bool) (list more : List A) → list_any test more ≡ true → list_any test (list ++ more) ≡ true
+pub any-right : {A : Type 0} (test : A → Bool) (list more : List A) → list_any test more ≡ true → list_any test (list ++ more) ≡ true
 any-right test [] more h = h
 any-right test (x ∷ list) more h = or_right (test x) (list_any test (list ++ more)) (any-right test list more h)
 
-same-word : (word : List ℕ) → bytes_eq word word ≡ true
+pub same-word : (word : List ℕ) → bytes_eq word word ≡ true
 same-word word = (bytes_eq-Decides word word).1 refl
 
 -- ---- a table has the words that it is made of
@@ -56,7 +56,7 @@ all-stay : (table words : List (List ℕ)) (word : List ℕ) → list_any (bytes
 all-stay table [] word h = h
 all-stay table (first ∷ words) word h = all-stay (with_word table first) words word (stays table first word h)
 
-all-come : (table words : List (List ℕ)) (word : List ℕ) → list_any (bytes_eq word) words ≡ true → list_any (bytes_eq word) (with_words table words) ≡ true
+pub all-come : (table words : List (List ℕ)) (word : List ℕ) → list_any (bytes_eq word) words ≡ true → list_any (bytes_eq word) (with_words table words) ≡ true
 all-come table [] word h = absurd cc
 all-come table (first ∷ words) word h = go (bytes_eq word first) refl (all-come (with_word table first) words word) h
   where
@@ -74,7 +74,7 @@ with-word-few table word = go (list_any (bytes_eq word) table)
     go true = omega arith
     go false = let e = length_push table word in omega (arith, e)
 
-with-words-few : (table words : List (List ℕ)) → length (with_words table words) ≤ length table + length words
+pub with-words-few : (table words : List (List ℕ)) → length (with_words table words) ≤ length table + length words
 with-words-few table [] = omega arith
 with-words-few table (word ∷ words) = omega (arith, with-words-few (with_word table word) words, with-word-few table word)
 

@@ -14,7 +14,7 @@ use Rattle.word_forms.specs.Word.{has_letter, is_free, is_data_word}
 use Rattle.fresh_items.specs.Fresh.{stem_of, same_kind}
 
 -- it begins as a stem does
-abbrev begins : List ℕ → Bool
+abbrev pub begins : List ℕ → Bool
 begins (first ∷ second ∷ rest) = (first == 82) && (second == 88)
 begins _ = false
 
@@ -48,14 +48,18 @@ stem-letter Count rest = refl
 stem-letter State rest = refl
 stem-letter Exit rest = refl
 
+pub begun-free : (word : List ℕ) → begins word ≡ true → is_free word ≡ true
+unfolding is_free
+begun-free word b =
+    and_from (not (is_listed reserved_words word)) (not (is_listed left_out_words word))
+    (not_from_false (is_listed reserved_words word) (not-listed reserved_words word none-reserved b))
+    (not_from_false (is_listed left_out_words word) (not-listed left_out_words word none-left-out b))
+
 pub is-title : (kind : Added) (rest : List ℕ) → is_data_word (stem_of kind ++ rest) ≡ true
-unfolding is_data_word is_free
+unfolding is_data_word
 is-title kind rest =
     let word = stem_of kind ++ rest in
-    and_from (has_letter word) (not (is_listed reserved_words word) && not (is_listed left_out_words word)) (stem-letter kind rest)
-    (and_from (not (is_listed reserved_words word)) (not (is_listed left_out_words word))
-    (not_from_false (is_listed reserved_words word) (not-listed reserved_words word none-reserved (stem-begins kind rest)))
-    (not_from_false (is_listed left_out_words word) (not-listed left_out_words word none-left-out (stem-begins kind rest))))
+    and_from (has_letter word) (is_free word) (stem-letter kind rest) (begun-free word (stem-begins kind rest))
 
 short-stem : (kind : Added) → length (stem_of kind) ≤ 9
 short-stem Never = omega arith

@@ -18,3 +18,5 @@ mod Meaning
 mod Summing
 -- the limit, and the summary of a program
 mod Limits
+-- A summary has no more ranges than its table.
+pub mod Few

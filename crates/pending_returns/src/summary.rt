@@ -1,6 +1,6 @@
 //! The summary of a program.
 
-ghost use Rattle.std.specs.Prelude.{◌≡◌, ◌<◌, Some, length, slice_get, IfOk, MatchResult};
+ghost use Rattle.std.specs.Prelude.{◌≡◌, ◌<◌, ◌≤◌, Some, length, slice_get, IfOk, MatchResult};
 ghost use Rattle.language.specs.Control.{control_of};
 ghost use Rattle.flow_paths.specs.Flow.{main_range};
 ghost use Rattle.flow_numbers.specs.Kinds.{never_first_of};
@@ -29,7 +29,8 @@ pub fn summary_of(alloc: Global, table: &Table) -> Result<Summary, NoMemory>
     requires tidy { IsTidy table.now }
     requires main { slice_get table.now.ranges 0 ≡ Some main_range }
     requires rising { RangesRise table.now.ranges }
-    ensures { IfOk result (λ summary. SummarisesTable table.now summary) }
+    ensures summary { IfOk result (λ summary. SummarisesTable table.now summary) }
+    ensures few { IfOk result (λ summary. length summary.ranges ≤ length table.now.ranges) }
 {
     let returns = settle(alloc, table)?;
     let levels = levels_of(alloc, table, returns.as_slice())?;
@@ -62,6 +63,7 @@ pub fn summarise(alloc: Global, program: &Program) -> Result<Summary, SplitFault
     requires { 0 < length program.now.paragraphs }
     ensures summary { IfOk result (λ summary. IsSummary (never_first_of program.now.files)
         (control_of program.now) summary) }
+    ensures few { IfOk result (λ summary. length summary.ranges ≤ 5000) }
     ensures limit { MatchResult result (λ summary. IsWithin program.now)
         (λ fault. IsPast program.now fault) }
 {

@@ -2,5 +2,3 @@
 pub mod Answer
 -- What is left of a form behind its first parts.
 pub mod Step
--- What a statement is made of.
-pub mod Draft

@@ -14,6 +14,7 @@ use grammar_forms::{Cursor, Note, Unread};
 use part_readers::Parts;
 use read_faults::{name_fault, stop_fault};
 use std::alloc::Global;
+use stmt_drafts::drop_paragraphs;
 
 fn first_fault(earlier: Option<NameFault>, noted: Option<Note>) -> Option<NameFault>
     ensures { result ≡ answers.first_fault earlier noted }
@@ -54,7 +55,7 @@ pub fn read_division<P: Parts>(
         Ok(found) => match first_fault(earlier, cursor.fault()) {
             None => Ok(found),
             Some(fault) => {
-                drop(found);
+                drop_paragraphs(found);
                 Err(ParseFault::Name(fault))
             }
         },

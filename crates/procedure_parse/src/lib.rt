@@ -7,9 +7,6 @@
 #![tactic(auto)]
 
 mod answer;
-mod ended;
-mod held;
-mod made;
 mod paragraph;
 
 pub use answer::read_division;

@@ -7,14 +7,18 @@ ghost use Rattle.grammar_forms.specs.Reading.{Reads};
 ghost use Rattle.stmt_forms.specs.Paragraph as forms;
 ghost use Rattle.procedure_parse.specs.Step as steps;
 
-use crate::held::{stmts_from, stmts_with};
 use act_parse::exit_behind;
 use cob_base::{Items, NoMemory, Word};
 use cob_tree::{Paragraph, Sentence, Stmt};
 use grammar_forms::{Cursor, Position, Unread, Why};
-use part_readers::{Parts, at_procedure, at_stmt, pushed};
+use part_readers::{Parts, at_procedure, at_stmt};
 use std::alloc::Global;
+use stmt_drafts::{
+    drop_outline, drop_paragraphs, drop_sentences, drop_stmts, paragraph_added, sentence_added,
+    stmt_added,
+};
 use stmt_forms::{Outline, Scope};
+use stmt_parse::{stmts_from, stmts_with};
 
 /// How deep statements may nest.
 const MAX_NESTING: u32 = 500;
@@ -26,7 +30,7 @@ fn sentence_closed(cursor: &mut Cursor<'_>, stmts: Items<Stmt>) -> Result<Senten
     match cursor.period() {
         Ok(_) => Ok(Sentence { stmts }),
         Err(stop) => {
-            drop(stmts);
+            drop_stmts(stmts);
             Err(stop)
         }
     }
@@ -38,7 +42,7 @@ fn sentence_end(cursor: &mut Cursor<'_>, found: (Items<Stmt>, bool)) -> Result<S
 {
     let (stmts, not_read) = found;
     if not_read {
-        drop(stmts);
+        drop_stmts(stmts);
         Err(Unread::Stop(Why::Syntax))
     } else {
         sentence_closed(cursor, stmts)
@@ -71,9 +75,9 @@ fn sentence_behind<P: Parts>(
         result cursor.new }
 {
     match sentence(parts, alloc, cursor, scope) {
-        Ok(next) => Ok(pushed(found, next)?),
+        Ok(next) => Ok(sentence_added(found, next)?),
         Err(stop) => {
-            drop(found);
+            drop_sentences(found);
             Err(stop)
         }
     }
@@ -106,8 +110,8 @@ fn exit_alone(alloc: Global, cursor: &mut Cursor<'_>) -> Result<Items<Sentence>,
     ensures { Reads (forms.exit_alone.reads cursor.old) result cursor.new }
 {
     cursor.period()?;
-    let stmts = pushed(Items::new(alloc), Stmt::Exit)?;
-    Ok(pushed(Items::new(alloc), Sentence { stmts })?)
+    let stmts = stmt_added(Items::new(alloc), Stmt::Exit)?;
+    Ok(sentence_added(Items::new(alloc), Sentence { stmts })?)
 }
 
 #[tactic(auto, unfolding(stmt_forms::specs::Paragraph::exit_sentence))]
@@ -122,7 +126,7 @@ fn exit_sentence<P: Parts>(
         result cursor.new }
 {
     let first = exit_behind(cursor, scope, position)?;
-    let stmts = pushed(Items::new(alloc), first)?;
+    let stmts = stmt_added(Items::new(alloc), first)?;
     let found = stmts_from(parts, alloc, cursor, scope, MAX_NESTING, (stmts, false))?;
     sentence_end(cursor, found)
 }
@@ -139,7 +143,7 @@ fn exit_sentences<P: Parts>(
         result cursor.new }
 {
     let first = exit_sentence(parts, alloc, cursor, scope, position)?;
-    let found = pushed(Items::new(alloc), first)?;
+    let found = sentence_added(Items::new(alloc), first)?;
     sentences_from(parts, alloc, cursor, scope, found)
 }
 
@@ -194,7 +198,7 @@ fn with_pending(
                 section: Some(section),
                 sentences: Items::new(alloc),
             };
-            pushed(done, empty)
+            paragraph_added(done, empty)
         }
     }
 }
@@ -227,14 +231,14 @@ fn section_start<P: Parts>(
                 sentences,
             };
             Ok(Outline {
-                done: pushed(done, first)?,
+                done: paragraph_added(done, first)?,
                 pending: None,
                 in_section: true,
             })
         }
         Err(stop) => {
             drop(name);
-            drop(done);
+            drop_paragraphs(done);
             Err(stop)
         }
     }
@@ -299,7 +303,7 @@ fn section_closed<P: Parts>(
         Ok(_) => section_begun(parts, alloc, cursor, name, state),
         Err(stop) => {
             drop(name);
-            drop(state);
+            drop_outline(state);
             Err(stop)
         }
     }
@@ -320,7 +324,7 @@ fn section<P: Parts>(
         Ok(_) => section_closed(parts, alloc, cursor, name, state),
         Err(stop) => {
             drop(name);
-            drop(state);
+            drop_outline(state);
             Err(stop)
         }
     }
@@ -350,7 +354,7 @@ fn paragraph_behind<P: Parts>(
                 sentences,
             };
             Ok(Outline {
-                done: pushed(done, next)?,
+                done: paragraph_added(done, next)?,
                 pending: None,
                 in_section,
             })
@@ -358,7 +362,7 @@ fn paragraph_behind<P: Parts>(
         Err(stop) => {
             drop(name);
             drop(pending);
-            drop(done);
+            drop_paragraphs(done);
             Err(stop)
         }
     }
@@ -379,7 +383,7 @@ fn paragraph<P: Parts>(
         Ok(_) => paragraph_behind(parts, alloc, cursor, name, state),
         Err(stop) => {
             drop(name);
-            drop(state);
+            drop_outline(state);
             Err(stop)
         }
     }
@@ -404,7 +408,7 @@ fn headed<P: Parts>(
             }
         }
         Err(stop) => {
-            drop(state);
+            drop_outline(state);
             Err(stop)
         }
     }
@@ -440,7 +444,7 @@ fn unnamed_start<P: Parts>(
         sentences,
     };
     Ok(Outline {
-        done: pushed(Items::new(alloc), first)?,
+        done: paragraph_added(Items::new(alloc), first)?,
         pending: None,
         in_section: false,
     })
@@ -470,7 +474,7 @@ fn at_least_one(alloc: Global, done: Items<Paragraph>) -> Result<Items<Paragraph
             section: None,
             sentences: Items::new(alloc),
         };
-        pushed(done, empty)
+        paragraph_added(done, empty)
     } else {
         Ok(done)
     }
@@ -543,7 +547,7 @@ fn division_ended(
     match cursor.ended() {
         Ok(_) => Ok(found),
         Err(stop) => {
-            drop(found);
+            drop_paragraphs(found);
             Err(stop)
         }
     }
@@ -562,7 +566,7 @@ pub fn division<P: Parts>(
     match end_part(parts, cursor) {
         Ok(()) => division_ended(cursor, found),
         Err(stop) => {
-            drop(found);
+            drop_paragraphs(found);
             Err(stop)
         }
     }

@@ -73,16 +73,16 @@ each-drop (suc n) (t ∷ tokens) are = each-drop n tokens are.1
 -- ---- its paragraphs, over what its tokens declare
 
 module _ (tokens : List Token) (are : AreOf IsPrintable tokens) (draft : ProgramDraft) (q : Input) (read : (forms.program (declarations_of tokens)).reads (start tokens) ≡ Got draft q) (clean : q.fault ≡ None) where
-  abbrev known : Declarations
+  abbrev pub known : Declarations
   known = declarations_of tokens
 
-  abbrev program : Program
+  abbrev pub program : Program
   program = program_of known draft
 
-  abbrev there : Input
+  abbrev pub there : Input
   there = (read-where-counted tokens draft q read).input
 
-  abbrev source : ProcedureTable
+  abbrev pub source : ProcedureTable
   source = procedures_of there.rest there.taken
 
   names-are : known.names ≡ own_names program
@@ -95,14 +95,14 @@ module _ (tokens : List Token) (are : AreOf IsPrintable tokens) (draft : Program
       let r = read-where-counted tokens draft q read in
       sym (ap (λ list. procedures_of list there.taken) r.rest ∙ ap (λ n. procedures_of (drop n tokens) n) r.taken)
 
-  reads-own : (division (parts_of (own_names program) program.entries source)).reads there ≡ Got draft.paragraphs q
+  pub reads-own : (division (parts_of (own_names program) program.entries source)).reads there ≡ Got draft.paragraphs q
   reads-own =
       let r = read-where-counted tokens draft q read in
       sym (ap (λ names. (division (parts_of names known.entries known.procedures)).reads there) names-are
       ∙ ap (λ table. (division (parts_of (own_names program) known.entries table)).reads there) procedures-are)
       ∙ r.reads
 
-  are-there : AreOf IsPrintable there.rest
+  pub are-there : AreOf IsPrintable there.rest
   are-there =
       let r = read-where-counted tokens draft q read in
       subst (λ list. AreOf IsPrintable list) (sym r.rest) (each-drop there.taken tokens are)
@@ -114,7 +114,7 @@ module _ (tokens : List Token) (are : AreOf IsPrintable tokens) (draft : Program
   table = told_procedures.own_procedures program taken
 
   module _ (printable_program : IsPrintableProgram program) where
-    has-procedures : HasProcedures program
+    pub has-procedures : HasProcedures program
     has-procedures =
         let r = division-is-told (own_names program) program.entries there draft.paragraphs q reads-own clean in
         record { outlined = r.outlined; titled = titled program.paragraphs printable_program.paragraphs; different = r.different }

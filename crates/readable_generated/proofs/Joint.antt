@@ -1,4 +1,4 @@
--- Generated programs are readable, where what is printed of them is short enough.
+-- Generated programs are readable.
 use Rattle.std.proofs.Common.{◌≡◌, ℕ, zero, suc, ◌≤◌, List, [], ◌∷◌, ◌++◌, length, drop, refl, ap, sym, ◌∙◌, subst, arith}
 use Rattle.cob_tree.specs.declared.program.Program.{Program}
 use Rattle.cobol_lex.specs.declared.token.Token.{Token}
@@ -16,13 +16,14 @@ use Rattle.part_spelling.proofs.Told.{parts_are_told}
 use Rattle.printed_words.proofs.Programs.{no_printed_word_is_left_out}
 use Rattle.readable_procedures.specs.Told as told
 use Rattle.readable_procedures.proofs.Printed.{named-header, procedures-told}
-use Rattle.readable_programs.specs.Readable.{units_before, tokens_before, own_tokens, own_names, own_procedures, IsFit, IsSpelled}
+use Rattle.readable_programs.specs.Readable.{units_before, tokens_before, own_tokens, own_names, own_procedures, IsFit, IsSpelled, IsShort}
 use Rattle.readable_programs.proofs.Units.{split-units}
 use Rattle.program_gen.specs.Generated.{counter_entry, generated}
 use Rattle.generated_programs.proofs.Counter.{keeps, titled}
 use Rattle.generated_programs.proofs.Printable.{printable}
 use Rattle.generated_programs.proofs.Procedures.{paragraph-count}
 use Rattle.generated_programs.proofs.Spelled.{division}
+use Rattle.short_generated.proofs.Short.{short}
 use Rattle.readable_generated.specs.Laws.{GeneratedProgramsAreReadable}
 
 -- ---- before its paragraphs
@@ -77,5 +78,10 @@ spelled n small =
     subst (λ table. SpellsDivision (parts_of (own_names program) program.entries table) (kept_of (own_names program) program) program (tokens_before program) program.paragraphs)
     (sym (same-procedures program h)) h
 
+-- ---- within the limits
+
+brief : (n : ℕ) → n ≤ 1249 → IsShort (generated n)
+brief n small = let h = short n small in record { bytes = h.0; tokens = h.1 }
+
 pub readable : GeneratedProgramsAreReadable
-readable n small short = record { fit = fit n small; spelled = spelled n small; short = short }
+readable n small = record { fit = fit n small; spelled = spelled n small; short = brief n small }

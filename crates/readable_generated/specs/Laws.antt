@@ -1,15 +1,12 @@
--- What is printed of generated programs, where it has at most as many bytes and tokens as a source
--- may have.
+-- What is printed of generated programs.
 use Rattle.std.specs.Prelude.{ℕ, ◌≤◌}
 use Rattle.cobol_print.specs.Program.{printed}
 use Rattle.cobol_read.specs.Reading.{Reads}
 use Rattle.program_gen.specs.Generated.{generated}
-use Rattle.readable_programs.specs.Readable.{IsShort, IsReadable}
+use Rattle.readable_programs.specs.Readable.{IsReadable}
 
 abbrev pub GeneratedProgramsAreReadable : Type 0
-GeneratedProgramsAreReadable =
-    (n : ℕ) → n ≤ 1249 → IsShort (generated n) → IsReadable (generated n)
+GeneratedProgramsAreReadable = (n : ℕ) → n ≤ 1249 → IsReadable (generated n)
 
 abbrev pub GeneratedProgramsReadBack : Type 0
-GeneratedProgramsReadBack =
-    (n : ℕ) → n ≤ 1249 → IsShort (generated n) → Reads (printed (generated n)) (generated n)
+GeneratedProgramsReadBack = (n : ℕ) → n ≤ 1249 → Reads (printed (generated n)) (generated n)

@@ -4,7 +4,7 @@ ghost use Rattle.readable_generated.specs.Laws.{GeneratedProgramsAreReadable, Ge
 
 use readable_programs::readable_programs_read_back;
 
-/// A generated program is readable, where what is printed of it is short enough.
+/// A generated program is readable.
 pub fn generated_programs_are_readable()
     ensures { GeneratedProgramsAreReadable }
 {}

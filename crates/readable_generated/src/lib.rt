@@ -1,5 +1,4 @@
-//! What is printed of a generated program reads to that very program, where its text passes no limit
-//! of reading. The crate has no code.
+//! What is printed of a generated program reads to that very program. The crate has no code.
 #![tactic(auto)]
 
 mod laws;

@@ -18,7 +18,6 @@ use Rattle.data_forms.specs.declared.draft.SelectDraft.{SelectDraft}
 use Rattle.data_forms.specs.declared.draft.StatusDraft.{StatusDraft}
 use Rattle.data_forms.specs.Divisions as all_forms
 use Rattle.data_names.specs.Names.{Names, names_of}
-use Rattle.data_spelling.specs.Printable.{SpellsStatus}
 use Rattle.data_rules.specs.Declaring.{entries_of, fault_of}
 use Rattle.data_rules.specs.File.{file_of}
 use Rattle.division_readings.specs.Same.{SameDivisions}
@@ -27,12 +26,11 @@ use Rattle.expr_forms.specs.declared.side.What.{What}
 use Rattle.expr_forms.specs.declared.side.What.TheVariants as whats
 use Rattle.grammar_forms.specs.declared.note.Note.{Note}
 use Rattle.grammar_forms.specs.Note.{precedes, earliest}
-use Rattle.grammar_forms.specs.Form.{Form, Input, Outcome, Got, Stop}
+use Rattle.grammar_forms.specs.Form.{Input, Outcome, Got, Stop}
 use Rattle.grammar_forms.specs.Reading.{start}
 use Rattle.grammar_forms.proofs.Lawful.{got_is, then_got}
 use Rattle.grammar_forms.proofs.MakerLaws as makers
 use Rattle.kept_rules.specs.Laws.{Declares}
-use Rattle.kept_rules.specs.Named.{AreStated}
 use Rattle.named_data.specs.Drafts.{data_literal}
 use Rattle.named_data.proofs.Data as data_forms
 use Rattle.named_exprs.specs.Sides.{is_reference, what_named}
@@ -49,10 +47,10 @@ use Rattle.statement_grammar.specs.Use as uses
 use Rattle.statement_grammar.proofs.PartLaws.{parts}
 use Rattle.status_readings.specs.Alike.{AlikeOutcomes}
 use Rattle.stmt_forms.proofs.ParagraphLaws.{division}
-use Rattle.readable_parts.specs.Laws.{own_names}
-use Rattle.readable_parts.specs.Read.{ReferencesAreFit}
-use Rattle.readable_parts.proofs.Selects.{divisions, files-stated}
-use Rattle.readable_parts.proofs.Status.{status}
+use Rattle.readable_parts.specs.Laws.{own_names, HasFitStatuses}
+use Rattle.readable_parts.specs.Read.{IsFitStatus, ReferencesAreFit}
+use Rattle.readable_parts.proofs.Selects.{divisions, each-status}
+use Rattle.readable_parts.proofs.Status.{fit-status}
 
 none_of : (early late : Option Note) → earliest early late ≡ None → (early ≡ None) × (late ≡ None)
 none_of None late e = (refl, e)
@@ -147,7 +145,7 @@ module _ (tokens : List Token) (draft : ProgramDraft) (q : Input) where
 pub record IsRead (program : Program) (draft : Divisions) : Type 0 where
   pub declares : Declares program draft
   pub literal : data_literal draft.data_part ≡ true
-  pub stated : ReferencesAreFit (own_names program) program → AreStated (statuses.status (own_names program) program.entries) program program.files
+  pub fit : ReferencesAreFit (own_names program) program → HasFitStatuses program
 
 module _ (bytes : List ℕ) (program : Program) (h : HasSyntax bytes program None) where
   abbrev draft : ProgramDraft
@@ -171,18 +169,18 @@ module _ (bytes : List ℕ) (program : Program) (h : HasSyntax bytes program Non
   abbrev made : Program
   made = program_of known draft
 
-  abbrev form : Form Place
-  form = statuses.status (own_names made) known.entries
+  abbrev Fit : Place → Type 0
+  Fit = IsFitStatus (own_names made) made
 
   abbrev Stated : Divisions → Type 0
-  Stated found = Each (λ (select : SelectDraft). Each (λ (item : StatusDraft). SpellsStatus form made (Some item.place)) select.statuses) found.selects
+  Stated found = Each (λ (select : SelectDraft). Each (λ (item : StatusDraft). Fit item.place) select.statuses) found.selects
 
-  stated : ReferencesAreFit (own_names made) made → AreStated form made made.files
-  stated fit =
+  fit : ReferencesAreFit (own_names made) made → HasFitStatuses made
+  fit references =
       let tokens = h.has_words.has_few.has_tokens in
       let given : Gives IsPrintable (before_procedures known) Stated = subst (λ names. Gives IsPrintable (all_forms.divisions (statuses.status names known.entries)) Stated) (sym declared.names)
-      (divisions (λ place. SpellsStatus form made (Some place)) (status (own_names made) known.entries made fit)) in
-      files-stated form made draft.divisions.selects
+      (divisions Fit (fit-status (own_names made) made references)) in
+      each-status Fit draft.divisions.selects
       ((program-gives known given).gives (start h.tokens) draft h.spelled.0 read (printable bytes tokens.text h.tokens tokens.has_text.formatted tokens.lexed) clear).1
 
   is-read : IsRead made draft.divisions
@@ -195,7 +193,7 @@ module _ (bytes : List ℕ) (program : Program) (h : HasSyntax bytes program Non
               ∙ ap (λ fault. record { files = map file_of draft.divisions.selects; entries = known.entries; fault = fault }) (sym declared.fault ∙ none.0),
         );
         literal = ((program-gives known (literal-gives known)).gives (start h.tokens) draft h.spelled.0 read (numbered tokens.text h.tokens tokens.lexed) clear).1;
-        stated = stated;
+        fit = fit;
       }
 
   syntax-divisions : (found : Divisions) × IsRead program found

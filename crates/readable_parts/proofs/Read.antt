@@ -8,25 +8,31 @@ use Rattle.kept_rules.specs.Laws.{ReadBack}
 use Rattle.kept_rules.specs.Named.{AreStated}
 use Rattle.kept_rules.proofs.Declared.{declared_programs_keep_rules}
 use Rattle.kept_rules.proofs.ReadBack.{read-back}
-use Rattle.readable_parts.specs.Laws.{own_names, NamesAreReadable, ProgramsThatAreReadAreStated, ProgramsThatAreReadKeepRules}
+use Rattle.readable_parts.specs.Laws.{own_names, FitStatusesAreStated, NamesAreReadable, ProgramsThatAreReadAreStated, ProgramsThatAreReadHaveFitStatuses, ProgramsThatAreReadKeepRules}
 use Rattle.readable_parts.proofs.Declared.{read-divisions}
 use Rattle.readable_parts.proofs.Names.{file, entry}
-use Rattle.readable_parts.proofs.Status.{status}
+use Rattle.readable_parts.proofs.Status.{each-stated, status-spells}
 use Rattle.readable_parts.proofs.Titled.{read-titled}
 
 pub names_are_readable : NamesAreReadable
 names_are_readable program = record {
   file = file program;
   entry = entry program;
-  status = status (own_names program) program.entries program;
+  status = status-spells (own_names program) program;
 }
 
 pub read-keeps : ProgramsThatAreReadKeepRules
 read-keeps bytes program reads =
     let d = read-divisions bytes program reads in declared_programs_keep_rules program d.0 d.1.literal d.1.declares.1
 
+pub read-statuses : ProgramsThatAreReadHaveFitStatuses
+read-statuses bytes program reads = (read-divisions bytes program reads).1.fit
+
+pub fit-stated : FitStatusesAreStated
+fit-stated program h = each-stated (own_names program) program program.files h
+
 pub read-stated : ProgramsThatAreReadAreStated
-read-stated bytes program reads = (read-divisions bytes program reads).1.stated
+read-stated bytes program reads fit = fit-stated program (read-statuses bytes program reads fit)
 
 pub reads-back : (status : Form Place) (taken : ℕ) (bytes : List ℕ) (program : Program) → Reads bytes program → AreStated status program program.files → ReadBack status taken program
 reads-back status taken bytes program reads stated =

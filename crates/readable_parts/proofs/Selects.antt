@@ -1,8 +1,7 @@
 -- SELECTs, each of whose status items has a property that a status item has.
-use Rattle.std.proofs.Common.{ℕ, zero, suc, ◌-◌, List, [], ◌∷◌, ◌++◌, length, map, Some}
+use Rattle.std.proofs.Common.{ℕ, zero, suc, ◌-◌, List, [], ◌∷◌, ◌++◌, length, map}
 use Rattle.std.specs.Prelude.{codes, slice_get}
 use Rattle.cob_tree.specs.declared.place.Place.{Place}
-use Rattle.cob_tree.specs.declared.program.Program.{Program}
 use Rattle.cobol_lex.specs.declared.token.TokenKind.{TokenKind}
 use Rattle.data_forms.specs.declared.draft.SelectDraft.{SelectDraft}
 use Rattle.data_forms.specs.declared.draft.StatusDraft.{StatusDraft}
@@ -11,12 +10,12 @@ use Rattle.data_forms.specs.Divisions as all_forms
 use Rattle.data_forms.proofs.EntryLaws as entry_law
 use Rattle.data_forms.proofs.DivisionLaws as law
 use Rattle.data_rules.specs.File.{status_by, file_of}
-use Rattle.data_spelling.specs.Printable.{SpellsStatus}
+use Rattle.data_spelling.specs.Printable.{IfAny}
 use Rattle.grammar_forms.specs.Form.{Form}
-use Rattle.kept_rules.specs.Named.{AreStated}
 use Rattle.named_forms.specs.Giving.{Each, Gives}
 use Rattle.named_forms.proofs.Giving.{any, hence, still, pure, key, maybe, period, where_next, loop, ◌>>=◌, ◌>>◌}
 use Rattle.word_forms.proofs.WordLaws as words
+use Rattle.readable_parts.specs.Read.{EachStatus}
 
 added : {A : Type 0} (P : A → Type 0) (front : List A) (x : A) → Each P front → P x → Each P (front ++ x ∷ [])
 added P [] x h k = (k, tt)
@@ -78,15 +77,15 @@ module _ {Kind : TokenKind → Type 0} {status : Form Place} (P : Place → Type
 
 -- ---- files with the last status item of their SELECT
 
-module _ (status : Form Place) (program : Program) where
-  abbrev IsStated : StatusDraft → Type 0
-  IsStated draft = SpellsStatus status program (Some draft.place)
+module _ (P : Place → Type 0) where
+  abbrev Has : StatusDraft → Type 0
+  Has draft = P draft.place
 
-  stated-at : (list : List StatusDraft) (n : ℕ) → Each IsStated list → SpellsStatus status program (status_by (slice_get list n))
-  stated-at [] n h = tt
-  stated-at (draft ∷ list) zero h = h.0
-  stated-at (draft ∷ list) (suc n) h = stated-at list n h.1
+  status-at : (list : List StatusDraft) (n : ℕ) → Each Has list → IfAny P (status_by (slice_get list n))
+  status-at [] n h = tt
+  status-at (draft ∷ list) zero h = h.0
+  status-at (draft ∷ list) (suc n) h = status-at list n h.1
 
-  pub files-stated : (list : List SelectDraft) → Each (λ (select : SelectDraft). Each IsStated select.statuses) list → AreStated status program (map file_of list)
-  files-stated [] h = tt
-  files-stated (select ∷ list) h = (stated-at select.statuses (length select.statuses - 1) h.0, files-stated list h.1)
+  pub each-status : (list : List SelectDraft) → Each (λ (select : SelectDraft). Each Has select.statuses) list → EachStatus P (map file_of list)
+  each-status [] h = tt
+  each-status (select ∷ list) h = (status-at select.statuses (length select.statuses - 1) h.0, each-status list h.1)

@@ -12,7 +12,7 @@ use Rattle.named_forms.specs.Giving.{Gives}
 use Rattle.printable_tokens.specs.Printable.{IsPrintable}
 use Rattle.printed_declarations.specs.FileRules.{KeepsRules}
 use Rattle.statement_grammar.specs.Name.{file, record_name}
-use Rattle.readable_parts.specs.Read.{IsFitFile, IsFitRecord, ReferencesAreFit}
+use Rattle.readable_parts.specs.Read.{EachStatus, IsFitFile, IsFitRecord, IsFitStatus, ReferencesAreFit}
 
 -- the names of its own files and entries
 abbrev pub own_names : Program → Names
@@ -38,6 +38,20 @@ abbrev pub ProgramsThatAreReadKeepRules : Type 0
 ProgramsThatAreReadKeepRules =
     (bytes : List ℕ) (program : Program) → Reads bytes program →
     (fds : List Fd) × (storage : List Entry) × KeepsRules program fds storage
+
+-- those of its own files
+abbrev pub HasFitStatuses : Program → Type 0
+HasFitStatuses program = EachStatus (IsFitStatus (own_names program) program) program.files
+
+abbrev pub ProgramsThatAreReadHaveFitStatuses : Type 0
+ProgramsThatAreReadHaveFitStatuses =
+    (bytes : List ℕ) (program : Program) → Reads bytes program →
+    ReferencesAreFit (own_names program) program → HasFitStatuses program
+
+abbrev pub FitStatusesAreStated : Type 0
+FitStatusesAreStated =
+    (program : Program) → HasFitStatuses program →
+    AreStated (status (own_names program) program.entries) program program.files
 
 abbrev pub ProgramsThatAreReadAreStated : Type 0
 ProgramsThatAreReadAreStated =

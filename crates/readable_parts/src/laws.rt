@@ -5,7 +5,7 @@ ghost use Rattle.cob_tree.specs.declared.program.Program.{Program};
 ghost use Rattle.cobol_read.specs.Reading.{Reads};
 ghost use Rattle.kept_rules.specs.Laws.{ReadBack};
 ghost use Rattle.kept_rules.specs.Named.{AreStated};
-ghost use Rattle.readable_parts.specs.Laws.{NamesAreReadable, ProgramsThatAreReadAreStated, ProgramsThatAreReadAreTitled, ProgramsThatAreReadKeepRules};
+ghost use Rattle.readable_parts.specs.Laws.{FitStatusesAreStated, NamesAreReadable, ProgramsThatAreReadAreStated, ProgramsThatAreReadAreTitled, ProgramsThatAreReadHaveFitStatuses, ProgramsThatAreReadKeepRules};
 
 use data_forms::Refers;
 
@@ -25,7 +25,17 @@ pub fn programs_that_are_read_keep_rules()
     ensures { ProgramsThatAreReadKeepRules }
 {}
 
-/// Its status items are spelled, where references are fit.
+/// Its status items are fit, where references are.
+pub fn programs_that_are_read_have_fit_statuses()
+    ensures { ProgramsThatAreReadHaveFitStatuses }
+{}
+
+/// Status items that are fit are spelled, whatever the program.
+pub fn fit_statuses_are_stated()
+    ensures { FitStatusesAreStated }
+{}
+
+/// So are those of a program that is read.
 pub fn programs_that_are_read_are_stated()
     ensures { ProgramsThatAreReadAreStated }
 {}

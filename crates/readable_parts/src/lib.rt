@@ -5,6 +5,7 @@
 mod laws;
 
 pub use laws::{
-    declarations_that_are_read_read_back, names_are_readable, programs_that_are_read_are_stated,
-    programs_that_are_read_are_titled, programs_that_are_read_keep_rules,
+    declarations_that_are_read_read_back, fit_statuses_are_stated, names_are_readable,
+    programs_that_are_read_are_stated, programs_that_are_read_are_titled,
+    programs_that_are_read_have_fit_statuses, programs_that_are_read_keep_rules,
 };

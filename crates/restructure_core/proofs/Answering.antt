@@ -21,6 +21,7 @@ use Rattle.restructure_core.specs.Refusals.{of_read_refusal, of_split_fault}
 use Rattle.restructure_core.specs.Flow.{IsFaultyBy, IsFlowRefusal}
 use Rattle.restructure_core.specs.Made.{IsClear, IsMadeOf}
 use Rattle.restructure_core.specs.Answers.{IsResultOf, IsPrinted, IsRestructured, IsReported, IsAnswerTo, HasCause}
+use Rattle.restructure_core.specs.Results.{ResultsReadBack}
 use Rattle.restructure_core.proofs.Behaving.{made-behaves, made-structured}
 
 -- what is printed of the program that it is split into answers, with the report
@@ -60,20 +61,25 @@ unsplit_answer program summary fault why clear h is =
     subst (λ w. IsAnswerTo program (Err w)) (sym is) (unsplit program summary fault clear h)
 
 -- the result of a program is what its source is restructured to
-pub restructured : (bytes : List ℕ) (program : Program) (done : Done) → Reads bytes program →
-    IsResultOf program done → IsRestructured bytes done
-restructured bytes program done reads it = record {
+pub restructured : ResultsReadBack → (bytes : List ℕ) (program : Program) (done : Done) →
+    Reads bytes program → IsResultOf program done → IsRestructured bytes done
+restructured read_back bytes program done reads it = record {
   program = program;
   reads = reads;
   result = it;
   structured = made-structured bytes program it.made reads it.is;
   same = made-behaves bytes program it.made reads it.is;
+  read_back =
+      subst (λ text. Reads text it.made.program) (sym it.written)
+      (read_back bytes program it.made reads it.is it.within);
 }
 
-pub restructured_if : (bytes : List ℕ) (program : Program) (outcome : Result Done Refused) →
-    Reads bytes program → IsAnswerTo program outcome → IfOk outcome (IsRestructured bytes)
-restructured_if bytes program (Ok done) reads h = restructured bytes program done reads h
-restructured_if bytes program (Err why) reads h = tt
+pub restructured_if : ResultsReadBack → (bytes : List ℕ) (program : Program)
+    (outcome : Result Done Refused) → Reads bytes program → IsAnswerTo program outcome →
+    IfOk outcome (IsRestructured bytes)
+restructured_if read_back bytes program (Ok done) reads h =
+    restructured read_back bytes program done reads h
+restructured_if read_back bytes program (Err why) reads h = tt
 
 -- and so is its report
 pub reported : (bytes text : List ℕ) (report : Report) →

@@ -1,5 +1,5 @@
 -- What is found of a program's flow.
-use Rattle.std.proofs.Common.{◌≡◌, ℕ, List, sym, subst}
+use Rattle.std.proofs.Common.{◌≡◌, ◌≤◌, length, sym, subst}
 use Rattle.cob_tree.specs.declared.fault.SplitFault.{SplitFault}
 use Rattle.cob_tree.specs.declared.fault.SplitFault.TheVariants as split
 use Rattle.cob_tree.specs.declared.program.Program.{Program}
@@ -16,9 +16,9 @@ use Rattle.restructure_core.specs.Refusals.{of_split_fault}
 
 pub clear_flow : (program : Program) (summary : Summary) → IsWithin program →
     IsSummary (never_first_of program.files) (control_of program) summary →
-    (HasFlowFault program → ⊥) → IsClear program summary
-clear_flow program summary within is never =
-    record { faultless = record { within = within; never = never }; is = is }
+    length summary.ranges ≤ 5000 → (HasFlowFault program → ⊥) → IsClear program summary
+clear_flow program summary within is few never =
+    record { faultless = record { within = within; never = never }; is = is; few = few }
 
 pub faulty_flow : (program : Program) (trail : Trail) → IsWithin program →
     IsTrailOf program trail → IsFaultyBy program trail

@@ -5,6 +5,8 @@ pub mod Flowing
 pub mod ReadSome
 pub mod ReadWell
 pub mod Behaving
+-- what is printed of what it is split into reads to it
+pub mod ReadingBack
 -- what the answer to a program tells of the bytes
 pub mod Limits
 pub mod Answering

@@ -1,11 +1,11 @@
 -- The first limit that a result passes.
-use Rattle.std.proofs.Common.{◌≡◌, ℕ, List, Option, Some, None, Result, Ok, Err, ap, sym, ◌∙◌}
+use Rattle.std.proofs.Common.{◌≡◌, ℕ, List, Some, None, Result, Ok, Err, ap, sym, ◌∙◌}
 use Rattle.cob_base.specs.declared.limit.Limit.{Limit}
 use Rattle.cob_tree.specs.declared.program.Program.{Program}
 use Rattle.restructure_core.specs.declared.fault.Refused.{Refused}
 use Rattle.restructure_core.specs.declared.fault.Refused.TheVariants as refused
 use Rattle.restructure_core.specs.Answers.{IsPrinted, IsText}
-use Rattle.restructure_core.specs.Limit.{else_limit, part_limit, text_limit, result_limit}
+use Rattle.restructure_core.specs.Limit.{else_limit, part_limit, text_limit}
 
 pub first_limits : (program : Program) (limit : Limit) → Some limit ≡ part_limit program →
     IsPrinted program (Err (refused.Limit limit))

@@ -1,7 +1,6 @@
 -- One answer is due to bytes, but for the trail.
-use Rattle.std.proofs.Common.{◌≡◌, ℕ, List, Option, Some, None, Result, Ok, Err, refl, ap, sym, ◌∙◌, subst, ◌⊎◌, inl, inr}
+use Rattle.std.proofs.Common.{◌≡◌, ℕ, List, Result, Ok, Err, refl, ap, sym, ◌∙◌, subst, ◌⊎◌, inl, inr}
 use Rattle.std.specs.Prelude.{IsOk, IfOk, IfErr}
-use Rattle.std.proofs.lemmas.Option.{none-some}
 use Rattle.cob_base.specs.declared.limit.Limit.{Limit}
 use Rattle.cob_tree.specs.declared.program.Program.{Program}
 use Rattle.flow_paths.specs.declared.trail.Trail.{Trail}

@@ -1,9 +1,9 @@
 -- How many ranges a program names is one number.
-use Rattle.std.proofs.Common.{◌≡◌, ◌+◌, ◌<◌, ◌≤◌, ◌==◌, ◌&&◌, ◌||◌, nat_lt, eqb-true, ltb-true, ℕ, zero, suc, Bool, true, false, List, [], ◌∷◌, length, Option, Some, None, slice_get, refl, ap, sym, ◌∙◌, subst, ◌⊎◌, inl, inr, arith}
+use Rattle.std.proofs.Common.{◌≡◌, ◌<◌, ◌==◌, ◌&&◌, ◌||◌, nat_lt, eqb-true, ltb-true, ℕ, zero, suc, Bool, true, false, List, [], ◌∷◌, length, Option, Some, None, slice_get, refl, ap, sym, ◌∙◌, ◌⊎◌, inl, inr, arith}
 use Rattle.cob_base.specs.declared.limit.Limit.{Limit}
 use Rattle.cob_tree.specs.declared.program.Program.{Program}
 use Rattle.cob_tree.specs.declared.program.Range.{Range}
-use Rattle.named_ranges.specs.Named.{is_before, pair_before, exit_before, main_range, Has, AreRangesOf}
+use Rattle.named_ranges.specs.Named.{is_before, pair_before, exit_before, Has, AreRangesOf}
 use Rattle.named_ranges.proofs.Ordered.{before-far}
 use Rattle.pending_returns.specs.Summary.{NamesSoMany, IsWithin, limit_at}
 use Rattle.restructure_core.specs.Flow.{PassesRanges}

@@ -4,7 +4,7 @@ use Rattle.cob_tree.specs.declared.program.Program.{Program}
 use Rattle.pending_returns.specs.declared.facts.Summary.{Summary}
 use Rattle.cobol_read.specs.Reading.{Reads}
 use Rattle.shaped_ranges.specs.Laws.{HasFlow}
-use Rattle.split_behaviour.specs.Alike.{IsWellMade, FlowsSo}
+use Rattle.split_behaviour.specs.Alike.{FlowsSo}
 use Rattle.read_headline.proofs.WellMade.{well-made}
 use Rattle.restructure_core.specs.Made.{IsClear}
 use Rattle.restructure_core.proofs.ReadSome.{read_some}

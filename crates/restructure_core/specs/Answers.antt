@@ -71,13 +71,15 @@ pub record IsResultOf (program : Program) (done : Done) : Type 0 where
   pub written : done.text ≡ printed made.program
   pub reported : IsReportOf program is.summary made.added done.report
 
--- the text is that of a program which is structured and behaves as the program that the bytes are
+-- the text is that of a program which is structured and behaves as the program that the bytes are,
+-- and reads to it
 pub record IsRestructured (bytes : List ℕ) (done : Done) : Type 0 where
   pub program : Program
   pub reads : Reads bytes program
   pub result : IsResultOf program done
   pub structured : IsStructured result.made.program
   pub same : SameBehaviour program result.made.program
+  pub read_back : Reads done.text result.made.program
 
 -- the report is that of a program which is restructured to some text
 abbrev pub IsReported : List ℕ → Report → Type 0

@@ -8,3 +8,5 @@ pub mod Limit
 -- what each answer says of the bytes
 pub mod Refusals
 pub mod Answers
+-- what is printed of results
+pub mod Results

@@ -1,4 +1,5 @@
 -- The structured program that a program is restructured to.
+use Rattle.std.specs.Prelude.{◌≤◌, length}
 use Rattle.cob_base.specs.declared.limit.Limit.{Limit}
 use Rattle.cob_tree.specs.declared.fault.SplitFault.TheVariants as split
 use Rattle.cob_tree.specs.declared.program.Program.{Program}
@@ -16,6 +17,8 @@ use Rattle.restructure_core.specs.Flow.{IsFaultless, IsFaultyBy}
 pub record IsClear (program : Program) (summary : Summary) : Type 0 where
   pub faultless : IsFaultless program
   pub is : IsSummary (never_first_of program.files) (control_of program) summary
+  -- no more than a text may name
+  pub few : length summary.ranges ≤ 5000
 
 -- what control of the program comes to
 abbrev pub IsFlowOf : Program → Flow → Type 0

@@ -10,6 +10,7 @@ ghost use Rattle.restructure_core.specs.Answers.{IsUnread, IsPastRanges, IsFault
 
 use crate::fault::Refused;
 use crate::flow::{Flow, flow_of};
+use crate::laws::results_read_back;
 use crate::limit::print_result;
 use cob_base::Text;
 use cob_tree::Program;
@@ -73,6 +74,7 @@ fn restructured(alloc: Global, bytes: &[u8]) -> Result<Done, Refused>
     ensures done { IfOk result (IsRestructured bytes.now) }
     ensures refused { IfErr result (HasCause bytes.now) }
 {
+    results_read_back();
     let program = read(alloc, bytes)?;
     match flow_of(alloc, &program)? {
         Flow::Faulty(trail) => Err(Refused::Flow(program, trail)),

@@ -13,6 +13,8 @@ pub mod MadeLemmas
 pub mod EndLemmas
 -- how a call that runs a source ends
 pub mod RunLemmas
+-- a device fault that is told is one of a device
+pub mod DeviceLemmas
 -- which words are of an ask
 pub mod AskLemmas
 -- what follows of how a call ends

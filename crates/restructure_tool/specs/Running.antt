@@ -4,6 +4,7 @@ use Rattle.cob_base.specs.Faults.{Rose}
 use Rattle.cob_base.specs.Source.{SourceCall}
 use Rattle.cob_base.specs.Sink.{SinkCall}
 use Rattle.cob_tree.specs.declared.program.Program.{Program}
+use Rattle.file_desk.specs.Seen.{Seen}
 use Rattle.runs.specs.Run.{Going, Over}
 use Rattle.control.specs.Outcome.{Standing}
 use Rattle.cobol_meaning.specs.Runs.{Files, source_run}
@@ -14,6 +15,7 @@ use Rattle.cobol_run.specs.declared.machine.Ending.{Ending}
 use Rattle.cobol_run.specs.declared.machine.Ending.TheVariants as ending
 use Rattle.cobol_run.specs.declared.running.Ran.{Ran}
 use Rattle.cobol_run.specs.declared.running.Ran.TheVariants as ran
+use Rattle.cobol_run.specs.Falling.{FellNamed}
 use Rattle.cobol_run.specs.Machine.{ending_seen}
 use Rattle.cobol_run.specs.PlainTests.{is_plain}
 use Rattle.restructure_core.specs.Answers.{IsUnread}
@@ -118,3 +120,9 @@ pub record IsUnrun (source : SourceCall) (out notes : SinkCall) (answer : Status
 abbrev pub EndsOfRun : ℕ → SourceCall → SinkCall → SinkCall → Status → Type 0
 EndsOfRun steps source out notes answer =
     IsRunTold steps source out notes answer ⊎ IsUnrun source out notes answer
+
+-- a device failed and is gone from the bench, and its name was noted
+pub record IsDeviceTold (notes : SinkCall) (left left_now : ℕ) (old new : List Seen) : Type 0 where
+  pub name : List ℕ
+  pub fell : FellNamed name left left_now old new
+  pub noted : Takes (line_of (refusals.Device name)) notes

@@ -12,6 +12,7 @@ ghost use Rattle.std.specs.Prelude.{◌≡◌, false, map, string_bytes};
 ghost use Rattle.cob_base.specs.Source.{source_call};
 ghost use Rattle.cob_base.specs.Sink.{sink_call};
 ghost use Rattle.restructure_tool.specs.Ask.{ask_of as asked, is_run, reads};
+ghost use Rattle.restructure_tool.specs.Running.{IsDeviceTold};
 ghost use Rattle.restructure_tool.specs.Tool.{Ends};
 
 mod answer;
@@ -36,6 +37,7 @@ mod writing;
 use answer::{answer_check, answer_generate, answer_report, answer_restructure, answer_trial};
 use ask::{Ask, ask_of};
 use cob_base::{NoMemory, Sink, Source, StdSink, StdSource, Text};
+use file_desk::Watched;
 use file_model::{Bench, Device, NullDevice};
 use folder_device::FolderDevice;
 use program::{arguments, exit_code, program};
@@ -66,6 +68,12 @@ pub fn tool<S: Source, K: Sink, N: Sink>(
         (source_call S.left S.faults source.old source.new)
         (sink_call K.held K.faults out.old out.new)
         (sink_call N.held N.faults notes.old notes.new) result }
+
+    // a device that is told as failed did fail, and is gone from the bench
+    ensures devices { result ≡ Status.DeviceFault → IsDeviceTold
+        (sink_call N.held N.faults notes.old notes.new) bench.old.left bench.new.left
+        (map ⟦<Box<dyn Device> as Watched>⟧.seen bench.old.devices.items)
+        (map ⟦<Box<dyn Device> as Watched>⟧.seen bench.new.devices.items) }
 
     // where nothing is read the source is as it was, also one that tells nothing
     ensures unread { reads (asked (map string_bytes words.now)) ≡ 0 → source.new ≡ source.old }

@@ -6,6 +6,7 @@ ghost use Rattle.cob_base.specs.Source.{source_call};
 ghost use Rattle.cob_base.specs.Sink.{sink_call};
 ghost use Rattle.restructure_tool.specs.Ask.{ask_of};
 ghost use Rattle.restructure_tool.specs.Status.{status_number};
+ghost use Rattle.restructure_tool.specs.Running.{IsDeviceTold};
 ghost use Rattle.restructure_tool.specs.Tool.{Ends};
 ghost use Rattle.restructure_tool.specs.Program.{is_page, is_page_word, ShowsPage};
 
@@ -14,7 +15,8 @@ use crate::status::Status;
 use crate::tool;
 use crate::writing::{note, write_text};
 use cob_base::{NoMemory, Sink, Source};
-use file_model::Bench;
+use file_desk::Watched;
+use file_model::{Bench, Device};
 use std::alloc::Global;
 use std::process::ExitCode;
 use std::{env, io};
@@ -75,6 +77,10 @@ pub fn program<S: Source, K: Sink, N: Sink>(
         (source_call S.left S.faults source.old source.new)
         (sink_call K.held K.faults out.old out.new)
         (sink_call N.held N.faults notes.old notes.new) result) }
+    ensures devices { result ≡ Status.DeviceFault → IsDeviceTold
+        (sink_call N.held N.faults notes.old notes.new) bench.old.left bench.new.left
+        (map ⟦<Box<dyn Device> as Watched>⟧.seen bench.old.devices.items)
+        (map ⟦<Box<dyn Device> as Watched>⟧.seen bench.new.devices.items) }
 
     // where memory is wanted for the words
     ensures wordless { OnErr words (result ≡ Status.NoMemory) }
@@ -106,6 +112,10 @@ fn serve<S: Source, K: Sink, N: Sink>(
         (source_call S.left S.faults source.old source.new)
         (sink_call K.held K.faults out.old out.new)
         (sink_call N.held N.faults notes.old notes.new) result }
+    ensures devices { result ≡ Status.DeviceFault → IsDeviceTold
+        (sink_call N.held N.faults notes.old notes.new) bench.old.left bench.new.left
+        (map ⟦<Box<dyn Device> as Watched>⟧.seen bench.old.devices.items)
+        (map ⟦<Box<dyn Device> as Watched>⟧.seen bench.new.devices.items) }
 {
     match page_of(words) {
         Some(page) => write_text(alloc, page.as_bytes(), out, notes),

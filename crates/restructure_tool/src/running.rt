@@ -1,11 +1,11 @@
 //! The ask to run a source.
 
-ghost use Rattle.std.specs.Prelude.{◌≡◌};
+ghost use Rattle.std.specs.Prelude.{◌≡◌, map};
 ghost use Rattle.cob_base.specs.Faults.{Rose};
 ghost use Rattle.cob_base.specs.Source.{source_call};
 ghost use Rattle.cob_base.specs.Sink.{sink_call};
 ghost use Rattle.run_answer.specs.Answers.{IsWriteFault};
-ghost use Rattle.restructure_tool.specs.Running.{EndsOfRun, TellsCame, refusal_of};
+ghost use Rattle.restructure_tool.specs.Running.{EndsOfRun, IsDeviceTold, TellsCame, refusal_of};
 ghost use Rattle.restructure_tool.specs.Running as runs;
 
 use crate::reading::read_source;
@@ -16,7 +16,8 @@ use cob_base::{Sink, Source};
 use cob_tree::Program;
 use cobol_read::ReadRefusal;
 use cobol_run::{Ending, Ran};
-use file_model::Bench;
+use file_desk::Watched;
+use file_model::{Bench, Device};
 use restructure_core::Refused;
 use run_answer::{Came, run_source};
 use std::alloc::Global;
@@ -31,10 +32,14 @@ pub fn answer_run<S: Source, K: Sink, N: Sink>(
     notes: &mut N,
     bench: &mut Bench,
 ) -> Status
-    ensures { EndsOfRun steps
+    ensures ends { EndsOfRun steps
         (source_call S.left S.faults source.old source.new)
         (sink_call K.held K.faults out.old out.new)
         (sink_call N.held N.faults notes.old notes.new) result }
+    ensures devices { result ≡ Status.DeviceFault → IsDeviceTold
+        (sink_call N.held N.faults notes.old notes.new) bench.old.left bench.new.left
+        (map ⟦<Box<dyn Device> as Watched>⟧.seen bench.old.devices.items)
+        (map ⟦<Box<dyn Device> as Watched>⟧.seen bench.new.devices.items) }
 {
     match read_source(alloc, source) {
         Err(refusal) => note(alloc, &refusal, notes),

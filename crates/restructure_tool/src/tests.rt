@@ -428,6 +428,18 @@ fn each_answer_comes_with_its_line(rt: HostRuntime) -> Result<(), Fail> {
             notes: "READ FAULT\n",
             ..PLAIN
         },
+        // the call that is to tell the end
+        Case {
+            read_fails: 2,
+            status: Status::ReadFault,
+            out: "",
+            notes: "READ FAULT\n",
+            ..PLAIN
+        },
+        Case {
+            read_fails: 3,
+            ..PLAIN
+        },
         Case {
             piece: 10,
             write_fails: 2,
@@ -441,6 +453,65 @@ fn each_answer_comes_with_its_line(rt: HostRuntime) -> Result<(), Fail> {
             note_fails: 1,
             status: Status::NotSubset,
             out: "",
+            ..PLAIN
+        },
+    ];
+    for case in &cases {
+        check(&rt, alloc, case)?;
+    }
+    Ok(())
+}
+
+/// The call of this number fails, of a sink that takes 40 bytes a call.
+fn cut(write_fails: u64, out: &'static str) -> Case {
+    Case {
+        piece: 40,
+        write_fails,
+        status: Status::WriteFault,
+        out,
+        notes: "WRITE FAULT\n",
+        ..PLAIN
+    }
+}
+
+#[test]
+fn each_call_of_a_sink_may_fail(rt: HostRuntime) -> Result<(), Fail> {
+    let alloc = rt.alloc();
+    let cases = [
+        cut(1, ""),
+        cut(
+            2,
+            "       IDENTIFICATION DIVISION.
+       P",
+        ),
+        cut(
+            3,
+            "       IDENTIFICATION DIVISION.
+       PROGRAM-ID. HELLO.
+       PROCEDURE DIVIS",
+        ),
+        cut(
+            4,
+            "       IDENTIFICATION DIVISION.
+       PROGRAM-ID. HELLO.
+       PROCEDURE DIVISION.
+       A.
+           DISPLAY \"ONE\"
+",
+        ),
+        cut(
+            5,
+            "       IDENTIFICATION DIVISION.
+       PROGRAM-ID. HELLO.
+       PROCEDURE DIVISION.
+       A.
+           DISPLAY \"ONE\"
+           DISPLAY \"THREE\"
+           ST",
+        ),
+        Case {
+            piece: 40,
+            write_fails: 6,
             ..PLAIN
         },
     ];

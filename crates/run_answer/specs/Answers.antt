@@ -2,10 +2,13 @@
 use Rattle.std.specs.Prelude.{ℕ, ◌≡◌, ◌≢◌, true, List}
 use Rattle.cob_base.specs.Sink.{SinkCall}
 use Rattle.cob_tree.specs.declared.program.Program.{Program}
+use Rattle.file_desk.specs.Seen.{Seen}
+use Rattle.file_desk.specs.Falling.{SameBench}
 use Rattle.cobol_meaning.specs.Runs.{Files}
 use Rattle.cobol_read.specs.declared.refusal.ReadRefusal.TheVariants as refusals
 use Rattle.cobol_read.specs.Reading.{HasCause, Reads}
 use Rattle.cobol_run.specs.declared.running.Ran.TheVariants as ran
+use Rattle.cobol_run.specs.Falling.{RunFalls}
 use Rattle.cobol_run.specs.PlainTests.{is_plain}
 use Rattle.cobol_run.specs.Running.{RunsAs}
 use Rattle.run_answer.specs.declared.Came.{Came}
@@ -37,3 +40,10 @@ Comes bytes steps sink came.NoMemory = Keeps sink
 abbrev pub IsWriteFault : Came → Type 0
 IsWriteFault (came.Ran program ran.WriteFault) = Unit {0}
 IsWriteFault _ = ⊥
+
+-- what is left of the devices of the bench: where a run says that a device failed, it is gone; what
+-- isn't run leaves them
+abbrev pub CameFalls : Came → (left left_now : ℕ) → (old new : List Seen) → Type 0
+CameFalls (came.Ran program ran) left left_now old new = RunFalls ran left left_now old new
+CameFalls (came.Refused refusal) left left_now old new = SameBench left left_now old new
+CameFalls came.NoMemory left left_now old new = SameBench left left_now old new

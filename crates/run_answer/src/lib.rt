@@ -10,16 +10,17 @@
 #[cfg(test)]
 mod tests;
 
-ghost use Rattle.std.specs.Prelude.{◌≤◌, vec_len};
+ghost use Rattle.std.specs.Prelude.{◌≤◌, map, vec_len};
 ghost use Rattle.cob_base.specs.Faults.{Rose};
 ghost use Rattle.cob_base.specs.Sink.{sink_call};
-ghost use Rattle.run_answer.specs.Answers.{CameOf, Comes, IsWriteFault};
+ghost use Rattle.run_answer.specs.Answers.{CameFalls, CameOf, Comes, IsWriteFault};
 
 use cob_base::Sink;
 use cob_tree::Program;
 use cobol_read::{ReadRefusal, read};
 use cobol_run::{Ran, run};
-use file_model::Bench;
+use file_desk::Watched;
+use file_model::{Bench, Device};
 use std::alloc::Global;
 
 /// What came of a source.
@@ -35,7 +36,7 @@ pub enum Came {
 
 /// Reads a source and runs its program over a bench for at most so many steps. What it displays
 /// goes to `out`, which is made ready before each display. Both stay as they are where nothing ran.
-#[tactic(auto, using(crate::proofs::AnswerLemmas::comes_of))]
+#[tactic(auto, using(crate::proofs::AnswerLemmas::comes_of, file_desk::proofs::FallLemmas::same_bench))]
 pub fn run_source<K: Sink>(
     alloc: Global,
     bytes: &[u8],
@@ -46,6 +47,9 @@ pub fn run_source<K: Sink>(
     requires within { bench.old.left ≤ vec_len bench.old.devices }
     ensures came { Comes bytes.now steps (sink_call K.held K.faults out.old out.new) result }
     ensures cause { IsWriteFault result → Rose (K.faults out.old) (K.faults out.new) }
+    ensures falls { CameFalls result bench.old.left bench.new.left
+        (map ⟦<Box<dyn Device> as Watched>⟧.seen bench.old.devices.items)
+        (map ⟦<Box<dyn Device> as Watched>⟧.seen bench.new.devices.items) }
 {
     match read(alloc, bytes) {
         Err(ReadRefusal::NoMemory) => Came::NoMemory,
@@ -63,6 +67,9 @@ fn run_program<K: Sink>(
 ) -> Came
     ensures came { CameOf program steps (sink_call K.held K.faults out.old out.new) result }
     ensures cause { IsWriteFault result → Rose (K.faults out.old) (K.faults out.new) }
+    ensures falls { CameFalls result bench.old.left bench.new.left
+        (map ⟦<Box<dyn Device> as Watched>⟧.seen bench.old.devices.items)
+        (map ⟦<Box<dyn Device> as Watched>⟧.seen bench.new.devices.items) }
 {
     let ran = run(alloc, &program, bench, out, steps);
     Came::Ran(program, ran)

@@ -195,7 +195,7 @@ module _ (program made : Program) (summary : Summary) (well : IsWellMade program
       subst CellsServedBy (sym rows-are)
       (are-served (declared_in program) (added_to program writing.cells) ranges graphs few)
 
-  keeps : KeepsAtEnd writing
+  pub keeps : KeepsAtEnd writing
   keeps range file into true = refl
   keeps range file into false = refl
 
@@ -204,7 +204,7 @@ module _ (program made : Program) (summary : Summary) (well : IsWellMade program
       (kinds_of (declared_in program) (added_to program writing.cells) (table_of_cells rows))
       ranges graphs
 
-  counters : CountersServedBy rows
+  pub counters : CountersServedBy rows
   counters =
       subst CountersServedBy (sym rows-are)
       (counters-served (declared_in program) (added_to program writing.cells) ranges graphs)
@@ -215,7 +215,7 @@ module _ (program made : Program) (summary : Summary) (well : IsWellMade program
       graphs-served program writing well.proper well.whole well.fit keeps planned.told
       planned.planned.just counters
 
-  can-be : CanBeWritten program writing
+  pub can-be : CanBeWritten program writing
   can-be = record {
     told = planned.told;
     some = some;

@@ -4,6 +4,8 @@ use Rattle.cob_base.specs.Sink.{sink_call}
 use Rattle.restructure_tool.specs.declared.ask.Ask.TheVariants.{Run, Generate, Trial}
 use Rattle.restructure_tool.specs.Ask.{is_run}
 use Rattle.restructure_tool.specs.Tool.{Ends}
+use Rattle.restructure_tool.specs.declared.refusal.Refusal.TheVariants as refusal
+use Rattle.restructure_tool.proofs.DeviceLemmas.{noted_never, text_never}
 use Rattle.restructure_tool.proofs.EndLemmas.{usage-ends}
 use Rattle.restructure_tool.proofs.tool.Goals as goal
 
@@ -22,7 +24,7 @@ returns-in-Some-Run-clause-ends g c =
     let notes = sink_call g.N.Sink.held g.N.Sink.faults c.args.notes.now c.answer_run.new.notes in
     let same : Run c.in-Some-Run.steps ≡ c.in-Some-Run.field-0 = (let a = c.in-Some-Run.field-0-is in let b = c.in-Some-Run.steps-is in cc) in
     subst (λ a. Ends a source out notes c.answer_run.result) c.in-Some-Run.ensures.asked
-    (subst (λ x. Ends (Some x) source out notes c.answer_run.result) same c.answer_run.ensures)
+    (subst (λ x. Ends (Some x) source out notes c.answer_run.result) same c.answer_run.ensures.ends)
 
 pub returns-in-Some-Generate-clause-ends : goal.returns-in-Some-Generate-clause-ends
 returns-in-Some-Generate-clause-ends g c =
@@ -47,3 +49,26 @@ pub returns-in-Some-Run-clause-unrun : goal.returns-in-Some-Run-clause-unrun
 returns-in-Some-Run-clause-unrun g c = λ other.
     let same : Run c.in-Some-Run.steps ≡ c.in-Some-Run.field-0 = (let a = c.in-Some-Run.field-0-is in let b = c.in-Some-Run.steps-is in cc) in
     let e : true ≡ false = ap is_run (ap Some same ∙ c.in-Some-Run.ensures.asked) ∙ other in cc
+
+-- only a run tells of a device
+pub returns-in-None-clause-devices : goal.returns-in-None-clause-devices
+returns-in-None-clause-devices g c = λ is. absurd (noted_never refusal.Usage _ _ (λ name e. cc) c.note.ensures is)
+
+pub returns-in-Some-Restructure-clause-devices : goal.returns-in-Some-Restructure-clause-devices
+returns-in-Some-Restructure-clause-devices g c = λ is. absurd (text_never _ _ _ _ _ c.answer_restructure.ensures is)
+
+pub returns-in-Some-Report-clause-devices : goal.returns-in-Some-Report-clause-devices
+returns-in-Some-Report-clause-devices g c = λ is. absurd (text_never _ _ _ _ _ c.answer_report.ensures is)
+
+pub returns-in-Some-Check-clause-devices : goal.returns-in-Some-Check-clause-devices
+returns-in-Some-Check-clause-devices g c = λ is. absurd (text_never _ _ _ _ _ c.answer_check.ensures is)
+
+pub returns-in-Some-Generate-clause-devices : goal.returns-in-Some-Generate-clause-devices
+returns-in-Some-Generate-clause-devices g c = λ is.
+    let source = source_call g.S.Source.left g.S.Source.faults c.args.source.now c.args.source.now in
+    absurd (text_never _ _ _ _ _ (c.answer_generate.ensures source refl) is)
+
+pub returns-in-Some-Trial-clause-devices : goal.returns-in-Some-Trial-clause-devices
+returns-in-Some-Trial-clause-devices g c = λ is.
+    let source = source_call g.S.Source.left g.S.Source.faults c.args.source.now c.args.source.now in
+    absurd (text_never _ _ _ _ _ (c.answer_trial.ensures source refl) is)

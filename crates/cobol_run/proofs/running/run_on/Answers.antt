@@ -1,5 +1,7 @@
 use Rattle.std.proofs.Common.{◌∙◌, arith, refl}
 use Rattle.cobol_run.specs.Running.{since}
+use Rattle.cobol_run.specs.declared.running.Turned.TheVariants as turned
+use Rattle.cobol_run.proofs.FallLemmas.{fell_named, turn_after}
 use Rattle.cobol_run.proofs.RunningLemmas.{breaks_off, goes_on_yet, one_more}
 use Rattle.cobol_run.proofs.running.run_on.Goals as goal
 
@@ -13,6 +15,7 @@ loop-turn-preserved g c = record {
       let was = c.loop-turn.invariant.kept program start plain in
       let now = c.make_turn.ensures.kept program c.loop-turn.turn _ (c.loop-turn.invariant.so_far program start) plain in
       (now.0 ∙ was.0, now.1 ∙ was.1);
+  falls = turn_after turned.On c.args.bench.now.left c.loop-turn.bench.left _ _ _ _ c.loop-turn.invariant.falls c.in-On.ensures.falls;
 }
 
 pub returns-in-Over-clause-run : goal.returns-in-Over-clause-run
@@ -63,3 +66,12 @@ pub returns-in-WriteFault-clause-cause : goal.returns-in-WriteFault-clause-cause
 returns-in-WriteFault-clause-cause g c = λ is.
     let rose = c.in-WriteFault.ensures.cause refl in
     omega (arith, rose, c.loop-turn.invariant.later)
+
+pub returns-in-Over-clause-falls : goal.returns-in-Over-clause-falls
+returns-in-Over-clause-falls g c = turn_after (turned.Over c.in-Over.ending) _ _ _ _ _ _ c.loop-turn.invariant.falls c.in-Over.ensures.falls
+
+pub returns-in-WriteFault-clause-falls : goal.returns-in-WriteFault-clause-falls
+returns-in-WriteFault-clause-falls g c = turn_after turned.WriteFault _ _ _ _ _ _ c.loop-turn.invariant.falls c.in-WriteFault.ensures.falls
+
+pub returns-in-Failed-clause-falls : goal.returns-in-Failed-clause-falls
+returns-in-Failed-clause-falls g c = fell_named c.device_fault.result c.args.bench.now.left _ _ _ _ (turn_after turned.Failed _ _ _ _ _ _ c.loop-turn.invariant.falls c.in-Failed.ensures.falls) (omega arith) c.device_fault.ensures.named

@@ -1,4 +1,6 @@
-use Rattle.std.proofs.Common.{◌≡◌, ◌≤◌}
+use Rattle.std.proofs.Common.{◌≡◌, ◌≤◌, map}
+use Rattle.file_desk.specs.Falling.{SameBench}
+use Rattle.file_desk.specs.contracts.watched.BoxDynDeviceWatched.TheImpl.{seen-value}
 use Rattle.cob_tree.specs.declared.program.Program.{Program}
 use Rattle.cobol_run.specs.Plain.{IsPlain}
 use Rattle.cobol_run.specs.Running.{SoFar, since}
@@ -12,4 +14,5 @@ invariant-loop-turn g l = record {
       SoFar program l.machine l.turn (since (g.K.Sink.held l.initial.out) (g.K.Sink.faults l.initial.out) (g.K.Sink.held l.out) (g.K.Sink.faults l.out));
   kept : (program : Program) → SoFar program l.initial.machine 0 (since (g.K.Sink.held l.initial.out) (g.K.Sink.faults l.initial.out) (g.K.Sink.held l.initial.out) (g.K.Sink.faults l.initial.out)) → IsPlain program →
       (l.bench ≡ l.initial.bench) × (l.machine.table ≡ l.initial.machine.table);
+  falls : SameBench l.initial.bench.left l.bench.left (map (seen-value g.dyn-1).it l.initial.bench.devices.items) (map (seen-value g.dyn-1).it l.bench.devices.items);
 }

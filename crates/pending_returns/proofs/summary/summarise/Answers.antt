@@ -9,4 +9,4 @@ pub summary_of-requires-clause-rising : goal.summary_of-requires-clause-rising
 summary_of-requires-clause-rising c = ranges-rise c.args.program.now c.in_ok-table.table c.in_ok-ranges.ranges.items c.in_ok-table.ensures.ranges c.in_ok-ranges.ensures
 
 pub returns-clause-summary : goal.returns-clause-summary
-returns-clause-summary c = is-summary (never_first_of c.args.program.now.files) c.args.program.now c.in_ok-table.table c.in_ok-summary.summary c.in_ok-table.ensures.table c.in_ok-table.ensures.starts c.in_ok-summary.ensures
+returns-clause-summary c = is-summary (never_first_of c.args.program.now.files) c.args.program.now c.in_ok-table.table c.in_ok-summary.summary c.in_ok-table.ensures.table c.in_ok-table.ensures.starts c.in_ok-summary.ensures.summary

@@ -2,5 +2,5 @@ use Rattle.program_gen.specs.Generated.{generated}
 use Rattle.readable_generated.proofs.laws.generated_programs_read_back.Goals as goal
 
 pub returns : goal.returns
-returns c n small short =
-    c.readable_programs_read_back.ensures (generated n) (c.generated_programs_are_readable.ensures n small short)
+returns c n small =
+    c.readable_programs_read_back.ensures (generated n) (c.generated_programs_are_readable.ensures n small)

@@ -12,5 +12,6 @@ restructure_program-done-requires-clause-flow c =
 
 pub returns-in-Clear-clause-done : goal.returns-in-Clear-clause-done
 returns-in-Clear-clause-done c =
-    restructured_if c.args.bytes.now c.in_ok-program.program c.restructure_program-done.result
+    restructured_if c.results_read_back.ensures c.args.bytes.now c.in_ok-program.program
+    c.restructure_program-done.result
     c.in_ok-program.ensures.found c.restructure_program-done.ensures

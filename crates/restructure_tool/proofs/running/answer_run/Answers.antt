@@ -1,12 +1,19 @@
 use Rattle.std.proofs.Common.{subst}
 use Rattle.cob_base.specs.Sink.{sink_call}
 use Rattle.run_answer.specs.Answers.{Comes}
+use Rattle.restructure_tool.proofs.DeviceLemmas.{device_told, unrun_never}
 use Rattle.restructure_tool.proofs.RunLemmas.{told-run}
 use Rattle.restructure_tool.proofs.running.answer_run.Goals as goal
 
-pub returns-in-Ok : goal.returns-in-Ok
-returns-in-Ok g c =
+pub returns-in-Ok-clause-ends : goal.returns-in-Ok-clause-ends
+returns-in-Ok-clause-ends g c =
     let out = sink_call g.K.Sink.held g.K.Sink.faults c.args.out.now c.run_source-came.new.out in
     told-run c.args.steps _ out c.in-Ok.bytes c.in-Ok.ensures.read c.run_source-came.result _ _
     (subst (λ b. Comes b c.args.steps out c.run_source-came.result) c.as_slice.ensures c.run_source-came.ensures.came)
     c.tell.ensures c.run_source-came.ensures.cause
+
+pub returns-in-Ok-clause-devices : goal.returns-in-Ok-clause-devices
+returns-in-Ok-clause-devices g c = device_told c.args.steps c.run_source-came.result _ _ _ _ _ _ c.tell.ensures c.run_source-came.ensures.falls
+
+pub returns-in-Err-clause-devices : goal.returns-in-Err-clause-devices
+returns-in-Err-clause-devices g c = λ is. absurd (unrun_never c.in-Err.refusal _ _ c.in-Err.ensures.only c.note.ensures is)

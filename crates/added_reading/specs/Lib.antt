@@ -1,0 +1,4 @@
+-- What a program has so that its divisions are read back.
+pub mod Declaring
+-- What holds of programs that are read.
+pub mod Laws

@@ -1,0 +1,23 @@
+//! What holds of control whose parts pass tests. These functions do nothing; their contracts are laws.
+
+ghost use Rattle.fit_control.specs.Laws.{ControlTellsFit, FitSourcesAreServed, FitSourcesAreSound, WrittenSentencesFit};
+
+/// Each part of a program whose statements fit may be written, where what passes may be.
+pub fn fit_sources_are_served()
+    ensures { FitSourcesAreServed }
+{}
+
+/// VARYING begins with a number there, and an EVALUATE has two arms.
+pub fn fit_sources_are_sound()
+    ensures { FitSourcesAreSound }
+{}
+
+/// The sentence of a procedure fits, where its parts do, and isn't empty.
+pub fn written_sentences_fit()
+    ensures { WrittenSentencesFit }
+{}
+
+/// Statements whose control fits do.
+pub fn control_tells_fit()
+    ensures { ControlTellsFit }
+{}

@@ -1,0 +1,2 @@
+-- What holds of programs that are read.
+pub mod Laws

@@ -1,0 +1,15 @@
+//! Programs whose statements fit. These functions do nothing; their contracts are laws.
+
+ghost use Rattle.fit_sources.specs.Laws.{ProgramsThatAreReadFit, ReadPartsPass};
+
+/// Each part that is read by a program's own names with no fault noted passes the test of each use of
+/// which no fault is told.
+pub fn read_parts_pass()
+    ensures { ReadPartsPass }
+{}
+
+/// The statements of a program that some bytes read to pass the tests of its own names, each label
+/// and each range passing as one, are in scope, and nest no deeper than they may.
+pub fn programs_that_are_read_fit()
+    ensures { ProgramsThatAreReadFit }
+{}

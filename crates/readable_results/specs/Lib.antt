@@ -1,0 +1,2 @@
+-- What is printed of split programs.
+pub mod Laws

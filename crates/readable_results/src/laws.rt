@@ -1,0 +1,23 @@
+//! What is printed of split programs. These functions do nothing; their contracts are laws.
+
+ghost use Rattle.readable_results.specs.Laws.{SplitProgramsAreReadable, SplitProgramsReadBack};
+
+use fit_sources::programs_that_are_read_fit;
+use own_fits::own_fits_spell;
+use readable_programs::readable_programs_read_back;
+
+/// What a program that is read is split into is readable, where it is within the limits of reading.
+pub fn split_programs_are_readable()
+    ensures { SplitProgramsAreReadable }
+{
+    own_fits_spell();
+    programs_that_are_read_fit();
+}
+
+/// So what is printed of it reads to it.
+pub fn split_programs_read_back()
+    ensures { SplitProgramsReadBack }
+{
+    readable_programs_read_back();
+    split_programs_are_readable();
+}

@@ -1,0 +1,12 @@
+//! What holds of results. The function does nothing; its contract is a law.
+
+ghost use Rattle.restructure_core.specs.Results.{ResultsReadBack};
+
+use readable_results::split_programs_read_back;
+
+/// What is printed of a result that passes no limit reads to it.
+pub fn results_read_back()
+    ensures { ResultsReadBack }
+{
+    split_programs_read_back();
+}

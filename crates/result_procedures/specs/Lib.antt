@@ -1,0 +1,2 @@
+-- What holds of the procedures of a split program.
+pub mod Laws

@@ -1,0 +1,2 @@
+-- How much is printed of generated programs.
+pub mod Laws

@@ -1,0 +1,39 @@
+-- Steps of the code, as forms: what is read before and behind what a statement holds.
+use Rattle.std.specs.Prelude.{ℕ, Bool, false, List}
+use Rattle.cob_tree.specs.declared.stmt.Stmt.{Stmt}
+use Rattle.grammar_forms.specs.Form.{Form, pure, ◌>>=◌, ◌>>◌}
+use Rattle.stmt_forms.specs.declared.head.ArithmeticVerb.{ArithmeticVerb}
+use Rattle.stmt_forms.specs.declared.head.PerformHead.{PerformHead}
+use Rattle.stmt_forms.specs.declared.head.PerformHead.TheVariants as heads
+use Rattle.stmt_drafts.specs.declared.made.Begun.{Begun}
+use Rattle.stmt_drafts.specs.declared.made.Begun.TheVariants as ways
+use Rattle.stmt_forms.specs.declared.scope.Scope.{Scope}
+use Rattle.stmt_forms.specs.Arms.{Level, Found, FoundOne, end_word, end_work}
+use Rattle.stmt_forms.specs.Loop.{perform_head, loop_body}
+use Rattle.stmt_forms.specs.Part.{Parts}
+use Rattle.stmt_forms.specs.Stmt.{simple_stmts}
+
+-- the word that ends a statement, unless NOT was read
+abbrev pub ended : {A : Type 0} → List ℕ → A → Bool → Form (A × Bool)
+ended word found not_read = end_word word not_read >> pure (found, not_read)
+
+-- the same of arithmetic
+abbrev pub work_ended : {A : Type 0} → ArithmeticVerb → A → Bool → Form (A × Bool)
+work_ended verb found not_read = end_work verb not_read >> pure (found, not_read)
+
+-- a statement that holds no other, behind which no NOT is read
+abbrev pub simple : {Side Known : Type 0} → Parts Side Known → Scope → List Stmt → Form Found
+simple parts scope before = simple_stmts parts scope before >>= (λ found. pure (found, false))
+
+-- what is read of PERFORM, in boxes
+abbrev pub begun : PerformHead → Begun
+begun (heads.Whole stmt not_read) = ways.Whole stmt not_read
+begun (heads.Inline control) = ways.Inline control
+
+abbrev pub perform_begun : {Side Known : Type 0} → Parts Side Known → Form (Unit {0}) → Form Begun
+perform_begun parts enter = perform_head parts enter >>= (λ head. pure (begun head))
+
+-- PERFORM behind it
+abbrev pub perform_from : Level → Scope → Begun → Form FoundOne
+perform_from level scope (ways.Whole stmt not_read) = pure (stmt, not_read)
+perform_from level scope (ways.Inline control) = loop_body level scope control

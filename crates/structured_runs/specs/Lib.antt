@@ -1,0 +1,2 @@
+-- What runs of structured programs show.
+pub mod Shown
