@@ -1,0 +1,2 @@
+-- The toy.
+pub mod Toy
