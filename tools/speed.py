@@ -7,13 +7,16 @@ The sources are of the kind that sites have: groups of paragraphs that main perf
 early exits by GO TO, a READ loop, nested IFs, a GO TO DEPENDING, and comment lines. A row is a size: the
 least seconds of a processor of both, their ratio, the seconds for ten times the size as an exponent of
 growth, and the peak of memory as a multiple of the source. Without cobc its columns stay empty."""
+import fcntl
 import math
 import os
-import resource
+import re
+import select
 import shutil
 import subprocess
 import sys
 import tempfile
+import time
 
 HEAD = """       IDENTIFICATION DIVISION.
        PROGRAM-ID. BATCH.
@@ -136,8 +139,27 @@ def source(size):
     return "".join(parts + [GROUP.format(n=n) for n in numbers]).encode()
 
 
+def peak(words, path):
+    """The peak of a run's memory in bytes. The kernel's own figure counts what this script had before the run
+    began, so the run is held at its first write, behind which it takes no memory, and asked then."""
+    reading, writing = os.pipe()
+    fcntl.fcntl(writing, fcntl.F_SETPIPE_SZ, 4096)
+    with open(path, "rb") as given:
+        child = subprocess.Popen(words, stdin=given, stdout=writing, stderr=subprocess.DEVNULL)
+    os.close(writing)
+    select.select([reading], [], [])
+    time.sleep(0.05)
+    with open("/proc/%d/status" % child.pid) as status:
+        found = re.search(r"VmHWM:\s+(\d+) kB", status.read())
+    while os.read(reading, 1 << 20):
+        pass
+    os.close(reading)
+    child.wait()
+    return 1024 * int(found[1])
+
+
 def measured(words, path, wanted):
-    """The seconds of a processor that a run takes, and its peak of memory in bytes."""
+    """The seconds of a processor that a run takes."""
     with open(path, "rb") as given, open(os.devnull, "wb") as nowhere:
         child = subprocess.Popen(words, stdin=given, stdout=nowhere, stderr=subprocess.PIPE)
         notes = child.stderr.read()
@@ -145,7 +167,7 @@ def measured(words, path, wanted):
         child.returncode = os.waitstatus_to_exitcode(status)
     if child.returncode != wanted:
         sys.exit("%s: status %d: %s" % (" ".join(words), child.returncode, notes[:300].decode(errors="replace")))
-    return used.ru_utime + used.ru_stime, used.ru_maxrss * 1024
+    return used.ru_utime + used.ru_stime
 
 
 def main():
@@ -164,8 +186,8 @@ def main():
             for _ in range(rounds):
                 ours.append(measured([program, "restructure"], path, 0))
                 if has_cobc:
-                    beside.append(measured(["cobc", "-fsyntax-only", "-std=default", path], path, 0)[0])
-            took, memory = min(it[0] for it in ours), max(it[1] for it in ours)
+                    beside.append(measured(["cobc", "-fsyntax-only", "-std=default", path], path, 0))
+            took, memory = min(ours), peak([program, "restructure"], path)
             row = "%9d bytes: %.3f s" % (len(text), took)
             if beside:
                 row += ", cobc %.3f s, ratio %.2f" % (min(beside), min(beside) / max(took, 0.001))

@@ -3,7 +3,7 @@
 ghost use Rattle.std.specs.Prelude.{◌≡◌};
 ghost use Rattle.grammar_forms.specs.Form as form;
 ghost use Rattle.grammar_forms.specs.Reading.{Reads};
-ghost use Rattle.stmt_forms.specs.File as forms;
+ghost use Rattle.statement_grammar.specs.stmt_forms.File as forms;
 
 use crate::moving::value;
 use cob_base::Items;
@@ -13,7 +13,7 @@ use grammar_forms::{Cursor, Unread, Why};
 use part_readers::Parts;
 use std::alloc::Global;
 
-#[tactic(auto, unfolding(stmt_forms::specs::File::file_name))]
+#[tactic(auto, unfolding(statement_grammar::specs::stmt_forms::File::file_name))]
 fn file_name<P: Parts>(parts: &P, cursor: &mut Cursor<'_>) -> Result<u32, Unread>
     ensures { Reads ((forms.file_name (P.parts parts.now)).reads cursor.old) result cursor.new }
 {
@@ -23,7 +23,7 @@ fn file_name<P: Parts>(parts: &P, cursor: &mut Cursor<'_>) -> Result<u32, Unread
     }
 }
 
-#[tactic(auto, unfolding(stmt_forms::specs::File::how_of_word))]
+#[tactic(auto, unfolding(statement_grammar::specs::stmt_forms::File::how_of_word))]
 fn how_of_word(word: &[u8]) -> Option<How>
     ensures { result ≡ forms.how_of_word word.now }
 {
@@ -49,7 +49,7 @@ fn next_how(cursor: &Cursor<'_>) -> Option<How>
     }
 }
 
-#[tactic(auto, unfolding(stmt_forms::specs::File::begins_opening))]
+#[tactic(auto, unfolding(statement_grammar::specs::stmt_forms::File::begins_opening))]
 fn at_opening(cursor: &Cursor<'_>) -> bool
     ensures { result ≡ form.is_next forms.begins_opening cursor.now }
 {
@@ -68,7 +68,7 @@ fn how(cursor: &mut Cursor<'_>) -> Result<How, Unread>
     }
 }
 
-#[tactic(auto, unfolding(stmt_forms::specs::File::open_one))]
+#[tactic(auto, unfolding(statement_grammar::specs::stmt_forms::File::open_one))]
 fn open_one<P: Parts>(parts: &P, cursor: &mut Cursor<'_>, how: How) -> Result<Opening, Unread>
     ensures { Reads ((forms.open_one (P.parts parts.now) how).reads cursor.old) result cursor.new }
 {
@@ -91,7 +91,7 @@ fn open_more<P: Parts>(
     Ok(found)
 }
 
-#[tactic(auto, unfolding(stmt_forms::specs::File::open_group))]
+#[tactic(auto, unfolding(statement_grammar::specs::stmt_forms::File::open_group))]
 fn open_group<P: Parts>(
     parts: &P,
     cursor: &mut Cursor<'_>,
@@ -120,7 +120,7 @@ fn open_groups<P: Parts>(
     Ok(found)
 }
 
-#[tactic(auto, unfolding(stmt_forms::specs::File::open_stmt))]
+#[tactic(auto, unfolding(statement_grammar::specs::stmt_forms::File::open_stmt))]
 pub fn open_stmt<P: Parts>(
     parts: &P,
     alloc: Global,
@@ -149,7 +149,7 @@ fn file_names<P: Parts>(
     Ok(found)
 }
 
-#[tactic(auto, unfolding(stmt_forms::specs::File::close_stmt))]
+#[tactic(auto, unfolding(statement_grammar::specs::stmt_forms::File::close_stmt))]
 pub fn close_stmt<P: Parts>(
     parts: &P,
     alloc: Global,
@@ -162,7 +162,7 @@ pub fn close_stmt<P: Parts>(
     Ok(Stmt::Closes(files))
 }
 
-#[tactic(auto, unfolding(stmt_forms::specs::File::from_operand))]
+#[tactic(auto, unfolding(statement_grammar::specs::stmt_forms::File::from_operand))]
 fn from_operand<P: Parts>(
     parts: &P,
     alloc: Global,
@@ -178,7 +178,7 @@ fn from_operand<P: Parts>(
     Ok(Some(parts.operand_of(side)))
 }
 
-#[tactic(auto, unfolding(stmt_forms::specs::File::from_part))]
+#[tactic(auto, unfolding(statement_grammar::specs::stmt_forms::File::from_part))]
 fn from_part<P: Parts>(
     parts: &P,
     alloc: Global,
@@ -195,7 +195,7 @@ fn from_part<P: Parts>(
     }
 }
 
-#[tactic(auto, unfolding(stmt_forms::specs::File::write_stmt))]
+#[tactic(auto, unfolding(statement_grammar::specs::stmt_forms::File::write_stmt))]
 pub fn write_stmt<P: Parts>(
     parts: &P,
     alloc: Global,
@@ -211,7 +211,7 @@ pub fn write_stmt<P: Parts>(
     Ok(Stmt::Write { entry, from })
 }
 
-#[tactic(auto, unfolding(stmt_forms::specs::File::rewrite_stmt))]
+#[tactic(auto, unfolding(statement_grammar::specs::stmt_forms::File::rewrite_stmt))]
 pub fn rewrite_stmt<P: Parts>(
     parts: &P,
     alloc: Global,

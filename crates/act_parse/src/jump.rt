@@ -2,16 +2,16 @@
 
 ghost use Rattle.std.specs.Prelude.{◌≡◌};
 ghost use Rattle.grammar_forms.specs.Reading.{Reads};
-ghost use Rattle.stmt_forms.specs.Jump as forms;
+ghost use Rattle.statement_grammar.specs.stmt_forms.Jump as forms;
 
 use cob_base::Items;
 use cob_tree::Stmt;
 use grammar_forms::{Cursor, NameKind, Note, Position, Unread, Why};
 use part_readers::{Parts, at_procedure, procedure};
+use statement_grammar::stmt_forms::Scope;
 use std::alloc::Global;
-use stmt_forms::Scope;
 
-#[tactic(auto, unfolding(stmt_forms::specs::Jump::procedure_entry))]
+#[tactic(auto, unfolding(statement_grammar::specs::stmt_forms::Jump::procedure_entry))]
 fn procedure_entry<P: Parts>(
     parts: &P,
     alloc: Global,
@@ -39,7 +39,7 @@ fn more_entries<P: Parts>(
     Ok(found)
 }
 
-#[tactic(auto, unfolding(stmt_forms::specs::Jump::go_alone))]
+#[tactic(auto, unfolding(statement_grammar::specs::stmt_forms::Jump::go_alone))]
 fn go_alone(cursor: &mut Cursor<'_>, to: &Items<u32>) -> Result<Stmt, Unread>
     ensures { Reads ((forms.go_alone to.now).reads cursor.old) result cursor.new }
 {
@@ -49,7 +49,7 @@ fn go_alone(cursor: &mut Cursor<'_>, to: &Items<u32>) -> Result<Stmt, Unread>
     }
 }
 
-#[tactic(auto, unfolding(stmt_forms::specs::Jump::go_depending))]
+#[tactic(auto, unfolding(statement_grammar::specs::stmt_forms::Jump::go_depending))]
 fn go_depending<P: Parts>(
     parts: &P,
     alloc: Global,
@@ -67,7 +67,7 @@ fn go_depending<P: Parts>(
     Ok(Stmt::GoDepending { to, on })
 }
 
-#[tactic(auto, unfolding(stmt_forms::specs::Jump::go_stmt))]
+#[tactic(auto, unfolding(statement_grammar::specs::stmt_forms::Jump::go_stmt))]
 fn go_stmt<P: Parts>(parts: &P, alloc: Global, cursor: &mut Cursor<'_>) -> Result<Stmt, Unread>
     ensures { Reads ((forms.go_stmt (P.parts parts.now)).reads cursor.old) result cursor.new }
 {
@@ -97,7 +97,7 @@ fn usage_unless(holds: bool, position: Position) -> Option<Note>
     }
 }
 
-#[tactic(auto, unfolding(stmt_forms::specs::Jump::exit_paragraph))]
+#[tactic(auto, unfolding(statement_grammar::specs::stmt_forms::Jump::exit_paragraph))]
 fn exit_paragraph(cursor: &mut Cursor<'_>) -> Result<Stmt, Unread>
     ensures { Reads (forms.exit_paragraph.reads cursor.old) result cursor.new }
 {
@@ -105,7 +105,7 @@ fn exit_paragraph(cursor: &mut Cursor<'_>) -> Result<Stmt, Unread>
     Ok(Stmt::ExitParagraph)
 }
 
-#[tactic(auto, unfolding(stmt_forms::specs::Jump::exit_section))]
+#[tactic(auto, unfolding(statement_grammar::specs::stmt_forms::Jump::exit_section))]
 fn exit_section(cursor: &mut Cursor<'_>, scope: Scope, position: Position) -> Result<Stmt, Unread>
     ensures { Reads ((forms.exit_section scope position).reads cursor.old) result cursor.new }
 {
@@ -114,7 +114,7 @@ fn exit_section(cursor: &mut Cursor<'_>, scope: Scope, position: Position) -> Re
     Ok(Stmt::ExitSection)
 }
 
-#[tactic(auto, unfolding(stmt_forms::specs::Jump::cycle))]
+#[tactic(auto, unfolding(statement_grammar::specs::stmt_forms::Jump::cycle))]
 fn cycle(cursor: &mut Cursor<'_>) -> Result<bool, Unread>
     ensures { Reads (forms.cycle.reads cursor.old) result cursor.new }
 {
@@ -126,7 +126,7 @@ fn cycle(cursor: &mut Cursor<'_>) -> Result<bool, Unread>
     }
 }
 
-#[tactic(auto, unfolding(stmt_forms::specs::Jump::exit_perform))]
+#[tactic(auto, unfolding(statement_grammar::specs::stmt_forms::Jump::exit_perform))]
 fn exit_perform(cursor: &mut Cursor<'_>, scope: Scope, position: Position) -> Result<Stmt, Unread>
     ensures { Reads ((forms.exit_perform scope position).reads cursor.old) result cursor.new }
 {
@@ -137,7 +137,7 @@ fn exit_perform(cursor: &mut Cursor<'_>, scope: Scope, position: Position) -> Re
 }
 
 /// What stands behind EXIT, at which it has its position.
-#[tactic(auto, unfolding(stmt_forms::specs::Jump::exit_behind))]
+#[tactic(auto, unfolding(statement_grammar::specs::stmt_forms::Jump::exit_behind))]
 pub fn exit_behind(
     cursor: &mut Cursor<'_>,
     scope: Scope,
@@ -154,7 +154,7 @@ pub fn exit_behind(
     }
 }
 
-#[tactic(auto, unfolding(stmt_forms::specs::Jump::exit_stmt))]
+#[tactic(auto, unfolding(statement_grammar::specs::stmt_forms::Jump::exit_stmt))]
 fn exit_stmt(cursor: &mut Cursor<'_>, scope: Scope) -> Result<Stmt, Unread>
     ensures { Reads ((forms.exit_stmt scope).reads cursor.old) result cursor.new }
 {
@@ -162,7 +162,7 @@ fn exit_stmt(cursor: &mut Cursor<'_>, scope: Scope) -> Result<Stmt, Unread>
     exit_behind(cursor, scope, position)
 }
 
-#[tactic(auto, unfolding(stmt_forms::specs::Jump::next_sentence))]
+#[tactic(auto, unfolding(statement_grammar::specs::stmt_forms::Jump::next_sentence))]
 fn next_sentence(cursor: &mut Cursor<'_>) -> Result<Stmt, Unread>
     ensures { Reads (forms.next_sentence.reads cursor.old) result cursor.new }
 {
@@ -171,7 +171,7 @@ fn next_sentence(cursor: &mut Cursor<'_>) -> Result<Stmt, Unread>
     Ok(Stmt::NextSentence)
 }
 
-#[tactic(auto, unfolding(stmt_forms::specs::Jump::stop_run))]
+#[tactic(auto, unfolding(statement_grammar::specs::stmt_forms::Jump::stop_run))]
 fn stop_run(cursor: &mut Cursor<'_>) -> Result<Stmt, Unread>
     ensures { Reads (forms.stop_run.reads cursor.old) result cursor.new }
 {
@@ -180,7 +180,7 @@ fn stop_run(cursor: &mut Cursor<'_>) -> Result<Stmt, Unread>
     Ok(Stmt::StopRun)
 }
 
-#[tactic(auto, unfolding(stmt_forms::specs::Jump::continue_stmt))]
+#[tactic(auto, unfolding(statement_grammar::specs::stmt_forms::Jump::continue_stmt))]
 fn continue_stmt(cursor: &mut Cursor<'_>) -> Result<Stmt, Unread>
     ensures { Reads (forms.continue_stmt.reads cursor.old) result cursor.new }
 {
@@ -188,7 +188,7 @@ fn continue_stmt(cursor: &mut Cursor<'_>) -> Result<Stmt, Unread>
     Ok(Stmt::Continue)
 }
 
-#[tactic(auto, unfolding(stmt_forms::specs::Jump::still_stmt))]
+#[tactic(auto, unfolding(statement_grammar::specs::stmt_forms::Jump::still_stmt))]
 fn still_stmt(cursor: &mut Cursor<'_>) -> Result<Stmt, Unread>
     ensures { Reads (forms.still_stmt.reads cursor.old) result cursor.new }
 {
@@ -201,7 +201,7 @@ fn still_stmt(cursor: &mut Cursor<'_>) -> Result<Stmt, Unread>
     }
 }
 
-#[tactic(auto, unfolding(stmt_forms::specs::Jump::jump_stmt))]
+#[tactic(auto, unfolding(statement_grammar::specs::stmt_forms::Jump::jump_stmt))]
 pub fn jump_stmt<P: Parts>(
     parts: &P,
     alloc: Global,

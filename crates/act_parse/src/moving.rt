@@ -3,15 +3,17 @@
 ghost use Rattle.std.specs.Prelude.{◌≡◌};
 ghost use Rattle.grammar_forms.specs.Form as form;
 ghost use Rattle.grammar_forms.specs.Reading.{Reads};
-ghost use Rattle.stmt_forms.specs.Move as forms;
+ghost use Rattle.statement_grammar.specs.stmt_forms.Move as forms;
 
 use cob_base::Items;
 use cob_tree::{Operand, Place, Stmt};
 use grammar_forms::{Cursor, Unread};
-use part_readers::{Parts, pushed};
+use part_readers::{
+    Parts, drop_items, drop_operands, drop_stmts, item_added, operand_added, stmt_added,
+};
 use std::alloc::Global;
 
-#[tactic(auto, unfolding(stmt_forms::specs::Move::value))]
+#[tactic(auto, unfolding(statement_grammar::specs::stmt_forms::Move::value))]
 pub fn value<P: Parts>(parts: &P, alloc: Global, cursor: &mut Cursor<'_>) -> Result<P::Side, Unread>
     ensures { Reads ((forms.value (P.parts parts.now)).reads cursor.old) result cursor.new }
 {
@@ -20,7 +22,7 @@ pub fn value<P: Parts>(parts: &P, alloc: Global, cursor: &mut Cursor<'_>) -> Res
     Ok(side)
 }
 
-#[tactic(auto, unfolding(stmt_forms::specs::Move::value_operand))]
+#[tactic(auto, unfolding(statement_grammar::specs::stmt_forms::Move::value_operand))]
 fn value_operand<P: Parts>(
     parts: &P,
     alloc: Global,
@@ -43,9 +45,9 @@ fn operand_behind<P: Parts>(
         result cursor.new }
 {
     match value_operand(parts, alloc, cursor) {
-        Ok(next) => Ok(pushed(found, next)?),
+        Ok(next) => Ok(operand_added(found, next)?),
         Err(stop) => {
-            drop(found);
+            drop_operands(found);
             Err(stop)
         }
     }
@@ -76,7 +78,7 @@ fn value_operands<P: Parts>(
         result cursor.new }
 {
     let first = value_operand(parts, alloc, cursor)?;
-    let found = pushed(Items::new(alloc), first)?;
+    let found = operand_added(Items::new(alloc), first)?;
     operands_from(parts, alloc, cursor, found)
 }
 
@@ -86,7 +88,7 @@ fn at_advancing(cursor: &Cursor<'_>) -> bool
     cursor.sees(b"WITH") || cursor.sees(b"NO")
 }
 
-#[tactic(auto, unfolding(stmt_forms::specs::Move::no_advancing))]
+#[tactic(auto, unfolding(statement_grammar::specs::stmt_forms::Move::no_advancing))]
 fn no_advancing(cursor: &mut Cursor<'_>) -> Result<bool, Unread>
     ensures { Reads (forms.no_advancing.reads cursor.old) result cursor.new }
 {
@@ -96,7 +98,7 @@ fn no_advancing(cursor: &mut Cursor<'_>) -> Result<bool, Unread>
     Ok(false)
 }
 
-#[tactic(auto, unfolding(stmt_forms::specs::Move::advancing))]
+#[tactic(auto, unfolding(statement_grammar::specs::stmt_forms::Move::advancing))]
 fn advancing(cursor: &mut Cursor<'_>) -> Result<bool, Unread>
     ensures { Reads (forms.advancing.reads cursor.old) result cursor.new }
 {
@@ -107,7 +109,7 @@ fn advancing(cursor: &mut Cursor<'_>) -> Result<bool, Unread>
     }
 }
 
-#[tactic(auto, unfolding(stmt_forms::specs::Move::display_stmt))]
+#[tactic(auto, unfolding(statement_grammar::specs::stmt_forms::Move::display_stmt))]
 pub fn display_stmt<P: Parts>(
     parts: &P,
     alloc: Global,
@@ -120,13 +122,13 @@ pub fn display_stmt<P: Parts>(
     match advancing(cursor) {
         Ok(advance) => Ok(Stmt::Display { items, advance }),
         Err(stop) => {
-            drop(items);
+            drop_operands(items);
             Err(stop)
         }
     }
 }
 
-#[tactic(auto, unfolding(stmt_forms::specs::Move::receiver))]
+#[tactic(auto, unfolding(statement_grammar::specs::stmt_forms::Move::receiver))]
 fn receiver<P: Parts>(
     parts: &P,
     alloc: Global,
@@ -154,9 +156,9 @@ fn receiver_behind<P: Parts>(
         cursor.old) result cursor.new }
 {
     match receiver(parts, alloc, cursor, from) {
-        Ok(next) => Ok(pushed(found, next)?),
+        Ok(next) => Ok(item_added(found, next)?),
         Err(stop) => {
-            drop(found);
+            drop_items(found);
             Err(stop)
         }
     }
@@ -189,11 +191,11 @@ fn receivers<P: Parts>(
         result cursor.new }
 {
     let first = receiver(parts, alloc, cursor, from)?;
-    let found = pushed(Items::new(alloc), first)?;
+    let found = item_added(Items::new(alloc), first)?;
     receivers_from(parts, alloc, cursor, from, found)
 }
 
-#[tactic(auto, unfolding(stmt_forms::specs::Move::move_stmt))]
+#[tactic(auto, unfolding(statement_grammar::specs::stmt_forms::Move::move_stmt))]
 pub fn move_stmt<P: Parts>(
     parts: &P,
     alloc: Global,
@@ -209,7 +211,7 @@ pub fn move_stmt<P: Parts>(
     Ok(Stmt::Move { from, to })
 }
 
-#[tactic(auto, unfolding(stmt_forms::specs::Move::set_one))]
+#[tactic(auto, unfolding(statement_grammar::specs::stmt_forms::Move::set_one))]
 fn set_one<P: Parts>(parts: &P, alloc: Global, cursor: &mut Cursor<'_>) -> Result<Stmt, Unread>
     ensures { Reads ((forms.set_one (P.parts parts.now)).reads cursor.old) result cursor.new }
 {
@@ -229,9 +231,9 @@ fn set_behind<P: Parts>(
         result cursor.new }
 {
     match set_one(parts, alloc, cursor) {
-        Ok(next) => Ok(pushed(found, next)?),
+        Ok(next) => Ok(stmt_added(found, next)?),
         Err(stop) => {
-            drop(found);
+            drop_stmts(found);
             Err(stop)
         }
     }
@@ -253,7 +255,7 @@ fn set_more<P: Parts>(
     Ok(found)
 }
 
-#[tactic(auto, unfolding(stmt_forms::specs::Move::set_stmts))]
+#[tactic(auto, unfolding(statement_grammar::specs::stmt_forms::Move::set_stmts))]
 pub fn set_stmts<P: Parts>(
     parts: &P,
     alloc: Global,
@@ -264,25 +266,25 @@ pub fn set_stmts<P: Parts>(
         result cursor.new }
 {
     if let Err(stop) = cursor.key(b"SET") {
-        drop(found);
+        drop_stmts(found);
         return Err(stop);
     }
     let first = match set_one(parts, alloc, cursor) {
         Ok(first) => first,
         Err(stop) => {
-            drop(found);
+            drop_stmts(found);
             return Err(stop);
         }
     };
-    let found = set_more(parts, alloc, cursor, pushed(found, first)?)?;
+    let found = set_more(parts, alloc, cursor, stmt_added(found, first)?)?;
     if let Err(stop) = cursor.key(b"TO") {
-        drop(found);
+        drop_stmts(found);
         return Err(stop);
     }
     match cursor.key(b"TRUE") {
         Ok(_) => Ok(found),
         Err(stop) => {
-            drop(found);
+            drop_stmts(found);
             Err(stop)
         }
     }

@@ -1,7 +1,7 @@
 //! Statements that hold no others.
 
 ghost use Rattle.grammar_forms.specs.Reading.{Reads};
-ghost use Rattle.stmt_forms.specs.Stmt as forms;
+ghost use Rattle.statement_grammar.specs.stmt_forms.Stmt as forms;
 
 use crate::file::{close_stmt, open_stmt, rewrite_stmt, write_stmt};
 use crate::jump::jump_stmt;
@@ -9,11 +9,11 @@ use crate::moving::{display_stmt, move_stmt, set_stmts};
 use cob_base::Items;
 use cob_tree::Stmt;
 use grammar_forms::{Cursor, Unread};
-use part_readers::{Parts, at_filing, at_moving, pushed};
+use part_readers::{Parts, at_filing, at_moving, drop_stmts, stmt_added};
+use statement_grammar::stmt_forms::Scope;
 use std::alloc::Global;
-use stmt_forms::Scope;
 
-#[tactic(auto, unfolding(stmt_forms::specs::Stmt::moving_stmt))]
+#[tactic(auto, unfolding(statement_grammar::specs::stmt_forms::Stmt::moving_stmt))]
 fn moving_stmt<P: Parts>(parts: &P, alloc: Global, cursor: &mut Cursor<'_>) -> Result<Stmt, Unread>
     ensures { Reads ((forms.moving_stmt (P.parts parts.now)).reads cursor.old) result cursor.new }
 {
@@ -24,7 +24,7 @@ fn moving_stmt<P: Parts>(parts: &P, alloc: Global, cursor: &mut Cursor<'_>) -> R
     }
 }
 
-#[tactic(auto, unfolding(stmt_forms::specs::Stmt::moving_stmts))]
+#[tactic(auto, unfolding(statement_grammar::specs::stmt_forms::Stmt::moving_stmts))]
 fn moving_stmts<P: Parts>(
     parts: &P,
     alloc: Global,
@@ -38,16 +38,16 @@ fn moving_stmts<P: Parts>(
         set_stmts(parts, alloc, cursor, found)
     } else {
         match moving_stmt(parts, alloc, cursor) {
-            Ok(next) => Ok(pushed(found, next)?),
+            Ok(next) => Ok(stmt_added(found, next)?),
             Err(stop) => {
-                drop(found);
+                drop_stmts(found);
                 Err(stop)
             }
         }
     }
 }
 
-#[tactic(auto, unfolding(stmt_forms::specs::Stmt::writing_stmt))]
+#[tactic(auto, unfolding(statement_grammar::specs::stmt_forms::Stmt::writing_stmt))]
 fn writing_stmt<P: Parts>(parts: &P, alloc: Global, cursor: &mut Cursor<'_>) -> Result<Stmt, Unread>
     ensures { Reads ((forms.writing_stmt (P.parts parts.now)).reads cursor.old) result cursor.new }
 {
@@ -58,7 +58,7 @@ fn writing_stmt<P: Parts>(parts: &P, alloc: Global, cursor: &mut Cursor<'_>) -> 
     }
 }
 
-#[tactic(auto, unfolding(stmt_forms::specs::Stmt::filing_stmt))]
+#[tactic(auto, unfolding(statement_grammar::specs::stmt_forms::Stmt::filing_stmt))]
 fn filing_stmt<P: Parts>(parts: &P, alloc: Global, cursor: &mut Cursor<'_>) -> Result<Stmt, Unread>
     ensures { Reads ((forms.filing_stmt (P.parts parts.now)).reads cursor.old) result cursor.new }
 {
@@ -71,7 +71,7 @@ fn filing_stmt<P: Parts>(parts: &P, alloc: Global, cursor: &mut Cursor<'_>) -> R
     }
 }
 
-#[tactic(auto, unfolding(stmt_forms::specs::Stmt::filing_or_jump))]
+#[tactic(auto, unfolding(statement_grammar::specs::stmt_forms::Stmt::filing_or_jump))]
 fn filing_or_jump<P: Parts>(
     parts: &P,
     alloc: Global,
@@ -89,7 +89,7 @@ fn filing_or_jump<P: Parts>(
 }
 
 /// A statement that holds no other, behind those that were found.
-#[tactic(auto, unfolding(stmt_forms::specs::Stmt::simple_stmts))]
+#[tactic(auto, unfolding(statement_grammar::specs::stmt_forms::Stmt::simple_stmts))]
 pub fn simple_stmts<P: Parts>(
     parts: &P,
     alloc: Global,
@@ -104,9 +104,9 @@ pub fn simple_stmts<P: Parts>(
         moving_stmts(parts, alloc, cursor, found)
     } else {
         match filing_or_jump(parts, alloc, cursor, scope) {
-            Ok(next) => Ok(pushed(found, next)?),
+            Ok(next) => Ok(stmt_added(found, next)?),
             Err(stop) => {
-                drop(found);
+                drop_stmts(found);
                 Err(stop)
             }
         }

@@ -7,10 +7,10 @@ use Rattle.language.specs.Language as language
 use Rattle.language.specs.Language.{Choose, Picker, Stmts, none, also, Arms, done, given}
 use Rattle.language.specs.Control.{seen, seen_stmts}
 use Rattle.control.specs.Graph as graph
-use Rattle.graph_rules.specs.Shapes.{alone, followed, last_stmts, arms_stmts}
-use Rattle.closing.specs.Closes.{none_left_out}
-use Rattle.closing.specs.Dispatches.{stated_arms}
-use Rattle.rendering.specs.Rendering.{Empty, Continues, Stays, Goes, arm_stands, standing, whole_arms, picker_lacks, written_arms, written_picker}
+use Rattle.control_laws.specs.graph_rules.Shapes.{alone, followed, last_stmts, arms_stmts}
+use Rattle.control_laws.specs.closing.Closes.{none_left_out}
+use Rattle.control_laws.specs.closing.Dispatches.{stated_arms}
+use Rattle.control_laws.specs.rendering.Rendering.{Empty, Continues, Stays, Goes, arm_stands, standing, whole_arms, picker_lacks, written_arms, written_picker}
 use Rattle.branch_tree.specs.Trees.{seen_trees, jump_within, return_within}
 use Rattle.branch_tree.specs.declared.tree.Leaves.{Leaves}
 use Rattle.branch_tree.specs.declared.tree.Tree.{Tree}

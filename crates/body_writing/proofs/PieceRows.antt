@@ -8,10 +8,10 @@ use Rattle.language.specs.Language as language
 use Rattle.language.specs.Language.{Stmts, none, also}
 use Rattle.language.specs.Control.{seen, seen_stmts}
 use Rattle.control.specs.Graph as graph
-use Rattle.graph_rules.specs.Loops.{turned_test}
-use Rattle.graph_rules.specs.Shapes.{alone, followed, arm_stmts, arms_stmts, last_stmts}
-use Rattle.closing.specs.Closes.{none_left_out}
-use Rattle.closing.specs.Dispatches.{stated_end}
+use Rattle.control_laws.specs.graph_rules.Loops.{turned_test}
+use Rattle.control_laws.specs.graph_rules.Shapes.{alone, followed, arm_stmts, arms_stmts, last_stmts}
+use Rattle.control_laws.specs.closing.Closes.{none_left_out}
+use Rattle.control_laws.specs.closing.Dispatches.{stated_end}
 use Rattle.branch_tree.specs.Choosers.{seen_picker, seen_test}
 use Rattle.branch_tree.specs.Trees.{seen_piece, seen_body, seen_trees, seen_end, stated, jump_within, return_within, end_step, piece_step, tree_step}
 use Rattle.branch_tree.specs.declared.chooser.Picker.{Picker}
@@ -23,7 +23,7 @@ use Rattle.branch_tree.specs.declared.tree.Piece.{Piece, fold-roll-Piece}
 use Rattle.branch_tree.specs.declared.tree.Piece.TheVariants as pieces
 use Rattle.branch_tree.specs.declared.tree.Tree.{Tree}
 use Rattle.branch_tree.proofs.TreeRows.{seen_tree_is, seen_pick, seen_jump, seen_return, seen_stop, seen_dead, seen_own, seen_set, seen_choose, seen_loop}
-use Rattle.rendering.specs.Rendering.{required, written_test}
+use Rattle.control_laws.specs.rendering.Rendering.{required, written_test}
 use Rattle.choice_writing.specs.Written.{Way, naming_in, written, all_written, IsWritten}
 use Rattle.choice_writing.specs.declared.placing.Placed.{Placed}
 use Rattle.cell_words.specs.Words.{IsAct, IsLoop}

@@ -7,8 +7,8 @@ use Rattle.language.specs.Control.{seen_stmts}
 use Rattle.language.specs.Language as language
 use Rattle.language.specs.Language.{Range, Main, Part, Stmts, none, also}
 use Rattle.control.specs.Graph.{Tree, End, Pick, Jump, Return, Stop, Dead, body_of, end_of}
-use Rattle.graph_rules.specs.Shapes.{alone, followed}
-use Rattle.rendering.specs.Rendering.{required, then_stmts, closing}
+use Rattle.control_laws.specs.graph_rules.Shapes.{alone, followed}
+use Rattle.control_laws.specs.rendering.Rendering.{required, then_stmts, closing}
 use Rattle.choice_writing.specs.Written.{Way, all_written}
 use Rattle.branch_tree.specs.Trees.{seen_body, seen_end, seen_tree}
 use Rattle.branch_tree.specs.declared.tree.Piece.{Piece}

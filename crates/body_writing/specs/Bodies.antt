@@ -4,9 +4,9 @@ use Rattle.cob_tree.specs.declared.stmt.Stmt.{Stmt}
 use Rattle.language.specs.Control.{seen, seen_stmts}
 use Rattle.language.specs.Language.{Choose, Stmts}
 use Rattle.language.specs.Language as language
-use Rattle.graph_rules.specs.Shapes.{arm_stmts, followed}
-use Rattle.closing.specs.Closes.{none_left_out}
-use Rattle.closing.specs.Dispatches.{stated_arms, stated_end}
+use Rattle.control_laws.specs.graph_rules.Shapes.{arm_stmts, followed}
+use Rattle.control_laws.specs.closing.Closes.{none_left_out}
+use Rattle.control_laws.specs.closing.Dispatches.{stated_arms, stated_end}
 use Rattle.branch_tree.specs.Choosers.{seen_picker}
 use Rattle.branch_tree.specs.Trees.{seen_tree, seen_trees, seen_end, stated, jump_within, return_within}
 use Rattle.branch_tree.specs.declared.chooser.Picker.{Picker}

@@ -5,8 +5,8 @@ use Rattle.cob_tree.specs.declared.stmt.Stmt.TheVariants.{Continue}
 use Rattle.language.specs.Control.{seen_sentence}
 use Rattle.language.specs.Language.{Range, Main, Part, StopRun, Stmts, none}
 use Rattle.control.specs.Graph.{Tree, End, Pick, Jump, Return, Stop, Dead, body_of, end_of}
-use Rattle.graph_rules.specs.Shapes.{alone, followed}
-use Rattle.rendering.specs.Rendering.{Procedure, required, written_paragraph}
+use Rattle.control_laws.specs.graph_rules.Shapes.{alone, followed}
+use Rattle.control_laws.specs.rendering.Rendering.{Procedure, required, written_paragraph}
 use Rattle.choice_writing.specs.Written.{naming_in}
 use Rattle.choice_writing.specs.declared.placing.Placed.{Placed}
 use Rattle.cell_words.specs.declared.cells.CellItem.{CellItem}

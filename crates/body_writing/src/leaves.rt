@@ -4,9 +4,9 @@
 ghost use Rattle.std.specs.Prelude.{suc, ◌≡◌, if◌then◌else◌, OnOk};
 ghost use Rattle.cob_base.specs.Answers.{Makes};
 ghost use Rattle.language.specs.Control.{seen_stmts};
-ghost use Rattle.graph_rules.specs.Shapes.{followed, last_stmts};
+ghost use Rattle.control_laws.specs.graph_rules.Shapes.{followed, last_stmts};
 ghost use Rattle.control.specs.Graph.{Stop};
-ghost use Rattle.closing.specs.Dispatches.{length_of, number_in, one_further, set_to};
+ghost use Rattle.control_laws.specs.closing.Dispatches.{length_of, number_in, one_further, set_to};
 ghost use Rattle.branch_tree.specs.Trees.{seen_end, jump_within, return_within};
 ghost use Rattle.body_writing.specs.Bodies.{AddsWords};
 

@@ -2,7 +2,7 @@
 
 ghost use Rattle.std.specs.Prelude.{IfOk, OnOk};
 ghost use Rattle.language.specs.Language.{Choose};
-ghost use Rattle.graph_rules.specs.Shapes.{alone, arms_stmts};
+ghost use Rattle.control_laws.specs.graph_rules.Shapes.{alone, arms_stmts};
 ghost use Rattle.branch_tree.specs.Choosers.{seen_picker};
 ghost use Rattle.branch_tree.specs.Trees.{seen_piece, seen_body, seen_trees};
 ghost use Rattle.choice_writing.specs.Written.{IsWritten};

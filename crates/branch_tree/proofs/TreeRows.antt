@@ -5,8 +5,8 @@ use Rattle.language.specs.Control.{stmts_of}
 use Rattle.language.specs.Control as seen_as
 use Rattle.language.specs.Language as language
 use Rattle.control.specs.Graph as graph
-use Rattle.graph_rules.specs.Loops.{turned_test}
-use Rattle.graph_rules.specs.Shapes.{followed, arms_stmts}
+use Rattle.control_laws.specs.graph_rules.Loops.{turned_test}
+use Rattle.control_laws.specs.graph_rules.Shapes.{followed, arms_stmts}
 use Rattle.branch_tree.specs.Choosers.{seen_test, seen_picker}
 use Rattle.branch_tree.specs.declared.chooser.Picker.{Picker}
 use Rattle.branch_tree.specs.declared.chooser.Test.{Test}

@@ -5,10 +5,10 @@ use Rattle.language.specs.Language.{Set, Take, Lower, Do, Choose, Loop, Until, N
 use Rattle.language.specs.Language as language
 use Rattle.control.specs.Graph.{Label}
 use Rattle.control.specs.Graph as graph
-use Rattle.graph_rules.specs.Loops.{turned_test}
-use Rattle.graph_rules.specs.Shapes.{arms_stmts}
-use Rattle.closing.specs.Closes.{none_left_out}
-use Rattle.closing.specs.Dispatches.{stated_tree, flag_jump, exit_jump, state_jump, set_to, length_of}
+use Rattle.control_laws.specs.graph_rules.Loops.{turned_test}
+use Rattle.control_laws.specs.graph_rules.Shapes.{arms_stmts}
+use Rattle.control_laws.specs.closing.Closes.{none_left_out}
+use Rattle.control_laws.specs.closing.Dispatches.{stated_tree, flag_jump, exit_jump, state_jump, set_to, length_of}
 use Rattle.branch_tree.specs.Choosers.{seen_test, seen_picker}
 use Rattle.branch_tree.specs.declared.tree.Leaves.{Leaves}
 use Rattle.branch_tree.specs.declared.tree.Leaves.TheVariants as leaves

@@ -2,8 +2,8 @@
 
 ghost use Rattle.std.specs.Prelude.{◌≡◌, ◌-◌, ◌^◌, min};
 ghost use Rattle.control.specs.Doing.{is_above};
-ghost use Rattle.graph_rules.specs.Shapes.{leaves_to, arms_leaves_to};
-ghost use Rattle.graph_rules.specs.Reduced.{all_leaves_to};
+ghost use Rattle.control_laws.specs.graph_rules.Shapes.{leaves_to, arms_leaves_to};
+ghost use Rattle.control_laws.specs.graph_rules.Reduced.{all_leaves_to};
 ghost use Rattle.branch_tree.specs.Trees.{seen_tree, seen_trees};
 ghost use Rattle.branch_tree.specs.Graphs.{seen_nodes};
 

@@ -3,7 +3,7 @@
 ghost use Rattle.cob_base.specs.Answers.{Makes};
 ghost use Rattle.grammar_forms.specs.Form as form;
 ghost use Rattle.grammar_forms.specs.Reading.{Reads};
-ghost use Rattle.stmt_forms.specs.Arithmetic as forms;
+ghost use Rattle.statement_grammar.specs.stmt_forms.Arithmetic as forms;
 
 use cob_base::{Items, NoMemory};
 use cob_tree::{Calc, Operand, Target};
@@ -65,7 +65,7 @@ fn number_operands<P: Parts>(
     operands_from(parts, alloc, cursor, found)
 }
 
-#[tactic(auto, unfolding(stmt_forms::specs::Arithmetic::rounded))]
+#[tactic(auto, unfolding(statement_grammar::specs::stmt_forms::Arithmetic::rounded))]
 fn rounded(cursor: &mut Cursor<'_>) -> Result<bool, Unread>
     ensures { Reads (forms.rounded.reads cursor.old) result cursor.new }
 {
@@ -77,7 +77,7 @@ fn rounded(cursor: &mut Cursor<'_>) -> Result<bool, Unread>
     }
 }
 
-#[tactic(auto, unfolding(stmt_forms::specs::Arithmetic::target))]
+#[tactic(auto, unfolding(statement_grammar::specs::stmt_forms::Arithmetic::target))]
 fn target<P: Parts>(parts: &P, alloc: Global, cursor: &mut Cursor<'_>) -> Result<Target, Unread>
     ensures { Reads ((forms.target (P.parts parts.now)).reads cursor.old) result cursor.new }
 {
@@ -88,7 +88,7 @@ fn target<P: Parts>(parts: &P, alloc: Global, cursor: &mut Cursor<'_>) -> Result
     Ok(Target { place, rounded })
 }
 
-#[tactic(auto, unfolding(stmt_forms::specs::Arithmetic::result))]
+#[tactic(auto, unfolding(statement_grammar::specs::stmt_forms::Arithmetic::result))]
 fn result<P: Parts>(parts: &P, alloc: Global, cursor: &mut Cursor<'_>) -> Result<Target, Unread>
     ensures { Reads ((forms.result (P.parts parts.now)).reads cursor.old) result cursor.new }
 {
@@ -147,7 +147,7 @@ fn results<P: Parts>(
     results_from(parts, alloc, cursor, found)
 }
 
-#[tactic(auto, unfolding(stmt_forms::specs::Arithmetic::giving))]
+#[tactic(auto, unfolding(statement_grammar::specs::stmt_forms::Arithmetic::giving))]
 fn giving<P: Parts>(
     parts: &P,
     alloc: Global,
@@ -159,7 +159,7 @@ fn giving<P: Parts>(
     results(parts, alloc, cursor)
 }
 
-#[tactic(auto, unfolding(stmt_forms::specs::Arithmetic::giving_goal))]
+#[tactic(auto, unfolding(statement_grammar::specs::stmt_forms::Arithmetic::giving_goal))]
 fn giving_goal<P: Parts>(
     parts: &P,
     alloc: Global,
@@ -178,7 +178,7 @@ fn giving_goal<P: Parts>(
     }
 }
 
-#[tactic(auto, unfolding(stmt_forms::specs::Arithmetic::literal_goal))]
+#[tactic(auto, unfolding(statement_grammar::specs::stmt_forms::Arithmetic::literal_goal))]
 fn literal_goal<P: Parts>(parts: &P, alloc: Global, cursor: &mut Cursor<'_>) -> Result<Goal, Unread>
     ensures { Reads ((forms.literal_goal (P.parts parts.now)).reads cursor.old) result cursor.new }
 {
@@ -221,7 +221,7 @@ fn targets_from<P: Parts>(
     Ok(found)
 }
 
-#[tactic(auto, unfolding(stmt_forms::specs::Arithmetic::targets_goal))]
+#[tactic(auto, unfolding(statement_grammar::specs::stmt_forms::Arithmetic::targets_goal))]
 fn targets_goal<P: Parts>(
     parts: &P,
     alloc: Global,
@@ -238,7 +238,7 @@ fn targets_goal<P: Parts>(
     Ok((None, into))
 }
 
-#[tactic(auto, unfolding(stmt_forms::specs::Arithmetic::item_goal_behind))]
+#[tactic(auto, unfolding(statement_grammar::specs::stmt_forms::Arithmetic::item_goal_behind))]
 fn item_goal_behind<P: Parts>(
     parts: &P,
     alloc: Global,
@@ -256,7 +256,7 @@ fn item_goal_behind<P: Parts>(
     }
 }
 
-#[tactic(auto, unfolding(stmt_forms::specs::Arithmetic::item_goal))]
+#[tactic(auto, unfolding(statement_grammar::specs::stmt_forms::Arithmetic::item_goal))]
 fn item_goal<P: Parts>(parts: &P, alloc: Global, cursor: &mut Cursor<'_>) -> Result<Goal, Unread>
     ensures { Reads ((forms.item_goal (P.parts parts.now)).reads cursor.old) result cursor.new }
 {
@@ -265,7 +265,7 @@ fn item_goal<P: Parts>(parts: &P, alloc: Global, cursor: &mut Cursor<'_>) -> Res
     item_goal_behind(parts, alloc, cursor, side)
 }
 
-#[tactic(auto, unfolding(stmt_forms::specs::Arithmetic::goal))]
+#[tactic(auto, unfolding(statement_grammar::specs::stmt_forms::Arithmetic::goal))]
 fn goal<P: Parts>(parts: &P, alloc: Global, cursor: &mut Cursor<'_>) -> Result<Goal, Unread>
     ensures { Reads ((forms.goal (P.parts parts.now)).reads cursor.old) result cursor.new }
 {
@@ -293,7 +293,7 @@ fn added_to(operands: Items<Operand>, found: Goal) -> Result<Work, NoMemory>
     }
 }
 
-#[tactic(auto, unfolding(stmt_forms::specs::Arithmetic::add_to))]
+#[tactic(auto, unfolding(statement_grammar::specs::stmt_forms::Arithmetic::add_to))]
 fn add_to<P: Parts>(
     parts: &P,
     alloc: Global,
@@ -316,7 +316,7 @@ fn add_to<P: Parts>(
     }
 }
 
-#[tactic(auto, unfolding(stmt_forms::specs::Arithmetic::add_giving))]
+#[tactic(auto, unfolding(statement_grammar::specs::stmt_forms::Arithmetic::add_giving))]
 fn add_giving<P: Parts>(
     parts: &P,
     alloc: Global,
@@ -336,7 +336,7 @@ fn add_giving<P: Parts>(
 }
 
 /// ADD up to its arms.
-#[tactic(auto, unfolding(stmt_forms::specs::Arithmetic::add))]
+#[tactic(auto, unfolding(statement_grammar::specs::stmt_forms::Arithmetic::add))]
 pub fn add<P: Parts>(parts: &P, alloc: Global, cursor: &mut Cursor<'_>) -> Result<Work, Unread>
     ensures { Reads ((forms.add (P.parts parts.now)).reads cursor.old) result cursor.new }
 {
@@ -350,7 +350,7 @@ pub fn add<P: Parts>(parts: &P, alloc: Global, cursor: &mut Cursor<'_>) -> Resul
 }
 
 /// SUBTRACT up to its arms.
-#[tactic(auto, unfolding(stmt_forms::specs::Arithmetic::subtract))]
+#[tactic(auto, unfolding(statement_grammar::specs::stmt_forms::Arithmetic::subtract))]
 pub fn subtract<P: Parts>(parts: &P, alloc: Global, cursor: &mut Cursor<'_>) -> Result<Work, Unread>
     ensures { Reads ((forms.subtract (P.parts parts.now)).reads cursor.old) result cursor.new }
 {
@@ -374,7 +374,7 @@ pub fn subtract<P: Parts>(parts: &P, alloc: Global, cursor: &mut Cursor<'_>) -> 
 }
 
 /// MULTIPLY up to its arms.
-#[tactic(auto, unfolding(stmt_forms::specs::Arithmetic::multiply))]
+#[tactic(auto, unfolding(statement_grammar::specs::stmt_forms::Arithmetic::multiply))]
 pub fn multiply<P: Parts>(parts: &P, alloc: Global, cursor: &mut Cursor<'_>) -> Result<Work, Unread>
     ensures { Reads ((forms.multiply (P.parts parts.now)).reads cursor.old) result cursor.new }
 {
@@ -397,7 +397,7 @@ pub fn multiply<P: Parts>(parts: &P, alloc: Global, cursor: &mut Cursor<'_>) -> 
     }
 }
 
-#[tactic(auto, unfolding(stmt_forms::specs::Arithmetic::divide_into))]
+#[tactic(auto, unfolding(statement_grammar::specs::stmt_forms::Arithmetic::divide_into))]
 fn divide_into<P: Parts>(
     parts: &P,
     alloc: Global,
@@ -424,7 +424,7 @@ fn divide_into<P: Parts>(
     }
 }
 
-#[tactic(auto, unfolding(stmt_forms::specs::Arithmetic::divide_by))]
+#[tactic(auto, unfolding(statement_grammar::specs::stmt_forms::Arithmetic::divide_by))]
 fn divide_by<P: Parts>(
     parts: &P,
     alloc: Global,
@@ -456,7 +456,7 @@ fn divide_by<P: Parts>(
 }
 
 /// DIVIDE up to its arms.
-#[tactic(auto, unfolding(stmt_forms::specs::Arithmetic::divide))]
+#[tactic(auto, unfolding(statement_grammar::specs::stmt_forms::Arithmetic::divide))]
 pub fn divide<P: Parts>(parts: &P, alloc: Global, cursor: &mut Cursor<'_>) -> Result<Work, Unread>
     ensures { Reads ((forms.divide (P.parts parts.now)).reads cursor.old) result cursor.new }
 {
@@ -469,7 +469,7 @@ pub fn divide<P: Parts>(parts: &P, alloc: Global, cursor: &mut Cursor<'_>) -> Re
     }
 }
 
-#[tactic(auto, unfolding(stmt_forms::specs::Arithmetic::equals))]
+#[tactic(auto, unfolding(statement_grammar::specs::stmt_forms::Arithmetic::equals))]
 fn equals(cursor: &mut Cursor<'_>) -> Result<(), Unread>
     ensures { Reads (forms.equals.reads cursor.old) result cursor.new }
 {
@@ -482,7 +482,7 @@ fn equals(cursor: &mut Cursor<'_>) -> Result<(), Unread>
 }
 
 /// COMPUTE up to its arms.
-#[tactic(auto, unfolding(stmt_forms::specs::Arithmetic::compute))]
+#[tactic(auto, unfolding(statement_grammar::specs::stmt_forms::Arithmetic::compute))]
 pub fn compute<P: Parts>(parts: &P, alloc: Global, cursor: &mut Cursor<'_>) -> Result<Work, Unread>
     ensures { Reads ((forms.compute (P.parts parts.now)).reads cursor.old) result cursor.new }
 {

@@ -1,18 +1,18 @@
 //! Arithmetic by its verb.
 
 ghost use Rattle.grammar_forms.specs.Reading.{Reads};
-ghost use Rattle.stmt_forms.specs.Arms as forms;
+ghost use Rattle.statement_grammar.specs.stmt_forms.Arms as forms;
 
 use crate::arithmetic::{Work, add, compute, divide, multiply, subtract};
 use grammar_forms::{Cursor, Unread};
 use part_readers::{Parts, at_adding, at_multiplying};
+use statement_grammar::stmt_forms::ArithmeticVerb;
 use std::alloc::Global;
-use stmt_forms::ArithmeticVerb;
 
 /// What is worked out, and by which statement.
 pub type Worked = (ArithmeticVerb, Work);
 
-#[tactic(auto, unfolding(stmt_forms::specs::Arms::adding_work))]
+#[tactic(auto, unfolding(statement_grammar::specs::stmt_forms::Arms::adding_work))]
 fn adding_work<P: Parts>(
     parts: &P,
     alloc: Global,
@@ -29,7 +29,7 @@ fn adding_work<P: Parts>(
     }
 }
 
-#[tactic(auto, unfolding(stmt_forms::specs::Arms::multiplying_work))]
+#[tactic(auto, unfolding(statement_grammar::specs::stmt_forms::Arms::multiplying_work))]
 fn multiplying_work<P: Parts>(
     parts: &P,
     alloc: Global,
@@ -47,7 +47,7 @@ fn multiplying_work<P: Parts>(
     }
 }
 
-#[tactic(auto, unfolding(stmt_forms::specs::Arms::computing_work))]
+#[tactic(auto, unfolding(statement_grammar::specs::stmt_forms::Arms::computing_work))]
 fn computing_work<P: Parts>(
     parts: &P,
     alloc: Global,
@@ -61,7 +61,7 @@ fn computing_work<P: Parts>(
 }
 
 /// Arithmetic up to its arms.
-#[tactic(auto, unfolding(stmt_forms::specs::Arms::arithmetic_work))]
+#[tactic(auto, unfolding(statement_grammar::specs::stmt_forms::Arms::arithmetic_work))]
 pub fn arithmetic_work<P: Parts>(
     parts: &P,
     alloc: Global,

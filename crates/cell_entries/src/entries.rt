@@ -2,8 +2,8 @@
 
 ghost use Rattle.std.specs.Prelude.{◌≡◌, ◌++◌, map, OnOk};
 ghost use Rattle.cob_base.specs.Answers.{Makes};
-ghost use Rattle.cell_items.specs.Cell.{number_operand};
-ghost use Rattle.cell_serving.specs.Entries.{cell_entry, entries_of, whole_literal};
+ghost use Rattle.cobol_laws.specs.cell_items.Cell.{number_operand};
+ghost use Rattle.cobol_laws.specs.cell_serving.Entries.{cell_entry, entries_of, whole_literal};
 ghost use Rattle.branch_tree.specs.Graphs.{seen_added};
 ghost use Rattle.cell_table.specs.Names.{digits_of, is_signed, seen_item};
 

@@ -1,7 +1,7 @@
 //! The entries of added items, as they stand behind a program's own: level 01, PIC 9 or S9 and
 //! VALUE 0.
 //!
-//! `entries_of` in `cell_serving/specs/Entries.antt` is the definition.
+//! `entries_of` in `cobol_laws/specs/cell_serving/Entries.antt` is the definition.
 #![tactic(auto)]
 
 mod entries;

@@ -9,10 +9,10 @@ use Rattle.language.specs.Language.{none, also, done, given, missing, Nested, Pe
 use Rattle.language.specs.Control.{seen}
 use Rattle.language.specs.Own.{OwnAct, OwnTest, OwnPicker, OwnControl, OwnStmt, OwnStmts, OwnArms, OwnBody}
 use Rattle.control.specs.Graph.{End, Pick, Jump, Return, Stop, Dead, Trees, no_more, more}
-use Rattle.graph_rules.specs.Shapes.{followed, arm_stmts, arms_stmts, last_stmts}
-use Rattle.rendering.specs.Rendering.{count_arms}
-use Rattle.closing.specs.Closes.{none_left_out}
-use Rattle.closing.specs.Dispatches.{stated_arms}
+use Rattle.control_laws.specs.graph_rules.Shapes.{followed, arm_stmts, arms_stmts, last_stmts}
+use Rattle.control_laws.specs.rendering.Rendering.{count_arms}
+use Rattle.control_laws.specs.closing.Closes.{none_left_out}
+use Rattle.control_laws.specs.closing.Dispatches.{stated_arms}
 use Rattle.branch_tree.specs.declared.chooser.Picker.{Picker}
 use Rattle.branch_tree.specs.declared.tree.Leaves.{Leaves}
 use Rattle.branch_tree.specs.declared.tree.Tree as code
@@ -20,7 +20,7 @@ use Rattle.branch_tree.specs.Choosers.{seen_picker, seen_test}
 use Rattle.branch_tree.specs.Trees.{seen_piece, seen_tree, seen_trees, seen_body, seen_end, jump_within, return_within, stated}
 use Rattle.branch_tree.specs.declared.tree.Piece.TheVariants as piece
 use Rattle.branch_tree.specs.declared.tree.End.TheVariants as end
-use Rattle.graph_rules.specs.Loops.{turned_test}
+use Rattle.control_laws.specs.graph_rules.Loops.{turned_test}
 use Rattle.branch_tree.specs.declared.chooser.Test.{Test}
 use Rattle.branch_tree.proofs.TreeRows.{seen_tree_is, seen_own, seen_pick, seen_choose, seen_loop}
 use Rattle.cell_mentions.specs.Mentions.{act_mentions, test_mentions, picker_mentions, control_mentions, stmt_mentions, mentions, arms_mentions, body_mentions}

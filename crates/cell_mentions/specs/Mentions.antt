@@ -1,7 +1,7 @@
 -- Where statements name cells, in the order of their text as they are written.
 use Rattle.std.specs.Prelude.{ℕ, Bool, if◌then◌else◌, ◌==◌, List, [], ◌∷◌, ◌++◌, map, Option, Some, None}
 use Rattle.language.specs.Language.{Act, Own, Set, Take, Lower, Test, Holds, Not, Is, Above, Picker, If, By, ByCell, Control, Times, Until, Varying, Stmt, Do, Choose, Loop, Perform, Go, GoDepending, NextSentence, ExitParagraph, ExitSection, ExitPerform, StopRun, Stmts, none, also, Arms, done, given, missing, Body, Nested, Performed}
-use Rattle.rendering.specs.Rendering.{count_arms}
+use Rattle.control_laws.specs.rendering.Rendering.{count_arms}
 use Rattle.cell_mentions.specs.declared.mention.Mention.{Mention}
 
 abbrev pub mention : ℕ → Mention

@@ -2,8 +2,8 @@
 use Rattle.std.specs.Prelude.{List, [], ◌++◌}
 use Rattle.language.specs.Language.{Stmts}
 use Rattle.control.specs.Graph.{End, Trees, no_more, more}
-use Rattle.closing.specs.Closes.{none_left_out}
-use Rattle.closing.specs.Dispatches.{stated_end}
+use Rattle.control_laws.specs.closing.Closes.{none_left_out}
+use Rattle.control_laws.specs.closing.Dispatches.{stated_end}
 use Rattle.branch_tree.specs.declared.tree.Leaves.{Leaves}
 use Rattle.branch_tree.specs.Trees.{jump_within, return_within, stated}
 use Rattle.cell_mentions.specs.Mentions.{mentions}

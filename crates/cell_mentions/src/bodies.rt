@@ -2,7 +2,7 @@
 
 ghost use Rattle.std.specs.Prelude.{◌≡◌, ◌++◌, [], OnOk};
 ghost use Rattle.cob_base.specs.Answers.{Makes};
-ghost use Rattle.graph_rules.specs.Shapes.{arms_stmts, arm_stmts};
+ghost use Rattle.control_laws.specs.graph_rules.Shapes.{arms_stmts, arm_stmts};
 ghost use Rattle.language.specs.Control.{seen};
 ghost use Rattle.branch_tree.specs.Trees.{seen_piece, seen_body, seen_end, seen_tree, seen_trees, stated};
 ghost use Rattle.cell_mentions.specs.Mentions.{mentions, stmt_mentions, arms_mentions};

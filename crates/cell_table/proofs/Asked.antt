@@ -1,13 +1,13 @@
 -- What writing asks, range after range.
 use Rattle.std.proofs.Common.{◌≡◌, ℕ, ◌+◌, List, [], ◌∷◌, ◌++◌, length, map, take, Option, Some, ap, sym, ◌∙◌, subst, inl, inr}
 use Rattle.std.specs.Prelude.{slice_get}
-use Rattle.rendering.proofs.Written.{map-get}
-use Rattle.headline.specs.Chain.{stmts_arms}
+use Rattle.control_laws.proofs.rendering_lemmas.Written.{map-get}
+use Rattle.control_laws.specs.headline.Chain.{stmts_arms}
 use Rattle.branch_tree.specs.Graphs.{seen_added}
 use Rattle.branch_tree.specs.Trees.{seen_body}
 use Rattle.cell_mentions.specs.Mentions.{mentions, first_arms}
 use Rattle.cell_mentions.specs.declared.mention.Mention.{Mention}
-use Rattle.graph_rules.specs.Families.{Added}
+use Rattle.control_laws.specs.graph_rules.Families.{Added}
 use Rattle.cell_table.specs.CellItems.{IsAsked, AreAsked}
 use Rattle.cell_table.specs.Items.{kind_in}
 use Rattle.cell_table.specs.Row.{CellRange, kinds_of_row}

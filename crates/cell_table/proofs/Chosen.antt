@@ -2,8 +2,8 @@
 use Rattle.std.proofs.Common.{◌≡◌, ℕ, Bool, true, false, if◌then◌else◌, ◌==◌, List, [], ◌∷◌, ◌++◌, Option, Some, None, refl, ap, ap₂, ◌∙◌}
 use Rattle.language.specs.Language as language
 use Rattle.language.specs.Language.{none, also, done, given, missing, Nested, Performed, Stmts, Arms}
-use Rattle.rendering.specs.Rendering.{count_arms}
-use Rattle.headline.specs.Chain.{or_first, picker_arms, stmt_arms, stmts_arms, arms_arms, body_arms}
+use Rattle.control_laws.specs.rendering.Rendering.{count_arms}
+use Rattle.control_laws.specs.headline.Chain.{or_first, picker_arms, stmt_arms, stmts_arms, arms_arms, body_arms}
 use Rattle.cell_mentions.specs.Mentions.{mention, act_mentions, test_mentions, picker_mentions, control_mentions, stmt_mentions, mentions, arms_mentions, body_mentions, arms_or, first_arms}
 use Rattle.cell_mentions.specs.declared.mention.Mention.{Mention}
 

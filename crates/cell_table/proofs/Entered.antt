@@ -3,12 +3,12 @@ use Rattle.std.proofs.Common.{◌≡◌, ℕ, zero, suc, ◌+◌, ◌^◌, ◌<�
 use Rattle.std.specs.Prelude.{is_some, min, slice_get}
 use Rattle.std.specs.Fmt.{decimal}
 use Rattle.language.specs.Language.{Range}
-use Rattle.graph_rules.specs.Families.{Added, Never, Flag, Count, State, Exit}
-use Rattle.graph_rules.specs.Reduced.{kind_at}
-use Rattle.headline.specs.Chain.{stmts_arms}
+use Rattle.control_laws.specs.graph_rules.Families.{Added, Never, Flag, Count, State, Exit}
+use Rattle.control_laws.specs.graph_rules.Reduced.{kind_at}
+use Rattle.control_laws.specs.headline.Chain.{stmts_arms}
 use Rattle.out_names.specs.FreshWords.{fresh_number}
-use Rattle.cell_serving.specs.Entries.{AreSized, AreEntries}
-use Rattle.rendering.proofs.Written.{map-get}
+use Rattle.cobol_laws.specs.cell_serving.Entries.{AreSized, AreEntries}
+use Rattle.control_laws.proofs.rendering_lemmas.Written.{map-get}
 use Rattle.cell_table.specs.Items.{is_never, or_never, kind_in, first_never, holder, place_in, counted_on, holders_of, item_kinds}
 use Rattle.cell_table.specs.Names.{stem_of, digits_of, next_of, with_next, all_from_one, entry_named, entries_from, entries_for}
 use Rattle.cell_table.specs.declared.naming.NextNumbers.{NextNumbers}

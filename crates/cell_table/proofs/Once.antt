@@ -4,8 +4,8 @@ use Rattle.std.specs.Prelude.{slice_get}
 use Rattle.std.proofs.lemmas.List.{length-append}
 use Rattle.language.specs.Language.{Range, same_range}
 use Rattle.control.proofs.Ranges.{same-range, same-self}
-use Rattle.graph_rules.specs.Walked.{is_in}
-use Rattle.headline.specs.Chain.{stmts_arms}
+use Rattle.control_laws.specs.graph_rules.Walked.{is_in}
+use Rattle.control_laws.specs.headline.Chain.{stmts_arms}
 use Rattle.cell_table.specs.CellItems.{IsAsked, AreAsked, AreAllAsked, StandOnce, AreCellItems}
 use Rattle.branch_tree.specs.Graphs.{seen_added}
 use Rattle.cell_table.specs.Items.{kind_in, holder, holders_of, place_in}

@@ -9,9 +9,9 @@ use Rattle.cell_table.specs.Seen.{seen_ranges, told_of}
 use Rattle.cell_table.specs.declared.row.ShapedRange.{ShapedRange}
 use Rattle.language.specs.Language.{Range, same_range}
 use Rattle.control.proofs.Ranges.{same-range}
-use Rattle.graph_rules.specs.Families.{Added, Never, Flag, Count, State, Exit}
-use Rattle.graph_rules.specs.Reduced.{kind_at}
-use Rattle.graph_rules.proofs.shapes.Reducing.{kind-before}
+use Rattle.control_laws.specs.graph_rules.Families.{Added, Never, Flag, Count, State, Exit}
+use Rattle.control_laws.specs.graph_rules.Reduced.{kind_at}
+use Rattle.control_laws.proofs.graph_rules_lemmas.shapes.Reducing.{kind-before}
 use Rattle.branch_tree.specs.Graphs.{seen_added}
 use Rattle.branch_tree.specs.declared.graph.Added as code
 use Rattle.cell_table.specs.Items.{is_never, kind_in, first_never, holder}

@@ -4,16 +4,16 @@ use Rattle.std.specs.Prelude.{is_some, min}
 use Rattle.language.specs.Language.{Range, Stmts, same_range}
 use Rattle.control.specs.Graph.{body_of}
 use Rattle.control.proofs.Ranges.{same-range}
-use Rattle.graph_rules.specs.Families.{Added, Never, Flag, Count, State, Exit}
-use Rattle.graph_rules.specs.Reduced.{Graphs, kind_at, tree_in, size}
-use Rattle.graph_rules.specs.Walked.{is_in, In}
-use Rattle.closing.specs.Closes.{closed_graph}
-use Rattle.rendering.specs.Procedures.{Writable}
+use Rattle.control_laws.specs.graph_rules.Families.{Added, Never, Flag, Count, State, Exit}
+use Rattle.control_laws.specs.graph_rules.Reduced.{Graphs, kind_at, tree_in, size}
+use Rattle.control_laws.specs.graph_rules.Walked.{is_in, In}
+use Rattle.control_laws.specs.closing.Closes.{closed_graph}
+use Rattle.control_laws.specs.rendering.Procedures.{Writable}
 use Rattle.statements.specs.Filing.{Declared}
-use Rattle.added_items.specs.Widened.{AddedItems}
-use Rattle.cell_serving.specs.Table.{CellTable}
-use Rattle.cell_serving.specs.Tested.{kinds_of, is_plain}
-use Rattle.headline.specs.Chain.{stmts_arms, ChoiceServed, KindServed}
+use Rattle.cobol_laws.specs.added_items.Widened.{AddedItems}
+use Rattle.cobol_laws.specs.cell_serving.Table.{CellTable}
+use Rattle.cobol_laws.specs.cell_serving.Tested.{kinds_of, is_plain}
+use Rattle.control_laws.specs.headline.Chain.{stmts_arms, ChoiceServed, KindServed}
 use Rattle.cell_table.specs.Items.{is_never, or_never, kind_in}
 use Rattle.cell_table.specs.Laws.{cell_range, closed_ranges, ClosedCellsAreServed}
 use Rattle.cell_table.specs.Names.{digits_of, is_signed}

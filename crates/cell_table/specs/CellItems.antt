@@ -1,9 +1,9 @@
 -- What writing asks of the cells of shaped ranges.
 use Rattle.std.specs.Prelude.{ℕ, ◌≡◌, ◌+◌, ◌^◌, ◌<◌, Bool, false, List, [], ◌∷◌, length, map, take, Option, Some, slice_get}
 use Rattle.language.specs.Language.{Range}
-use Rattle.graph_rules.specs.Families.{Added}
-use Rattle.graph_rules.specs.Walked.{is_in}
-use Rattle.headline.specs.Chain.{stmts_arms}
+use Rattle.control_laws.specs.graph_rules.Families.{Added}
+use Rattle.control_laws.specs.graph_rules.Walked.{is_in}
+use Rattle.control_laws.specs.headline.Chain.{stmts_arms}
 use Rattle.cell_table.specs.Items.{kind_in}
 use Rattle.cell_table.specs.Row.{CellRange, kinds_of_row}
 use Rattle.cell_table.specs.Tables.{ends_in_other, most_by, table_of_cells}

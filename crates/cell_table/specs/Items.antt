@@ -1,7 +1,7 @@
 -- Which item each cell has: items in the order in which the text first names their cells.
 use Rattle.std.specs.Prelude.{ℕ, zero, suc, Bool, true, false, if◌then◌else◌, ◌==◌, List, [], ◌∷◌, ◌++◌, length, map, Option, Some, None, is_some}
-use Rattle.graph_rules.specs.Families.{Added, Never, Flag, Count, State, Exit}
-use Rattle.graph_rules.specs.Reduced.{kind_at}
+use Rattle.control_laws.specs.graph_rules.Families.{Added, Never, Flag, Count, State, Exit}
+use Rattle.control_laws.specs.graph_rules.Reduced.{kind_at}
 use Rattle.cell_table.specs.Row.{CellRange, kinds_of_row, named_behind}
 
 abbrev pub is_never : Added → Bool

@@ -2,13 +2,13 @@
 use Rattle.std.specs.Prelude.{ℕ, ◌<◌, List, map}
 use Rattle.language.specs.Language.{Range}
 use Rattle.statements.specs.Filing.{Declared}
-use Rattle.added_items.specs.Widened.{AddedItems}
-use Rattle.graph_rules.specs.Reduced.{Graph, Graphs, size}
-use Rattle.graph_rules.specs.Walked.{In}
-use Rattle.closing.specs.Closes.{closed_graph}
-use Rattle.cell_serving.specs.Entries.{AreEntries}
-use Rattle.cell_serving.specs.Tested.{kinds_of}
-use Rattle.headline.specs.Chain.{procedure_of, EachCellServed}
+use Rattle.cobol_laws.specs.added_items.Widened.{AddedItems}
+use Rattle.control_laws.specs.graph_rules.Reduced.{Graph, Graphs, size}
+use Rattle.control_laws.specs.graph_rules.Walked.{In}
+use Rattle.control_laws.specs.closing.Closes.{closed_graph}
+use Rattle.cobol_laws.specs.cell_serving.Entries.{AreEntries}
+use Rattle.cobol_laws.specs.cell_serving.Tested.{kinds_of}
+use Rattle.control_laws.specs.headline.Chain.{procedure_of, EachCellServed}
 use Rattle.cell_table.specs.Names.{entries_for}
 use Rattle.cell_table.specs.Row.{CellRange}
 use Rattle.cell_table.specs.Tables.{most_arms, table_of_cells}

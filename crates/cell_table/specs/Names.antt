@@ -1,9 +1,9 @@
 -- The names of added items, and their entries.
 use Rattle.std.specs.Prelude.{ℕ, suc, ◌++◌, Bool, true, false, List, [], ◌∷◌, codes}
 use Rattle.std.specs.Fmt.{decimal}
-use Rattle.graph_rules.specs.Families.{Added, Never, Flag, Count, State, Exit}
+use Rattle.control_laws.specs.graph_rules.Families.{Added, Never, Flag, Count, State, Exit}
 use Rattle.out_names.specs.FreshWords.{fresh_number}
-use Rattle.cell_serving.specs.Entries.{CellEntry}
+use Rattle.cobol_laws.specs.cell_serving.Entries.{CellEntry}
 use Rattle.branch_tree.specs.Graphs.{seen_added}
 use Rattle.cell_table.specs.Items.{item_kinds}
 use Rattle.cell_table.specs.Row.{CellRange}

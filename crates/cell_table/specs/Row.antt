@@ -1,7 +1,7 @@
 -- The cells of shaped ranges in one row: those of the first range, then those of the next one.
 use Rattle.std.specs.Prelude.{ℕ, ◌+◌, nat_lt, if◌then◌else◌, List, [], ◌∷◌, ◌++◌, length}
 use Rattle.language.specs.Language.{Stmts, none, Range, same_range}
-use Rattle.graph_rules.specs.Families.{Added}
+use Rattle.control_laws.specs.graph_rules.Families.{Added}
 use Rattle.cell_mentions.specs.Mentions.{cells_named}
 
 -- a range that was shaped: what its cells are for, and its body

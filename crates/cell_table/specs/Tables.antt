@@ -1,10 +1,10 @@
 -- The table of the cells of shaped ranges.
 use Rattle.std.specs.Prelude.{ℕ, ◌+◌, min, Bool, true, false, not, List, Option, Some, None, is_some}
 use Rattle.language.specs.Language.{Range}
-use Rattle.graph_rules.specs.Families.{Added, Never, Flag, Count, State, Exit}
-use Rattle.graph_rules.specs.Reduced.{kind_at}
-use Rattle.cell_serving.specs.Table.{CellTable}
-use Rattle.headline.specs.Chain.{stmts_arms}
+use Rattle.control_laws.specs.graph_rules.Families.{Added, Never, Flag, Count, State, Exit}
+use Rattle.control_laws.specs.graph_rules.Reduced.{kind_at}
+use Rattle.cobol_laws.specs.cell_serving.Table.{CellTable}
+use Rattle.control_laws.specs.headline.Chain.{stmts_arms}
 use Rattle.cell_table.specs.Items.{is_never, holder, holders_of, kind_in, place_in}
 use Rattle.cell_table.specs.Names.{digits_of, is_signed}
 use Rattle.cell_table.specs.Row.{CellRange, of_range, cells_before, kinds_of_row}

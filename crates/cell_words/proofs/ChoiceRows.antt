@@ -12,16 +12,16 @@ use Rattle.cob_tree.specs.declared.stmt.Stmt.{Stmt}
 use Rattle.language.specs.Language as language
 use Rattle.language.specs.Language.{Stmts, none, Arms, done}
 use Rattle.language.specs.Control.{test_of, seen, seen_stmts}
-use Rattle.rendering.specs.Rendering.{Continues, Goes, whole_arms, written_test}
+use Rattle.control_laws.specs.rendering.Rendering.{Continues, Goes, whole_arms, written_test}
 use Rattle.branch_tree.specs.Choosers.{seen_test}
 use Rattle.branch_tree.specs.declared.chooser.Test.{Test}
 use Rattle.branch_tree.specs.declared.chooser.Chooser.TheVariants as choosers
 use Rattle.branch_tree.specs.declared.chooser.Picker.TheVariants as pickers
-use Rattle.cell_items.specs.Cell.{cell_operand, operand_expr}
-use Rattle.cell_items.specs.Laws.{number_tests}
-use Rattle.cell_serving.specs.Choosing.{place_expr}
-use Rattle.cell_serving.specs.Entries.{whole_literal}
-use Rattle.cell_serving.specs.Naming.{numbers_from, whens_of, other_stands, last_stands}
+use Rattle.cobol_laws.specs.cell_items.Cell.{cell_operand, operand_expr}
+use Rattle.cobol_laws.specs.cell_items.Laws.{number_tests}
+use Rattle.cobol_laws.specs.cell_serving.Choosing.{place_expr}
+use Rattle.cobol_laws.specs.cell_serving.Entries.{whole_literal}
+use Rattle.cobol_laws.specs.cell_serving.Naming.{numbers_from, whens_of, other_stands, last_stands}
 use Rattle.choice_writing.specs.Choices.{IsIf, IsRead, IsArith}
 use Rattle.choice_writing.specs.Empties.{if_had, of_whens, of_cell, put_arm, stands_so}
 use Rattle.choice_writing.specs.Written.{Way, naming_in}

@@ -12,11 +12,11 @@ use Rattle.cob_tree.specs.declared.stmt.When.{When}
 use Rattle.language.specs.Language as language
 use Rattle.language.specs.Language.{Stmts, none, also, Arms, done, given, missing}
 use Rattle.language.specs.Control.{Branch, tests_of, branches_before, evaluate_of, picker_by, cell_chosen, count_from, seen, seen_stmts, seen_when}
-use Rattle.rendering.specs.Rendering.{Empty, Continues, Goes, arm_stands, required, written_arm, and_missing}
+use Rattle.control_laws.specs.rendering.Rendering.{Empty, Continues, Goes, arm_stands, required, written_arm, and_missing}
 use Rattle.choice_writing.specs.Empties.{if_had, of_whens, of_cell, put_arm, stands_so}
 use Rattle.choice_writing.specs.Choices.{IsEvaluate}
 use Rattle.choice_writing.proofs.ChoiceRows.{continues_is}
-use Rattle.cell_serving.specs.Naming.{last_stands, whens_of}
+use Rattle.cobol_laws.specs.cell_serving.Naming.{last_stands, whens_of}
 use Rattle.cell_words.specs.Lists.{put_arms, stand_so, branch, branches_of, AreWhens, continued, IsAmong}
 
 -- EVALUATE of WHENs.

@@ -1,8 +1,8 @@
 -- Numbers one after the other.
 use Rattle.std.proofs.Common.{◌≡◌, ℕ, zero, suc, ◌+◌, List, [], ◌∷◌, ◌++◌, map, refl, ap, sym, ◌∙◌, arith, append_assoc, add-one}
-use Rattle.cell_items.specs.Laws.{number_tests}
-use Rattle.cell_serving.specs.Entries.{whole_literal}
-use Rattle.cell_serving.specs.Naming.{numbers_from}
+use Rattle.cobol_laws.specs.cell_items.Laws.{number_tests}
+use Rattle.cobol_laws.specs.cell_serving.Entries.{whole_literal}
+use Rattle.cobol_laws.specs.cell_serving.Naming.{numbers_from}
 
 numbers_suc : (first more at : ℕ) → at ≡ first + more → map number_tests (numbers_from whole_literal first (suc more)) ≡ map number_tests (numbers_from whole_literal first more) ++ number_tests (whole_literal at) ∷ []
 numbers_suc first zero at e = ap (λ n. number_tests (whole_literal n) ∷ []) (omega (arith, e))

@@ -23,15 +23,15 @@ use Rattle.language.specs.Control as control
 use Rattle.language.specs.Control.{Tested, tested_step, test_of, relation_of, cell_of, cell_named, cell_in, number_in, is_number, number_written, lowered_cell, move_of, arith_act, arith_of, arith_stmt, arith_alone, Both, bare, seen, seen_both, seen_stmts}
 use Rattle.language.specs.Own.{OwnTest}
 use Rattle.language.proofs.Rows.{seen_if_any, seen_loop, seen_move, seen_arith, seen_both_is}
-use Rattle.rendering.specs.Rendering.{required, written_test}
-use Rattle.graph_rules.specs.Loops.{turned_test}
+use Rattle.control_laws.specs.rendering.Rendering.{required, written_test}
+use Rattle.control_laws.specs.graph_rules.Loops.{turned_test}
 use Rattle.branch_tree.specs.Choosers.{seen_test}
 use Rattle.branch_tree.specs.declared.chooser.Test.{Test}
 use Rattle.branch_tree.specs.declared.chooser.Test.TheVariants as tests
-use Rattle.cell_items.specs.Cell.{cell_place, cell_operand, number_operand, operand_expr}
-use Rattle.cell_items.specs.Laws.{cell_relation, target_of}
-use Rattle.cell_serving.specs.Entries.{whole_literal}
-use Rattle.cell_serving.specs.Naming.{move_to, subtract_from}
+use Rattle.cobol_laws.specs.cell_items.Cell.{cell_place, cell_operand, number_operand, operand_expr}
+use Rattle.cobol_laws.specs.cell_items.Laws.{cell_relation, target_of}
+use Rattle.cobol_laws.specs.cell_serving.Entries.{whole_literal}
+use Rattle.cobol_laws.specs.cell_serving.Naming.{move_to, subtract_from}
 use Rattle.choice_writing.specs.Written.{Way, naming_in}
 use Rattle.cell_words.specs.Words.{AreItems, IsItemOf, IsAct, IsCellTest, IsLoop, IsTest}
 use Rattle.cell_words.specs.declared.cells.CellItem.{CellItem}

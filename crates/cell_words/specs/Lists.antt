@@ -10,14 +10,14 @@ use Rattle.cob_tree.specs.declared.stmt.When.{When}
 use Rattle.language.specs.Control.{Branch, seen, seen_stmts, seen_when}
 use Rattle.language.specs.Language.{Evaluate, Picker, By, Choose, Stmts, none, Arms, done}
 use Rattle.language.specs.Language as language
-use Rattle.rendering.specs.Rendering.{Empty, Continues, arm_stands, required, whole_arms, picker_lacks, written_picker}
+use Rattle.control_laws.specs.rendering.Rendering.{Empty, Continues, arm_stands, required, whole_arms, picker_lacks, written_picker}
 use Rattle.branch_tree.specs.Choosers.{seen_chooser, seen_picker}
 use Rattle.branch_tree.specs.declared.chooser.Chooser.{Chooser}
 use Rattle.branch_tree.specs.declared.chooser.Picker as code
-use Rattle.cell_items.specs.Cell.{cell_operand, operand_expr}
-use Rattle.cell_items.specs.Laws.{number_tests}
-use Rattle.cell_serving.specs.Entries.{whole_literal}
-use Rattle.cell_serving.specs.Naming.{numbers_from, whens_of, other_stands}
+use Rattle.cobol_laws.specs.cell_items.Cell.{cell_operand, operand_expr}
+use Rattle.cobol_laws.specs.cell_items.Laws.{number_tests}
+use Rattle.cobol_laws.specs.cell_serving.Entries.{whole_literal}
+use Rattle.cobol_laws.specs.cell_serving.Naming.{numbers_from, whens_of, other_stands}
 use Rattle.choice_writing.specs.Empties.{if_had, of_cell, put_arm, stands_so}
 use Rattle.choice_writing.specs.Written.{Way, naming_in}
 use Rattle.cell_words.specs.Words.{EachWay}

@@ -9,12 +9,12 @@ use Rattle.cob_tree.specs.declared.stmt.Stmt.TheVariants as stmts
 use Rattle.cob_tree.specs.declared.stmt.Stmt.TheVariants.{Continue}
 use Rattle.language.specs.Control.{bare, seen, test_of}
 use Rattle.language.specs.Language as language
-use Rattle.rendering.specs.Rendering.{required, written_test}
-use Rattle.graph_rules.specs.Loops.{turned_test}
+use Rattle.control_laws.specs.rendering.Rendering.{required, written_test}
+use Rattle.control_laws.specs.graph_rules.Loops.{turned_test}
 use Rattle.branch_tree.specs.Choosers.{seen_test}
 use Rattle.branch_tree.specs.declared.chooser.Test.{Test}
-use Rattle.cell_items.specs.Laws.{cell_relation, target_of}
-use Rattle.cell_serving.specs.Entries.{whole_literal}
+use Rattle.cobol_laws.specs.cell_items.Laws.{cell_relation, target_of}
+use Rattle.cobol_laws.specs.cell_serving.Entries.{whole_literal}
 use Rattle.choice_writing.specs.Written.{Way, naming_in, written}
 use Rattle.cell_words.specs.declared.cells.CellItem.{CellItem}
 

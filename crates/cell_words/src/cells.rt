@@ -3,8 +3,8 @@
 ghost use Rattle.std.specs.Prelude.{◌≡◌, [], ◌∷◌, IfOk};
 ghost use Rattle.cob_base.specs.Answers.{Makes};
 ghost use Rattle.language.specs.Language.{Set, Take, Lower};
-ghost use Rattle.cell_serving.specs.Entries.{whole_literal};
-ghost use Rattle.cell_serving.specs.Naming.{move_to, subtract_from};
+ghost use Rattle.cobol_laws.specs.cell_serving.Entries.{whole_literal};
+ghost use Rattle.cobol_laws.specs.cell_serving.Naming.{move_to, subtract_from};
 ghost use Rattle.cell_words.specs.Words.{IsItemOf, IsAct, subtract};
 
 use crate::numbers::{item_place, number_operand, only};

@@ -1,9 +1,10 @@
 //! Words on cells as statements, conditions and choices by the items that stand for the cells.
 //!
 //! The definition that the contracts hold them against is the theory's `written_stmt`, in
-//! `rendering/specs/Rendering.antt`, with the names of `cell_serving/specs/Naming.antt`. An item is
-//! one of a program's entries, and a word of the program's own names no added item: where that
-//! isn't so, the answer is as if there were no memory.
+//! `control_laws/specs/rendering/Rendering.antt`, with the names of
+//! `cobol_laws/specs/cell_serving/Naming.antt`. An item is one of a program's entries, and a word
+//! of the program's own names no added item: where that isn't so, the answer is as if there were no
+//! memory.
 #![tactic(auto)]
 
 mod cells;

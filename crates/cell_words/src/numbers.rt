@@ -2,11 +2,11 @@
 
 ghost use Rattle.std.specs.Prelude.{◌≡◌, [], ◌∷◌, ◌++◌, map, OnOk};
 ghost use Rattle.cob_base.specs.Answers.{Makes};
-ghost use Rattle.cell_items.specs.Cell.{cell_place, cell_operand, number_operand, operand_expr};
-ghost use Rattle.cell_items.specs.Laws.{cell_relation, number_tests};
-ghost use Rattle.cell_serving.specs.Choosing.{place_expr};
-ghost use Rattle.cell_serving.specs.Entries.{whole_literal};
-ghost use Rattle.cell_serving.specs.Naming.{numbers_from};
+ghost use Rattle.cobol_laws.specs.cell_items.Cell.{cell_place, cell_operand, number_operand, operand_expr};
+ghost use Rattle.cobol_laws.specs.cell_items.Laws.{cell_relation, number_tests};
+ghost use Rattle.cobol_laws.specs.cell_serving.Choosing.{place_expr};
+ghost use Rattle.cobol_laws.specs.cell_serving.Entries.{whole_literal};
+ghost use Rattle.cobol_laws.specs.cell_serving.Naming.{numbers_from};
 
 use cob_base::{Items, NoMemory};
 use cob_tree::{Cond, Expr, Number, Operand, Place, Rel, Test as WhenTest};

@@ -12,7 +12,7 @@ use Rattle.cob_tree.specs.declared.stmt.Stmt.TheVariants.{Continue, If, Evaluate
 use Rattle.language.specs.Language as language
 use Rattle.language.specs.Control.{test_of, arm_before, else_of, stmts_of, arith_stmt, evaluate_of, tests_of, Branch, branches_before, Both, both_arms, both_step, branch_step, seen_step, seen, seen_when, seen_both, seen_stmts}
 use Rattle.language.proofs.Rows.{seen_if_any, seen_if, seen_evaluate, seen_arith, seen_read, seen_continue}
-use Rattle.rendering.specs.Rendering.{Continues, Stays, Goes, required}
+use Rattle.control_laws.specs.rendering.Rendering.{Continues, Stays, Goes, required}
 use Rattle.choice_writing.specs.Empties.{if_had, put_arm, stands_so, kept_stmts}
 use Rattle.choice_writing.specs.Choices.{seen_arm, IsKept, IsIf, IsEvaluate, IsRead, IsArith}
 

@@ -10,7 +10,7 @@ use Rattle.cob_tree.specs.declared.stmt.Stmt.{Stmt}
 use Rattle.cob_tree.specs.declared.stmt.When.{When}
 use Rattle.language.specs.Control.{seen, seen_stmts, seen_when, control_in, loop_of, perform_of, test_of, evaluate_of, tests_of, branches_before}
 use Rattle.language.specs.Language.{Choose, If, By, Read, Arith, Stmts, done}
-use Rattle.rendering.specs.Rendering.{Continues, Goes}
+use Rattle.control_laws.specs.rendering.Rendering.{Continues, Goes}
 use Rattle.choice_writing.specs.Owning.{OwnTurns}
 use Rattle.choice_writing.specs.Empties.{if_had, put_arm, stands_so, kept_stmts}
 

@@ -6,8 +6,8 @@
 use Rattle.std.specs.Prelude.{ℕ, zero, suc, Bool, true, false, if◌then◌else◌, ◌==◌, ◌&&◌, nat_lt, length, Option, Some, None}
 use Rattle.cob_tree.specs.declared.stmt.Stmt.TheVariants.{Continue}
 use Rattle.language.specs.Language.{Range, Chooser, Evaluate, Read, Arith, Depending, Picker, If, By, ByCell, Stmts, none, also, Arms}
-use Rattle.rendering.specs.Rendering.{Empty, Continues, Stays, Goes, required, written_arm}
-use Rattle.cell_serving.specs.Table.{CellTable}
+use Rattle.control_laws.specs.rendering.Rendering.{Empty, Continues, Stays, Goes, required, written_arm}
+use Rattle.cobol_laws.specs.cell_serving.Table.{CellTable}
 
 -- one that the source has, or lacks
 abbrev pub if_had : Bool → Empty

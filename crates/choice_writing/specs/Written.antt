@@ -6,11 +6,11 @@ use Rattle.cob_tree.specs.declared.stmt.When.{When}
 use Rattle.language.specs.Control.{seen, seen_stmts, seen_when, Branch}
 use Rattle.language.specs.Language as language
 use Rattle.language.specs.Language.{Range}
-use Rattle.rendering.specs.Rendering.{Naming, required, written_stmt, written_stmts}
-use Rattle.cell_serving.specs.Choosing.{written_chooser}
-use Rattle.cell_serving.specs.Entries.{whole_literal}
-use Rattle.cell_serving.specs.Naming.{cell_naming}
-use Rattle.cell_serving.specs.Table.{CellTable}
+use Rattle.control_laws.specs.rendering.Rendering.{Naming, required, written_stmt, written_stmts}
+use Rattle.cobol_laws.specs.cell_serving.Choosing.{written_chooser}
+use Rattle.cobol_laws.specs.cell_serving.Entries.{whole_literal}
+use Rattle.cobol_laws.specs.cell_serving.Naming.{cell_naming}
+use Rattle.cobol_laws.specs.cell_serving.Table.{CellTable}
 use Rattle.choice_writing.specs.Places.{ArePlaced}
 use Rattle.choice_writing.specs.Empties.{empties}
 use Rattle.choice_writing.specs.declared.placing.Placed.{Placed}

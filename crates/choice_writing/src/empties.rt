@@ -3,7 +3,7 @@
 ghost use Rattle.std.specs.Prelude.{◌≡◌, IfOk};
 ghost use Rattle.language.specs.Control.{seen_stmts};
 ghost use Rattle.cob_tree.specs.declared.stmt.Stmt.TheVariants.{Continue};
-ghost use Rattle.rendering.specs.Rendering.{required};
+ghost use Rattle.control_laws.specs.rendering.Rendering.{required};
 ghost use Rattle.choice_writing.specs.Choices.{IsKept};
 
 use cob_base::{Items, NoMemory};

@@ -3,7 +3,7 @@
 //!
 //! `specs/Empties.antt` says which arms continue and which go. `specs/Written.antt` names what is
 //! written of statements, whatever the items of cells: it is the theory's `written_stmt`, in
-//! `rendering/specs/Rendering.antt`.
+//! `control_laws/specs/rendering/Rendering.antt`.
 #![tactic(auto)]
 
 mod choosing;

@@ -1,5 +1,6 @@
 -- Tests, runs at the front of a text, and words.
 pub mod BoolLemmas
+pub mod LaneLemmas
 pub mod RunLemmas
 pub mod RunsOnLemmas
 pub mod WordLemmas

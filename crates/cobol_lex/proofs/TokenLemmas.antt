@@ -1,5 +1,6 @@
 -- The tokens of a text, a token at a time.
-use Rattle.std.proofs.Common.{ℕ, ◌≡◌, ◌≢◌, ◌<◌, ◌≤◌, ◌+◌, ◌-◌, zero, suc, true, false, List, [], ◌∷◌, ◌++◌, take, drop, length, get_or, ap, sym, ◌∙◌, arith, refl, append_assoc, add-one, drop-cons, drop-drop}
+use Rattle.std.proofs.Common.{ℕ, ◌≡◌, ◌≢◌, ◌<◌, ◌≤◌, ◌+◌, ◌-◌, zero, suc, true, false, List, [], ◌∷◌, ◌++◌, take, drop, set, length, get_or, ap, sym, ◌∙◌, arith, refl, append_assoc, add-one, drop-cons, drop-drop}
+use Rattle.std.proofs.lemmas.List.{map-append, take_more, take_more_set}
 use Rattle.cob_base.specs.Answers.{Answers}
 use Rattle.ref_format.specs.Placed.{bytes_of}
 use Rattle.cobol_lex.specs.Byte.{is_separator}
@@ -36,6 +37,16 @@ passed_over zero awaits p rest within = refl
 passed_over (suc n) awaits p [] within = absurd (omega arith)
 passed_over (suc n) awaits p (q ∷ rest) within = passed_over n awaits q rest (omega arith)
 
+-- separators are passed over
+separators_over : (n : ℕ) (awaits : Awaits) (p : Placed) (rest : List Placed) → n ≤ length rest →
+    ((k : ℕ) → k < n → is_separator (get_or (bytes_of rest) k 0) ≡ true) →
+    tokens_from 0 awaits p.byte rest ≡ tokens_from 0 awaits (get_or (bytes_of (p ∷ rest)) n 0) (drop n rest)
+separators_over zero awaits p rest within each = refl
+separators_over (suc n) awaits p [] within each = absurd (omega arith)
+separators_over (suc n) awaits p (q ∷ rest) within each =
+    let first : is_separator q.byte ≡ true = each 0 (omega arith) in
+    rw first (separators_over n awaits q rest (omega arith) (λ k near. each (suc k) (omega arith)))
+
 drop_bytes : (n : ℕ) (text : List Placed) → drop n (bytes_of text) ≡ bytes_of (drop n text)
 drop_bytes zero text = refl
 drop_bytes (suc n) [] = refl
@@ -55,7 +66,7 @@ byte_behind (suc at) n (p ∷ text) =
     let same : suc (at + n) ≡ suc at + n = omega arith in
     byte_behind at n text ∙ ap (λ k. get_or (bytes_of (p ∷ text)) k 0) same
 
-length_bytes : (text : List Placed) → length (bytes_of text) ≡ length text
+pub length_bytes : (text : List Placed) → length (bytes_of text) ≡ length text
 length_bytes [] = refl
 length_bytes (p ∷ text) = ap suc (length_bytes text)
 
@@ -63,6 +74,14 @@ get_or-default : (text : List Placed) (at : ℕ) (d d' : Placed) → at < length
 get_or-default [] at d d' within = absurd (omega arith)
 get_or-default (p ∷ text) zero d d' within = refl
 get_or-default (p ∷ text) (suc at) d d' within = get_or-default text at d d' (omega arith)
+
+-- one more byte of the text, put into its place
+pub byte_put : (to : List ℕ) (text : List Placed) (at : ℕ) (d : Placed) → length to ≡ length text → at < length text → take at to ≡ bytes_of (take at text) →
+    take (at + 1) (set to at (get_or text at d).byte) ≡ bytes_of (take (at + 1) text)
+byte_put to text at d room within done =
+    take_more_set to at (get_or text at d).byte (omega (arith, room))
+    ∙ ap (λ bytes. bytes ++ (get_or text at d).byte ∷ []) done
+    ∙ sym (ap bytes_of (take_more text at d within) ∙ map-append (λ p. p.byte) (take at text) (get_or text at d ∷ []))
 
 pub over_separator : (awaits : Awaits) (before at : ℕ) (text : List Placed) (p : Placed) → at < length text → get_or text at p ≡ p → is_separator p.byte ≡ true →
     tokens_from 0 awaits before (drop at text) ≡ tokens_from 0 awaits p.byte (drop (at + 1) text)
@@ -118,7 +137,40 @@ take_rest n bytes = grind (arith, common_steps)
 pub bytes_left : (n : ℕ) (bytes : List ℕ) (text : List Placed) → bytes ≡ bytes_of text → take (length bytes - n) (drop n bytes) ≡ bytes_of (drop n text)
 bytes_left n bytes text placed = take_rest n bytes ∙ ap (drop n) placed ∙ drop_bytes n text
 
--- the same, as a loop goes on with what it has read
+-- a loop goes on behind separators
+pub on_separators : (awaits : Awaits) (before before' at end : ℕ) (text : List Placed) (d : Placed) (bytes : List ℕ) (front : List Token) (whole : Result (List Token) LexFault) →
+    bytes ≡ bytes_of text →
+    tokens_behind front (tokens_from 0 awaits before (drop at text)) ≡ whole →
+    at < length text →
+    is_separator (get_or text at d).byte ≡ true →
+    at < end → end ≤ length bytes →
+    ((k : ℕ) → at < k → k < end → is_separator (get_or bytes k 0) ≡ true) →
+    before' ≡ get_or bytes (end - 1) 0 →
+    tokens_behind front (tokens_from 0 awaits before' (drop end text)) ≡ whole
+on_separators awaits before before' at end text d bytes front whole placed so_far within separates further most each last =
+    let p = get_or text at d in
+    let rest = drop (suc at) text in
+    let n : ℕ = end - suc at in
+    let begun : drop at text ≡ p ∷ rest = drop-cons text at d within in
+    let lengths : length (drop at text) ≡ suc (length rest) = ap length begun in
+    let long : length bytes ≡ length text = ap length placed ∙ length_bytes text in
+    let fits : n ≤ length rest = grind (arith, common_steps) in
+    let behind : (k : ℕ) → get_or (bytes_of rest) k 0 ≡ get_or bytes (suc at + k) 0 =
+    λ k. byte_behind (suc at) k text ∙ ap (λ b. get_or b (suc at + k) 0) (sym placed) in
+    let every : (k : ℕ) → k < n → is_separator (get_or (bytes_of rest) k 0) ≡ true =
+    λ k near. ap is_separator (behind k) ∙ each (suc at + k) (omega arith) (omega arith) in
+    let passed = separators_over n awaits p rest fits every in
+    let stepped : tokens_from 0 awaits before (p ∷ rest) ≡ tokens_from 0 awaits p.byte rest = rw separates in
+    let place : at + n ≡ end - 1 = omega arith in
+    let byte : get_or (bytes_of (p ∷ rest)) n 0 ≡ before' =
+    ap (λ t. get_or (bytes_of t) n 0) (sym begun) ∙ byte_behind at n text ∙ ap (λ b. get_or b (at + n) 0) (sym placed) ∙ ap (λ k. get_or bytes k 0) place ∙ sym last in
+    let reached : suc at + n ≡ end = omega arith in
+    let left : drop n rest ≡ drop end text = drop-drop n (suc at) text ∙ ap (λ k. drop k text) reached in
+    let skipped : tokens_from 0 awaits before (drop at text) ≡ tokens_from 0 awaits before' (drop end text) =
+    ap (tokens_from 0 awaits before) begun ∙ stepped ∙ passed ∙ ap (λ b. tokens_from 0 awaits b (drop n rest)) byte ∙ ap (tokens_from 0 awaits before') left in
+    sym (ap (tokens_behind front) skipped) ∙ so_far
+
+-- the same behind a token
 pub on_token : (awaits awaits' : Awaits) (before before' at : ℕ) (text : List Placed) (d : Placed) (bytes left : List ℕ) (front front' : List Token) (lexeme : Lexeme) (whole : Result (List Token) LexFault) →
     bytes ≡ bytes_of text →
     left ≡ bytes_of (drop at text) →

@@ -1,5 +1,6 @@
 -- Kinds of bytes.
 pub mod Byte
+pub mod Lanes
 -- Words, numbers, literals and pictures, and where a picture comes.
 pub mod Word
 pub mod Number

@@ -21,7 +21,7 @@ pub fn is_digit(b: u8) -> bool
 pub fn is_word_byte(b: u8) -> bool
     ensures { result ≡ word_byte b }
 {
-    b.is_ascii_alphanumeric() || b == b'-'
+    b.is_ascii_alphabetic() || b.is_ascii_digit() || b == b'-'
 }
 
 /// Whether the byte is a space or LF.

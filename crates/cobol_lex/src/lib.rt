@@ -10,11 +10,13 @@
 mod awaits;
 mod byte;
 mod fault;
+mod lanes;
 mod laws;
 mod lexeme;
 mod literal;
 mod number;
 mod picture;
+mod separator;
 mod token;
 mod word;
 
@@ -33,6 +35,7 @@ pub use laws::{
 };
 use lexeme::next_lexeme;
 use ref_format::Placed;
+use separator::{bytes_of, separators_end};
 use std::alloc::Global;
 pub use token::{Token, TokenKind};
 
@@ -43,7 +46,8 @@ pub use token::{Token, TokenKind};
 pub fn tokens(alloc: Global, text: &[Placed]) -> Result<Items<Token>, LexFault>
     ensures { Answers Memory (tokens_of text.now) result }
 {
-    let bytes: Vec<u8> = text.iter().map(|placed| placed.byte).collect(alloc)?;
+    let held = bytes_of(alloc, text)?;
+    let bytes = held.as_slice();
     let mut tokens = Items::new(alloc);
     let mut awaits = Awaits::Any;
     let mut before = 0;
@@ -51,8 +55,8 @@ pub fn tokens(alloc: Global, text: &[Placed]) -> Result<Items<Token>, LexFault>
     while at < text.len() {
         let placed = text[at];
         if is_separator(placed.byte) {
-            before = placed.byte;
-            at += 1;
+            at = separators_end(bytes, at);
+            before = bytes[at - 1];
             continue;
         }
         let lexeme = next_lexeme(alloc, awaits, before, placed.line, &bytes[at..])?;

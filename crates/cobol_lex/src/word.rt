@@ -1,15 +1,32 @@
 //! Words.
 
-ghost use Rattle.std.specs.Prelude.{◌≡◌, codes, length};
+ghost use Rattle.std.specs.Prelude.{◌≡◌, ◌≤◌, codes, length};
 ghost use Rattle.cobol_lex.specs.Word.{word_run, word_kind, spells};
 
 use crate::byte::is_word_byte;
 use crate::fault::LexFault;
+use crate::lanes::word_byte_run;
 use crate::token::TokenKind;
 use cob_base::Word;
 
 fn word_length(bytes: &[u8]) -> usize
     ensures { result ≡ length (word_run bytes.now) }
+{
+    let mut at = 0;
+    while bytes.len() - at >= 16 {
+        let run = word_byte_run(&bytes[at..]);
+        at += run;
+        if run < 16 {
+            return at;
+        }
+    }
+    at + short_length(&bytes[at..])
+}
+
+#[tactic(auto, using(crate::proofs::RunLemmas::run_within))]
+fn short_length(bytes: &[u8]) -> usize
+    ensures value { result ≡ length (word_run bytes.now) }
+    ensures within { result ≤ length bytes.now }
 {
     bytes.iter().take_while(|b| is_word_byte(**b)).count()
 }

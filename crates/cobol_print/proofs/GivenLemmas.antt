@@ -1,5 +1,5 @@
 -- The units of a program that is given are lawful.
-use Rattle.std.proofs.Common.{◌≡◌, ℕ, ◌+◌, ◌-◌, ◌<◌, ◌≤◌, ◌==◌, Bool, true, false, ◌||◌, List, [], ◌∷◌, ◌++◌, length, take, drop, Option, Some, None, refl, ap, sym, ◌∙◌, subst, arith, append_assoc, append-nil, get_or}
+use Rattle.std.proofs.Common.{◌≡◌, ℕ, ◌+◌, ◌-◌, ◌≤◌, ◌==◌, Bool, true, false, ◌||◌, List, [], ◌∷◌, ◌++◌, length, take, drop, Option, Some, None, refl, ap, sym, ◌∙◌, subst, arith, append_assoc, append-nil, get_or}
 use Rattle.std.specs.Prelude.{All, codes, if◌then◌else◌}
 use Rattle.std.specs.List.{list_all, flat_map}
 use Rattle.std.proofs.lemmas.Bool.Decides.{nat_tests}
@@ -23,7 +23,6 @@ use Rattle.cobol_lex.specs.Byte.{is_digit}
 use Rattle.cobol_lex.specs.Awaits.{awaits_behind}
 use Rattle.cobol_lex.specs.Word.{spells}
 use Rattle.cobol_lex.specs.Written.{written, sign_of, pointed, IsPlainToken}
-use Rattle.cobol_lex.specs.declared.awaits.Awaits.{Awaits}
 use Rattle.cobol_lex.specs.declared.awaits.Awaits.TheVariants as awaits
 use Rattle.cobol_lex.specs.declared.token.TokenKind.{TokenKind}
 use Rattle.cobol_lex.specs.declared.token.TokenKind.TheVariants as kind
@@ -32,13 +31,12 @@ use Rattle.part_tokens.specs.File.{name_tokens, file_tokens}
 use Rattle.part_tokens.specs.Place.{entry_name}
 use Rattle.part_tokens.proofs.TokenLemmas.{HasShape, has_shape, reserved-folded, reserved-is_word}
 use Rattle.program_units.specs.declared.unit.PrintUnit.{PrintUnit}
-use Rattle.program_units.specs.Unit.{unit_at, header, naming_header, section_header, ended}
+use Rattle.program_units.specs.Unit.{unit_at, header, ended}
 use Rattle.program_units.specs.Picture.{picture_text}
-use Rattle.program_units.specs.Entry.{level_text, level_column, redefines_tokens, picture_tokens, sign_tokens, occurs_tokens, value_tokens, ranges_tokens, clauses_tokens, entry_unit}
-use Rattle.program_units.specs.Division.{program_id, select_tokens, status_tokens, file_unit, file_units, environment_units, fd_unit, file_section, headers_between, entries_units, data_units, section_line, named_line, sentence_lines, sentence_units, paragraph_units, paragraphs_units, procedure_units, program_units}
+use Rattle.program_units.specs.Entry.{level_text, level_column, redefines_tokens, picture_tokens, sign_tokens, occurs_tokens, value_tokens, ranges_tokens, entry_unit}
+use Rattle.program_units.specs.Division.{program_id, select_tokens, status_tokens, file_units, environment_units, fd_unit, file_section, headers_between, entries_units, data_units, section_line, named_line, sentence_lines, sentence_units, paragraph_units, paragraphs_units, procedure_units, program_units}
 use Rattle.program_units.proofs.LineLemmas.{Begins, IsIn, AreIn, sentence-lines-in}
-use Rattle.cobol_print.specs.Spacing.{hugs}
-use Rattle.cobol_print.specs.Given.{IsSteady, IsFree, AreFree, IsGivenFile, IsPrintable, IsGivenPicture, file_of, IsGivenEntry, IsGivenLine, IsGivenSentence, IsGivenParagraph, IsGiven}
+use Rattle.cobol_print.specs.Given.{IsFree, AreFree, IsGivenFile, IsPrintable, IsGivenPicture, file_of, IsGivenEntry, IsGivenLine, IsGivenSentence, IsGivenParagraph, IsGiven}
 use Rattle.cobol_print.specs.Unit.{all_tokens, AreLawfulKinds, IsSized, may_meet, MayMeet, BeginsWell, IsUnit}
 
 -- ---- lawful in order

@@ -1,5 +1,5 @@
 -- A printed program unfolds, and has the tokens of its units.
-use Rattle.std.proofs.Common.{◌≡◌, ◌≤◌, inl, inr, ℕ, false, List, [], ◌∷◌, ◌++◌, length, None, refl, subst, append-nil}
+use Rattle.std.proofs.Common.{◌≤◌, inl, inr, ℕ, false, List, [], ◌∷◌, ◌++◌, length, None, refl, subst, append-nil}
 use Rattle.std.specs.Prelude.{codes}
 use Rattle.cob_tree.specs.declared.entry.Entry.{Entry}
 use Rattle.cob_tree.specs.declared.file.FileEntry.{FileEntry}
@@ -13,7 +13,6 @@ use Rattle.program_units.specs.Unit.{unit_at, header}
 use Rattle.program_units.specs.Division.{program_id, file_units, environment_units, entries_units, data_units, paragraphs_units, procedure_units, program_units}
 use Rattle.cobol_print.specs.Line.{lines_of, NoEntryRow}
 use Rattle.cobol_print.specs.Unit.{all_tokens, AreLawfulKinds}
-use Rattle.cobol_print.specs.Given.{IsGiven}
 use Rattle.cobol_print.specs.Laws.{ProgramsUnfold}
 use Rattle.cobol_print.proofs.GivenLemmas.{AreGood, program-good}
 use Rattle.cobol_print.proofs.HeadsBeginNoEntry.{heads_begin_no_entry}

@@ -1,5 +1,6 @@
 -- The lines of units are what is written, byte for byte.
-use Rattle.std.proofs.Common.{◌≡◌, ℕ, ◌-◌, ◌==◌, Bool, true, false, cond, List, [], ◌∷◌, ◌++◌, length, replicate, sym, ap, refl, ◌∙◌, append_assoc}
+use Rattle.std.proofs.Common.{◌≡◌, ◌≤◌, ℕ, ◌+◌, ◌-◌, ◌==◌, Bool, true, false, cond, List, [], ◌∷◌, ◌++◌, length, replicate, sym, ap, refl, ◌∙◌, append_assoc, arith}
+use Rattle.std.proofs.lemmas.Bool.{ne_eqb}
 use Rattle.ref_format.specs.Row.{Row}
 use Rattle.cobol_lex.specs.Written.{written}
 use Rattle.cobol_print.specs.Spacing.{clings, start_of}
@@ -67,3 +68,19 @@ pub lines-bytes : (units : List PrintUnit) → bytes_of_lines (lines_of units) �
 lines-bytes [] = refl
 lines-bytes (unit ∷ units) =
     unit-bytes unit.column unit.tokens (lines_of units) ∙ ap (λ t. unit_bytes unit.column unit.tokens ++ t) (lines-bytes units)
+
+-- What fits on its line stands there as it is.
+
+room_here : (column rest : ℕ) → column + (1 + rest) ≤ 73 → (column == 73) ≡ false
+room_here column rest fits = ne_eqb column 73 (omega (arith, fits))
+
+pub spread_fits : (column : ℕ) (inside : Bool) (bytes : List ℕ) → column + length bytes ≤ 73 → spread column inside bytes ≡ bytes
+spread_fits column inside [] fits = refl
+spread_fits column inside (b ∷ bytes) fits =
+    rw (room_here column (length bytes) (omega (arith, fits))) (ap (λ t. b ∷ t) (spread_fits (column + 1) (turned inside b) bytes (omega (arith, fits))))
+
+pub column_fits : (column : ℕ) (inside : Bool) (bytes : List ℕ) → column + length bytes ≤ 73 → column_behind column inside bytes ≡ column + length bytes
+column_fits column inside [] fits = omega arith
+column_fits column inside (b ∷ bytes) fits =
+    let more = column_fits (column + 1) (turned inside b) bytes (omega (arith, fits)) in
+    rw (room_here column (length bytes) (omega (arith, fits))) (omega (arith, more))

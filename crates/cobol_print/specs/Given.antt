@@ -1,6 +1,6 @@
 -- Which programs can be printed so that they read back: those whose names, numbers and literals a
 -- text can have.
-use Rattle.std.specs.Prelude.{ℕ, ◌≡◌, ◌≤◌, Bool, true, false, ◌||◌, nat_le, List, ◌∷◌, [], ◌++◌, length, All, Option, Some, None, codes}
+use Rattle.std.specs.Prelude.{ℕ, ◌≡◌, ◌≤◌, true, false, ◌||◌, nat_le, List, ◌∷◌, [], ◌++◌, length, All, Option, Some, None, codes}
 use Rattle.std.specs.List.{list_all}
 use Rattle.cob_base.specs.Bytes.{space}
 use Rattle.cob_tree.specs.declared.entry.Entry.{Entry}

@@ -28,6 +28,17 @@ start_bytes start column =
     if start.breaks then line_feed ∷ replicate 7 space ++ replicate (start.column - 8) space
     else replicate (start.column - column) space
 
+-- a token in a unit from this margin, behind what ends before this column, and the column behind it
+abbrev pub token_bytes : (margin column : ℕ) (clings : Bool) → TokenKind → List ℕ
+token_bytes margin column clinging token =
+    let start : Start = start_of margin column clinging token (length (written token)) in
+    start_bytes start column ++ spread start.column false (written token)
+
+abbrev pub column_after : (margin column : ℕ) (clings : Bool) → TokenKind → ℕ
+column_after margin column clinging token =
+    let start : Start = start_of margin column clinging token (length (written token)) in
+    column_behind start.column false (written token)
+
 -- the tokens that follow in a unit, and the end of its last line
 abbrev pub rest_bytes : (margin column : ℕ) (clings : Bool) → List TokenKind → List ℕ
 rest_bytes margin column clinging [] = line_feed ∷ []

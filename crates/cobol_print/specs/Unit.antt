@@ -1,5 +1,5 @@
 -- Which units can be printed so that they read back.
-use Rattle.std.specs.Prelude.{ℕ, ◌≡◌, ◌≤◌, ◌+◌, Bool, true, not, ◌&&◌, nat_le, List, [], ◌∷◌, ◌++◌, length, All, codes}
+use Rattle.std.specs.Prelude.{ℕ, ◌≡◌, ◌≤◌, ◌+◌, Bool, true, not, ◌&&◌, nat_le, List, [], ◌∷◌, ◌++◌, length, All}
 use Rattle.std.specs.List.{list_all}
 use Rattle.cob_base.specs.Bytes.{space}
 use Rattle.cobol_lex.specs.Byte.{is_quote}

@@ -2,10 +2,11 @@
 
 ghost use Rattle.std.specs.Prelude.{◌≡◌, ◌≤◌, ◌++◌, [], false, OnOk, replicate};
 ghost use Rattle.cobol_print.specs.Line.{turned, next_column, column_behind};
-ghost use Rattle.cobol_print.specs.Stream.{byte_bytes, spread, start_bytes, rest_bytes, unit_bytes};
+ghost use Rattle.cobol_lex.specs.Written.{written};
+ghost use Rattle.cobol_print.specs.Stream.{byte_bytes, column_after, spread, start_bytes, rest_bytes, token_bytes, unit_bytes};
 
 use crate::spacing::{BEHIND, Start, clings, start_of};
-use crate::spelling::spelled;
+use crate::spelling::{plain, spelled};
 use cob_base::{NoMemory, Text};
 use cobol_lex::TokenKind;
 use program_units::PrintUnit;
@@ -57,8 +58,26 @@ impl Layout {
         Ok(())
     }
 
-    /// Adds the bytes of a token.
+    /// Adds the bytes of a token: at once, where they fit on the line.
+    #[tactic(auto, using(crate::proofs::StreamLemmas::spread_fits, crate::proofs::StreamLemmas::column_fits))]
     fn put_all(&mut self, bytes: &[u8]) -> Result<(), NoMemory>
+        requires { self.old.column ≤ 73 }
+        ensures out { OnOk result
+            (self.new.out ≡ self.old.out ++ spread self.old.column false bytes.now) }
+        ensures column { OnOk result
+            (self.new.column ≡ column_behind self.old.column false bytes.now) }
+        ensures within { OnOk result (self.new.column ≤ 73) }
+    {
+        if bytes.len() > BEHIND - self.column {
+            return self.put_each(bytes);
+        }
+        self.out.add(bytes)?;
+        self.column += bytes.len();
+        Ok(())
+    }
+
+    /// Adds the bytes of a token one after the other.
+    fn put_each(&mut self, bytes: &[u8]) -> Result<(), NoMemory>
         requires { self.old.column ≤ 73 }
         ensures out { OnOk result
             (self.new.out ≡ self.old.out ++ spread self.old.column false bytes.now) }
@@ -77,9 +96,10 @@ impl Layout {
         ensures out { OnOk result (self.new.out ≡ self.old.out ++ replicate count 32) }
         ensures column { self.new.column ≡ self.old.column }
     {
-        for _done in 0..count {
-            self.out.add(b" ")?;
-        }
+        let Some(length) = self.out.len().checked_add(count) else {
+            return Err(NoMemory);
+        };
+        self.out.bytes.resize(length, b' ')?;
         Ok(())
     }
 
@@ -117,6 +137,51 @@ impl Layout {
         self.add_rest(alloc, unit.column, clings(first), rest)
     }
 
+    /// Adds a token in a unit from this margin.
+    fn add_token(
+        &mut self,
+        alloc: Global,
+        margin: usize,
+        clinging: bool,
+        token: &TokenKind,
+    ) -> Result<(), NoMemory>
+        requires margin { margin ≤ 32 }
+        requires column { self.old.column ≤ 73 }
+        ensures out { OnOk result (self.new.out
+            ≡ self.old.out ++ token_bytes margin self.old.column clinging token.now) }
+        ensures column { OnOk result
+            (self.new.column ≡ column_after margin self.old.column clinging token.now) }
+        ensures within { OnOk result (self.new.column ≤ 73) }
+    {
+        if let Some(bytes) = plain(token) {
+            return self.add_bytes(margin, clinging, token, bytes);
+        }
+        let bytes = spelled(alloc, token)?;
+        self.add_bytes(margin, clinging, token, bytes.as_slice())
+    }
+
+    /// Adds a token that is written with these bytes.
+    fn add_bytes(
+        &mut self,
+        margin: usize,
+        clinging: bool,
+        token: &TokenKind,
+        bytes: &[u8],
+    ) -> Result<(), NoMemory>
+        requires margin { margin ≤ 32 }
+        requires column { self.old.column ≤ 73 }
+        requires bytes { bytes.now ≡ written token.now }
+        ensures out { OnOk result (self.new.out
+            ≡ self.old.out ++ token_bytes margin self.old.column clinging token.now) }
+        ensures column { OnOk result
+            (self.new.column ≡ column_after margin self.old.column clinging token.now) }
+        ensures within { OnOk result (self.new.column ≤ 73) }
+    {
+        let start = start_of(margin, self.column, clinging, token, bytes.len());
+        self.go_to(start)?;
+        self.put_all(bytes)
+    }
+
     /// Adds the tokens that follow in a unit from this margin, and ends its last line.
     fn add_rest(
         &mut self,
@@ -132,10 +197,7 @@ impl Layout {
     {
         let mut clinging = clinging;
         for token in tokens {
-            let bytes = spelled(alloc, token)?;
-            let start = start_of(margin, self.column, clinging, token, bytes.len());
-            self.go_to(start)?;
-            self.put_all(bytes.as_slice())?;
+            self.add_token(alloc, margin, clinging, token)?;
             clinging = clings(token);
         }
         self.out.add(b"\n")

@@ -1,6 +1,6 @@
 //! How a token is written.
 
-ghost use Rattle.std.specs.Prelude.{◌≡◌, ◌++◌, OnOk};
+ghost use Rattle.std.specs.Prelude.{◌≡◌, ◌++◌, IfSome, OnOk};
 ghost use Rattle.cob_base.specs.Answers.{Makes};
 ghost use Rattle.cobol_lex.specs.Written.{written, doubled};
 ghost use Rattle.cobol_lex.specs.declared.token.TokenKind.TheVariants as kind;
@@ -9,6 +9,18 @@ use cob_base::{NoMemory, Text};
 use cob_tree::Number;
 use cobol_lex::TokenKind;
 use std::alloc::Global;
+
+/// The bytes that a token is written with, where it holds them itself.
+pub fn plain(token: &TokenKind) -> Option<&[u8]>
+    ensures { IfSome result (λ bytes. bytes.now ≡ written token.now) }
+{
+    match token {
+        TokenKind::Word(word) => Some(word.as_slice()),
+        TokenKind::Digits(digits) => Some(digits.as_slice()),
+        TokenKind::Picture(picture) => Some(picture.as_slice()),
+        _ => None,
+    }
+}
 
 /// The bytes that a token is written with.
 pub fn spelled(alloc: Global, token: &TokenKind) -> Result<Text, NoMemory>

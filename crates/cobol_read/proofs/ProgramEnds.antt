@@ -5,9 +5,9 @@ use Rattle.grammar_forms.specs.Form.{Input, Got}
 use Rattle.grammar_forms.specs.Part.{ended}
 use Rattle.grammar_forms.proofs.Lawful.{then_got, got_is}
 use Rattle.grammar_forms.proofs.Reader.{ended_rest}
-use Rattle.data_forms.specs.Divisions.{divisions}
-use Rattle.stmt_forms.specs.Part.{Parts}
-use Rattle.stmt_forms.specs.Paragraph as paragraphs
+use Rattle.statement_grammar.specs.data_forms.Divisions.{divisions}
+use Rattle.statement_grammar.specs.stmt_forms.Part.{Parts}
+use Rattle.statement_grammar.specs.stmt_forms.Paragraph as paragraphs
 use Rattle.statement_grammar.specs.Whole.{parts_of}
 use Rattle.cobol_read.specs.declared.program.Declarations.{Declarations}
 use Rattle.cobol_read.specs.declared.program.ProgramDraft.{ProgramDraft}

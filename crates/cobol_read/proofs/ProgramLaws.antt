@@ -2,8 +2,8 @@
 use Rattle.std.proofs.Common.{true}
 use Rattle.std.specs.Prelude.{codes}
 use Rattle.grammar_forms.proofs.MakerLaws.{Law, pure, key, period, ◌>>=◌, ◌>>◌}
-use Rattle.data_forms.proofs.DivisionLaws.{divisions}
-use Rattle.stmt_forms.proofs.ParagraphLaws.{division}
+use Rattle.statement_grammar.proofs.data_forms_lemmas.DivisionLaws.{divisions}
+use Rattle.statement_grammar.proofs.stmt_forms_lemmas.ParagraphLaws.{division}
 use Rattle.statement_grammar.proofs.PartLaws.{parts}
 use Rattle.cobol_read.specs.declared.program.Declarations.{Declarations}
 use Rattle.cobol_read.specs.Program as forms

@@ -8,13 +8,13 @@ use Rattle.grammar_forms.specs.Note.{earliest}
 use Rattle.grammar_forms.specs.Form.{Form, Outcome, Got, Stop, pure, ◌>>=◌, ◌>>◌}
 use Rattle.grammar_forms.specs.Part.{key, period}
 use Rattle.grammar_forms.specs.Reading.{start}
-use Rattle.data_forms.specs.declared.draft.Divisions.{Divisions}
-use Rattle.data_forms.specs.Divisions.{divisions}
+use Rattle.statement_grammar.specs.declared.data_forms.draft.Divisions.{Divisions}
+use Rattle.statement_grammar.specs.data_forms.Divisions.{divisions}
 use Rattle.data_names.specs.Names.{names_of}
 use Rattle.data_rules.specs.declared.declaring.Declared.{Declared}
 use Rattle.data_rules.specs.Declaring.{declared_of}
 use Rattle.procedure_names.specs.Procedures.{procedures_of}
-use Rattle.stmt_forms.specs.Paragraph as forms
+use Rattle.statement_grammar.specs.stmt_forms.Paragraph as forms
 use Rattle.statement_grammar.specs.Whole.{parts_of}
 use Rattle.cobol_read.specs.declared.program.Declarations.{Declarations}
 use Rattle.cobol_read.specs.declared.declarations.Preamble.{Preamble}

@@ -9,11 +9,11 @@ use Rattle.grammar_forms.specs.declared.note.Note.{Note}
 use Rattle.grammar_forms.specs.declared.note.Position.{Position}
 use Rattle.grammar_forms.specs.Form.{Form, pure, note, ◌>>=◌, ◌>>◌}
 use Rattle.data_names.specs.Names.{Names}
-use Rattle.expr_forms.specs.declared.side.Side.{Side}
-use Rattle.expr_forms.specs.declared.side.ValueKind.{ValueKind}
-use Rattle.expr_forms.specs.declared.side.ValueKind.TheVariants as kinds
-use Rattle.expr_forms.specs.Fault.{usage}
-use Rattle.expr_forms.specs.Levels.{data_reference}
+use Rattle.statement_grammar.specs.declared.expr_forms.side.Side.{Side}
+use Rattle.statement_grammar.specs.declared.expr_forms.side.ValueKind.{ValueKind}
+use Rattle.statement_grammar.specs.declared.expr_forms.side.ValueKind.TheVariants as kinds
+use Rattle.statement_grammar.specs.expr_forms.Fault.{usage}
+use Rattle.statement_grammar.specs.expr_forms.Levels.{data_reference}
 use Rattle.statement_grammar.specs.Use.{place_of}
 
 abbrev pub is_two : Option Picture → Bool

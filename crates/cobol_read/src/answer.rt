@@ -22,12 +22,12 @@ use crate::refusal::ReadRefusal;
 use cob_base::{Items, Limit, LimitKind, NoMemory};
 use cob_tree::{Entry, FileEntry, ParseFault, Program};
 use cobol_lex::{LexFault, Token, tokens};
-use data_forms::Divisions;
 use data_rules::{Declared, declared_of};
 use data_sizes::{storage_limit, storage_of};
 use grammar_forms::{Cursor, Note, Unread, Why};
 use read_faults::{name_fault, passed};
 use ref_format::{FormatFault, Placed, unfold};
+use statement_grammar::data_forms::Divisions;
 use std::alloc::Global;
 
 // ---- behind the syntax

@@ -11,12 +11,12 @@ use crate::program::Declarations;
 use crate::status::StatusOf;
 use cob_base::{Items, NoMemory};
 use cobol_lex::Token;
-use data_forms::Divisions;
 use data_names::NameTable;
 use data_parse::divisions;
 use data_rules::{Declared, declared_of};
 use grammar_forms::{Cursor, Unread};
 use procedure_names::{ProcedureTable, procedures_of};
+use statement_grammar::data_forms::Divisions;
 use std::alloc::Global;
 
 /// The files and entries that are declared, and how many tokens stand before the statements.

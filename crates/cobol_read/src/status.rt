@@ -2,16 +2,16 @@
 
 ghost use Rattle.std.specs.Prelude.{◌≡◌, None, slice_get, if◌then◌else◌};
 ghost use Rattle.grammar_forms.specs.Reading.{Reads};
-ghost use Rattle.expr_forms.specs.Fault.{usage};
+ghost use Rattle.statement_grammar.specs.expr_forms.Fault.{usage};
 ghost use Rattle.cobol_read.specs.Status as statuses;
 ghost use Rattle.cobol_read.specs.StatusLaws as laws;
 
 use cob_tree::{Entry, Picture, Place};
 use data_names::NameTable;
 use data_parse::StatusReader;
-use expr_forms::ValueKind;
 use expr_parse::data_reference;
 use grammar_forms::{Cursor, NameKind, Note, Position, Unread};
+use statement_grammar::expr_forms::ValueKind;
 use statement_uses::place_of;
 use std::alloc::Global;
 

@@ -2,6 +2,7 @@
 use Rattle.std.proofs.Common.{◌≡◌, ◌∙◌, sym, subst, ℕ, ◌-◌, Bool, true, false, List, Option, Some, IfSome, IfErr, IfOk, Result, Ok, Err, refl, ap, slice_get, zero, suc, ◌+◌, ◌<◌, ◌≤◌, [], ◌∷◌, None, drop, arith}
 use Rattle.cob_base.specs.declared.memory.NoMemory.{NoMemory}
 use Rattle.cob_act.specs.declared.acting.Done.{Done}
+use Rattle.cob_act.specs.declared.acting.Done.TheVariants as dones
 use Rattle.file_acts.specs.Ends.{DoneOver}
 use Rattle.file_acts.specs.declared.fault.Fault.{Fault}
 use Rattle.file_acts.specs.declared.fault.Fault.TheVariants as faults
@@ -14,13 +15,21 @@ use Rattle.cobol_run.specs.declared.running.Turned.{Turned}
 use Rattle.cobol_run.specs.declared.running.Turned.TheVariants as turned
 use Rattle.cobol_run.specs.declared.running.Ran.{Ran}
 use Rattle.cobol_run.specs.declared.running.Ran.TheVariants as ran
-use Rattle.cobol_run.specs.Falling.{FellNamed, NamesDevice, RunFalls, StepFalls, StepsFall, TurnFalls, breaks_off}
+use Rattle.cobol_run.specs.Falling.{NamesDevice, RunFalls, StepFalls, StepsFall, TurnFalls, breaks_off}
+use Rattle.cobol_run.specs.Over.{step_done}
 
 -- an arm that is chosen asks no device
 pub arm_asks_none : (result : Result Done Fault) (left left_now : ℕ) (old new : List Seen) → IfErr result (λ fault. fault ≡ faults.NoMemory) → SameBench left left_now old new → DoneOver result left left_now old new
 arm_asks_none (Ok done) left left_now old new only same = same
 arm_asks_none (Err faults.NoMemory) left left_now old new only same = same
 arm_asks_none (Err faults.Device) left left_now old new only same = absurd (let x : faults.Device ≡ faults.NoMemory = only in cc)
+
+-- a statement on files that was done
+pub done_falls : (done : Done) (left left_now : ℕ) (old new : List Seen) → SameBench left left_now old new → StepFalls (step_done done) left left_now old new
+done_falls dones.Went left left_now old new same = same
+done_falls dones.Shown left left_now old new same = same
+done_falls (dones.Chose arm) left left_now old new same = same
+done_falls (dones.Abended abend) left left_now old new same = same
 
 live_falls : (made : Step) (left : ℕ) (devices : List Seen) → (made ≡ step.Failed → ⊥) → StepFalls made left left devices devices
 live_falls step.On left devices live = same_bench left devices

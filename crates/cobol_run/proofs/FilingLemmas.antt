@@ -1,6 +1,6 @@
 -- Statements on files stand in no plain program.
-use Rattle.std.proofs.Common.{◌≡◌, ℕ, Bool, true, false, List, ◌∷◌, Option, is_some, Result, Ok, Err, refl, ap, sym, ◌∙◌, subst}
-use Rattle.std.specs.Prelude.{IfOk, IsTrue}
+use Rattle.std.proofs.Common.{◌≡◌, ℕ, true, false, List, ◌∷◌, Option, Result, Ok, Err, refl, ap, sym, ◌∙◌, subst}
+use Rattle.std.specs.Prelude.{IfOk}
 use Rattle.cob_base.specs.declared.memory.NoMemory.{NoMemory}
 use Rattle.cob_tree.specs.declared.file.Opening.{Opening}
 use Rattle.cob_tree.specs.declared.place.Operand.{Operand}

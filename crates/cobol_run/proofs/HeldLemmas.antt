@@ -21,7 +21,7 @@ use Rattle.statements.specs.Filing.{Declared}
 use Rattle.statements.specs.Moving.{moved}
 use Rattle.cob_act.specs.Moving.{outcome_of}
 use Rattle.language.specs.Control.{augmenting, bare}
-use Rattle.cobol_meaning.specs.Acting.{acted, answered, does_to}
+use Rattle.cobol_laws.specs.cobol_meaning.Acting.{acted, answered, does_to}
 use Rattle.cobol_run.specs.Plan.{memory_in}
 
 module _ (declared : Declared) where

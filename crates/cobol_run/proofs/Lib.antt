@@ -6,16 +6,30 @@ pub mod Standing
 pub mod PlainLemmas
 -- what MOVE and ADD of VARYING do
 pub mod HeldLemmas
+-- zero is zero
+pub mod AlwaysLemmas
+-- programs in which no word on an added item stands
+pub mod OwnLemmas
 -- what the head of the rest comes to
 pub mod WayLemmas
 -- what a statement comes to is what control says of it
 pub mod StatementLemmas
 -- statements on files stand in no plain program
 pub mod FilingLemmas
+-- what a trace displays
+pub mod DisplayLemmas
+-- what a statement on files does is what control says of it
+pub mod FiledLemmas
+-- READ, with and without arms
+pub mod ReadLemmas
+-- a step over devices that tell their files
+pub mod OverLemmas
 -- the machine's parts as those of the source machine
 pub mod MachineLemmas
 -- what a run has come to so far
 pub mod RunningLemmas
+-- the same over devices that tell their files
+pub mod OverRunLemmas
 -- what a run leaves of the devices of its bench
 pub mod FallLemmas
 -- where no file is open, nothing is left to close

@@ -9,27 +9,35 @@ use Rattle.cob_tree.specs.declared.program.Program.{Program}
 use Rattle.file_model.specs.World.{World}
 use Rattle.control.specs.Outcome.{Trace}
 use Rattle.control.specs.Source as source
-use Rattle.language.specs.Control.{control_of, section_last, seen_paragraph, seen_paragraphs}
+use Rattle.cob_act.specs.Acting.{is_inner}
+use Rattle.cob_tree.specs.declared.stmt.Stmt.{Stmt}
+use Rattle.language.specs.Control.{control_of, section_last, seen, seen_paragraph, seen_paragraphs}
 use Rattle.language.specs.Items.{Item, Pending, ends_at, items_of}
+use Rattle.language.specs.Items as items
 use Rattle.language.specs.Language as language
-use Rattle.runs.specs.Run.{Going}
-use Rattle.cobol_meaning.specs.Acting.{Memory}
-use Rattle.cobol_meaning.specs.Runs.{State, doing_in, files_left}
+use Rattle.cobol_laws.specs.cobol_meaning.Acting.{Memory}
+use Rattle.cobol_laws.specs.cobol_meaning.Runs.{State, doing_in, files_left}
 use Rattle.cobol_run.specs.declared.frame.Frame.{Frame}
 use Rattle.cobol_run.specs.declared.held.Plan.{Plan}
 use Rattle.cobol_run.specs.declared.machine.Machine.{Machine}
 use Rattle.cobol_run.specs.declared.machine.Step.{Step}
-use Rattle.cobol_run.specs.Frames.{last_in, last_of, pending_of, rest_of, sentences_before}
+use Rattle.cobol_run.specs.declared.frames.Head.{Head}
+use Rattle.cobol_run.specs.Frames.{heads, last_in, last_of, pending_of, rest_of, sentences_before}
 use Rattle.control.specs.Items.{item_way}
 use Rattle.cobol_run.specs.declared.held.Held.{Held}
 use Rattle.cobol_run.specs.declared.way.Way as ways
-use Rattle.cobol_run.specs.Machine.{Follows, ends_by, falls_by, goes_by, rest_in, state_in, state_with, steps_by}
+use Rattle.cobol_run.specs.Machine.{Follows, ends_by, falls_by, goes_by, rest_in, rests_by, state_in, state_with, steps_by}
+use Rattle.cobol_run.specs.Over.{FollowsOver, StandsOver, stmt_meant}
+use Rattle.cobol_run.specs.Own.{NoFiling, OwnState, StandsAlone}
 use Rattle.cobol_run.specs.Plain.{PlainAct, PlainPicker, PlainState}
-use Rattle.language.specs.Own.{OwnTest}
+use Rattle.file_desk.specs.Seen.{Seen}
+use Rattle.language.specs.Own.{OwnAct, OwnPicker, OwnTest}
 use Rattle.cobol_run.specs.Standing as standing
 use Rattle.cobol_run.specs.Plan.{declared_by, memory_in}
 use Rattle.cobol_run.specs.Ways.{KeepsPending, way_seen}
 use Rattle.cobol_run.proofs.FrameLemmas.{sentences_items}
+use Rattle.cobol_run.proofs.OverLemmas.{follows_over}
+use Rattle.cobol_run.proofs.OwnLemmas.{own_alone, plain_alone}
 
 -- ---- paragraphs
 
@@ -127,43 +135,85 @@ pub ends_passing : (old : Machine) (frames : List Frame) (new : Machine) (result
 ends_passing old frames new result top others before after here deeper h =
     rw (before, here, deeper) (subst (λ (list : List Pending). IfOk result (λ step. (world : World) (trace : Trace) (rest : List Item) → Follows step new world trace (falls_by old.plan old.paragraph (record (state_with old rest (memory_in old.held.store world) trace) { pending = list })))) after h)
 
--- ---- a step
+-- ---- what is next
 
 abbrev mid : Machine → List Frame → Held → Machine
 mid old frames held = record old { frames = frames; held = held }
 
--- the next state of the source machine, with this rest and these returns
-abbrev stepped : Machine → List Item → List Pending → World → Trace → State
-stepped old rest pending world trace =
-    source.rest_step (doing_in (declared_by old.plan)) files_left (control_of old.plan.program.now) rest
-    (record {
-      paragraph = old.paragraph;
-      rest = rest;
-      pending = pending;
-      memory = memory_in old.held.store world;
-      run = record { trace = trace; standing = Going };
-    })
+abbrev last-in : Machine → ℕ
+last-in machine = last_of machine.plan.program.now machine.paragraph
 
-pub steps_ending : (old : Machine) (frames : List Frame) (shown : List ℕ) (new : Machine) (result : Result Step NoMemory) →
-    rest_in old ≡ [] → pending_of old.plan.program.now frames ≡ pending_of old.plan.program.now old.frames →
-    IfOk result (λ step. (world : World) (trace : Trace) (rest : List Item) → Follows step new world trace (ends_by old.plan (pending_of old.plan.program.now frames) (state_with (mid old frames (record old.held { shown = shown })) rest (memory_in old.held.store world) trace))) →
-    IfOk result (λ step. (world : World) (trace : Trace) → PlainState (state_in old world trace) → Follows step new world trace (steps_by old.plan (state_in old world trace)))
-steps_ending old frames shown new (Err e) none same h = tt
-steps_ending old frames shown new (Ok step) none same h = λ world trace plain.
-    subst (λ rest. Follows step new world trace (stepped old rest (pending_of old.plan.program.now old.frames) world trace)) (sym none)
-    (subst (λ pending. Follows step new world trace (stepped old [] pending world trace)) same (h world trace []))
+-- what the step comes to whose head is this
+abbrev Heads : Machine → Machine → Result Step NoMemory → Head → Type 0
+Heads old new result next =
+    IfOk result (λ step. (world : World) (trace : Trace) (rest : List Item) → StandsAlone (last-in old) next →
+    Follows step new world trace (rests_by old.plan (heads (last-in old) next (rest_in old)) (state_with old rest (memory_in old.held.store world) trace)))
 
-pub steps_going : (old : Machine) (frames : List Frame) (held : Held) (new : Machine) (result : Result Step NoMemory) (item : Item) (rest : List Item) (way : ways.Way) →
-    rest_in old ≡ item ∷ rest → pending_of old.plan.program.now frames ≡ pending_of old.plan.program.now old.frames →
-    ((world : World) → standing.ItemHas PlainAct OwnTest PlainPicker item →
-    way_seen (last_of old.plan.program.now old.paragraph) way held.shown (memory_in held.store world) (rest_of (last_of old.plan.program.now old.paragraph) frames)
-    ≡ item_way (doing_in (declared_by old.plan)) item rest (memory_in old.held.store world)) →
-    IfOk result (λ step. (world : World) (trace : Trace) (rest : List Item) (memory : Memory) → Follows step new world trace (goes_by old.plan (way_seen (last_of old.plan.program.now old.paragraph) way held.shown (memory_in held.store world) (rest_in (mid old frames held))) (state_with (mid old frames held) rest memory trace))) →
-    IfOk result (λ step. (world : World) (trace : Trace) → PlainState (state_in old world trace) → Follows step new world trace (steps_by old.plan (state_in old world trace)))
-steps_going old frames held new (Err e) item rest way there same meant h = tt
-steps_going old frames held new (Ok step) item rest way there same meant h = λ world trace plain.
-    subst (λ list. Follows step new world trace (stepped old list (pending_of old.plan.program.now old.frames) world trace)) (sym there)
-    (subst (λ pending. Follows step new world trace (stepped old (item ∷ rest) pending world trace)) same
-    (subst (λ w. Follows step new world trace (goes_by old.plan w (state_with (mid old frames held) (item ∷ rest) (memory_in old.held.store world) trace)))
-    (meant world (subst (standing.ItemsHave PlainAct OwnTest PlainPicker) there plain.0).0)
-    (h world trace (item ∷ rest) (memory_in old.held.store world))))
+-- so it is by the items
+pub headed : (old new : Machine) (result : Result Step NoMemory) (next : Head) (items : List Item) → heads (last-in old) next (rest_in old) ≡ items →
+    IfOk result (λ step. (world : World) (trace : Trace) (rest : List Item) → Follows step new world trace (rests_by old.plan items (state_with old rest (memory_in old.held.store world) trace))) →
+    Heads old new result next
+headed old new (Err e) next items is h = tt
+headed old new (Ok step) next items is h = λ world trace rest alone.
+    subst (λ list. Follows step new world trace (rests_by old.plan list (state_with old rest (memory_in old.held.store world) trace))) (sym is) (h world trace rest)
+
+-- an item goes its way
+pub head_goes : (old : Machine) (frames : List Frame) (held : Held) (new : Machine) (result : Result Step NoMemory) (next : Head) (item : Item) (way : ways.Way) →
+    heads (last-in old) next (rest_in old) ≡ item ∷ rest_in old → pending_of old.plan.program.now frames ≡ pending_of old.plan.program.now old.frames →
+    ((world : World) → StandsAlone (last-in old) next →
+    way_seen (last-in old) way held.shown (memory_in held.store world) (rest_of (last-in old) frames) ≡ item_way (doing_in (declared_by old.plan)) item (rest_in old) (memory_in old.held.store world)) →
+    IfOk result (λ step. (world : World) (trace : Trace) (rest : List Item) (memory : Memory) → Follows step new world trace (goes_by old.plan (way_seen (last-in old) way held.shown (memory_in held.store world) (rest_in (mid old frames held))) (state_with (mid old frames held) rest memory trace))) →
+    Heads old new result next
+head_goes old frames held new (Err e) next item way is same meant h = tt
+head_goes old frames held new (Ok step) next item way is same meant h = λ world trace rest alone.
+    let memory : Memory = memory_in old.held.store world in
+    subst (λ list. Follows step new world trace (rests_by old.plan list (state_with old rest memory trace))) (sym is)
+    (subst (λ pending. Follows step new world trace (goes_by old.plan (item_way (doing_in (declared_by old.plan)) item (rest_in old) memory) (record (state_with old rest memory trace) { pending = pending }))) same
+    (subst (λ way. Follows step new world trace (goes_by old.plan way (state_with (mid old frames held) rest memory trace))) (meant world alone)
+    (h world trace rest memory)))
+
+-- ---- a step
+
+-- what is said of the state after what was next is said of the next state
+pub step_headed : (old : Machine) (frames : List Frame) (shown : List ℕ) (next : Head) (Said : State → Type 0) →
+    rest_in old ≡ heads (last-in old) next (rest_of (last-in old) frames) → pending_of old.plan.program.now frames ≡ pending_of old.plan.program.now old.frames →
+    (world : World) (trace : Trace) →
+    Said (rests_by old.plan (heads (last-in old) next (rest_of (last-in old) frames)) (state_with (mid old frames (record old.held { shown = shown })) (rest_in old) (memory_in old.held.store world) trace)) →
+    Said (steps_by old.plan (state_in old world trace))
+step_headed old frames shown next Said there same world trace said =
+    subst (λ list. Said (rests_by old.plan list (state_in old world trace))) (sym there)
+    (subst (λ pending. Said (rests_by old.plan (heads (last-in old) next (rest_of (last-in old) frames)) (record (state_in old world trace) { pending = pending }))) same said)
+
+module _ (old : Machine) (frames : List Frame) (shown : List ℕ) (new : Machine) (next : Head)
+    (there : rest_in old ≡ heads (last-in old) next (rest_of (last-in old) frames)) (same : pending_of old.plan.program.now frames ≡ pending_of old.plan.program.now old.frames) where
+  abbrev here : Machine
+  here = mid old frames (record old.held { shown = shown })
+
+  -- without devices
+  pub plain_step : (result : Result Step NoMemory) → NoFiling next → Heads here new result next →
+      IfOk result (λ step. (world : World) (trace : Trace) → PlainState (state_in old world trace) → Follows step new world trace (steps_by old.plan (state_in old world trace)))
+  plain_step (Err e) free h = tt
+  plain_step (Ok step) free h = λ world trace plain.
+      step_headed old frames shown next (λ state. Follows step new world trace state) there same world trace
+      (h world trace (rest_in old) (plain_alone (last-in old) next (rest_of (last-in old) frames) free (subst (standing.ItemsHave PlainAct OwnTest PlainPicker) there plain.0)))
+
+  -- over devices, which it leaves alone
+  pub own_step : (devices : List Seen) (result : Result Step NoMemory) → NoFiling next → Heads here new result next → new.plan ≡ old.plan → new.table ≡ old.table →
+      IfOk result (λ step. (world : World) (trace : Trace) → OwnState (state_in old world trace) → StandsOver old devices world → FollowsOver step new devices trace (steps_by old.plan (state_in old world trace)))
+  own_step devices (Err e) free h plan table = tt
+  own_step devices (Ok step) free h plan table = λ world trace own stands.
+      step_headed old frames shown next (λ state. FollowsOver step new devices trace state) there same world trace
+      (follows_over step new devices world trace _
+      (h world trace (rest_in old) (own_alone (last-in old) next (rest_of (last-in old) frames) free (subst (standing.ItemsHave OwnAct OwnTest OwnPicker) there own.0)))
+      (rw (plan, table) stands))
+
+  -- a statement on files
+  pub files_step : (stmt : Stmt) (devices left : List Seen) (result : Result Step NoMemory) → ((rest : List Item) → heads (last-in old) next rest ≡ items.Do (seen (last-in old) stmt) ∷ rest) → is_inner stmt ≡ false →
+      IfOk result (λ step. (world : World) (trace : Trace) (rest : List Item) → is_inner stmt ≡ false → StandsOver here devices world →
+      FollowsOver step new left trace (goes_by here.plan (stmt_meant here stmt world) (state_with here rest (memory_in here.held.store world) trace))) →
+      IfOk result (λ step. (world : World) (trace : Trace) → OwnState (state_in old world trace) → StandsOver old devices world → FollowsOver step new left trace (steps_by old.plan (state_in old world trace)))
+  files_step stmt devices left (Err e) is outer h = tt
+  files_step stmt devices left (Ok step) is outer h = λ world trace own stands.
+      step_headed old frames shown next (λ state. FollowsOver step new left trace state) there same world trace
+      (subst (λ list. FollowsOver step new left trace (rests_by old.plan list (state_with here (rest_in old) (memory_in old.held.store world) trace))) (sym (is (rest_in here)))
+      (h world trace (rest_in old) outer stands))

@@ -12,7 +12,7 @@ use Rattle.control.specs.Outcome as outcome
 use Rattle.control.specs.Source as source
 use Rattle.language.specs.Control.{control_of}
 use Rattle.language.specs.Own.{OwnTest}
-use Rattle.cobol_meaning.specs.Runs.{Files, State, begun_in, doing_in, files_left, first_memory, source_run, step_in, world_with}
+use Rattle.cobol_laws.specs.cobol_meaning.Runs.{Files, State, begun_in, doing_in, files_left, first_memory, source_run, step_in, world_with}
 use Rattle.sink_giving.specs.Giving.{Gained, Takes}
 use Rattle.cobol_run.specs.declared.machine.Machine.{Machine}
 use Rattle.cobol_run.specs.declared.machine.Ending.{Ending}
@@ -23,7 +23,7 @@ use Rattle.cobol_run.specs.Filing.{some_open}
 use Rattle.cobol_run.specs.Machine.{Follows, ending_seen, state_in, steps_by}
 use Rattle.cobol_run.specs.Plain.{IsPlain, PlainAct, PlainPicker, PlainState}
 use Rattle.cobol_run.specs.Plan.{declared_by}
-use Rattle.cobol_run.specs.Running.{BreaksOff, BreaksWithin, RunsAs, SoFar, after, displayed, next_state, shown_by}
+use Rattle.cobol_run.specs.Running.{BreaksOff, BreaksWithin, RunsAs, SoFar, Stands, after, displayed, next_state, shown_by}
 use Rattle.cobol_run.proofs.Standing.{begun-has, iterate-has}
 
 -- ---- files
@@ -34,7 +34,7 @@ none_open (suc n) = none_open n
 
 -- ---- steps
 
-iterate-next : (step : State → State) (n : ℕ) (s : State) → iterate step (suc n) s ≡ step (iterate step n s)
+pub iterate-next : (step : State → State) (n : ℕ) (s : State) → iterate step (suc n) s ≡ step (iterate step n s)
 iterate-next step zero s = refl
 iterate-next step (suc n) s = iterate-next step n (step s)
 
@@ -50,20 +50,32 @@ over-stays program (suc n) s ending over =
 
 -- ---- what is displayed
 
-displayed-more : (trace : Trace) (shown : List ℕ) → displayed (trace ++ (0 ∷ shown) ∷ []) ≡ displayed trace ++ shown
+pub displayed-more : (trace : Trace) (shown : List ℕ) → displayed (trace ++ (0 ∷ shown) ∷ []) ≡ displayed trace ++ shown
 displayed-more [] shown = append-nil shown
 displayed-more (event ∷ trace) shown =
     ap (λ more. shown_by event ++ more) (displayed-more trace shown) ∙ sym (append_assoc (shown_by event) (displayed trace) shown)
 
-gained-nothing : (held : Option (List ℕ)) → Gained [] held held
+pub gained-nothing : (held : Option (List ℕ)) → Gained [] held held
 gained-nothing None = refl
 gained-nothing (Some held) = ap Some (sym (append-nil held))
 
-gained-more : (held mid now : Option (List ℕ)) (first second : List ℕ) → Gained first held mid → Gained second mid now → Gained (first ++ second) held now
+pub gained-more : (held mid now : Option (List ℕ)) (first second : List ℕ) → Gained first held mid → Gained second mid now → Gained (first ++ second) held now
 gained-more None mid now first second h g = subst (λ m. Gained second m now) h g
 gained-more (Some held) mid now first second h g = subst (λ m. Gained second m now) h g ∙ ap Some (append_assoc held first second)
 
 -- ---- so far
+
+-- a run that is over after a step ends so
+pub stays-over : (program : Program) (files : Files) (done steps : ℕ) (trace : Trace) (ending : outcome.Ending Files) → (after program files (suc done)).run ≡ record { trace = trace; standing = Over ending } → done < steps →
+    (held now : Option (List ℕ)) (count count_now : ℕ) → Gained (displayed trace) held now → Stands program files steps (Over ending) (record { held = held; now = now; count = count; count_now = count_now })
+stays-over program files done steps trace ending there within held now count count_now gained =
+    let rest : suc done + (steps - suc done) ≡ steps = omega (arith, within) in
+    let stays : after program files steps ≡ after program files (suc done) =
+    ap (after program files) (sym rest)
+    ∙ iterate-plus (next_state program) (suc done) (steps - suc done) (begun_in program (declared_in program) files)
+    ∙ over-stays program (steps - suc done) (after program files (suc done)) ending (ap (λ run. run.standing) there) in
+    let run : source_run program files steps ≡ record { trace = trace; standing = Over ending } = ap (λ (s : State). s.run) stays ∙ there in
+    (ap (λ run. run.standing) run, subst (λ trace. Gained (displayed trace) held now) (sym (ap (λ run. run.trace) run)) gained)
 
 pub at_start : (program : Program) (machine : Machine) (held : Option (List ℕ)) (count : ℕ) → declared_by machine.plan ≡ declared_in program → machine.plan.program.now ≡ program →
     ((files : Files) → state_in machine (world_with (declared_in program) files) [] ≡ begun_in program (declared_in program) files) → SoFar program machine 0 (record { held = held; now = held; count = count; count_now = count })
@@ -157,14 +169,7 @@ module _ (program : Program) (machine : Machine) (done steps : ℕ) (held now : 
     pub ended : (ending : Ending) → made ≡ step.Over ending → done < steps → (files : Files) → IsPlain program → RunsAs program files steps (record { held = held; now = now; count = count; count_now = count_now }) (ran.Ended ending)
     ended ending is within files plain =
         let r = so_far.reached files plain in
-        let there : (after program files (suc done)).run ≡ record { trace = r.0; standing = Over (ending_seen ending files) } = subst (λ s. Follows s new (world_with (declared_in program) files) r.0 (after program files (suc done))) is (next-follows files plain) in
-        let rest : suc done + (steps - suc done) ≡ steps = omega (arith, within) in
-        let stays : after program files steps ≡ after program files (suc done) =
-        ap (after program files) (sym rest)
-        ∙ iterate-plus (next_state program) (suc done) (steps - suc done) (begun_in program (declared_in program) files)
-        ∙ over-stays program (steps - suc done) (after program files (suc done)) (ending_seen ending files) (ap (λ run. run.standing) there) in
-        let run : source_run program files steps ≡ record { trace = r.0; standing = Over (ending_seen ending files) } = ap (λ (s : State). s.run) stays ∙ there in
-        (ap (λ run. run.standing) run, subst (λ trace. Gained (displayed trace) held now) (sym (ap (λ run. run.trace) run)) r.2)
+        stays-over program files done steps r.0 (ending_seen ending files) (subst (λ s. Follows s new (world_with (declared_in program) files) r.0 (after program files (suc done))) is (next-follows files plain)) within held now count count_now r.2
 
     -- no device fails
     pub never_failed : made ≡ step.Failed → (files : Files) → IsPlain program → ⊥

@@ -24,25 +24,27 @@ use Rattle.statements.specs.Does.{has_arms, of_sum}
 use Rattle.statements.specs.Filing.{Declared}
 use Rattle.control.specs.Outcome.{Tried, Got, Ends}
 use Rattle.control.specs.Items.{Way, item_way, loop_begins, steps_on, stmt_way, tried, turn_way, way_after}
-use Rattle.control.specs.Doing.{Doing}
+use Rattle.control.specs.Doing.{Doing, arm_of, giving}
 use Rattle.language.specs.Language as language
 use Rattle.language.specs.Control.{arith_of, arith_stmt, augmented, augmenting, arm_before, Branch, both_arms, branches_before, cell_chosen, control_in, count_from, evaluate_of, loop_of, perform_of, picker_by, seen, seen_stmts, seen_when, test_of, tests_of}
 use Rattle.language.specs.Items.{Item, before, before_arm, from_loop, past_sentence}
 use Rattle.language.specs.Items as items
-use Rattle.language.specs.Own.{OwnTest}
+use Rattle.language.specs.Own.{OwnAct, OwnPicker, OwnTest}
 use Rattle.language.proofs.Rows.{seen_arith, seen_both_is, seen_evaluate, seen_if, seen_if_any, seen_loop, seen_perform, seen_when_is}
-use Rattle.cobol_meaning.specs.Acting.{Memory, chooses_in, chosen, does_to, tests_in}
-use Rattle.cobol_meaning.specs.Runs.{doing_in}
+use Rattle.cobol_laws.specs.cobol_meaning.Acting.{Memory, chooses_in, chosen, does_to, tests_in}
+use Rattle.cobol_laws.specs.cobol_meaning.Runs.{doing_in}
 use Rattle.cobol_run.specs.declared.frame.Frame.{Frame}
 use Rattle.cobol_run.specs.declared.frame.Turning.{Turning}
 use Rattle.cobol_run.specs.declared.frame.Turning.TheVariants as turning
 use Rattle.cobol_run.specs.declared.held.Held.{Held}
 use Rattle.cobol_run.specs.declared.way.Way as ways
 use Rattle.cobol_run.specs.Frames.{rest_of, turning_seen}
-use Rattle.cobol_run.specs.Plain.{ActsPlainly, PlainAct, PlainPicker, PlainStmt, once_by, once_of}
+use Rattle.cobol_run.specs.Own.{ActsAlone, HeadOwn}
+use Rattle.cobol_run.specs.Plain.{once_by, once_of}
 use Rattle.cobol_run.specs.Plan.{memory_in}
 use Rattle.cobol_run.specs.Standing as standing
 use Rattle.cobol_run.specs.Ways.{Leads, LeadsWhere, arm_at, arm_by, either, loop_meant, on, steps_on_meant, stmts_or_none, turn_meant, way_seen}
+use Rattle.cobol_run.proofs.AlwaysLemmas.{always_holds}
 use Rattle.cobol_run.proofs.WayLemmas.{do-way, if-way, test-is}
 
 -- what was meant is what control says
@@ -79,11 +81,11 @@ some-none a e = subst IsThere e tt
 
 -- ---- arms
 
-either-arm : (last : ℕ) (arms : Option (List Stmt)) (others : language.Arms) (rest : List Item) → before_arm (arm_before (seen_if_any last arms) others) 0 rest ≡ before (seen_stmts last (stmts_or_none arms)) rest
+pub either-arm : (last : ℕ) (arms : Option (List Stmt)) (others : language.Arms) (rest : List Item) → before_arm (arm_before (seen_if_any last arms) others) 0 rest ≡ before (seen_stmts last (stmts_or_none arms)) rest
 either-arm last None others rest = refl
 either-arm last (Some stmts) others rest = refl
 
-second-arm : (last : ℕ) (first : Option (List Stmt)) (others : language.Arms) (rest : List Item) → before_arm (arm_before (seen_if_any last first) others) 1 rest ≡ before_arm others 0 rest
+pub second-arm : (last : ℕ) (first : Option (List Stmt)) (others : language.Arms) (rest : List Item) → before_arm (arm_before (seen_if_any last first) others) 1 rest ≡ before_arm others 0 rest
 second-arm last None others rest = refl
 second-arm last (Some stmts) others rest = refl
 
@@ -101,7 +103,7 @@ when-tests : (last : ℕ) (whens : List When) → tests_of (map (seen_when last)
 when-tests last [] = refl
 when-tests last (when ∷ whens) = ap (λ branch. Branch.tests branch ∷ tests_of (map (seen_when last) whens)) (seen_when_is last when) ∙ ap (λ tests. (out-When when).tests ∷ tests) (when-tests last whens)
 
-by-picker : (cell : Option ℕ) (counted : Bool) (chooser : language.Chooser) → PlainPicker (picker_by cell counted chooser) → picker_by cell counted chooser ≡ language.By chooser
+by-picker : (cell : Option ℕ) (counted : Bool) (chooser : language.Chooser) → OwnPicker (picker_by cell counted chooser) → picker_by cell counted chooser ≡ language.By chooser
 by-picker None counted chooser h = refl
 by-picker (Some cell) false chooser h = refl
 by-picker (Some cell) true chooser h = absurd h
@@ -112,16 +114,16 @@ module _ (declared : Declared) where
 
   -- ---- statements that act
 
-  pub do_led : (last : ℕ) (stmt : Stmt) (act : language.Act) → seen last stmt ≡ language.Do act → (rest : List Item) (memory : Memory) → ActsPlainly stmt last →
+  pub do_led : (last : ℕ) (stmt : Stmt) (act : language.Act) → seen last stmt ≡ language.Do act → (rest : List Item) (memory : Memory) → ActsAlone stmt last →
       tried (does_to declared stmt memory) (λ u. on rest) ≡ item_way doing (items.Do (seen last stmt)) rest memory
-  do_led last stmt act e rest memory plain = sym (do-way declared last stmt act e plain.0 rest memory)
+  do_led last stmt act e rest memory plain = sym (do-way declared last stmt act e plain.0.0 rest memory)
 
   -- ---- IF, EVALUATE and arithmetic with phrases
 
-  pub if_led : (last : ℕ) (cond : Cond) (met unmet : List Stmt) (rest : List Item) (memory : Memory) → ActsPlainly (stmts.If cond met unmet) last →
+  pub if_led : (last : ℕ) (cond : Cond) (met unmet : List Stmt) (rest : List Item) (memory : Memory) → ActsAlone (stmts.If cond met unmet) last →
       tried (tests_in declared cond memory) (λ holds. on (before (seen_stmts last (if holds then met else unmet)) rest)) ≡ item_way doing (items.Do (seen last (stmts.If cond met unmet))) rest memory
   if_led last cond met unmet rest memory plain =
-      sym (if-way declared last cond met unmet rest memory (subst PlainStmt (seen_if last cond met unmet) plain.0).0.0)
+      sym (if-way declared last cond met unmet rest memory (subst HeadOwn (seen_if last cond met unmet) plain.0.0))
 
   evaluate-picked : (last : ℕ) (subject : Subject) (whens : List When) (other : Option (List Stmt)) (rest : List Item) (memory : Memory) (picker : language.Picker) →
       picker ≡ language.By (language.Evaluate subject (map (λ when. (out-When when).tests) whens) (is_some other)) →
@@ -134,11 +136,11 @@ module _ (declared : Declared) where
       (λ arm later. ap (λ list. on list later) (sym (when-arm last whens other arm rest)))
       ∙ ap (λ p. stmt_way doing (language.Choose p (branches_before (map (seen_when last) whens) (arm_before (seen_if_any last other) language.done))) rest memory) (sym e)
 
-  pub evaluate_led : (last : ℕ) (subject : Subject) (whens : List When) (other : Option (List Stmt)) (rest : List Item) (memory : Memory) → ActsPlainly (stmts.Evaluate subject whens other) last →
+  pub evaluate_led : (last : ℕ) (subject : Subject) (whens : List When) (other : Option (List Stmt)) (rest : List Item) (memory : Memory) → ActsAlone (stmts.Evaluate subject whens other) last →
       tried (chooses_in declared (language.Evaluate subject (map (λ when. (out-When when).tests) whens) (is_some other)) memory) (λ arm. on (before (seen_stmts last (arm_at whens other arm)) rest))
       ≡ item_way doing (items.Do (seen last (stmts.Evaluate subject whens other))) rest memory
   evaluate_led last subject whens other rest memory plain =
-      let picked : PlainPicker (evaluate_of subject (tests_of (map (seen_when last) whens)) (is_some other)) = (subst PlainStmt (seen_evaluate last subject whens other) plain.0).0 in
+      let picked : OwnPicker (evaluate_of subject (tests_of (map (seen_when last) whens)) (is_some other)) = subst HeadOwn (seen_evaluate last subject whens other) plain.0.0 in
       evaluate-picked last subject whens other rest memory (evaluate_of subject (tests_of (map (seen_when last) whens)) (is_some other))
       (by-picker (cell_chosen subject) (count_from 1 (tests_of (map (seen_when last) whens))) (language.Evaluate subject (tests_of (map (seen_when last) whens)) (is_some other)) picked
       ∙ ap (λ tests. language.By (language.Evaluate subject tests (is_some other))) (when-tests last whens))
@@ -182,7 +184,7 @@ module _ (declared : Declared) where
   acts-arith last calc into (Some a) second h = absurd (subst Yes h tt)
   acts-arith last calc into None (Some b) h = absurd (subst Yes h tt)
 
-  pub arith_alone_led : (last : ℕ) (calc : Calc) (into : List Target) (arms : Arms) → has_arms arms ≡ false → (rest : List Item) (memory : Memory) → ActsPlainly (stmts.Arith calc into arms) last →
+  pub arith_alone_led : (last : ℕ) (calc : Calc) (into : List Target) (arms : Arms) → has_arms arms ≡ false → (rest : List Item) (memory : Memory) → ActsAlone (stmts.Arith calc into arms) last →
       tried (does_to declared (stmts.Arith calc into arms) memory) (λ u. on rest) ≡ item_way doing (items.Do (seen last (stmts.Arith calc into arms))) rest memory
   arith_alone_led last calc into arms h rest memory plain =
       do_led last (stmts.Arith calc into arms) (arith_of calc into)
@@ -197,15 +199,19 @@ module _ (declared : Declared) where
   begins-meant (control.Varying true item from by until) c body rest memory e = ap (λ o. loop_begins doing (unwrap_or o c) body rest memory) e
   begins-meant (control.Varying false item from by until) c body rest memory e = ap (λ o. loop_begins doing (unwrap_or o c) body rest memory) e
 
-  loop-by : (last : ℕ) (control : Control) (o : Option language.Control) (body : List Stmt) (rest : List Item) (memory : Memory) → control_in control ≡ o →
-      PlainStmt (loop_of o (seen_stmts last body)) → loop_meant declared control (language.Nested (seen_stmts last body)) rest memory ≡ stmt_way doing (loop_of o (seen_stmts last body)) rest memory
-  loop-by last control None body rest memory e plain = absurd (plain.0.1 refl)
-  loop-by last control (Some c) body rest memory e plain = begins-meant control c (language.Nested (seen_stmts last body)) rest memory e
+  loop-by : (control : Control) (o : Option language.Control) (body : language.Stmts) (rest : List Item) (memory : Memory) → control_in control ≡ o →
+      loop_meant declared control (language.Nested body) rest memory ≡ stmt_way doing (loop_of o body) rest memory
+  loop-by control (Some c) body rest memory e = begins-meant control c (language.Nested body) rest memory e
+  loop-by control.Once None body rest memory e =
+      sym (ap (λ t. tried (giving arm_of t) (λ k. on (before_arm (language.given body language.done) k rest))) (always_holds declared memory))
+  loop-by (control.Times amount) None body rest memory e = absurd (some-none _ e)
+  loop-by (control.Until after until) None body rest memory e = absurd (some-none _ e)
+  loop-by (control.Varying after item from by until) None body rest memory e = absurd (some-none _ e)
 
-  pub loop_led : (last : ℕ) (control : Control) (body : List Stmt) (rest : List Item) (memory : Memory) → ActsPlainly (stmts.Loop control body) last →
+  loop_led : (last : ℕ) (control : Control) (body : List Stmt) (rest : List Item) (memory : Memory) →
       loop_meant declared control (language.Nested (seen_stmts last body)) rest memory ≡ item_way doing (items.Do (seen last (stmts.Loop control body))) rest memory
-  loop_led last control body rest memory plain =
-      loop-by last control (control_in control) body rest memory refl (subst PlainStmt (seen_loop last control body) plain.0)
+  loop_led last control body rest memory =
+      loop-by control (control_in control) (seen_stmts last body) rest memory refl
       ∙ ap (λ s. item_way doing (items.Do s) rest memory) (sym (seen_loop last control body))
 
   once-performed : (entry exit : ℕ) (control : Control) → once_of (stmts.Perform entry exit control) ≡ once_by entry exit control
@@ -219,7 +225,7 @@ module _ (declared : Declared) where
   perform-by entry exit (control.Until after until) None rest memory e h = absurd (some-none _ e)
   perform-by entry exit (control.Varying after item from by until) None rest memory e h = absurd (some-none _ e)
 
-  pub perform_led : (last : ℕ) (entry exit : ℕ) (control : Control) (rest : List Item) (memory : Memory) → ActsPlainly (stmts.Perform entry exit control) last →
+  pub perform_led : (last : ℕ) (entry exit : ℕ) (control : Control) (rest : List Item) (memory : Memory) → ActsAlone (stmts.Perform entry exit control) last →
       loop_meant declared control (language.Performed entry exit) rest memory ≡ item_way doing (items.Do (seen last (stmts.Perform entry exit control))) rest memory
   perform_led last entry exit control rest memory plain =
       perform-by entry exit control (control_in control) rest memory refl (sym (once-performed entry exit control) ∙ plain.1)
@@ -239,7 +245,7 @@ module _ (declared : Declared) where
   steps-on true item by until body rest memory = refl
   steps-on false item by until body rest memory = refl
 
-  pub turn_led : (last : ℕ) (turn : Turning) (body : language.Body) (rest : List Item) (memory : Memory) → standing.TurningHas PlainAct OwnTest PlainPicker (turning_seen turn) →
+  pub turn_led : (last : ℕ) (turn : Turning) (body : language.Body) (rest : List Item) (memory : Memory) → standing.TurningHas OwnAct OwnTest OwnPicker (turning_seen turn) →
       turn_meant declared turn body rest memory ≡ turn_way doing (turning_seen turn) body rest memory
   turn_led last (turning.Counted turns) body rest memory h = refl
   turn_led last (turning.Tests until) body rest memory h = tested until.now memory _ h
@@ -254,10 +260,10 @@ module _ (declared : Declared) where
 
   pub if_answered : (stmt : Stmt) (cond : Cond) (met unmet met_now unmet_now : List Stmt) (result : Result ways.Way NoMemory) (old_frames new_frames : List Frame) (old new : Held) → stmt ≡ stmts.If cond met unmet → met_now ≡ met → unmet_now ≡ unmet →
       IfOk result (λ way. Leads way old_frames new_frames old new (λ last rest memory. tried (tests_in declared cond memory) (λ holds. on (before (seen_stmts last (if holds then met_now else unmet_now)) rest)))) →
-      IfOk result (λ way. LeadsWhere (ActsPlainly stmt) way old_frames new_frames old new (λ last rest memory. item_way doing (items.Do (seen last stmt)) rest memory))
+      IfOk result (λ way. LeadsWhere (ActsAlone stmt) way old_frames new_frames old new (λ last rest memory. item_way doing (items.Do (seen last stmt)) rest memory))
   if_answered stmt cond met unmet met_now unmet_now result old_frames new_frames old new is m u h =
-      subst (λ s. IfOk result (λ way. LeadsWhere (ActsPlainly s) way old_frames new_frames old new (λ last rest memory. item_way doing (items.Do (seen last s)) rest memory))) (sym is)
-      (led (ActsPlainly (stmts.If cond met unmet)) result old_frames new_frames old new
+      subst (λ s. IfOk result (λ way. LeadsWhere (ActsAlone s) way old_frames new_frames old new (λ last rest memory. item_way doing (items.Do (seen last s)) rest memory))) (sym is)
+      (led (ActsAlone (stmts.If cond met unmet)) result old_frames new_frames old new
       (λ last rest memory. tried (tests_in declared cond memory) (λ holds. on (before (seen_stmts last (if holds then met_now else unmet_now)) rest)))
       (λ last rest memory. item_way doing (items.Do (seen last (stmts.If cond met unmet))) rest memory)
       (λ last rest memory plain. ap (λ (x : List Stmt). tried (tests_in declared cond memory) (λ holds. on (before (seen_stmts last (if holds then x else unmet_now)) rest))) m
@@ -266,23 +272,34 @@ module _ (declared : Declared) where
 
   pub evaluate_answered : (stmt : Stmt) (subject : Subject) (whens whens_now : List When) (other : Option (List Stmt)) (result : Result ways.Way NoMemory) (old_frames new_frames : List Frame) (old new : Held) → stmt ≡ stmts.Evaluate subject whens other → whens_now ≡ whens →
       IfOk result (λ way. Leads way old_frames new_frames old new (λ last rest memory. tried (chooses_in declared (language.Evaluate subject (map (λ when. (out-When when).tests) whens_now) (is_some other)) memory) (λ arm. on (before (seen_stmts last (arm_at whens_now other arm)) rest)))) →
-      IfOk result (λ way. LeadsWhere (ActsPlainly stmt) way old_frames new_frames old new (λ last rest memory. item_way doing (items.Do (seen last stmt)) rest memory))
+      IfOk result (λ way. LeadsWhere (ActsAlone stmt) way old_frames new_frames old new (λ last rest memory. item_way doing (items.Do (seen last stmt)) rest memory))
   evaluate_answered stmt subject whens whens_now other result old_frames new_frames old new is w h =
-      subst (λ s. IfOk result (λ way. LeadsWhere (ActsPlainly s) way old_frames new_frames old new (λ last rest memory. item_way doing (items.Do (seen last s)) rest memory))) (sym is)
-      (led (ActsPlainly (stmts.Evaluate subject whens other)) result old_frames new_frames old new
+      subst (λ s. IfOk result (λ way. LeadsWhere (ActsAlone s) way old_frames new_frames old new (λ last rest memory. item_way doing (items.Do (seen last s)) rest memory))) (sym is)
+      (led (ActsAlone (stmts.Evaluate subject whens other)) result old_frames new_frames old new
       (λ last rest memory. tried (chooses_in declared (language.Evaluate subject (map (λ when. (out-When when).tests) whens_now) (is_some other)) memory) (λ arm. on (before (seen_stmts last (arm_at whens_now other arm)) rest)))
       (λ last rest memory. item_way doing (items.Do (seen last (stmts.Evaluate subject whens other))) rest memory)
       (λ last rest memory plain. ap (λ list. tried (chooses_in declared (language.Evaluate subject (map (λ when. (out-When when).tests) list) (is_some other)) memory) (λ arm. on (before (seen_stmts last (arm_at list other arm)) rest))) w
       ∙ evaluate_led last subject whens other rest memory plain) h)
 
+  pub loop_answered : (stmt : Stmt) (control : Control) (body body_now : List Stmt) (result : Result ways.Way NoMemory) (old_frames new_frames : List Frame) (old new : Held) → stmt ≡ stmts.Loop control body → body_now ≡ body →
+      IfOk result (λ way. Leads way old_frames new_frames old new (λ last rest memory. loop_meant declared control (language.Nested (seen_stmts last body_now)) rest memory)) →
+      IfOk result (λ way. LeadsWhere (ActsAlone stmt) way old_frames new_frames old new (λ last rest memory. item_way doing (items.Do (seen last stmt)) rest memory))
+  loop_answered stmt control body body_now result old_frames new_frames old new is b h =
+      led (ActsAlone stmt) result old_frames new_frames old new
+      (λ last rest memory. loop_meant declared control (language.Nested (seen_stmts last body_now)) rest memory)
+      (λ last rest memory. item_way doing (items.Do (seen last stmt)) rest memory)
+      (λ last rest memory alone. ap (λ (x : List Stmt). loop_meant declared control (language.Nested (seen_stmts last x)) rest memory) b
+      ∙ loop_led last control body rest memory
+      ∙ ap (λ s. item_way doing (items.Do (seen last s)) rest memory) (sym is)) h
+
   pub alone_answered : (stmt : Stmt) (calc : Calc) (into : List Target) (arms : Arms) (result : Result ways.Way NoMemory) (frames : List Frame) (old new : Held) → stmt ≡ stmts.Arith calc into arms → has_arms arms ≡ false →
       IfOk result (λ way. (last : ℕ) (world : World) (rest : List Item) → way_seen last way new.shown (memory_in new.store world) rest ≡ tried (does_to declared stmt (memory_in old.store world)) (λ u. on rest)) →
-      IfOk result (λ way. LeadsWhere (ActsPlainly stmt) way frames frames old new (λ last rest memory. item_way doing (items.Do (seen last stmt)) rest memory))
+      IfOk result (λ way. LeadsWhere (ActsAlone stmt) way frames frames old new (λ last rest memory. item_way doing (items.Do (seen last stmt)) rest memory))
   alone_answered stmt calc into arms result frames old new is none h =
-      led_beside (ActsPlainly stmt) result frames old new
+      led_beside (ActsAlone stmt) result frames old new
       (λ last rest memory. tried (does_to declared stmt memory) (λ u. on rest))
       (λ last rest memory. item_way doing (items.Do (seen last stmt)) rest memory)
-      (λ last rest memory plain. subst (λ s. tried (does_to declared s memory) (λ u. on rest) ≡ item_way doing (items.Do (seen last s)) rest memory) (sym is) (arith_alone_led last calc into arms none rest memory (subst (λ s. ActsPlainly s last) is plain))) h
+      (λ last rest memory plain. subst (λ s. tried (does_to declared s memory) (λ u. on rest) ≡ item_way doing (items.Do (seen last s)) rest memory) (sym is) (arith_alone_led last calc into arms none rest memory (subst (λ s. ActsAlone s last) is plain))) h
 
 pub once_seen : (last entry exit : ℕ) → seen last (stmts.Perform entry exit control.Once) ≡ language.Perform entry exit
 once_seen last entry exit = seen_perform last entry exit control.Once

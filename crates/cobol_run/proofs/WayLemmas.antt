@@ -18,62 +18,15 @@ use Rattle.language.specs.Language as language
 use Rattle.language.specs.Control.{arm_before, else_of, seen, seen_stmts, test_of}
 use Rattle.language.specs.Items.{Item, before, before_arm}
 use Rattle.language.specs.Items as items
-use Rattle.language.specs.Own.{OwnAct, OwnTest}
-use Rattle.language.specs.Own as own
+use Rattle.language.specs.Own.{OwnAct, OwnStmt, OwnTest}
 use Rattle.language.proofs.Conditions.{cond-back}
 use Rattle.language.proofs.ReadBack.{stmt-back}
 use Rattle.language.proofs.Rows.{seen_if}
 use Rattle.language.proofs.Unseen.{cond_of, simple_of, unseen}
-use Rattle.cobol_meaning.specs.Acting.{Memory, acting, answered, does_to, tests_in}
-use Rattle.cobol_meaning.specs.Runs.{doing_in}
-use Rattle.cobol_run.specs.Plain.{PlainAct, PlainPicker, PlainStmt}
-use Rattle.cobol_run.specs.Standing as standing
+use Rattle.cobol_laws.specs.cobol_meaning.Acting.{Memory, acting, answered, does_to, tests_in}
+use Rattle.cobol_laws.specs.cobol_meaning.Runs.{doing_in}
+use Rattle.cobol_run.specs.Own.{HeadOwn}
 use Rattle.cobol_run.specs.Ways.{on}
-
--- ---- what is plain is the program's own
-
-act-own : (act : language.Act) → PlainAct act → OwnAct act
-act-own (language.Own simple) h = tt
-act-own (language.Set cell value) h = h
-act-own (language.Take cell amount) h = h
-act-own (language.Lower cell) h = h
-
-picker-own : (picker : language.Picker) → PlainPicker picker → own.OwnPicker picker
-picker-own (language.If test) h = h.0
-picker-own (language.By chooser) h = tt
-picker-own (language.ByCell cell) h = h
-
-control-own : (control : language.Control) → standing.ControlHas PlainAct OwnTest PlainPicker control → own.OwnControl control
-control-own (language.Times amount) h = tt
-control-own (language.Until after test) h = h
-control-own (language.Varying after set step test) h = (act-own set h.0, act-own step h.1, h.2)
-
-abbrev mutual
-  stmt-own : (stmt : language.Stmt) → PlainStmt stmt → own.OwnStmt stmt
-  stmt-own (language.Do act) h = act-own act h
-  stmt-own (language.Choose picker arms) h = (picker-own picker h.0, arms-own arms h.1)
-  stmt-own (language.Loop control body) h = (control-own control h.0, body-own body h.1)
-  stmt-own (language.Perform entry exit) h = tt
-  stmt-own (language.Go to) h = tt
-  stmt-own (language.GoDepending to chooser) h = tt
-  stmt-own language.NextSentence h = tt
-  stmt-own language.ExitParagraph h = tt
-  stmt-own (language.ExitSection last) h = tt
-  stmt-own (language.ExitPerform cycle) h = tt
-  stmt-own language.StopRun h = tt
-
-  stmts-own : (stmts : language.Stmts) → standing.StmtsHave PlainAct OwnTest PlainPicker stmts → own.OwnStmts stmts
-  stmts-own language.none h = tt
-  stmts-own (language.also stmt stmts) h = (stmt-own stmt h.0, stmts-own stmts h.1)
-
-  arms-own : (arms : language.Arms) → standing.ArmsHave PlainAct OwnTest PlainPicker arms → own.OwnArms arms
-  arms-own language.done h = tt
-  arms-own (language.given arm others) h = (stmts-own arm h.0, arms-own others h.1)
-  arms-own (language.missing others) h = arms-own others h
-
-  body-own : (body : language.Body) → standing.BodyHas PlainAct OwnTest PlainPicker body → own.OwnBody body
-  body-own (language.Nested stmts) h = stmts-own stmts h
-  body-own (language.Performed entry exit) h = tt
 
 -- ---- conditions and acts
 
@@ -109,14 +62,14 @@ module _ (declared : Declared) where
   alone-act (language.Lower cell) h memory = absurd h
 
   -- a statement that acts
-  act-way : (last : ℕ) (stmt : Stmt) (act : language.Act) → seen last stmt ≡ language.Do act → PlainStmt (seen last stmt) → (memory : Memory) →
+  act-way : (last : ℕ) (stmt : Stmt) (act : language.Act) → seen last stmt ≡ language.Do act → HeadOwn (seen last stmt) → (memory : Memory) →
       alone_act (acting declared) act memory ≡ does_to declared stmt memory
   act-way last stmt act e h memory =
-      let plain : PlainStmt (language.Do act) = subst PlainStmt e h in
-      let back : simple_of act ≡ stmt = sym (ap unseen e) ∙ stmt-back last stmt (stmt-own (seen last stmt) h) in
-      alone-act act (act-own act plain) memory ∙ ap (λ s. does_to declared s memory) back
+      let own : OwnAct act = subst HeadOwn e h in
+      let back : simple_of act ≡ stmt = sym (ap unseen e) ∙ stmt-back last stmt (subst OwnStmt (sym e) own) in
+      alone-act act own memory ∙ ap (λ s. does_to declared s memory) back
 
-  pub do-way : (last : ℕ) (stmt : Stmt) (act : language.Act) → seen last stmt ≡ language.Do act → PlainStmt (seen last stmt) → (rest : List Item) (memory : Memory) →
+  pub do-way : (last : ℕ) (stmt : Stmt) (act : language.Act) → seen last stmt ≡ language.Do act → HeadOwn (seen last stmt) → (rest : List Item) (memory : Memory) →
       item_way doing (items.Do (seen last stmt)) rest memory ≡ tried (does_to declared stmt memory) (λ u. on rest)
   do-way last stmt act e h rest memory =
       ap (λ s. item_way doing (items.Do s) rest memory) e

@@ -8,6 +8,8 @@ pub mod Standing
 pub mod Plain
 -- the same as a test of the tree
 pub mod PlainTests
+-- programs in which no word on an added item stands
+pub mod Own
 -- statements on files
 pub mod Filing
 -- what the head of the rest comes to
@@ -16,5 +18,7 @@ pub mod Ways
 pub mod Machine
 -- what a run comes to
 pub mod Running
+-- steps and runs over devices that tell their files
+pub mod Over
 -- what a run leaves of the devices of its bench
 pub mod Falling

@@ -5,13 +5,13 @@ use Rattle.runs.specs.Run.{Going, Over}
 use Rattle.control.specs.Outcome.{Trace, Normally, Overlap, Reentry, Stopped, Faulted}
 use Rattle.control.specs.Outcome as outcome
 use Rattle.control.specs.Items as control
-use Rattle.control.specs.Source.{end_step, falls, goes, performs}
+use Rattle.control.specs.Source.{end_step, falls, goes, performs, rest_step}
 use Rattle.cob_tree.specs.declared.ending.FlowFault.{FlowFault}
 use Rattle.cob_tree.specs.declared.ending.FlowFault.TheVariants as flow
 use Rattle.language.specs.Control.{control_of}
 use Rattle.language.specs.Items.{Item, Pending}
-use Rattle.cobol_meaning.specs.Acting.{Memory, abend_number}
-use Rattle.cobol_meaning.specs.Runs.{Files, State, doing_in, files_left, step_in}
+use Rattle.cobol_laws.specs.cobol_meaning.Acting.{Memory, abend_number}
+use Rattle.cobol_laws.specs.cobol_meaning.Runs.{Files, State, doing_in, files_left, step_in}
 use Rattle.cobol_run.specs.declared.held.Plan.{Plan}
 use Rattle.cobol_run.specs.declared.machine.Ending.{Ending}
 use Rattle.cobol_run.specs.declared.machine.Ending.TheVariants as ending
@@ -78,6 +78,11 @@ falls_by plan paragraph state =
 abbrev pub ends_by : Plan → List Pending → State → State
 ends_by plan pending state =
     end_step (doing_in (declared_by plan)) files_left (control_of plan.program.now) pending state
+
+-- with this rest
+abbrev pub rests_by : Plan → List Item → State → State
+rests_by plan rest state =
+    rest_step (doing_in (declared_by plan)) files_left (control_of plan.program.now) rest state
 
 abbrev pub steps_by : Plan → State → State
 steps_by plan state = step_in plan.program.now (declared_by plan) state

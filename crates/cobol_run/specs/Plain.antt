@@ -4,7 +4,7 @@ use Rattle.cob_tree.specs.declared.program.Program.{Program}
 use Rattle.cob_tree.specs.declared.stmt.Stmt.{Stmt, out-Stmt}
 use Rattle.cob_tree.specs.declared.stmt.Stmt.TheOpen.{Stmt-F}
 use Rattle.cob_act.specs.Acting.{is_inner}
-use Rattle.language.specs.Control.{always, control_of, seen}
+use Rattle.language.specs.Control.{always, control_of}
 use Rattle.cob_tree.specs.declared.control.Control.{Control}
 use Rattle.cob_tree.specs.declared.control.Control.TheVariants.{Once, Times, Until, Varying}
 use Rattle.cobol_run.specs.declared.statement.Entered.{Entered}
@@ -12,7 +12,7 @@ use Rattle.language.specs.Own.{OwnTest}
 use Rattle.language.specs.Language.{Act, Own, Test, Holds, Picker, If, By, ByCell, Chooser, Evaluate, Read, Arith, Depending}
 use Rattle.language.specs.Language as language
 use Rattle.cobol_run.specs.Standing as standing
-use Rattle.cobol_meaning.specs.Runs.{State}
+use Rattle.cobol_laws.specs.cobol_meaning.Runs.{State}
 
 -- an act of the program's own, that needs no device
 abbrev pub PlainAct : Act → Type 0
@@ -53,7 +53,3 @@ once_of stmt =
       | Stmt-F.Perform entry exit control ↦ once_by entry exit control
       | _ ↦ None
     ]
-
--- plain, and no PERFORM once
-abbrev pub ActsPlainly : Stmt → ℕ → Type 0
-ActsPlainly stmt last = PlainStmt (seen last stmt) × (once_of stmt ≡ None)

@@ -8,7 +8,7 @@ use Rattle.statements.specs.Does.{declared_with}
 use Rattle.cob_act.specs.declared.acting.Done.{Done}
 use Rattle.cob_act.specs.Acting.{effect_by}
 use Rattle.control.specs.Outcome.{Tried, Got, Ends}
-use Rattle.cobol_meaning.specs.Acting.{Memory, acted, abend_number}
+use Rattle.cobol_laws.specs.cobol_meaning.Acting.{Memory, acted, abend_number}
 use Rattle.cobol_run.specs.declared.held.Plan.{Plan}
 
 abbrev pub declared_by : Plan → Declared

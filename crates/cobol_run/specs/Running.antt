@@ -7,7 +7,7 @@ use Rattle.control.specs.Outcome.{Event, Trace}
 use Rattle.control.specs.Outcome as outcome
 use Rattle.runs.specs.Machine.{iterate}
 use Rattle.statements.specs.Does.{declared_in}
-use Rattle.cobol_meaning.specs.Runs.{Files, State, begun_in, source_run, step_in, world_with}
+use Rattle.cobol_laws.specs.cobol_meaning.Runs.{Files, State, begun_in, source_run, step_in, world_with}
 use Rattle.sink_giving.specs.Giving.{Gained, Gains}
 use Rattle.cobol_run.specs.declared.running.Ran.{Ran}
 use Rattle.cobol_run.specs.declared.running.Ran.TheVariants as ran

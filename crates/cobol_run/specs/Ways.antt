@@ -14,8 +14,8 @@ use Rattle.language.specs.Control.{augmented, augmenting, test_of}
 use Rattle.language.specs.Items.{Item, Turn, before_body}
 use Rattle.language.specs.Items as items
 use Rattle.language.specs.Language as language
-use Rattle.cobol_meaning.specs.Acting.{Memory, abend_number, does_to, tests_in}
-use Rattle.cobol_meaning.specs.Runs.{doing_in}
+use Rattle.cobol_laws.specs.cobol_meaning.Acting.{Memory, abend_number, does_to, tests_in}
+use Rattle.cobol_laws.specs.cobol_meaning.Runs.{doing_in}
 use Rattle.statements.specs.Filing.{Declared}
 use Rattle.cob_tree.specs.declared.cond.Cond.{Cond}
 use Rattle.cob_tree.specs.declared.control.Control.{Control}
@@ -149,9 +149,9 @@ module _ (declared : Declared) where
   turn_meant (StepsAfter item by until) body rest memory =
       steps_after_meant item.now by.now until.now body rest memory
 
-  -- a loop begins, with the program's own words; without TIMES, UNTIL and VARYING it is none
+  -- a loop begins, with the program's own words; without TIMES, UNTIL and VARYING its body is done
   abbrev pub loop_meant : Control → language.Body → List Item → Memory → control.Way Memory
-  loop_meant Once body rest memory = on rest memory
+  loop_meant Once body rest memory = on (before_body body rest) memory
   loop_meant (Times amount) body rest memory =
       loop_begins doing (language.Times amount) body rest memory
   loop_meant (Until after until) body rest memory =

@@ -1,8 +1,19 @@
 //! Statements on files.
 
-ghost use Rattle.std.specs.Prelude.{◌≡◌, IfErr, IsTrue, map};
+ghost use Rattle.std.specs.Prelude.{◌≡◌, ℕ, IfErr, IfOk, IsTrue, false, map, not, option_copied, take};
+ghost use Rattle.cob_act.specs.Acting.{is_inner};
+ghost use Rattle.control.specs.Items.{item_way};
+ghost use Rattle.cobol_laws.specs.cobol_meaning.Runs.{doing_in};
 ghost use Rattle.file_acts.specs.Ends.{DoneOver};
+ghost use Rattle.file_acts.specs.Over.{IsOver};
+ghost use Rattle.file_model.specs.World.{World};
+ghost use Rattle.language.specs.Control.{seen};
+ghost use Rattle.language.specs.Items.{Do};
 ghost use Rattle.cobol_run.specs.Filing.{StandsInNone};
+ghost use Rattle.cobol_run.specs.Frames.{rest_of};
+ghost use Rattle.cobol_run.specs.Over.{FiledOver, armed_rest};
+ghost use Rattle.cobol_run.specs.Plan.{declared_by, memory_in};
+ghost use Rattle.cobol_run.specs.Ways.{KeepsPending};
 
 use crate::frame::Frame;
 use crate::frames::push_stmts;
@@ -18,7 +29,8 @@ use file_model::{Bench, Device, FileTable};
 /// Whether a statement is one on files.
 #[tactic(auto, using(crate::proofs::FilingLemmas::opens_none, crate::proofs::FilingLemmas::closes_none, crate::proofs::FilingLemmas::read_none, crate::proofs::FilingLemmas::write_none, crate::proofs::FilingLemmas::rewrite_none))]
 pub fn is_filing(stmt: &Stmt) -> bool
-    ensures { IsTrue result → StandsInNone stmt.now }
+    ensures of { result ≡ not (is_inner stmt.now) }
+    ensures none { IsTrue result → StandsInNone stmt.now }
 {
     match stmt {
         Stmt::Opens(_) => true,
@@ -30,7 +42,9 @@ pub fn is_filing(stmt: &Stmt) -> bool
     }
 }
 
-fn place_of(place: &Option<Place>) -> Option<&Place> {
+fn place_of(place: &Option<Place>) -> Option<&Place>
+    ensures { option_copied result ≡ place.now }
+{
     match place {
         None => None,
         Some(place) => Some(place),
@@ -39,7 +53,11 @@ fn place_of(place: &Option<Place>) -> Option<&Place> {
 
 // The arm that a READ chose is to be done first.
 fn push_arm<'a>(frames: &mut Stack<Frame<'a>>, arms: &'a Arms, done: Done) -> Result<Done, Fault>
-    ensures { IfErr result (λ fault. fault ≡ Fault.NoMemory) }
+    ensures error { IfErr result (λ fault. fault ≡ Fault.NoMemory) }
+    ensures same { IfOk result (λ now. now ≡ done) }
+    ensures rest { IfOk result (λ now. (last : ℕ) → rest_of last frames.new
+        ≡ armed_rest last done arms.now (rest_of last frames.old)) }
+    ensures pending { IfOk result (λ now. KeepsPending frames.old frames.new) }
 {
     match done {
         Done::Chose(1) => push_stmts(frames, stmts_or_none(&arms.first))?,
@@ -62,6 +80,16 @@ pub fn filed<'a>(
     ensures bench { DoneOver result bench.old.left bench.new.left
         (map ⟦<Box<dyn Device> as Watched>⟧.seen bench.old.devices.items)
         (map ⟦<Box<dyn Device> as Watched>⟧.seen bench.new.devices.items) }
+
+    // over devices that tell their files it does what is meant
+    ensures over { (world : World) → is_inner stmt.now ≡ false → IsOver plan.now.program.now.files
+        (take bench.old.left (map ⟦<Box<dyn Device> as Watched>⟧.seen bench.old.devices.items))
+        table.old.rows world → FiledOver result plan.now.program.now.files
+        (take bench.new.left (map ⟦<Box<dyn Device> as Watched>⟧.seen bench.new.devices.items))
+        table.new.rows held.new.store frames.new
+        (λ last. item_way (doing_in (declared_by plan.now)) (Do (seen last stmt.now))
+        (rest_of last frames.old) (memory_in held.old.store world)) }
+    ensures pending { IfOk result (λ done. KeepsPending frames.old frames.new) }
 {
     let Held { store, scratch, .. } = held;
     let program = plan.program;

@@ -105,7 +105,8 @@ pub fn push_turn<'a>(
     Ok(())
 }
 
-fn push_body<'a>(frames: &mut Stack<Frame<'a>>, body: Body<'a>) -> Result<(), NoMemory>
+/// A loop's body, to be done first.
+pub fn push_body<'a>(frames: &mut Stack<Frame<'a>>, body: Body<'a>) -> Result<(), NoMemory>
     ensures rest { IfOk result (λ u. (last : ℕ) → rest_of last frames.new
         ≡ before_body (body_seen last body.entry) (rest_of last frames.old)) }
     ensures pending { IfOk result (λ u. (program : Program) → pending_of program frames.new

@@ -1,16 +1,19 @@
 //! A program as it runs, step by step.
 
-ghost use Rattle.std.specs.Prelude.{◌≡◌, ◌≢◌, ◌<◌, ◌^◌, [], ℕ, List, IfOk, length, map};
+ghost use Rattle.std.specs.Prelude.{◌≡◌, ◌≢◌, ◌<◌, ◌^◌, [], ℕ, List, IfOk, IfSome, None, false, length, map, take};
 ghost use Rattle.file_model.specs.World.{World};
-ghost use Rattle.cob_tree.specs.declared.program.Program.{Program};
+ghost use Rattle.cob_act.specs.Acting.{is_inner};
 ghost use Rattle.control.specs.Outcome.{Trace};
 ghost use Rattle.control.specs.Source as source;
-ghost use Rattle.cobol_meaning.specs.Acting.{Memory};
+ghost use Rattle.cobol_laws.specs.cobol_meaning.Acting.{Memory};
 ghost use Rattle.language.specs.Control.{control_of};
 ghost use Rattle.language.specs.Items.{Item};
 ghost use Rattle.cobol_run.specs.Falling.{StepFalls};
-ghost use Rattle.cobol_run.specs.Frames.{last_in, last_of, pending_of, rest_of};
-ghost use Rattle.cobol_run.specs.Machine.{Follows, IsNumbered, ends_by, falls_by, goes_by, performs_by, rest_in, state_in, state_with, steps_by};
+ghost use Rattle.cobol_run.specs.Filing.{StandsInNone};
+ghost use Rattle.cobol_run.specs.Frames.{heads, last_in, last_of, pending_of, rest_of};
+ghost use Rattle.cobol_run.specs.Machine.{Follows, IsNumbered, ends_by, falls_by, goes_by, performs_by, rest_in, rests_by, state_in, state_with, steps_by};
+ghost use Rattle.cobol_run.specs.Own.{NoFiling, OwnState, StandsAlone};
+ghost use Rattle.cobol_run.specs.Over.{FollowsOver, StandsOver, step_done, stmt_meant};
 ghost use Rattle.cobol_run.specs.Plain.{PlainState};
 ghost use Rattle.cobol_run.specs.Plan.{memory_in};
 ghost use Rattle.cobol_run.specs.Ways.{KeepsPending, way_seen};
@@ -58,6 +61,30 @@ pub struct Machine<'a> {
     pub held: Held,
     /// How its files stand.
     pub table: FileTable,
+}
+
+// What a statement on files comes to.
+fn step_after(done: Done) -> Step
+    ensures { result ≡ step_done done }
+{
+    match done {
+        Done::Abended(abend) => Step::Over(Ending::Abended(abend)),
+        Done::Went => Step::On,
+        Done::Shown => Step::On,
+        Done::Chose(_) => Step::On,
+    }
+}
+
+// The statement on files that is next.
+fn filing_of<'a>(head: Head<'a>) -> Option<&'a Stmt>
+    ensures here { IfSome result (λ stmt. (head.entry ≡ Head.Stmt stmt)
+        × (is_inner stmt.now ≡ false) × StandsInNone stmt.now) }
+    ensures none { result ≡ None → NoFiling head.entry }
+{
+    match head {
+        Head::Stmt(stmt) => { if is_filing(stmt) { Some(stmt) } else { None } }
+        _ => None,
+    }
 }
 
 fn clear(shown: &mut Text)
@@ -205,7 +232,15 @@ impl<'a> Machine<'a> {
     }
 
     // A statement on files.
+    #[tactic(auto, using(crate::proofs::FallLemmas::done_falls))]
     fn file_step(&mut self, bench: &mut Bench, stmt: &'a Stmt) -> Result<Step, NoMemory>
+        ensures over { IfOk result (λ step. (world : World) (trace : Trace) (rest : List Item) →
+            is_inner stmt.now ≡ false → StandsOver self.old (take bench.old.left
+            (map ⟦<Box<dyn Device> as Watched>⟧.seen bench.old.devices.items)) world →
+            FollowsOver step self.new (take bench.new.left
+            (map ⟦<Box<dyn Device> as Watched>⟧.seen bench.new.devices.items)) trace
+            (goes_by self.old.plan (stmt_meant self.old stmt.now world)
+            (state_with self.old rest (memory_in self.old.held.store world) trace))) }
         ensures falls { IfOk result (λ step. StepFalls step bench.old.left bench.new.left
             (map ⟦<Box<dyn Device> as Watched>⟧.seen bench.old.devices.items)
             (map ⟦<Box<dyn Device> as Watched>⟧.seen bench.new.devices.items)) }
@@ -220,10 +255,40 @@ impl<'a> Machine<'a> {
             stmt,
         );
         match done {
-            Ok(Done::Abended(abend)) => Ok(Step::Over(Ending::Abended(abend))),
-            Ok(_) => Ok(Step::On),
+            Ok(done) => Ok(step_after(done)),
             Err(Fault::Device) => Ok(Step::Failed),
             Err(Fault::NoMemory) => Err(NoMemory),
+        }
+    }
+
+    // What is next, where it isn't a statement on files.
+    fn head_step(&mut self, head: Head<'a>) -> Result<Step, NoMemory>
+        requires few { IsNumbered self.old.plan }
+        requires empty { self.old.held.shown ≡ [] }
+        ensures step { IfOk result (λ step. (world : World) (trace : Trace) (rest : List Item) →
+            StandsAlone (last_of self.old.plan.program.now self.old.paragraph) head.entry →
+            Follows step self.new world trace (rests_by self.old.plan (heads
+            (last_of self.old.plan.program.now self.old.paragraph) head.entry (rest_in self.old))
+            (state_with self.old rest (memory_in self.old.held.store world) trace))) }
+        ensures live { IfOk result (λ step. step ≢ Step.Failed) }
+        ensures plan { self.new.plan ≡ self.old.plan }
+        ensures table { self.new.table ≡ self.old.table }
+    {
+        match head {
+            Head::Nothing => self.end(),
+            Head::Stmt(stmt) => {
+                if let Some(range) = performed_once(stmt) {
+                    return self.perform(range.entry, range.exit);
+                }
+                let way = stmt_way(&self.plan, &mut self.frames, &mut self.held, stmt)?;
+                self.go(way)
+            }
+            Head::Enter { entry, exit } => self.perform(entry, exit),
+            Head::SentenceEnd => Ok(Step::On),
+            Head::Turn(turning, body) => {
+                let way = turning_way(&self.plan, &mut self.frames, &mut self.held, turning, body)?;
+                self.go(way)
+            }
         }
     }
 
@@ -233,6 +298,14 @@ impl<'a> Machine<'a> {
     pub fn step(&mut self, bench: &mut Bench) -> Result<Step, NoMemory>
         ensures step { IfOk result (λ step. (world : World) (trace : Trace) →
             PlainState (state_in self.old world trace) → Follows step self.new world trace
+            (steps_by self.old.plan (state_in self.old world trace))) }
+
+        // over devices that tell their files
+        ensures over { IfOk result (λ step. (world : World) (trace : Trace) →
+            OwnState (state_in self.old world trace) → StandsOver self.old (take bench.old.left
+            (map ⟦<Box<dyn Device> as Watched>⟧.seen bench.old.devices.items)) world →
+            FollowsOver step self.new (take bench.new.left
+            (map ⟦<Box<dyn Device> as Watched>⟧.seen bench.new.devices.items)) trace
             (steps_by self.old.plan (state_in self.old world trace))) }
         ensures falls { IfOk result (λ step. StepFalls step bench.old.left bench.new.left
             (map ⟦<Box<dyn Device> as Watched>⟧.seen bench.old.devices.items)
@@ -247,24 +320,10 @@ impl<'a> Machine<'a> {
             return Err(NoMemory);
         }
         clear(&mut self.held.shown);
-        match next(&mut self.frames)? {
-            Head::Nothing => self.end(),
-            Head::Stmt(stmt) => {
-                if let Some(range) = performed_once(stmt) {
-                    return self.perform(range.entry, range.exit);
-                }
-                if is_filing(stmt) {
-                    return self.file_step(bench, stmt);
-                }
-                let way = stmt_way(&self.plan, &mut self.frames, &mut self.held, stmt)?;
-                self.go(way)
-            }
-            Head::Enter { entry, exit } => self.perform(entry, exit),
-            Head::SentenceEnd => Ok(Step::On),
-            Head::Turn(turning, body) => {
-                let way = turning_way(&self.plan, &mut self.frames, &mut self.held, turning, body)?;
-                self.go(way)
-            }
+        let head = next(&mut self.frames)?;
+        match filing_of(head) {
+            Some(stmt) => self.file_step(bench, stmt),
+            None => self.head_step(head),
         }
     }
 }

@@ -1,6 +1,6 @@
 //! A whole run.
 
-ghost use Rattle.std.specs.Prelude.{◌≡◌, ◌≢◌, ◌<◌, ◌≤◌, vec_len, ◌^◌, [], ℕ, List, IfOk, false, length, map, slice_get, take};
+ghost use Rattle.std.specs.Prelude.{◌≡◌, ◌≢◌, ◌<◌, ◌≤◌, vec_len, ◌^◌, [], ℕ, List, IfOk, false, length, map, replicate, slice_get, take};
 ghost use Rattle.std.specs.declared.option.Option.{Option};
 ghost use Rattle.cob_tree.specs.declared.program.Program.{Program};
 ghost use Rattle.cob_base.specs.Answers.{Makes};
@@ -8,7 +8,8 @@ ghost use Rattle.cob_base.specs.Faults.{Rose};
 ghost use Rattle.cob_base.specs.Sink.{SinkCall, sink_call};
 ghost use Rattle.cob_store.specs.Laying.{layout_of};
 ghost use Rattle.statements.specs.Does.{declared_in};
-ghost use Rattle.cobol_meaning.specs.Runs.{Files, begun_in, world_with};
+ghost use Rattle.cobol_laws.specs.cobol_meaning.Runs.{Files, begun_in, world_with};
+ghost use Rattle.file_model.specs.Status.{closed_row};
 ghost use Rattle.file_model.specs.World.{World};
 ghost use Rattle.file_desk.specs.Calls.{addresses_of};
 ghost use Rattle.file_desk.specs.Seen.{Seen};
@@ -16,6 +17,8 @@ ghost use Rattle.file_desk.specs.Standing.{Stands};
 ghost use Rattle.cobol_run.specs.Falling.{ClosesAll, NamesDevice, RunFalls, StepsFall, TurnFalls, breaks_off};
 ghost use Rattle.cobol_run.specs.Filing.{some_open};
 ghost use Rattle.cobol_run.specs.Machine.{state_in};
+ghost use Rattle.cobol_run.specs.Over.{RunsOver, SoFarOver, StepsOver, TellFiles, TurnsOver};
+ghost use Rattle.cobol_run.specs.Own.{IsOwn};
 ghost use Rattle.cobol_run.specs.Plain.{IsPlain};
 ghost use Rattle.cobol_run.specs.Plan.{declared_by};
 ghost use Rattle.cobol_run.specs.Running.{RunsAs, SoFar, TurnsTo, since};
@@ -57,7 +60,10 @@ fn areas_of(alloc: Global, entries: &[Entry]) -> Result<Areas, NoMemory>
 // No file is open.
 #[tactic(auto, using(crate::proofs::RunningLemmas::none_open))]
 fn table_of(alloc: Global, program: &Program) -> Result<FileTable, NoMemory>
-    ensures { IfOk result (λ table. some_open table.rows ≡ false) }
+    ensures closed { IfOk result (λ table. table.rows
+        ≡ replicate (length program.now.files) closed_row) }
+    ensures few { IfOk result (λ table. length program.now.files < 2 ^ 32) }
+    ensures shut { IfOk result (λ table. some_open table.rows ≡ false) }
 {
     let files = program.files.len();
     if files >= 1 << 32 {
@@ -74,6 +80,9 @@ pub fn start<'a>(alloc: Global, program: &'a Program) -> Result<Machine<'a>, NoM
         ≡ begun_in program.now (declared_in program.now) files) }
     ensures declared { IfOk result (λ machine. declared_by machine.plan ≡ declared_in program.now) }
     ensures program { IfOk result (λ machine. machine.plan.program.now ≡ program.now) }
+    ensures closed { IfOk result (λ machine. machine.table.rows
+        ≡ replicate (length program.now.files) closed_row) }
+    ensures few { IfOk result (λ machine. length program.now.files < 2 ^ 32) }
     ensures shut { IfOk result (λ machine. some_open machine.table.rows ≡ false) }
 {
     let table = table_of(alloc, program)?;
@@ -111,6 +120,15 @@ fn make_turn<K: Sink>(machine: &mut Machine, bench: &mut Bench, out: &mut K) -> 
         SoFar program machine.old done (since held count (K.held out.old) (K.faults out.old)) →
         TurnsTo program machine.new done (since held count (K.held out.new) (K.faults out.new))
         result }
+
+    // over devices that tell their files
+    ensures over { (program : Program) (files : Files) (done : ℕ) (held : Option (List ℕ))
+        (count : ℕ) → IsOwn program → SoFarOver program files machine.old (take bench.old.left
+        (map ⟦<Box<dyn Device> as Watched>⟧.seen bench.old.devices.items)) done
+        (since held count (K.held out.old) (K.faults out.old)) →
+        TurnsOver program files machine.new (take bench.new.left
+        (map ⟦<Box<dyn Device> as Watched>⟧.seen bench.new.devices.items)) done
+        (since held count (K.held out.new) (K.faults out.new)) result }
     ensures cause { result ≡ Turned.WriteFault → Rose (K.faults out.old) (K.faults out.new) }
     ensures later { K.faults out.old ≤ K.faults out.new }
     ensures plan { machine.new.plan ≡ machine.old.plan }
@@ -175,6 +193,13 @@ fn run_on<K: Sink>(
         SoFar program machine.old 0 (since (K.held out.old) (K.faults out.old)
         (K.held out.old) (K.faults out.old)) → IsPlain program → RunsAs program files steps
         (sink_call K.held K.faults out.old out.new) result }
+    ensures over { (program : Program) (files : Files) → IsOwn program →
+        SoFarOver program files machine.old (take bench.old.left
+        (map ⟦<Box<dyn Device> as Watched>⟧.seen bench.old.devices.items)) 0
+        (since (K.held out.old) (K.faults out.old) (K.held out.old) (K.faults out.old)) →
+        StepsOver program files steps machine.new (take bench.new.left
+        (map ⟦<Box<dyn Device> as Watched>⟧.seen bench.new.devices.items))
+        (sink_call K.held K.faults out.old out.new) result }
     ensures cause { result ≡ Ran.WriteFault → Rose (K.faults out.old) (K.faults out.new) }
     ensures kept { (program : Program) → SoFar program machine.old 0 (since (K.held out.old)
         (K.faults out.old) (K.held out.old) (K.faults out.old)) → IsPlain program →
@@ -232,6 +257,13 @@ fn close_files(alloc: Global, machine: &mut Machine, bench: &mut Bench, ran: Ran
         ClosesAll (addresses_of files)
         (take bench.new.left (map ⟦<Box<dyn Device> as Watched>⟧.seen bench.new.devices.items))
         machine.new.table.rows (length files) world }
+
+    // over devices that tell their files
+    ensures over { (program : Program) (files : Files) (steps : ℕ) (sink : SinkCall) →
+        StepsOver program files steps machine.old (take bench.old.left
+        (map ⟦<Box<dyn Device> as Watched>⟧.seen bench.old.devices.items)) sink ran →
+        RunsOver program files steps sink (take bench.new.left
+        (map ⟦<Box<dyn Device> as Watched>⟧.seen bench.new.devices.items)) result }
 {
     if !some_open(&machine.table) {
         return ran;
@@ -258,6 +290,13 @@ pub fn run<K: Sink>(
     requires within { bench.old.left ≤ vec_len bench.old.devices }
     ensures run { (files : Files) → IsPlain program.now → RunsAs program.now files steps
         (sink_call K.held K.faults out.old out.new) result }
+
+    // over devices that tell their files, which hold these
+    ensures over { (files : Files) → IsOwn program.now → TellFiles (take bench.old.left
+        (map ⟦<Box<dyn Device> as Watched>⟧.seen bench.old.devices.items)) files →
+        RunsOver program.now files steps (sink_call K.held K.faults out.old out.new)
+        (take bench.new.left
+        (map ⟦<Box<dyn Device> as Watched>⟧.seen bench.new.devices.items)) result }
     ensures cause { result ≡ Ran.WriteFault → Rose (K.faults out.old) (K.faults out.new) }
     ensures falls { RunFalls result bench.old.left bench.new.left
         (map ⟦<Box<dyn Device> as Watched>⟧.seen bench.old.devices.items)

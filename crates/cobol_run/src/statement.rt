@@ -2,11 +2,12 @@
 
 ghost use Rattle.std.specs.Prelude.{◌≡◌, [], ℕ, None, IfOk, IfSome};
 ghost use Rattle.control.specs.Items.{item_way};
-ghost use Rattle.cobol_meaning.specs.Runs.{doing_in};
+ghost use Rattle.cobol_laws.specs.cobol_meaning.Runs.{doing_in};
 ghost use Rattle.language.specs.Control.{seen};
 ghost use Rattle.language.specs.Items.{Do};
 ghost use Rattle.language.specs.Language.{Perform};
-ghost use Rattle.cobol_run.specs.Plain.{ActsPlainly, once_of};
+ghost use Rattle.cobol_run.specs.Own.{ActsAlone};
+ghost use Rattle.cobol_run.specs.Plain.{once_of};
 ghost use Rattle.cobol_run.specs.Plan.{declared_by};
 ghost use Rattle.cobol_run.specs.Ways.{KeepsPending, LeadsWhere};
 
@@ -58,7 +59,7 @@ pub fn stmt_way<'a>(
     stmt: &'a Stmt,
 ) -> Result<Way, NoMemory>
     requires empty { held.old.shown ≡ [] }
-    ensures way { IfOk result (λ way. LeadsWhere (ActsPlainly stmt.now) way
+    ensures way { IfOk result (λ way. LeadsWhere (ActsAlone stmt.now) way
         frames.old frames.new held.old held.new
         (λ last rest memory. item_way (doing_in (declared_by plan.now)) (Do (seen last stmt.now))
         rest memory)) }
@@ -115,7 +116,7 @@ pub fn stmt_way<'a>(
             Ok(Way::On)
         }
         Stmt::Continue => simple_way(plan, held, stmt),
-        // A statement on files stands in no plain program.
+        // Statements on files are done over a bench.
         Stmt::Opens(_) => Ok(Way::On),
         Stmt::Closes(_) => Ok(Way::On),
         Stmt::Read { .. } => Ok(Way::On),

@@ -6,8 +6,8 @@ ghost use Rattle.cob_tree.specs.declared.stmt.Stmt.TheVariants.{Move};
 ghost use Rattle.cob_tree.specs.declared.stmt.When.{out-When};
 ghost use Rattle.cob_act.specs.Acting.{is_inner};
 ghost use Rattle.control.specs.Items.{loop_begins, to_one, tried, turn_way, turns};
-ghost use Rattle.cobol_meaning.specs.Acting.{chooses_in, does_to, tests_in};
-ghost use Rattle.cobol_meaning.specs.Runs.{doing_in};
+ghost use Rattle.cobol_laws.specs.cobol_meaning.Acting.{chooses_in, does_to, tests_in};
+ghost use Rattle.cobol_laws.specs.cobol_meaning.Runs.{doing_in};
 ghost use Rattle.language.specs.Control.{seen_stmts, test_of};
 ghost use Rattle.language.specs.Items.{Counted, Item, before};
 ghost use Rattle.language.specs.Language.{Arith, Depending, Evaluate, Times, Until};
@@ -16,7 +16,7 @@ ghost use Rattle.cobol_run.specs.Plan.{declared_by, did, memory_in};
 ghost use Rattle.cobol_run.specs.Ways.{KeepsPending, Leads, arm_at, either, loop_meant, on, steps_after_meant, steps_begun, steps_meant, stmts_or_none, turn_meant, way_seen};
 
 use crate::frame::{Body, Frame, Turning};
-use crate::frames::{push_stmts, push_turn, turn_on};
+use crate::frames::{push_body, push_stmts, push_turn, turn_on};
 use crate::held::{Held, Plan, acts, augments, calculates, counts, evaluates, names, sets, tests};
 use cob_act::Done;
 use cob_base::{Items, NoMemory};
@@ -421,7 +421,7 @@ pub fn turning_way<'a>(
     }
 }
 
-/// A loop begins; `Once` is none.
+/// A loop begins; under `Once` its body is done.
 pub fn control_way<'a>(
     plan: &Plan,
     frames: &mut Stack<Frame<'a>>,
@@ -435,7 +435,10 @@ pub fn control_way<'a>(
     ensures pending { IfOk result (λ way. KeepsPending frames.old frames.new) }
 {
     match control {
-        Control::Once => Ok(Way::On),
+        Control::Once => {
+            push_body(frames, body)?;
+            Ok(Way::On)
+        }
         Control::Times(amount) => times_way(plan, frames, held, amount, body),
         Control::Until { after, cond } => until_way(plan, frames, held, *after, cond, body),
         Control::Varying {

@@ -3,18 +3,18 @@
 ghost use Rattle.std.specs.Prelude.{Some};
 ghost use Rattle.cob_base.specs.Answers.{Makes};
 ghost use Rattle.grammar_forms.specs.Reading.{Reads};
-ghost use Rattle.expr_forms.specs.Levels.{inner};
-ghost use Rattle.cond_forms.specs.Test as tests;
+ghost use Rattle.statement_grammar.specs.expr_forms.Levels.{inner};
+ghost use Rattle.statement_grammar.specs.cond_forms.Test as tests;
 
 use cob_base::{Copied, NoMemory};
 use cob_tree::Rel;
-use cond_forms::{Read, Setting};
 use cond_tests::{at_rel_behind, at_sign, class_or, read_test, rel, relation_of, sign_test};
 use data_names::NameTable;
-use expr_forms::Side;
 use expr_parse::expr;
 use expr_sides::{relation_fault, shape_of, value_fault};
 use grammar_forms::{Cursor, Unread};
+use statement_grammar::cond_forms::{Read, Setting};
+use statement_grammar::expr_forms::Side;
 use std::alloc::Global;
 
 /// The relation of two sides, with what abbreviations behind it stand for.
@@ -47,7 +47,7 @@ fn relation_read(
 }
 
 /// The relation that begins with this left side, before which so many terms stand.
-#[tactic(auto, unfolding(cond_forms::specs::Test::relation))]
+#[tactic(auto, unfolding(statement_grammar::specs::cond_forms::Test::relation))]
 fn relation(
     alloc: Global,
     cursor: &mut Cursor<'_>,
@@ -82,7 +82,7 @@ fn relation(
     Ok(relation_read(alloc, left, sign, right, terms, now)?)
 }
 
-#[tactic(auto, unfolding(cond_forms::specs::Test::one_test))]
+#[tactic(auto, unfolding(statement_grammar::specs::cond_forms::Test::one_test))]
 fn one_test(
     alloc: Global,
     cursor: &mut Cursor<'_>,
@@ -106,7 +106,7 @@ fn one_test(
     class_or(cursor, shape_of(&left), negated, end, left, count)
 }
 
-#[tactic(auto, unfolding(cond_forms::specs::Test::not_test))]
+#[tactic(auto, unfolding(statement_grammar::specs::cond_forms::Test::not_test))]
 fn not_test(
     alloc: Global,
     cursor: &mut Cursor<'_>,
@@ -127,7 +127,7 @@ fn not_test(
     one_test(alloc, cursor, names, levels, true, end, left, before, count)
 }
 
-#[tactic(auto, unfolding(cond_forms::specs::Test::behind_is))]
+#[tactic(auto, unfolding(statement_grammar::specs::cond_forms::Test::behind_is))]
 fn behind_is(
     alloc: Global,
     cursor: &mut Cursor<'_>,
@@ -154,7 +154,7 @@ fn behind_is(
 }
 
 /// The test of this left side, where one follows.
-#[tactic(auto, unfolding(cond_forms::specs::Test::tested))]
+#[tactic(auto, unfolding(statement_grammar::specs::cond_forms::Test::tested))]
 pub fn tested(
     alloc: Global,
     cursor: &mut Cursor<'_>,

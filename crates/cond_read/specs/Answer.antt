@@ -10,8 +10,8 @@ use Rattle.grammar_forms.specs.declared.why.Why.{Why}
 use Rattle.grammar_forms.specs.Form.{Form, Input}
 use Rattle.grammar_forms.specs.Reading.{Stops, start_at, fault_line}
 use Rattle.read_faults.specs.Fault.{stop_fault, name_fault}
-use Rattle.expr_forms.specs.declared.side.Side.{Side}
-use Rattle.expr_forms.specs.Side.{expr_of}
+use Rattle.statement_grammar.specs.declared.expr_forms.side.Side.{Side}
+use Rattle.statement_grammar.specs.expr_forms.Side.{expr_of}
 use Rattle.cond_read.specs.declared.answer.CondPart.{CondPart}
 use Rattle.cond_read.specs.declared.answer.ExprPart.{ExprPart}
 

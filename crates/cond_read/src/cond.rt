@@ -6,7 +6,7 @@ ghost use Rattle.grammar_forms.specs.Form.{Input};
 ghost use Rattle.cobol_lex.specs.declared.token.Token.{Token};
 ghost use Rattle.grammar_forms.specs.declared.why.Why.{Why};
 ghost use Rattle.grammar_forms.specs.Reading.{Stops, fault_line, start_at};
-ghost use Rattle.cond_forms.specs.Condition.{whole_cond};
+ghost use Rattle.statement_grammar.specs.cond_forms.Condition.{whole_cond};
 ghost use Rattle.read_faults.specs.Fault.{stop_fault};
 ghost use Rattle.cond_read.specs.Answer.{Gives, IsCond, IsFault, Refuses, Spelled};
 

@@ -5,8 +5,8 @@ ghost use Rattle.grammar_forms.specs.Form.{Input};
 ghost use Rattle.cobol_lex.specs.declared.token.Token.{Token};
 ghost use Rattle.grammar_forms.specs.declared.why.Why.{Why};
 ghost use Rattle.grammar_forms.specs.Reading.{Stops, fault_line, start_at};
-ghost use Rattle.expr_forms.specs.declared.side.Side.{Side};
-ghost use Rattle.expr_forms.specs.Levels.{whole_expr};
+ghost use Rattle.statement_grammar.specs.declared.expr_forms.side.Side.{Side};
+ghost use Rattle.statement_grammar.specs.expr_forms.Levels.{whole_expr};
 ghost use Rattle.read_faults.specs.Fault.{stop_fault};
 ghost use Rattle.cond_read.specs.Answer.{Gives, IsExpr, IsFault, Refuses, Spelled};
 

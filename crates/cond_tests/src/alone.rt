@@ -8,17 +8,17 @@ ghost use Rattle.cob_base.specs.Answers.{Makes};
 ghost use Rattle.cob_tree.specs.declared.cond.Cond.TheVariants as conds;
 ghost use Rattle.grammar_forms.specs.Form.{chosen};
 ghost use Rattle.grammar_forms.specs.Reading.{Reads};
-ghost use Rattle.expr_forms.specs.Fault.{is_condition};
-ghost use Rattle.cond_forms.specs.Test as tests;
-ghost use Rattle.cond_forms.specs.Alone as alones;
+ghost use Rattle.statement_grammar.specs.expr_forms.Fault.{is_condition};
+ghost use Rattle.statement_grammar.specs.cond_forms.Test as tests;
+ghost use Rattle.statement_grammar.specs.cond_forms.Alone as alones;
 
 use crate::test::relation_of;
 use cob_base::{Boxed, Copied, NoMemory};
 use cob_tree::{Cond, Place, Rel};
-use cond_forms::{Part, Primary, Setting};
-use expr_forms::{Shape, Side, What};
 use expr_sides::{condition_fault, is_condition, relation_fault, shape_of, tally, value_fault};
 use grammar_forms::{Cursor, Unread, Why};
+use statement_grammar::cond_forms::{Part, Primary, Setting};
+use statement_grammar::expr_forms::{Shape, Side, What};
 use std::alloc::Global;
 
 fn with_not(alloc: Global, negated: bool, cond: Cond) -> Result<Cond, NoMemory>
@@ -79,7 +79,7 @@ fn carried_part(
 }
 
 /// A relation with the left side and the sign that were set.
-#[tactic(auto, unfolding(cond_forms::specs::Alone::carried))]
+#[tactic(auto, unfolding(statement_grammar::specs::cond_forms::Alone::carried))]
 fn carried(
     alloc: Global,
     cursor: &mut Cursor<'_>,
@@ -119,7 +119,7 @@ fn named_place(
     Ok(part_of(cond, None, count, not_read))
 }
 
-#[tactic(auto, unfolding(cond_forms::specs::Alone::named_by))]
+#[tactic(auto, unfolding(statement_grammar::specs::cond_forms::Alone::named_by))]
 fn named_by(
     alloc: Global,
     cursor: &Cursor<'_>,
@@ -145,7 +145,7 @@ fn named_by(
     }
 }
 
-#[tactic(auto, unfolding(cond_forms::specs::Alone::named))]
+#[tactic(auto, unfolding(statement_grammar::specs::cond_forms::Alone::named))]
 fn named(
     alloc: Global,
     cursor: &mut Cursor<'_>,
@@ -161,7 +161,7 @@ fn named(
     named_by(alloc, cursor, negated, side.what, count, not_read)
 }
 
-#[tactic(auto, unfolding(cond_forms::specs::Alone::kept))]
+#[tactic(auto, unfolding(statement_grammar::specs::cond_forms::Alone::kept))]
 fn kept(
     cursor: &Cursor<'_>,
     setting: Setting,
@@ -201,7 +201,7 @@ fn set_ref_part(
     }
 }
 
-#[tactic(auto, unfolding(cond_forms::specs::Alone::ref_part))]
+#[tactic(auto, unfolding(statement_grammar::specs::cond_forms::Alone::ref_part))]
 fn ref_part(
     alloc: Global,
     cursor: &mut Cursor<'_>,
@@ -224,7 +224,7 @@ fn ref_part(
     }
 }
 
-#[tactic(auto, unfolding(cond_forms::specs::Alone::literal_part))]
+#[tactic(auto, unfolding(statement_grammar::specs::cond_forms::Alone::literal_part))]
 fn literal_part(
     alloc: Global,
     cursor: &mut Cursor<'_>,
@@ -251,7 +251,7 @@ fn literal_part(
     }
 }
 
-#[tactic(auto, unfolding(cond_forms::specs::Alone::part_by_shape))]
+#[tactic(auto, unfolding(statement_grammar::specs::cond_forms::Alone::part_by_shape))]
 fn part_by_shape(
     alloc: Global,
     cursor: &mut Cursor<'_>,
@@ -281,7 +281,7 @@ fn part_by_shape(
 }
 
 /// What an expression is that no test follows.
-#[tactic(auto, unfolding(cond_forms::specs::Alone::alone_part))]
+#[tactic(auto, unfolding(statement_grammar::specs::cond_forms::Alone::alone_part))]
 pub fn alone_part(
     alloc: Global,
     cursor: &mut Cursor<'_>,
@@ -320,7 +320,7 @@ fn test_part(
 }
 
 /// The condition that was read, or what the side is.
-#[tactic(auto, unfolding(cond_forms::specs::Alone::part_by))]
+#[tactic(auto, unfolding(statement_grammar::specs::cond_forms::Alone::part_by))]
 pub fn part_by(
     alloc: Global,
     cursor: &mut Cursor<'_>,

@@ -3,16 +3,16 @@
 ghost use Rattle.cob_base.specs.Answers.{Makes};
 ghost use Rattle.cob_tree.specs.declared.cond.Cond.TheVariants as conds;
 ghost use Rattle.grammar_forms.specs.Reading.{Reads};
-ghost use Rattle.cond_forms.specs.Condition as conditions;
+ghost use Rattle.statement_grammar.specs.cond_forms.Condition as conditions;
 
 use crate::alone::part_of;
 use crate::test::read_test;
 use cob_base::{Boxed, NoMemory};
 use cob_tree::Cond;
-use cond_forms::{Joined, Part, Primary, Read};
-use expr_forms::Side;
 use expr_sides::enclosed;
 use grammar_forms::{Cursor, Position, Unread, Why};
+use statement_grammar::cond_forms::{Joined, Part, Primary, Read};
+use statement_grammar::expr_forms::Side;
 use std::alloc::Global;
 
 fn and_boxed(alloc: Global, left: Boxed<Cond>, right: Cond) -> Result<Cond, NoMemory>
@@ -142,7 +142,7 @@ pub fn joined_whole(alloc: Global, state: Joined) -> Result<Part, NoMemory>
 }
 
 /// Takes the parenthesis behind a condition.
-#[tactic(auto, unfolding(cond_forms::specs::Condition::close_cond))]
+#[tactic(auto, unfolding(statement_grammar::specs::cond_forms::Condition::close_cond))]
 pub fn close_cond(cursor: &mut Cursor<'_>, part: Part) -> Result<Read, Unread>
     ensures { Reads ((conditions.close_cond part).reads cursor.old) result cursor.new }
 {
@@ -167,7 +167,7 @@ pub fn close_cond(cursor: &mut Cursor<'_>, part: Part) -> Result<Read, Unread>
 }
 
 /// Takes the parenthesis behind an expression.
-#[tactic(auto, unfolding(cond_forms::specs::Condition::close_side))]
+#[tactic(auto, unfolding(statement_grammar::specs::cond_forms::Condition::close_side))]
 pub fn close_side(
     cursor: &mut Cursor<'_>,
     position: Position,

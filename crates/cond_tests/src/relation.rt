@@ -2,7 +2,7 @@
 
 ghost use Rattle.std.specs.Prelude.{◌≡◌};
 ghost use Rattle.grammar_forms.specs.Reading.{Reads};
-ghost use Rattle.cond_forms.specs.Relation as relations;
+ghost use Rattle.statement_grammar.specs.cond_forms.Relation as relations;
 
 use crate::token::rel_token;
 use cob_tree::Rel;
@@ -27,7 +27,7 @@ fn signed(negated: bool, rel: Rel) -> Rel
     if negated { opposite(rel) } else { rel }
 }
 
-#[tactic(auto, unfolding(cond_forms::specs::Relation::or_equal))]
+#[tactic(auto, unfolding(statement_grammar::specs::cond_forms::Relation::or_equal))]
 fn or_equal(cursor: &mut Cursor<'_>, negated: bool, narrow: Rel, wide: Rel) -> Result<Rel, Unread>
     ensures { Reads ((relations.or_equal negated narrow wide).reads cursor.old)
         result cursor.new }
@@ -45,7 +45,7 @@ fn or_equal(cursor: &mut Cursor<'_>, negated: bool, narrow: Rel, wide: Rel) -> R
     }
 }
 
-#[tactic(auto, unfolding(cond_forms::specs::Relation::equal))]
+#[tactic(auto, unfolding(statement_grammar::specs::cond_forms::Relation::equal))]
 fn equal(cursor: &mut Cursor<'_>, negated: bool) -> Result<Rel, Unread>
     ensures { Reads ((relations.equal negated).reads cursor.old) result cursor.new }
 {
@@ -54,7 +54,7 @@ fn equal(cursor: &mut Cursor<'_>, negated: bool) -> Result<Rel, Unread>
     Ok(signed(negated, Rel::Equal))
 }
 
-#[tactic(auto, unfolding(cond_forms::specs::Relation::ordered))]
+#[tactic(auto, unfolding(statement_grammar::specs::cond_forms::Relation::ordered))]
 fn ordered(
     cursor: &mut Cursor<'_>,
     word: &[u8],
@@ -70,7 +70,7 @@ fn ordered(
     or_equal(cursor, negated, narrow, wide)
 }
 
-#[tactic(auto, unfolding(cond_forms::specs::Relation::sign_rel))]
+#[tactic(auto, unfolding(statement_grammar::specs::cond_forms::Relation::sign_rel))]
 fn sign_rel(cursor: &mut Cursor<'_>, negated: bool) -> Result<Rel, Unread>
     ensures { Reads ((relations.sign_rel negated).reads cursor.old) result cursor.new }
 {
@@ -78,7 +78,7 @@ fn sign_rel(cursor: &mut Cursor<'_>, negated: bool) -> Result<Rel, Unread>
     Ok(signed(negated, rel))
 }
 
-#[tactic(auto, unfolding(cond_forms::specs::Relation::other_rel))]
+#[tactic(auto, unfolding(statement_grammar::specs::cond_forms::Relation::other_rel))]
 fn other_rel(cursor: &mut Cursor<'_>, negated: bool) -> Result<Rel, Unread>
     ensures { Reads ((relations.other_rel negated).reads cursor.old) result cursor.new }
 {
@@ -90,7 +90,7 @@ fn other_rel(cursor: &mut Cursor<'_>, negated: bool) -> Result<Rel, Unread>
 }
 
 /// Reads a relation sign, behind NOT or not.
-#[tactic(auto, unfolding(cond_forms::specs::Relation::rel))]
+#[tactic(auto, unfolding(statement_grammar::specs::cond_forms::Relation::rel))]
 pub fn rel(cursor: &mut Cursor<'_>, negated: bool) -> Result<Rel, Unread>
     ensures { Reads ((relations.rel negated).reads cursor.old) result cursor.new }
 {

@@ -2,14 +2,14 @@
 
 ghost use Rattle.std.specs.Prelude.{◌≡◌};
 ghost use Rattle.grammar_forms.specs.Reading.{Reads};
-ghost use Rattle.cond_forms.specs.Test as tests;
+ghost use Rattle.statement_grammar.specs.cond_forms.Test as tests;
 
 use crate::token::{at_class, class_word, sign_word};
 use cob_tree::{ClassKind, Cond, Rel};
-use cond_forms::{Primary, Read, Setting};
-use expr_forms::{Shape, Side, What};
 use expr_sides::{expr_of, number_fault, value_fault};
 use grammar_forms::{Cursor, Unread, Why};
+use statement_grammar::cond_forms::{Primary, Read, Setting};
+use statement_grammar::expr_forms::{Shape, Side, What};
 
 /// The relation of two sides.
 pub fn relation_of(left: Side, sign: Rel, right: Side) -> Cond
@@ -30,7 +30,7 @@ pub fn read_test(cond: Cond, setting: Option<Setting>, count: u32) -> Read
 }
 
 /// Reads the sign test of this left side.
-#[tactic(auto, unfolding(cond_forms::specs::Test::sign_test))]
+#[tactic(auto, unfolding(statement_grammar::specs::cond_forms::Test::sign_test))]
 pub fn sign_test(
     cursor: &mut Cursor<'_>,
     negated: bool,
@@ -51,7 +51,7 @@ pub fn sign_test(
     }
 }
 
-#[tactic(auto, unfolding(cond_forms::specs::Test::class_of_ref))]
+#[tactic(auto, unfolding(statement_grammar::specs::cond_forms::Test::class_of_ref))]
 fn class_of_ref(
     cursor: &Cursor<'_>,
     negated: bool,
@@ -71,7 +71,7 @@ fn class_of_ref(
     }
 }
 
-#[tactic(auto, unfolding(cond_forms::specs::Test::class_test))]
+#[tactic(auto, unfolding(statement_grammar::specs::cond_forms::Test::class_test))]
 fn class_test(
     cursor: &mut Cursor<'_>,
     negated: bool,
@@ -93,7 +93,7 @@ fn class_test(
 }
 
 /// What no test follows.
-#[tactic(auto, unfolding(cond_forms::specs::Test::untested))]
+#[tactic(auto, unfolding(statement_grammar::specs::cond_forms::Test::untested))]
 fn untested(cursor: &Cursor<'_>, end: Option<bool>, left: Side, count: u32) -> Result<Read, Unread>
     ensures { Reads ((tests.untested end left count).reads cursor.now) result cursor.now }
 {
@@ -111,7 +111,7 @@ fn untested(cursor: &Cursor<'_>, end: Option<bool>, left: Side, count: u32) -> R
 }
 
 /// Reads the class test of a reference, or what no test follows.
-#[tactic(auto, unfolding(cond_forms::specs::Test::class_or))]
+#[tactic(auto, unfolding(statement_grammar::specs::cond_forms::Test::class_or))]
 pub fn class_or(
     cursor: &mut Cursor<'_>,
     shape: Shape,

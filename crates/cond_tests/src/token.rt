@@ -4,7 +4,7 @@ ghost use Rattle.std.specs.Prelude.{◌≡◌};
 ghost use Rattle.std.specs.Str.{bytes_eq};
 ghost use Rattle.grammar_forms.specs.Form as form;
 ghost use Rattle.grammar_forms.specs.Reading.{Reads};
-ghost use Rattle.cond_forms.specs.Token as tokens;
+ghost use Rattle.statement_grammar.specs.cond_forms.Token as tokens;
 
 use cob_base::Word;
 use cob_tree::{ClassKind, Rel, SignKind};
@@ -29,7 +29,7 @@ fn at_rel_word(cursor: &Cursor<'_>) -> bool
 }
 
 /// Whether a relation sign is next before which NOT may stand.
-#[tactic(auto, unfolding(cond_forms::specs::Token::begins_plain_rel))]
+#[tactic(auto, unfolding(statement_grammar::specs::cond_forms::Token::begins_plain_rel))]
 pub fn at_plain_rel(cursor: &Cursor<'_>) -> bool
     ensures { result ≡ form.is_next tokens.begins_plain_rel cursor.now }
 {
@@ -40,7 +40,7 @@ pub fn at_plain_rel(cursor: &Cursor<'_>) -> bool
 }
 
 /// Whether a relation sign is next.
-#[tactic(auto, unfolding(cond_forms::specs::Token::begins_rel))]
+#[tactic(auto, unfolding(statement_grammar::specs::cond_forms::Token::begins_rel))]
 pub fn at_rel(cursor: &Cursor<'_>) -> bool
     ensures { result ≡ form.is_next tokens.begins_rel cursor.now }
 {
@@ -52,7 +52,7 @@ pub fn at_rel(cursor: &Cursor<'_>) -> bool
 }
 
 /// Whether a relation sign is next, behind NOT or not.
-#[tactic(auto, unfolding(cond_forms::specs::Token::begins_rel_behind))]
+#[tactic(auto, unfolding(statement_grammar::specs::cond_forms::Token::begins_rel_behind))]
 pub fn at_rel_behind(cursor: &Cursor<'_>, negated: bool) -> bool
     ensures { result ≡ form.is_next (tokens.begins_rel_behind negated) cursor.now }
 {
@@ -104,7 +104,7 @@ fn sign_of_word(word: &Word) -> Option<SignKind>
 }
 
 /// Whether the word of a sign test is next.
-#[tactic(auto, unfolding(cond_forms::specs::Token::begins_sign))]
+#[tactic(auto, unfolding(statement_grammar::specs::cond_forms::Token::begins_sign))]
 pub fn at_sign(cursor: &Cursor<'_>) -> bool
     ensures { result ≡ form.is_next tokens.begins_sign cursor.now }
 {
@@ -145,7 +145,7 @@ fn class_of_word(word: &Word) -> Option<ClassKind>
 }
 
 /// Whether the word of a class test is next.
-#[tactic(auto, unfolding(cond_forms::specs::Token::begins_class))]
+#[tactic(auto, unfolding(statement_grammar::specs::cond_forms::Token::begins_class))]
 pub fn at_class(cursor: &Cursor<'_>) -> bool
     ensures { result ≡ form.is_next tokens.begins_class cursor.now }
 {
@@ -174,7 +174,7 @@ pub fn class_word(cursor: &mut Cursor<'_>) -> Result<ClassKind, Unread>
 }
 
 /// Whether AND or OR is next.
-#[tactic(auto, unfolding(cond_forms::specs::Token::joins))]
+#[tactic(auto, unfolding(statement_grammar::specs::cond_forms::Token::joins))]
 pub fn at_join(cursor: &Cursor<'_>) -> bool
     ensures { result ≡ form.is_next tokens.joins cursor.now }
 {

@@ -7,12 +7,12 @@ use Rattle.language.specs.Control as seen_as
 use Rattle.language.specs.Language.{Act, Own, Set, Take, Lower, Test, Holds, Not, Is, Above, Picker, If, By, ByCell, Control, Times, Until, Varying, Stmt, Do, Choose, Loop, Perform, Go, GoDepending, NextSentence, ExitParagraph, ExitSection, ExitPerform, StopRun, Stmts, none, also, Arms, done, given, missing, Body, Nested, Performed}
 use Rattle.language.specs.Own.{OwnAct, OwnTest, OwnPicker, OwnControl, OwnStmt, OwnStmts, OwnArms, OwnBody}
 use Rattle.control.specs.Graph.{Label, Tree, tree, End, Pick, Jump, Return, Stop, Dead, Trees, no_more, more}
-use Rattle.graph_rules.specs.Loops.{turned_test}
-use Rattle.graph_rules.specs.Reduced.{Node, each_tree}
-use Rattle.graph_rules.specs.Shapes.{followed, last_stmts, arms_stmts}
-use Rattle.closing.specs.Closes.{none_left_out}
-use Rattle.closing.specs.Dispatches.{stated_end, stated_arms, number_in}
-use Rattle.lowering.specs.Renamed.{act_anew, test_anew, picker_anew, control_anew, stmt_anew, stmts_anew, arms_anew, body_anew, end_anew, trees_anew, tree_anew}
+use Rattle.control_laws.specs.graph_rules.Loops.{turned_test}
+use Rattle.control_laws.specs.graph_rules.Reduced.{Node, each_tree}
+use Rattle.control_laws.specs.graph_rules.Shapes.{followed, last_stmts, arms_stmts}
+use Rattle.control_laws.specs.closing.Closes.{none_left_out}
+use Rattle.control_laws.specs.closing.Dispatches.{stated_end, stated_arms, number_in}
+use Rattle.control_laws.specs.lowering.Renamed.{act_anew, test_anew, picker_anew, control_anew, stmt_anew, stmts_anew, arms_anew, body_anew, end_anew, trees_anew, tree_anew}
 use Rattle.branch_tree.specs.declared.chooser.Picker as chosen
 use Rattle.branch_tree.specs.declared.chooser.Test as asked
 use Rattle.branch_tree.specs.declared.tree.Leaves.{Leaves}

@@ -5,8 +5,8 @@ use Rattle.std.specs.List.Sorted.{IsBinarySearchResult}
 use Rattle.std.specs.Ordering.{nat_cmp}
 use Rattle.std.proofs.lemmas.Bool.Decides.{eqb_tells, leb_tells}
 use Rattle.std.proofs.lemmas.List.Sorted.{searched}
-use Rattle.graph_rules.specs.Reduced.{Node}
-use Rattle.headline.specs.Numbering.{place_among}
+use Rattle.control_laws.specs.graph_rules.Reduced.{Node}
+use Rattle.control_laws.specs.headline.Numbering.{place_among}
 use Rattle.counter_cells.specs.Counters.{head_cell, if_above, counter_at, counters_from, Rises}
 
 -- each is at least the first number

@@ -1,8 +1,8 @@
 -- Counts that are made one after the other.
 use Rattle.std.proofs.Common.{◌≡◌, ◌+◌, ◌<◌, ℕ, List, [], ◌∷◌, ◌++◌, map, length, drop, ap, sym, ◌∙◌, add-one, append_assoc, drop-cons}
 use Rattle.std.proofs.lemmas.List.{map-append}
-use Rattle.headline.specs.Numbering.{counts}
-use Rattle.graph_rules.specs.Families as families
+use Rattle.control_laws.specs.headline.Numbering.{counts}
+use Rattle.control_laws.specs.graph_rules.Families as families
 use Rattle.branch_tree.specs.Graphs.{seen_added}
 use Rattle.branch_tree.specs.declared.graph.Added.{Added}
 use Rattle.branch_tree.specs.declared.graph.Added.TheVariants as added

@@ -7,12 +7,12 @@ use Rattle.language.specs.Language.{Test, Holds, Not, Is, Above, Picker, If, By,
 use Rattle.language.specs.Language as language
 use Rattle.language.specs.Own.{OwnTest, OwnControl}
 use Rattle.control.specs.Graph.{Label, Tree, tree, End, Pick, Jump, Return, Dead, no_more, more, end_of}
-use Rattle.lowering.specs.Told.{Told, IsSource, OwnPicker, OwnStmt, OwnStmts, OwnArms, OwnParagraph, OwnParagraphs, arm_count}
-use Rattle.lowering.specs.Completes.{completes, cut, cuts, whole, wholes, leave_sentence, size, sizes, skips, first_is_dead}
-use Rattle.lowering.specs.Lower.{point, head, third, only, with_first, push, back, leaf, build, build_stmt, build_arms, loop_start, Node, loop_nodes, nodes, nodes_in, nodes_of_arms, fall_leaf, end_leaf, Leaving, leaving_at, within_loop}
-use Rattle.lowering.specs.Lowered.{total, place_in, nodes_left, nodes_from, nodes_of}
-use Rattle.lowering.specs.Rests.{Sent, rest_from, leaf_of, leaving_of, tree_of, after_loop, at_loop}
-use Rattle.headline.specs.Numbering.{control_counters, stmt_counters, stmts_counters, arms_counters, paragraph_counters, paragraphs_counters, counters_of}
+use Rattle.control_laws.specs.lowering.Told.{Told, IsSource, OwnPicker, OwnStmt, OwnStmts, OwnArms, OwnParagraph, OwnParagraphs, arm_count}
+use Rattle.control_laws.specs.lowering.Completes.{completes, cut, cuts, whole, wholes, leave_sentence, size, sizes, skips, first_is_dead}
+use Rattle.control_laws.specs.lowering.Lower.{point, head, third, only, with_first, push, back, leaf, build, build_stmt, build_arms, loop_start, Node, loop_nodes, nodes, nodes_in, nodes_of_arms, fall_leaf, end_leaf, Leaving, leaving_at, within_loop}
+use Rattle.control_laws.specs.lowering.Lowered.{total, place_in, nodes_left, nodes_from, nodes_of}
+use Rattle.control_laws.specs.lowering.Rests.{Sent, rest_from, leaf_of, leaving_of, tree_of, after_loop, at_loop}
+use Rattle.control_laws.specs.headline.Numbering.{control_counters, stmt_counters, stmts_counters, arms_counters, paragraph_counters, paragraphs_counters, counters_of}
 use Rattle.counter_cells.specs.Counters.{tested_cell, picked_cell, ended_cell, if_head}
 
 abbrev pub listed : Option ℕ → List ℕ

@@ -4,18 +4,18 @@ use Rattle.std.specs.Prelude.{nat_le}
 use Rattle.std.proofs.lemmas.Bool.Decides.{eqb_tells, leb_tells}
 use Rattle.language.specs.Language.{Program, Range}
 use Rattle.control.specs.Graph.{Label, end_of}
-use Rattle.graph_rules.specs.Reduced.{Graph, each_tree}
-use Rattle.graph_rules.specs.Reduced as reduced
-use Rattle.closing.specs.Closes.{IsClosed}
-use Rattle.lowering.specs.Told.{Told, IsSource}
-use Rattle.lowering.specs.Lower.{Node, head}
-use Rattle.lowering.specs.Lowered.{nodes_of, lowered, Within}
-use Rattle.lowering.specs.Reached.{kept_nodes}
-use Rattle.lowering.specs.Renamed.{tree_anew}
-use Rattle.lowering.proofs.graphs.Families.{within-program}
-use Rattle.headline.specs.Chain.{graph_nodes}
-use Rattle.headline.specs.Numbering.{place_among, counters_of, counts, numbers_by, added_by}
-use Rattle.headline.proofs.graphs.LoweredGraphs.{graphs-closed}
+use Rattle.control_laws.specs.graph_rules.Reduced.{Graph, each_tree}
+use Rattle.control_laws.specs.graph_rules.Reduced as reduced
+use Rattle.control_laws.specs.closing.Closes.{IsClosed}
+use Rattle.control_laws.specs.lowering.Told.{Told, IsSource}
+use Rattle.control_laws.specs.lowering.Lower.{Node, head}
+use Rattle.control_laws.specs.lowering.Lowered.{nodes_of, lowered, Within}
+use Rattle.control_laws.specs.lowering.Reached.{kept_nodes}
+use Rattle.control_laws.specs.lowering.Renamed.{tree_anew}
+use Rattle.control_laws.proofs.lowering_lemmas.graphs.Families.{within-program}
+use Rattle.control_laws.specs.headline.Chain.{graph_nodes}
+use Rattle.control_laws.specs.headline.Numbering.{place_among, counters_of, counts, numbers_by, added_by}
+use Rattle.control_laws.proofs.headline_lemmas.graphs.LoweredGraphs.{graphs-closed}
 use Rattle.counter_cells.specs.Counters.{if_head, if_above, ended_cell, counters_from, counters_in, numbered_graph}
 use Rattle.counter_cells.specs.Placed.{placed_node, placed_graph, NumbersPlaced, ClosesPlaced}
 use Rattle.counter_cells.proofs.Heads.{listed, heads, heads-count}

@@ -1,8 +1,8 @@
 -- Cells that are numbered anew, in what leaves of a loop are, and in a node.
 use Rattle.std.specs.Prelude.{ℕ, ◌≡◌}
 use Rattle.language.specs.Language.{Stmt}
-use Rattle.graph_rules.specs.Reduced.{Node}
-use Rattle.lowering.specs.Renamed.{stmt_anew, tree_anew}
+use Rattle.control_laws.specs.graph_rules.Reduced.{Node}
+use Rattle.control_laws.specs.lowering.Renamed.{stmt_anew, tree_anew}
 use Rattle.branch_tree.specs.declared.tree.Leaves.{Leaves}
 use Rattle.branch_tree.specs.declared.tree.Leaves.TheVariants as leaves
 

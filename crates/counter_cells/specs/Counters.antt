@@ -2,10 +2,10 @@
 use Rattle.std.specs.Prelude.{ℕ, ◌+◌, ◌≤◌, nat_le, if◌then◌else◌, ◌==◌, List, [], ◌∷◌, Option, Some, None}
 use Rattle.language.specs.Language.{Test, Holds, Not, Is, Above, Picker, If, By, ByCell}
 use Rattle.control.specs.Graph.{Label, End, Pick, Jump, Return, Stop, Dead, end_of}
-use Rattle.graph_rules.specs.Reduced.{Node, Graph, each_tree}
-use Rattle.lowering.specs.Lower.{head}
-use Rattle.lowering.specs.Renamed.{tree_anew}
-use Rattle.headline.specs.Numbering.{place_among, counts}
+use Rattle.control_laws.specs.graph_rules.Reduced.{Node, Graph, each_tree}
+use Rattle.control_laws.specs.lowering.Lower.{head}
+use Rattle.control_laws.specs.lowering.Renamed.{tree_anew}
+use Rattle.control_laws.specs.headline.Numbering.{place_among, counts}
 
 -- the cell that is asked for whether it is above zero
 

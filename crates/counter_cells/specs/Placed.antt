@@ -3,15 +3,15 @@
 use Rattle.std.specs.Prelude.{◌≡◌, Bool, [], map}
 use Rattle.language.specs.Language.{Program, Range}
 use Rattle.control.specs.Graph.{Label}
-use Rattle.graph_rules.specs.Reduced.{Node, Graph}
-use Rattle.closing.specs.Closes.{IsClosed}
-use Rattle.lowering.specs.Told.{Told, IsSource}
-use Rattle.lowering.specs.Lower as lower
-use Rattle.lowering.specs.Lowered.{nodes_of, lowered}
-use Rattle.lowering.specs.Reached.{kept_nodes}
-use Rattle.lowering.specs.WellFormed.{IsRangeOf, AreJustReached}
-use Rattle.headline.specs.Chain.{lowered_graphs}
-use Rattle.headline.specs.Numbering.{numbers_by, added_by}
+use Rattle.control_laws.specs.graph_rules.Reduced.{Node, Graph}
+use Rattle.control_laws.specs.closing.Closes.{IsClosed}
+use Rattle.control_laws.specs.lowering.Told.{Told, IsSource}
+use Rattle.control_laws.specs.lowering.Lower as lower
+use Rattle.control_laws.specs.lowering.Lowered.{nodes_of, lowered}
+use Rattle.control_laws.specs.lowering.Reached.{kept_nodes}
+use Rattle.control_laws.specs.lowering.WellFormed.{IsRangeOf, AreJustReached}
+use Rattle.control_laws.specs.headline.Chain.{lowered_graphs}
+use Rattle.control_laws.specs.headline.Numbering.{numbers_by, added_by}
 
 abbrev pub placed_node : lower.Node → Node
 placed_node one = record { label = one.key; tree = one.tree }

@@ -1,7 +1,7 @@
 //! The numbers of cells.
 
 ghost use Rattle.std.specs.Prelude.{◌≡◌, ◌+◌, length, IfOk, OnOk};
-ghost use Rattle.headline.specs.Numbering.{place_among};
+ghost use Rattle.control_laws.specs.headline.Numbering.{place_among};
 ghost use Rattle.counter_cells.specs.Counters.{Rises};
 
 use cob_base::NoMemory;

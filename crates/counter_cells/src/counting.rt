@@ -1,7 +1,7 @@
 //! The counters of a graph's loops.
 
 ghost use Rattle.std.specs.Prelude.{◌≡◌, IfOk, map};
-ghost use Rattle.headline.specs.Numbering.{counts};
+ghost use Rattle.control_laws.specs.headline.Numbering.{counts};
 ghost use Rattle.branch_tree.specs.Choosers.{seen_test, seen_picker};
 ghost use Rattle.branch_tree.specs.Graphs.{seen_added, seen_node, seen_nodes};
 ghost use Rattle.branch_tree.specs.Trees.{seen_end};

@@ -1,8 +1,8 @@
 //! Cells in what trees choose by, and in what leaves of a loop are.
 
 ghost use Rattle.std.specs.Prelude.{◌≡◌, OnOk};
-ghost use Rattle.lowering.specs.Renamed.{test_anew, picker_anew};
-ghost use Rattle.headline.specs.Numbering.{place_among};
+ghost use Rattle.control_laws.specs.lowering.Renamed.{test_anew, picker_anew};
+ghost use Rattle.control_laws.specs.headline.Numbering.{place_among};
 ghost use Rattle.branch_tree.specs.Choosers.{seen_test, seen_picker};
 ghost use Rattle.counter_cells.specs.Anew.{leaves_anew};
 ghost use Rattle.counter_cells.specs.Counters.{Rises};

@@ -1,9 +1,9 @@
 //! Cells in trees.
 
 ghost use Rattle.std.specs.Prelude.{◌≡◌, OnOk};
-ghost use Rattle.graph_rules.specs.Reduced.{each_tree};
-ghost use Rattle.lowering.specs.Renamed.{stmt_anew, stmts_anew, tree_anew, trees_anew};
-ghost use Rattle.headline.specs.Numbering.{place_among};
+ghost use Rattle.control_laws.specs.graph_rules.Reduced.{each_tree};
+ghost use Rattle.control_laws.specs.lowering.Renamed.{stmt_anew, stmts_anew, tree_anew, trees_anew};
+ghost use Rattle.control_laws.specs.headline.Numbering.{place_among};
 ghost use Rattle.branch_tree.specs.Graphs.{seen_node, seen_nodes};
 ghost use Rattle.branch_tree.specs.Trees.{seen_piece, seen_body, seen_tree, seen_trees};
 ghost use Rattle.counter_cells.specs.Anew.{NamesNoCell, node_anew};

@@ -9,7 +9,7 @@ use Rattle.cob_tree.specs.declared.stmt.Stmt.{Stmt, ind-Stmt, map-Stmt, roll-Stm
 use Rattle.cob_tree.specs.declared.stmt.Stmt.TheOpen.{Stmt-F, Arms-F, When-F}
 use Rattle.language.specs.Language as language
 use Rattle.language.specs.Control.{test_of, arith_stmt, arm_before, else_of, evaluate_of, tests_of, stmts_of, control_in, loop_of, Branch, branches_before, Both, both_arms, both_step, branch_step, seen_step, seen, seen_when, seen_both, seen_stmts}
-use Rattle.lowering.specs.Completes.{whole, wholes, whole_arms}
+use Rattle.control_laws.specs.lowering.Completes.{whole, wholes, whole_arms}
 
 if-same : (b : Bool) → (if b then true else false) ≡ b
 if-same true = refl

@@ -16,8 +16,8 @@ use Rattle.cob_tree.specs.declared.stmt.Stmt.TheVariants.{If, Evaluate, Loop, Ar
 use Rattle.language.specs.Language as language
 use Rattle.language.specs.Control.{test_of, arm_before, else_of, stmts_of, arith_stmt, evaluate_of, control_in, loop_of, tests_of, Branch, branches_before, Both, both_arms, both_step, branch_step, seen_step, seen, seen_when, seen_both, seen_stmts}
 use Rattle.language.proofs.Rows.{seen_if_any, seen_if, seen_evaluate, seen_loop, seen_arith, seen_read, seen_both_is, seen_when_is}
-use Rattle.lowering.specs.Told.{Told}
-use Rattle.lowering.specs.Completes.{completes, cut, cuts, cut_arms}
+use Rattle.control_laws.specs.lowering.Told.{Told}
+use Rattle.control_laws.specs.lowering.Completes.{completes, cut, cuts, cut_arms}
 use Rattle.cut_lists.specs.Cutting.{cut_if_any, cut_both, cut_branch}
 use Rattle.cut_lists.proofs.CutLemmas.{joined, joined_one, joined_none}
 

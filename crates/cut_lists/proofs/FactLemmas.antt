@@ -2,8 +2,8 @@
 use Rattle.std.proofs.Common.{◌≡◌, Bool, true, false, if◌then◌else◌, inl, inr, refl, ap, sym, ◌∙◌}
 use Rattle.std.proofs.lemmas.Bool.{cases_Bool}
 use Rattle.language.specs.Language.{Stmt, Stmts, none, also, Arms, done, given, missing}
-use Rattle.lowering.specs.Told.{Told}
-use Rattle.lowering.specs.Completes.{completes, complete, leaves_loop, leave_loop, whole, wholes, cut, cuts, leaves_sentence, leave_sentence}
+use Rattle.control_laws.specs.lowering.Told.{Told}
+use Rattle.control_laws.specs.lowering.Completes.{completes, complete, leaves_loop, leave_loop, whole, wholes, cut, cuts, leaves_sentence, leave_sentence}
 use Rattle.cut_lists.specs.declared.facts.Facts.{Facts}
 use Rattle.cut_lists.specs.Facts.{facts_of, facts_of_all, facts_of_arms, acting, no_arms, beside, both, behind, missing_arm}
 

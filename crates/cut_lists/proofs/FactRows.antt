@@ -16,8 +16,8 @@ use Rattle.cob_tree.specs.declared.stmt.Stmt.TheVariants.{If, Evaluate, Loop, Ar
 use Rattle.language.specs.Language as language
 use Rattle.language.specs.Control.{arm_before, else_of, arith_stmt, picker_by, cell_chosen, count_from, control_in, loop_of, tests_of, Branch, branches_before, Both, both_arms, seen, seen_when, seen_both, seen_stmts}
 use Rattle.language.proofs.Rows.{seen_if_any, seen_if, seen_evaluate, seen_loop, seen_arith, seen_read, seen_both_is, seen_when_is}
-use Rattle.lowering.specs.Told.{Told}
-use Rattle.lowering.specs.Completes.{first_is_dead}
+use Rattle.control_laws.specs.lowering.Told.{Told}
+use Rattle.control_laws.specs.lowering.Completes.{first_is_dead}
 use Rattle.cut_lists.specs.declared.facts.Facts.{Facts}
 use Rattle.cut_lists.specs.Told.{told_of, status_missing}
 use Rattle.cut_lists.specs.Facts.{facts_of, facts_of_all, facts_of_arms, no_arms, beside, behind, missing_arm}

@@ -5,8 +5,8 @@ use Rattle.cob_tree.specs.declared.stmt.Arms.{Arms}
 use Rattle.cob_tree.specs.declared.stmt.When.{When}
 use Rattle.language.specs.Language as language
 use Rattle.language.specs.Control.{seen, seen_stmts, seen_both, seen_when, Both, Branch}
-use Rattle.lowering.specs.Told.{Told}
-use Rattle.lowering.specs.Completes.{cut, cuts}
+use Rattle.control_laws.specs.lowering.Told.{Told}
+use Rattle.control_laws.specs.lowering.Completes.{cut, cuts}
 
 module _ (told : Told) where
   abbrev pub IsCut : (stmt made : Stmt) → Type 0

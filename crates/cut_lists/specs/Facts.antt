@@ -1,8 +1,8 @@
 -- What lowering asks of a statement. What stands in it is asked of what cutting leaves of it.
 use Rattle.std.specs.Prelude.{Bool, true, false, if◌then◌else◌}
 use Rattle.language.specs.Language.{Stmt, Stmts, Arms}
-use Rattle.lowering.specs.Told.{Told}
-use Rattle.lowering.specs.Completes.{completes, complete, choice_completes, leaves_loop, leave_loop, arms_leave_loop, cut, cuts, cut_arms, whole, wholes, whole_arms, leaves_sentence, leave_sentence, arms_leave_sentence}
+use Rattle.control_laws.specs.lowering.Told.{Told}
+use Rattle.control_laws.specs.lowering.Completes.{completes, complete, choice_completes, leaves_loop, leave_loop, arms_leave_loop, cut, cuts, cut_arms, whole, wholes, whole_arms, leaves_sentence, leave_sentence, arms_leave_sentence}
 use Rattle.cut_lists.specs.declared.facts.Facts.{Facts}
 
 module _ (told : Told) where

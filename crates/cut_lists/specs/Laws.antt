@@ -2,7 +2,7 @@
 use Rattle.std.specs.Prelude.{ℕ, ◌≡◌, true}
 use Rattle.cob_tree.specs.declared.stmt.Stmt.{Stmt}
 use Rattle.language.specs.Control.{seen}
-use Rattle.lowering.specs.Completes.{whole}
+use Rattle.control_laws.specs.lowering.Completes.{whole}
 
 -- a statement without an escape is the same for control in whatever section it stands
 abbrev pub SectionsSeeWholeStatementsAlike : Type 0

@@ -5,8 +5,8 @@ use Rattle.cob_tree.specs.declared.stmt.Arms.{Arms}
 use Rattle.cob_tree.specs.declared.stmt.When.{When}
 use Rattle.language.specs.Language as language
 use Rattle.language.specs.Control.{seen, seen_stmts, seen_both, seen_when, both_arms, branches_before, arm_before, else_of}
-use Rattle.lowering.specs.Told.{Told}
-use Rattle.lowering.specs.Completes.{is_after}
+use Rattle.control_laws.specs.lowering.Told.{Told}
+use Rattle.control_laws.specs.lowering.Completes.{is_after}
 use Rattle.cut_lists.specs.Facts.{facts_of, facts_of_all, facts_of_arms, looped, performing}
 use Rattle.cut_lists.specs.declared.facts.Facts.{Facts}
 

@@ -5,7 +5,7 @@ use Rattle.cob_tree.specs.declared.file.FileEntry.{FileEntry}
 use Rattle.cob_tree.specs.declared.stmt.Stmt.{Stmt}
 use Rattle.cob_tree.specs.declared.stmt.Stmt.TheVariants.{Exit, Continue}
 use Rattle.language.specs.Language.{Chooser, Evaluate, Read, Arith, Depending}
-use Rattle.lowering.specs.Told.{Told}
+use Rattle.control_laws.specs.lowering.Told.{Told}
 
 -- CONTINUE and EXIT do nothing
 abbrev pub does_nothing : Stmt → Bool

@@ -2,7 +2,8 @@
 //!
 //! Lowering is told which ranges return and which files have no status item (`specs/Told`). What a
 //! statement is then, when it is cut, is `specs/Facts`: hold it against the rule that a list ends
-//! behind its first statement that can't complete, nested ones too (`lowering/specs/Completes`).
+//! behind its first statement that can't complete, nested ones too
+//! (`control_laws/specs/lowering/Completes`).
 #![tactic(auto)]
 
 mod cutting;

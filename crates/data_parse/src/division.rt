@@ -1,31 +1,36 @@
 //! All that stands before the PROCEDURE DIVISION.
 
 ghost use Rattle.grammar_forms.specs.Reading.{Reads};
-ghost use Rattle.data_forms.specs.Data as datas;
-ghost use Rattle.data_forms.specs.Divisions as all;
+ghost use Rattle.statement_grammar.specs.data_forms.Data as datas;
+ghost use Rattle.statement_grammar.specs.data_forms.Divisions as all;
 
-use crate::choice::{either, headed, header};
 use crate::fd::{files, storage};
 use crate::file_control::environment;
 use crate::status::StatusReader;
 use cob_base::{Items, Word};
-use data_forms::{DataDraft, Divisions};
+use entry_parse::{either, headed, header};
 use grammar_forms::{Cursor, Unread};
+use statement_grammar::data_forms::{DataDraft, Divisions};
 use std::alloc::Global;
 use word_forms::name;
 
-#[tactic(auto, unfolding(data_forms::specs::Data::data_division))]
+#[tactic(auto, unfolding(statement_grammar::specs::data_forms::Data::data_division))]
 fn data_division(alloc: Global, cursor: &mut Cursor<'_>) -> Result<DataDraft, Unread>
     ensures { Reads (datas.data_division.reads cursor.old) result cursor.new }
 {
     header(cursor, b"DATA", b"DIVISION")?;
     let fds = files(alloc, cursor)?;
-    let storage = storage(alloc, cursor)?;
-    Ok(DataDraft { fds, storage })
+    match storage(alloc, cursor) {
+        Ok(storage) => Ok(DataDraft { fds, storage }),
+        Err(stop) => {
+            drop(fds);
+            Err(stop)
+        }
+    }
 }
 
 /// Takes the DATA DIVISION, where there is one.
-#[tactic(auto, unfolding(data_forms::specs::Data::data_part))]
+#[tactic(auto, unfolding(statement_grammar::specs::data_forms::Data::data_part))]
 pub fn data_part(alloc: Global, cursor: &mut Cursor<'_>) -> Result<DataDraft, Unread>
     ensures { Reads (datas.data_part.reads cursor.old) result cursor.new }
 {
@@ -39,7 +44,7 @@ pub fn data_part(alloc: Global, cursor: &mut Cursor<'_>) -> Result<DataDraft, Un
     }
 }
 
-#[tactic(auto, unfolding(data_forms::specs::Divisions::identification))]
+#[tactic(auto, unfolding(statement_grammar::specs::data_forms::Divisions::identification))]
 fn identification(cursor: &mut Cursor<'_>) -> Result<Word, Unread>
     ensures { Reads (all.identification.reads cursor.old) result cursor.new }
 {
@@ -52,7 +57,7 @@ fn identification(cursor: &mut Cursor<'_>) -> Result<Word, Unread>
 }
 
 /// Takes all that stands before the PROCEDURE DIVISION.
-#[tactic(auto, unfolding(data_forms::specs::Divisions::divisions))]
+#[tactic(auto, unfolding(statement_grammar::specs::data_forms::Divisions::divisions))]
 pub fn divisions<S: StatusReader>(
     alloc: Global,
     cursor: &mut Cursor<'_>,
@@ -62,10 +67,15 @@ pub fn divisions<S: StatusReader>(
 {
     let name = identification(cursor)?;
     let selects = environment(alloc, cursor, reader)?;
-    let data_part = data_part(alloc, cursor)?;
-    Ok(Divisions {
-        name,
-        selects,
-        data_part,
-    })
+    match data_part(alloc, cursor) {
+        Ok(data_part) => Ok(Divisions {
+            name,
+            selects,
+            data_part,
+        }),
+        Err(stop) => {
+            drop(selects);
+            Err(stop)
+        }
+    }
 }

@@ -1,20 +1,21 @@
 //! SELECT and the ENVIRONMENT DIVISION.
 
-ghost use Rattle.std.specs.Prelude.{◌≡◌};
+ghost use Rattle.std.specs.Prelude.{◌≡◌, codes};
 ghost use Rattle.cob_base.specs.Answers.{Makes};
 ghost use Rattle.grammar_forms.specs.Form as form;
+ghost use Rattle.grammar_forms.specs.Part.{is_key};
 ghost use Rattle.grammar_forms.specs.Reading.{Reads};
-ghost use Rattle.data_forms.specs.Environment as environments;
+ghost use Rattle.statement_grammar.specs.data_forms.Environment as environments;
 
-use crate::choice::{header, sees_either};
 use crate::status::StatusReader;
 use cob_base::{Items, NoMemory, Text};
-use data_forms::{SelectDraft, StatusDraft};
+use entry_parse::{header, pushed, sees_either};
 use grammar_forms::{Cursor, Position, Unread};
+use statement_grammar::data_forms::{SelectDraft, StatusDraft};
 use std::alloc::Global;
 use word_forms::{name, sees_text, user_word};
 
-#[tactic(auto, unfolding(data_forms::specs::Environment::assign))]
+#[tactic(auto, unfolding(statement_grammar::specs::data_forms::Environment::assign))]
 fn assign(alloc: Global, cursor: &mut Cursor<'_>) -> Result<(Text, Position), Unread>
     ensures { Reads (environments.assign.reads cursor.old) result cursor.new }
 {
@@ -40,7 +41,7 @@ fn sees_organization(cursor: &Cursor<'_>) -> bool
     sees_either(cursor, b"ORGANIZATION", b"SEQUENTIAL")
 }
 
-#[tactic(auto, unfolding(data_forms::specs::Environment::organization))]
+#[tactic(auto, unfolding(statement_grammar::specs::data_forms::Environment::organization))]
 fn organization(cursor: &mut Cursor<'_>) -> Result<Position, Unread>
     ensures { Reads (environments.organization.reads cursor.old) result cursor.new }
 {
@@ -53,7 +54,7 @@ fn organization(cursor: &mut Cursor<'_>) -> Result<Position, Unread>
     }
 }
 
-#[tactic(auto, unfolding(data_forms::specs::Environment::access))]
+#[tactic(auto, unfolding(statement_grammar::specs::data_forms::Environment::access))]
 fn access(cursor: &mut Cursor<'_>) -> Result<Position, Unread>
     ensures { Reads (environments.access.reads cursor.old) result cursor.new }
 {
@@ -69,7 +70,7 @@ fn sees_status(cursor: &Cursor<'_>) -> bool
     sees_either(cursor, b"FILE", b"STATUS")
 }
 
-#[tactic(auto, unfolding(data_forms::specs::Environment::file_status))]
+#[tactic(auto, unfolding(statement_grammar::specs::data_forms::Environment::file_status))]
 fn file_status(cursor: &mut Cursor<'_>) -> Result<Position, Unread>
     ensures { Reads (environments.file_status.reads cursor.old) result cursor.new }
 {
@@ -78,7 +79,7 @@ fn file_status(cursor: &mut Cursor<'_>) -> Result<Position, Unread>
     Ok(at)
 }
 
-#[tactic(auto, unfolding(data_forms::specs::Environment::status_word))]
+#[tactic(auto, unfolding(statement_grammar::specs::data_forms::Environment::status_word))]
 fn status_word(cursor: &mut Cursor<'_>) -> Result<Position, Unread>
     ensures { Reads (environments.status_word.reads cursor.old) result cursor.new }
 {
@@ -89,7 +90,7 @@ fn status_word(cursor: &mut Cursor<'_>) -> Result<Position, Unread>
     }
 }
 
-#[tactic(auto, unfolding(data_forms::specs::Environment::status_clause))]
+#[tactic(auto, unfolding(statement_grammar::specs::data_forms::Environment::status_clause))]
 fn status_clause<S: StatusReader>(
     alloc: Global,
     cursor: &mut Cursor<'_>,
@@ -105,7 +106,7 @@ fn status_clause<S: StatusReader>(
 }
 
 // SEQUENTIAL says nothing.
-#[tactic(auto, unfolding(data_forms::specs::Environment::storage_clause))]
+#[tactic(auto, unfolding(statement_grammar::specs::data_forms::Environment::storage_clause))]
 fn storage_clause(
     cursor: &mut Cursor<'_>,
     before: Items<StatusDraft>,
@@ -113,15 +114,25 @@ fn storage_clause(
     ensures { Reads ((environments.storage_clause before).reads cursor.old) result cursor.new }
 {
     if sees_organization(cursor) {
-        organization(cursor)?;
-        Ok(before)
+        match organization(cursor) {
+            Ok(_) => Ok(before),
+            Err(stop) => {
+                drop(before);
+                Err(stop)
+            }
+        }
     } else {
-        access(cursor)?;
-        Ok(before)
+        match access(cursor) {
+            Ok(_) => Ok(before),
+            Err(stop) => {
+                drop(before);
+                Err(stop)
+            }
+        }
     }
 }
 
-#[tactic(auto, unfolding(data_forms::specs::Environment::select_clause))]
+#[tactic(auto, unfolding(statement_grammar::specs::data_forms::Environment::select_clause))]
 fn select_clause<S: StatusReader>(
     alloc: Global,
     cursor: &mut Cursor<'_>,
@@ -132,22 +143,26 @@ fn select_clause<S: StatusReader>(
         result cursor.new }
 {
     if sees_status(cursor) {
-        let mut all = before;
-        all.push(status_clause(alloc, cursor, reader)?)?;
-        Ok(all)
+        match status_clause(alloc, cursor, reader) {
+            Ok(next) => Ok(pushed(before, next)?),
+            Err(stop) => {
+                drop(before);
+                Err(stop)
+            }
+        }
     } else {
         storage_clause(cursor, before)
     }
 }
 
-#[tactic(auto, unfolding(data_forms::specs::Environment::begins_select_clause))]
+#[tactic(auto, unfolding(statement_grammar::specs::data_forms::Environment::begins_select_clause))]
 fn sees_select_clause(cursor: &Cursor<'_>) -> bool
     ensures { result ≡ form.is_next environments.begins_select_clause cursor.now }
 {
     sees_organization(cursor) || cursor.sees(b"ACCESS") || sees_status(cursor)
 }
 
-#[tactic(auto, unfolding(data_forms::specs::Environment::select_clauses))]
+#[tactic(auto, unfolding(statement_grammar::specs::data_forms::Environment::select_clauses))]
 fn select_clauses<S: StatusReader>(
     alloc: Global,
     cursor: &mut Cursor<'_>,
@@ -163,7 +178,7 @@ fn select_clauses<S: StatusReader>(
     Ok(found)
 }
 
-#[tactic(auto, unfolding(data_forms::specs::Environment::select))]
+#[tactic(auto, unfolding(statement_grammar::specs::data_forms::Environment::select))]
 fn select<S: StatusReader>(
     alloc: Global,
     cursor: &mut Cursor<'_>,
@@ -177,16 +192,21 @@ fn select<S: StatusReader>(
     cursor.maybe(b"TO");
     let (assign, _) = assign(alloc, cursor)?;
     let statuses = select_clauses(alloc, cursor, reader)?;
-    cursor.period()?;
-    Ok(SelectDraft {
-        name,
-        at,
-        assign,
-        statuses,
-    })
+    match cursor.period() {
+        Ok(_) => Ok(SelectDraft {
+            name,
+            at,
+            assign,
+            statuses,
+        }),
+        Err(stop) => {
+            drop(statuses);
+            Err(stop)
+        }
+    }
 }
 
-#[tactic(auto, unfolding(data_forms::specs::Environment::computer_named))]
+#[tactic(auto, unfolding(statement_grammar::specs::data_forms::Environment::computer_named))]
 fn computer_named(cursor: &mut Cursor<'_>, word: &[u8]) -> Result<(), Unread>
     ensures { Reads ((environments.computer_named word.now).reads cursor.old) result cursor.new }
 {
@@ -197,7 +217,7 @@ fn computer_named(cursor: &mut Cursor<'_>, word: &[u8]) -> Result<(), Unread>
     Ok(())
 }
 
-#[tactic(auto, unfolding(data_forms::specs::Environment::computer))]
+#[tactic(auto, unfolding(statement_grammar::specs::data_forms::Environment::computer))]
 fn computer(cursor: &mut Cursor<'_>, word: &[u8]) -> Result<(), Unread>
     ensures { Reads ((environments.computer word.now).reads cursor.old) result cursor.new }
 {
@@ -208,7 +228,7 @@ fn computer(cursor: &mut Cursor<'_>, word: &[u8]) -> Result<(), Unread>
     }
 }
 
-#[tactic(auto, unfolding(data_forms::specs::Environment::configuration_section))]
+#[tactic(auto, unfolding(statement_grammar::specs::data_forms::Environment::configuration_section))]
 fn configuration_section(cursor: &mut Cursor<'_>) -> Result<(), Unread>
     ensures { Reads (environments.configuration_section.reads cursor.old) result cursor.new }
 {
@@ -217,7 +237,7 @@ fn configuration_section(cursor: &mut Cursor<'_>) -> Result<(), Unread>
     computer(cursor, b"OBJECT-COMPUTER")
 }
 
-#[tactic(auto, unfolding(data_forms::specs::Environment::configuration))]
+#[tactic(auto, unfolding(statement_grammar::specs::data_forms::Environment::configuration))]
 fn configuration(cursor: &mut Cursor<'_>) -> Result<(), Unread>
     ensures { Reads (environments.configuration.reads cursor.old) result cursor.new }
 {
@@ -228,6 +248,41 @@ fn configuration(cursor: &mut Cursor<'_>) -> Result<(), Unread>
     }
 }
 
+/// One more SELECT.
+fn select_behind<S: StatusReader>(
+    alloc: Global,
+    cursor: &mut Cursor<'_>,
+    reader: &S,
+    found: Items<SelectDraft>,
+) -> Result<Items<SelectDraft>, Unread>
+    ensures { Reads ((form.added (environments.select (S.form reader.now)) found).reads cursor.old)
+        result cursor.new }
+{
+    match select(alloc, cursor, reader) {
+        Ok(next) => Ok(pushed(found, next)?),
+        Err(stop) => {
+            drop(found);
+            Err(stop)
+        }
+    }
+}
+
+fn selects_from<S: StatusReader>(
+    alloc: Global,
+    cursor: &mut Cursor<'_>,
+    reader: &S,
+    mut found: Items<SelectDraft>,
+) -> Result<Items<SelectDraft>, Unread>
+    ensures { Reads ((form.loop (is_key (codes "SELECT"))
+        (form.added (environments.select (S.form reader.now))) found).reads cursor.old)
+        result cursor.new }
+{
+    'items: while cursor.sees(b"SELECT") {
+        found = select_behind(alloc, cursor, reader, found)?;
+    }
+    Ok(found)
+}
+
 fn selects<S: StatusReader>(
     alloc: Global,
     cursor: &mut Cursor<'_>,
@@ -236,14 +291,10 @@ fn selects<S: StatusReader>(
     ensures { Reads ((environments.selects (S.form reader.now)).reads cursor.old)
         result cursor.new }
 {
-    let mut found = Items::new(alloc);
-    'items: while cursor.sees(b"SELECT") {
-        found.push(select(alloc, cursor, reader)?)?;
-    }
-    Ok(found)
+    selects_from(alloc, cursor, reader, Items::new(alloc))
 }
 
-#[tactic(auto, unfolding(data_forms::specs::Environment::input_output_section))]
+#[tactic(auto, unfolding(statement_grammar::specs::data_forms::Environment::input_output_section))]
 fn input_output_section<S: StatusReader>(
     alloc: Global,
     cursor: &mut Cursor<'_>,
@@ -258,7 +309,7 @@ fn input_output_section<S: StatusReader>(
     selects(alloc, cursor, reader)
 }
 
-#[tactic(auto, unfolding(data_forms::specs::Environment::input_output))]
+#[tactic(auto, unfolding(statement_grammar::specs::data_forms::Environment::input_output))]
 fn input_output<S: StatusReader>(
     alloc: Global,
     cursor: &mut Cursor<'_>,
@@ -274,7 +325,7 @@ fn input_output<S: StatusReader>(
     }
 }
 
-#[tactic(auto, unfolding(data_forms::specs::Environment::environment_division))]
+#[tactic(auto, unfolding(statement_grammar::specs::data_forms::Environment::environment_division))]
 fn environment_division<S: StatusReader>(
     alloc: Global,
     cursor: &mut Cursor<'_>,
@@ -289,7 +340,7 @@ fn environment_division<S: StatusReader>(
 }
 
 /// Takes the ENVIRONMENT DIVISION, where there is one, and gives its SELECTs.
-#[tactic(auto, unfolding(data_forms::specs::Environment::environment))]
+#[tactic(auto, unfolding(statement_grammar::specs::data_forms::Environment::environment))]
 pub fn environment<S: StatusReader>(
     alloc: Global,
     cursor: &mut Cursor<'_>,

@@ -5,15 +5,11 @@
 //! a status item is referred to is left to a `StatusReader`.
 #![tactic(auto)]
 
-mod choice;
-mod clause;
-mod description;
 mod division;
 mod fd;
 mod file_control;
 mod status;
 
-pub use description::entry;
 pub use division::{data_part, divisions};
 pub use file_control::environment;
 pub use status::StatusReader;

@@ -4,8 +4,8 @@ use Rattle.std.proofs.lemmas.Iterator.Adapters.{position_from-zero}
 use Rattle.std.proofs.lemmas.List.{append_assoc, length-append, take-map}
 use Rattle.std.specs.List.{list_any, position_from}
 use Rattle.std.specs.Str.{bytes_eq}
-use Rattle.data_forms.specs.declared.draft.FdDraft.{FdDraft}
-use Rattle.data_forms.specs.declared.draft.SelectDraft.{SelectDraft}
+use Rattle.statement_grammar.specs.declared.data_forms.draft.FdDraft.{FdDraft}
+use Rattle.statement_grammar.specs.declared.data_forms.draft.SelectDraft.{SelectDraft}
 use Rattle.data_names.proofs.WordLemmas.{bytes_eq_sym}
 use Rattle.grammar_forms.specs.Note.{earliest}
 use Rattle.grammar_forms.specs.declared.note.Note.{Note}

@@ -3,9 +3,9 @@ use Rattle.std.proofs.Common.{◌≡◌, ℕ, ◌+◌, ◌<◌, List, [], ◌∷
 use Rattle.std.proofs.lemmas.List.{append_assoc, drop_more, take_more}
 use Rattle.std.specs.List.{fold, list_any}
 use Rattle.cob_tree.specs.declared.entry.Entry.{Entry}
-use Rattle.data_forms.specs.declared.draft.Clause.{Clause}
-use Rattle.data_forms.specs.declared.draft.FdDraft.{FdDraft}
-use Rattle.data_forms.specs.declared.draft.SelectDraft.{SelectDraft}
+use Rattle.statement_grammar.specs.declared.data_forms.draft.Clause.{Clause}
+use Rattle.statement_grammar.specs.declared.data_forms.draft.FdDraft.{FdDraft}
+use Rattle.statement_grammar.specs.declared.data_forms.draft.SelectDraft.{SelectDraft}
 use Rattle.grammar_forms.specs.declared.note.NameKind.TheVariants.{Usage}
 use Rattle.data_rules.specs.Clause.{again_from, is_of, kind_of, position_of}
 use Rattle.data_rules.specs.Declaring.{record_bases, section_bases}

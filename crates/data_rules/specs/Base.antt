@@ -8,11 +8,11 @@ use Rattle.cob_tree.specs.declared.picture.Picture.{Picture}
 use Rattle.cob_tree.specs.declared.picture.Sign.{Sign}
 use Rattle.cob_tree.specs.declared.picture.Sign.TheVariants as signs
 use Rattle.cob_tree.specs.declared.place.Operand.{Operand}
-use Rattle.data_forms.specs.declared.draft.Clause.{Clause}
-use Rattle.data_forms.specs.declared.draft.Clause.TheVariants as drafts
-use Rattle.data_forms.specs.declared.draft.EntryDraft.{EntryDraft}
-use Rattle.data_forms.specs.declared.draft.SpanDraft.{SpanDraft}
-use Rattle.data_forms.specs.declared.draft.ThruDraft.{ThruDraft}
+use Rattle.statement_grammar.specs.declared.data_forms.draft.Clause.{Clause}
+use Rattle.statement_grammar.specs.declared.data_forms.draft.Clause.TheVariants as drafts
+use Rattle.statement_grammar.specs.declared.data_forms.draft.EntryDraft.{EntryDraft}
+use Rattle.statement_grammar.specs.declared.data_forms.draft.SpanDraft.{SpanDraft}
+use Rattle.statement_grammar.specs.declared.data_forms.draft.ThruDraft.{ThruDraft}
 use Rattle.picture_data.specs.declared.fault.PictureFault.{PictureFault}
 use Rattle.picture_data.specs.Reading.{picture_of as picture_of_text}
 use Rattle.data_rules.specs.declared.clause.ClauseKind.TheVariants as kinds

@@ -1,8 +1,8 @@
 -- Clauses by their kind.
 use Rattle.std.specs.Prelude.{ℕ, Bool, not, ◌==◌, List, [], ◌∷◌, ◌++◌, Option, Some, None, if◌then◌else◌}
 use Rattle.std.specs.List.{find, list_any}
-use Rattle.data_forms.specs.declared.draft.Clause.{Clause}
-use Rattle.data_forms.specs.declared.draft.Clause.TheVariants as drafts
+use Rattle.statement_grammar.specs.declared.data_forms.draft.Clause.{Clause}
+use Rattle.statement_grammar.specs.declared.data_forms.draft.Clause.TheVariants as drafts
 use Rattle.data_rules.specs.declared.clause.ClauseKind.{ClauseKind}
 use Rattle.data_rules.specs.declared.clause.ClauseKind.TheVariants as kinds
 use Rattle.grammar_forms.specs.declared.note.NameKind.TheVariants.{Usage}

@@ -4,10 +4,10 @@ use Rattle.std.specs.List.{fold}
 use Rattle.data_sizes.specs.Size.{sized}
 use Rattle.cob_tree.specs.declared.entry.Entry.{Entry}
 use Rattle.cob_tree.specs.declared.picture.Picture.{Picture}
-use Rattle.data_forms.specs.declared.draft.Divisions.{Divisions}
-use Rattle.data_forms.specs.declared.draft.EntryDraft.{EntryDraft}
-use Rattle.data_forms.specs.declared.draft.FdDraft.{FdDraft}
-use Rattle.data_forms.specs.declared.draft.SelectDraft.{SelectDraft}
+use Rattle.statement_grammar.specs.declared.data_forms.draft.Divisions.{Divisions}
+use Rattle.statement_grammar.specs.declared.data_forms.draft.EntryDraft.{EntryDraft}
+use Rattle.statement_grammar.specs.declared.data_forms.draft.FdDraft.{FdDraft}
+use Rattle.statement_grammar.specs.declared.data_forms.draft.SelectDraft.{SelectDraft}
 use Rattle.data_names.specs.Names.{is_group}
 use Rattle.grammar_forms.specs.Note.{earliest}
 use Rattle.grammar_forms.specs.declared.note.Note.{Note}

@@ -4,9 +4,9 @@ use Rattle.std.specs.List.{list_any}
 use Rattle.std.specs.Str.{bytes_eq}
 use Rattle.cob_tree.specs.declared.file.FileEntry.{FileEntry}
 use Rattle.cob_tree.specs.declared.place.Place.{Place}
-use Rattle.data_forms.specs.declared.draft.FdDraft.{FdDraft}
-use Rattle.data_forms.specs.declared.draft.SelectDraft.{SelectDraft}
-use Rattle.data_forms.specs.declared.draft.StatusDraft.{StatusDraft}
+use Rattle.statement_grammar.specs.declared.data_forms.draft.FdDraft.{FdDraft}
+use Rattle.statement_grammar.specs.declared.data_forms.draft.SelectDraft.{SelectDraft}
+use Rattle.statement_grammar.specs.declared.data_forms.draft.StatusDraft.{StatusDraft}
 use Rattle.grammar_forms.specs.declared.note.NameKind.TheVariants.{Duplicate, Usage}
 use Rattle.grammar_forms.specs.declared.note.Note.{Note}
 use Rattle.grammar_forms.specs.Note.{earliest}

@@ -4,8 +4,8 @@ use Rattle.std.specs.List.{list_any}
 use Rattle.std.specs.Option.{is_some}
 use Rattle.std.specs.Str.{bytes_eq}
 use Rattle.cob_tree.specs.declared.entry.Entry.{Entry}
-use Rattle.data_forms.specs.declared.draft.Clause.{Clause}
-use Rattle.data_forms.specs.declared.draft.Clause.TheVariants as drafts
+use Rattle.statement_grammar.specs.declared.data_forms.draft.Clause.{Clause}
+use Rattle.statement_grammar.specs.declared.data_forms.draft.Clause.TheVariants as drafts
 use Rattle.data_names.specs.Grouping.{bound_of, holds, same_file}
 use Rattle.grammar_forms.specs.declared.note.NameKind.TheVariants.{Redefines, Unknown}
 use Rattle.grammar_forms.specs.declared.note.Note.{Note}

@@ -2,7 +2,7 @@
 -- of each, `at` the entry's number.
 use Rattle.std.specs.Prelude.{ℕ, Bool, ◌==◌, List, ◌∷◌, [], Option, Some, None, slice_get, if◌then◌else◌}
 use Rattle.cob_tree.specs.declared.entry.Entry.{Entry}
-use Rattle.data_forms.specs.declared.draft.EntryDraft.{EntryDraft}
+use Rattle.statement_grammar.specs.declared.data_forms.draft.EntryDraft.{EntryDraft}
 use Rattle.data_names.specs.Names.{is_group}
 use Rattle.grammar_forms.specs.declared.note.NameKind.TheVariants.{Level}
 use Rattle.grammar_forms.specs.declared.note.Note.{Note}

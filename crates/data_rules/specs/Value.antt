@@ -3,10 +3,10 @@ use Rattle.std.specs.Prelude.{Bool, not, ◌&&◌, ◌||◌, List, ◌∷◌, []
 use Rattle.std.specs.List.{fold}
 use Rattle.std.specs.Option.{is_some}
 use Rattle.cob_tree.specs.declared.entry.Entry.{Entry}
-use Rattle.data_forms.specs.declared.draft.Clause.{Clause}
-use Rattle.data_forms.specs.declared.draft.Clause.TheVariants as drafts
-use Rattle.data_forms.specs.declared.draft.SpanDraft.{SpanDraft}
-use Rattle.data_forms.specs.declared.draft.ThruDraft.{ThruDraft}
+use Rattle.statement_grammar.specs.declared.data_forms.draft.Clause.{Clause}
+use Rattle.statement_grammar.specs.declared.data_forms.draft.Clause.TheVariants as drafts
+use Rattle.statement_grammar.specs.declared.data_forms.draft.SpanDraft.{SpanDraft}
+use Rattle.statement_grammar.specs.declared.data_forms.draft.ThruDraft.{ThruDraft}
 use Rattle.grammar_forms.specs.declared.note.NameKind.TheVariants.{Value}
 use Rattle.grammar_forms.specs.Note.{earliest}
 use Rattle.grammar_forms.specs.declared.note.Note.{Note}

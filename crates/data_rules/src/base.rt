@@ -8,8 +8,8 @@ ghost use Rattle.data_rules.specs.Base as bases;
 use crate::clause::{ClauseKind, clause_of, has_clause};
 use cob_base::{Copied, Items, NoMemory};
 use cob_tree::{Entry, Operand, Picture, Sign, Span};
-use data_forms::{Clause, EntryDraft, SpanDraft, ThruDraft};
 use picture_data::read_picture;
+use statement_grammar::data_forms::{Clause, EntryDraft, SpanDraft, ThruDraft};
 use std::alloc::Global;
 
 /// The number that digits spell, or the last of 32 bits where it is past that.

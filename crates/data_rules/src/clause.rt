@@ -6,8 +6,8 @@ ghost use Rattle.std.specs.Option.{option_copied};
 ghost use Rattle.data_rules.specs.Clause as spec;
 
 use crate::fault::fault_at;
-use data_forms::Clause;
 use grammar_forms::{NameKind, Note, Position};
+use statement_grammar::data_forms::Clause;
 
 /// The kinds of clauses of a data description entry.
 #[derive(Clone, Copy, Debug)]

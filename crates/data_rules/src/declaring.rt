@@ -16,10 +16,10 @@ use crate::standing::behind;
 use crate::table::tables_of;
 use cob_base::{Copied, Items, NoMemory};
 use cob_tree::{Entry, FileEntry, Picture};
-use data_forms::{Divisions, EntryDraft, FdDraft, SelectDraft};
 use data_names::is_group;
 use data_sizes::sizes_of;
 use grammar_forms::Note;
+use statement_grammar::data_forms::{Divisions, EntryDraft, FdDraft, SelectDraft};
 use std::alloc::Global;
 use word_places::WordPlaces;
 

@@ -9,8 +9,8 @@ use crate::fault::{fault_at, first_of, unless};
 use crate::file_names::FileNames;
 use cob_base::{Copied, Items, NoMemory};
 use cob_tree::{FileEntry, Place};
-use data_forms::{FdDraft, SelectDraft, StatusDraft};
 use grammar_forms::{NameKind, Note};
+use statement_grammar::data_forms::{FdDraft, SelectDraft, StatusDraft};
 use std::alloc::Global;
 use word_places::WordPlaces;
 

@@ -5,7 +5,7 @@ ghost use Rattle.cob_base.specs.Answers.{Makes};
 ghost use Rattle.data_rules.specs.FileNames as named;
 
 use cob_base::{Items, NoMemory, Word};
-use data_forms::{FdDraft, SelectDraft};
+use statement_grammar::data_forms::{FdDraft, SelectDraft};
 use std::alloc::Global;
 use word_places::WordPlaces;
 

@@ -7,8 +7,8 @@ use crate::base::{is_count, number_of};
 use crate::clause::{ClauseKind, clause_of};
 use crate::fault::{first_of, unless};
 use cob_tree::Picture;
-use data_forms::Clause;
 use grammar_forms::{NameKind, Note, Position};
+use statement_grammar::data_forms::Clause;
 
 /// Whether an entry of this level may stand where this item or group holds it, or none does.
 pub fn level_stands(level: u8, holder: Option<usize>) -> bool

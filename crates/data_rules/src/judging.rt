@@ -12,8 +12,8 @@ use crate::file_names::FileNames;
 use crate::rule::entry_fault;
 use crate::table::Tables;
 use cob_tree::Entry;
-use data_forms::{Divisions, EntryDraft, FdDraft};
 use grammar_forms::Note;
+use statement_grammar::data_forms::{Divisions, EntryDraft, FdDraft};
 
 /// How many entries were judged, and their first fault.
 #[derive(Clone, Copy, Debug)]

@@ -13,8 +13,8 @@ use crate::fault::{fault_at, unless};
 use crate::table::{Tables, alike_at};
 use cob_base::Word;
 use cob_tree::Entry;
-use data_forms::Clause;
 use grammar_forms::{NameKind, Note, Position};
+use statement_grammar::data_forms::Clause;
 use word_places::WordPlaces;
 
 fn is_called(name: &Word, entry: &Entry) -> bool

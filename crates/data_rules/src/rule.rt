@@ -16,9 +16,9 @@ use crate::standing::{Standing, standing_of};
 use crate::table::Tables;
 use crate::value::{missing_fault, spans_fault, value_fault};
 use cob_tree::Entry;
-use data_forms::EntryDraft;
 use data_names::{Nesting, nesting_at};
 use grammar_forms::{NameKind, Note};
+use statement_grammar::data_forms::EntryDraft;
 
 /// What a literal for this entry is to fit.
 fn target_by(group: bool, sizes: &[u32], at: usize, entry: &Entry) -> Target

@@ -7,8 +7,8 @@ use crate::clause::{ClauseKind, clause_of};
 use crate::fault::{fault_at, first_of, unless};
 use crate::literal::{Target, fits};
 use cob_tree::Entry;
-use data_forms::{Clause, SpanDraft, ThruDraft};
 use grammar_forms::{NameKind, Note, Position};
+use statement_grammar::data_forms::{Clause, SpanDraft, ThruDraft};
 
 /// The fault of a level 88 without values, which stands at its first token.
 pub fn missing_fault(at: Position, clauses: &[Clause]) -> Option<Note>

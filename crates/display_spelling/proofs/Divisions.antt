@@ -7,16 +7,16 @@ use Rattle.cobol_lex.specs.declared.token.TokenKind.TheVariants as kinds
 use Rattle.grammar_forms.specs.Form.{Form, begins_by}
 use Rattle.grammar_forms.specs.Part.{is_key}
 use Rattle.word_forms.specs.Word.{is_data_word}
-use Rattle.data_forms.specs.declared.draft.DataDraft.{DataDraft}
-use Rattle.data_forms.specs.declared.draft.Divisions.{Divisions}
-use Rattle.data_forms.specs.Choice as choice
-use Rattle.data_forms.specs.Data as data_forms
-use Rattle.data_forms.specs.Divisions as divisions_of
-use Rattle.data_forms.specs.Environment as environments
+use Rattle.statement_grammar.specs.declared.data_forms.draft.DataDraft.{DataDraft}
+use Rattle.statement_grammar.specs.declared.data_forms.draft.Divisions.{Divisions}
+use Rattle.statement_grammar.specs.data_forms.Choice as choice
+use Rattle.statement_grammar.specs.data_forms.Data as data_forms
+use Rattle.statement_grammar.specs.data_forms.Divisions as divisions_of
+use Rattle.statement_grammar.specs.data_forms.Environment as environments
 use Rattle.spelled_forms.specs.Spelling.{Any, Spelled}
 use Rattle.spelled_forms.proofs.Makers.{pure, where_behind, then, ending, there_next, other_next}
 use Rattle.spelled_forms.proofs.Tokens.{same_word, key, period, name}
-use Rattle.display_programs.specs.Kinds.{title_kinds}
+use Rattle.printable_programs.specs.display_programs.Kinds.{title_kinds}
 use Rattle.display_spelling.specs.Bare.{BeforeProcedures, bare_divisions, no_data}
 
 headed : {n : ℕ} (word : List ℕ) → Spelled (choice.headed word) n (kinds.Word word ∷ kinds.Period ∷ []) Any (λ _. Unit {0})

@@ -12,19 +12,19 @@ use Rattle.grammar_forms.specs.Form as form
 use Rattle.grammar_forms.specs.Form.{begins_by}
 use Rattle.grammar_forms.specs.Part as part
 use Rattle.part_tokens.specs.Token.{procedure_token}
-use Rattle.stmt_forms.specs.declared.outline.Outline.{Outline}
-use Rattle.stmt_forms.specs.declared.scope.Scope.{Scope}
-use Rattle.stmt_forms.specs.Jump.{begins_procedure}
-use Rattle.stmt_forms.specs.Part.{Parts}
-use Rattle.stmt_forms.specs.Paragraph as paragraphs
-use Rattle.stmt_forms.specs.Stmt.{max_nesting, level}
-use Rattle.stmt_forms.specs.Verb.{begins_stmt, begins_simple, begins_moving, begins_filing, begins_jumping, begins_holding, begins_arithmetic, begins_adding, begins_multiplying, begins_choice}
+use Rattle.statement_grammar.specs.declared.stmt_forms.outline.Outline.{Outline}
+use Rattle.statement_grammar.specs.declared.stmt_forms.scope.Scope.{Scope}
+use Rattle.statement_grammar.specs.stmt_forms.Jump.{begins_procedure}
+use Rattle.statement_grammar.specs.stmt_forms.Part.{Parts}
+use Rattle.statement_grammar.specs.stmt_forms.Paragraph as paragraphs
+use Rattle.statement_grammar.specs.stmt_forms.Stmt.{max_nesting, level}
+use Rattle.statement_grammar.specs.stmt_forms.Verb.{begins_stmt, begins_simple, begins_moving, begins_filing, begins_jumping, begins_holding, begins_arithmetic, begins_adding, begins_multiplying, begins_choice}
 use Rattle.named_forms.specs.Giving.{Each}
 use Rattle.spelled_forms.specs.Spelling.{first_of, Any, Spelled}
 use Rattle.spelled_forms.proofs.Makers.{pure, note, bind, then, ending, behind_first, behind_none, by, chosen_other, other_next, last_turn}
 use Rattle.spelled_forms.proofs.Tokens.{period}
-use Rattle.display_programs.specs.Display.{IsShownStmt}
-use Rattle.display_programs.specs.Kinds.{stmt_kinds, body_kinds, paragraph_kinds}
+use Rattle.printable_programs.specs.display_programs.Display.{IsShownStmt}
+use Rattle.printable_programs.specs.display_programs.Kinds.{stmt_kinds, body_kinds, paragraph_kinds}
 use Rattle.display_spelling.specs.End.{AtEnd}
 use Rattle.display_spelling.specs.Parts.{PartsSpell}
 use Rattle.display_spelling.proofs.Statements.{stmts_kinds, stmts_with}

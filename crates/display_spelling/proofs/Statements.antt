@@ -13,20 +13,20 @@ use Rattle.grammar_forms.specs.Form.{begins_by}
 use Rattle.grammar_forms.specs.Part as part
 use Rattle.part_tokens.specs.Token.{Tokens}
 use Rattle.part_tokens.specs.Head.{advance_tokens}
-use Rattle.stmt_forms.specs.declared.scope.Scope.{Scope}
-use Rattle.stmt_forms.specs.Arms.{Level, Found}
-use Rattle.stmt_forms.specs.Part.{Parts}
-use Rattle.stmt_forms.specs.Verb.{begins_simple, begins_moving, begins_filing, begins_jumping, begins_stmt}
-use Rattle.stmt_forms.specs.Move as move
-use Rattle.stmt_forms.specs.Jump as jump
-use Rattle.stmt_forms.specs.Stmt as forms
+use Rattle.statement_grammar.specs.declared.stmt_forms.scope.Scope.{Scope}
+use Rattle.statement_grammar.specs.stmt_forms.Arms.{Level, Found}
+use Rattle.statement_grammar.specs.stmt_forms.Part.{Parts}
+use Rattle.statement_grammar.specs.stmt_forms.Verb.{begins_simple, begins_moving, begins_filing, begins_jumping, begins_stmt}
+use Rattle.statement_grammar.specs.stmt_forms.Move as move
+use Rattle.statement_grammar.specs.stmt_forms.Jump as jump
+use Rattle.statement_grammar.specs.stmt_forms.Stmt as forms
 use Rattle.named_programs.specs.Part.{is_filled}
 use Rattle.named_forms.specs.Giving.{Each}
 use Rattle.spelled_forms.specs.Spelling.{first_of, Any, Spelled}
 use Rattle.spelled_forms.proofs.Makers.{pure, note, hence, where_behind, bind, then, ending, behind_none, chosen_other, there_next, other_next, no_turn, turn}
 use Rattle.spelled_forms.proofs.Tokens.{key, maybe}
-use Rattle.display_programs.specs.Display.{IsShownItem, IsShownStmt}
-use Rattle.display_programs.specs.Kinds.{item_kinds, stmt_kinds, stop_kinds}
+use Rattle.printable_programs.specs.display_programs.Display.{IsShownItem, IsShownStmt}
+use Rattle.printable_programs.specs.display_programs.Kinds.{item_kinds, stmt_kinds, stop_kinds}
 use Rattle.display_spelling.specs.Parts.{PartsSpell}
 
 -- the tokens of these statements and STOP RUN

@@ -2,8 +2,8 @@
 use Rattle.std.specs.Prelude.{ℕ, ◌≡◌, List, [], Option, Some, codes}
 use Rattle.cobol_lex.specs.declared.token.TokenKind.{TokenKind}
 use Rattle.cobol_lex.specs.declared.token.TokenKind.TheVariants as kinds
-use Rattle.data_forms.specs.declared.draft.DataDraft.{DataDraft}
-use Rattle.data_forms.specs.declared.draft.Divisions.{Divisions}
+use Rattle.statement_grammar.specs.declared.data_forms.draft.DataDraft.{DataDraft}
+use Rattle.statement_grammar.specs.declared.data_forms.draft.Divisions.{Divisions}
 
 -- the PROCEDURE DIVISION stands behind
 abbrev pub BeforeProcedures : Option TokenKind → Type 0

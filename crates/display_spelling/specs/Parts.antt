@@ -3,9 +3,9 @@ use Rattle.std.specs.Prelude.{ℕ, ◌≡◌, true, false, List, [], ◌∷◌, 
 use Rattle.cob_tree.specs.declared.place.Operand.TheVariants as operands
 use Rattle.cobol_lex.specs.declared.token.TokenKind.TheVariants as kinds
 use Rattle.part_tokens.specs.Token.{procedure_token}
-use Rattle.stmt_forms.specs.Jump.{begins_procedure}
-use Rattle.stmt_forms.specs.Part.{Parts}
-use Rattle.stmt_forms.specs.Verb.{begins_stmt}
+use Rattle.statement_grammar.specs.stmt_forms.Jump.{begins_procedure}
+use Rattle.statement_grammar.specs.stmt_forms.Part.{Parts}
+use Rattle.statement_grammar.specs.stmt_forms.Verb.{begins_stmt}
 use Rattle.spelled_forms.specs.Spelling.{Any, Spelled}
 
 pub record PartsSpell {Side Known : Type 0} (parts : Parts Side Known) (label : List ℕ) (from : ℕ) :

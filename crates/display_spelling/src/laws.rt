@@ -2,19 +2,19 @@
 
 ghost use Rattle.std.specs.Prelude.{◌≡◌, ℕ, true, List};
 ghost use Rattle.cob_tree.specs.declared.stmt.Stmt as tree;
-ghost use Rattle.data_forms.specs.Divisions.{divisions};
-ghost use Rattle.display_programs.specs.Display.{IsShownStmt, display_program};
-ghost use Rattle.display_programs.specs.Kinds.{paragraph_kinds, title_kinds};
+ghost use Rattle.statement_grammar.specs.data_forms.Divisions.{divisions};
+ghost use Rattle.printable_programs.specs.display_programs.Display.{IsShownStmt, display_program};
+ghost use Rattle.printable_programs.specs.display_programs.Kinds.{paragraph_kinds, title_kinds};
 ghost use Rattle.display_spelling.specs.Bare.{BeforeProcedures, bare_divisions};
 ghost use Rattle.display_spelling.specs.End.{AtEnd};
 ghost use Rattle.display_spelling.specs.Parts.{PartsSpell};
 ghost use Rattle.named_forms.specs.Giving.{Each};
 ghost use Rattle.spelled_forms.specs.Spelling.{Spelled};
-ghost use Rattle.stmt_forms.specs.Paragraph.{division};
+ghost use Rattle.statement_grammar.specs.stmt_forms.Paragraph.{division};
 ghost use Rattle.word_forms.specs.Word.{is_data_word};
 
-use data_forms::Refers;
-use stmt_forms::Made;
+use statement_grammar::data_forms::Refers;
+use statement_grammar::stmt_forms::Made;
 
 /// The tokens that the one paragraph is printed with spell it, where the parts of statements spell
 /// what they are to.

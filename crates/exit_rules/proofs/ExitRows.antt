@@ -5,12 +5,12 @@ use Rattle.std.proofs.lemmas.List.{map-set, length-map}
 use Rattle.language.specs.Language.{ByCell, Set, Do, none}
 use Rattle.control.specs.Doing.{is_above}
 use Rattle.control.specs.Graph.{Label, Tree, tree, End, Pick, Jump, Return, more}
-use Rattle.graph_rules.specs.Families.{Added, Exit}
-use Rattle.graph_rules.specs.Shapes.{alone, leaves_to, other_targets}
-use Rattle.graph_rules.specs.Reduced.{Node, Graph, tree_in, with_tree, count}
-use Rattle.closing.specs.Closes.{none_left_out, are_several, has_exits, exits_graph}
-use Rattle.closing.specs.Dispatches.{Rising, bare, exited, tree_returns}
-use Rattle.closing.specs.Targets.{inserted, is_below, targets_of, with_exits}
+use Rattle.control_laws.specs.graph_rules.Families.{Added, Exit}
+use Rattle.control_laws.specs.graph_rules.Shapes.{alone, leaves_to, other_targets}
+use Rattle.control_laws.specs.graph_rules.Reduced.{Node, Graph, tree_in, with_tree, count}
+use Rattle.control_laws.specs.closing.Closes.{none_left_out, are_several, has_exits, exits_graph}
+use Rattle.control_laws.specs.closing.Dispatches.{Rising, bare, exited, tree_returns}
+use Rattle.control_laws.specs.closing.Targets.{inserted, is_below, targets_of, with_exits}
 use Rattle.branch_tree.specs.declared.chooser.Picker.TheVariants as picker
 use Rattle.branch_tree.specs.declared.chooser.Test.TheVariants as test
 use Rattle.branch_tree.specs.declared.graph.Node as code

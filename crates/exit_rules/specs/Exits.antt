@@ -3,8 +3,8 @@ use Rattle.std.specs.Prelude.{◌≡◌, Bool, true, false, if◌then◌else◌,
 use Rattle.cob_base.specs.declared.memory.NoMemory.{NoMemory}
 use Rattle.language.specs.Language.{none}
 use Rattle.control.specs.Graph.{Label, Tree, tree, Jump, Return}
-use Rattle.graph_rules.specs.Reduced.{Graph, has_node}
-use Rattle.closing.specs.Closes.{has_exits, exits_graph}
+use Rattle.control_laws.specs.graph_rules.Reduced.{Graph, has_node}
+use Rattle.control_laws.specs.closing.Closes.{has_exits, exits_graph}
 
 -- bare jumps to labels
 abbrev pub jump_trees : List Label → List Tree

@@ -2,9 +2,9 @@
 
 ghost use Rattle.std.specs.Prelude.{◌≡◌, ◌<◌, ◌≤◌, ◌+◌, ◌++◌, ◌^◌, true, map, length, OnOk, OnErr};
 ghost use Rattle.std.specs.Vec.{vec_len, vec_capacity};
-ghost use Rattle.closing.specs.Closes.{has_exits, exits_graph, are_several, none_left_out};
-ghost use Rattle.closing.specs.Dispatches.{Rising, bare};
-ghost use Rattle.closing.specs.Targets.{with_exits};
+ghost use Rattle.control_laws.specs.closing.Closes.{has_exits, exits_graph, are_several, none_left_out};
+ghost use Rattle.control_laws.specs.closing.Dispatches.{Rising, bare};
+ghost use Rattle.control_laws.specs.closing.Targets.{with_exits};
 ghost use Rattle.branch_tree.specs.Graphs.{seen_graph, seen_nodes};
 ghost use Rattle.branch_tree.specs.Trees.{seen_tree, seen_trees};
 ghost use Rattle.tree_rules.specs.Places.{label_at};

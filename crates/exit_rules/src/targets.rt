@@ -2,7 +2,7 @@
 
 ghost use Rattle.std.specs.Prelude.{◌≡◌, OnOk};
 ghost use Rattle.cob_base.specs.Answers.{Makes};
-ghost use Rattle.closing.specs.Targets.{inserted, tree_targets, trees_targets, targets_of};
+ghost use Rattle.control_laws.specs.closing.Targets.{inserted, tree_targets, trees_targets, targets_of};
 ghost use Rattle.branch_tree.specs.Trees.{seen_tree, seen_trees};
 
 use branch_tree::{End, Label, Tree};

@@ -2,8 +2,8 @@
 use Rattle.std.proofs.Common.{◌≡◌, ℕ, refl}
 use Rattle.grammar_forms.specs.Form.{Input}
 use Rattle.data_names.specs.Names.{Names}
-use Rattle.expr_forms.specs.Limit.{Inner}
-use Rattle.expr_forms.specs.Front as whole
+use Rattle.statement_grammar.specs.expr_forms.Limit.{Inner}
+use Rattle.statement_grammar.specs.expr_forms.Front as whole
 use Rattle.expr_parse.specs.Front as in_parts
 
 pub same_front : (names : Names) (inner : Inner) (count : ℕ) (p : Input) →

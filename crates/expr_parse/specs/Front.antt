@@ -3,13 +3,13 @@
 use Rattle.std.specs.Prelude.{ℕ, false, List}
 use Rattle.grammar_forms.specs.declared.note.Position.{Position}
 use Rattle.data_names.specs.declared.name.Found.{Found}
-use Rattle.expr_forms.specs.declared.front.Front.{Front}
-use Rattle.expr_forms.specs.declared.front.Front.TheVariants as fronts
-use Rattle.expr_forms.specs.Fault.{found_fault}
-use Rattle.expr_forms.specs.Either.{ref_either}
-use Rattle.expr_forms.specs.Front.{sum_front}
-use Rattle.expr_forms.specs.Limit.{Inner, tally}
-use Rattle.expr_forms.specs.Reference.{qualifiers, ref_behind}
+use Rattle.statement_grammar.specs.declared.expr_forms.front.Front.{Front}
+use Rattle.statement_grammar.specs.declared.expr_forms.front.Front.TheVariants as fronts
+use Rattle.statement_grammar.specs.expr_forms.Fault.{found_fault}
+use Rattle.statement_grammar.specs.expr_forms.Either.{ref_either}
+use Rattle.statement_grammar.specs.expr_forms.Front.{sum_front}
+use Rattle.statement_grammar.specs.expr_forms.Limit.{Inner, tally}
+use Rattle.statement_grammar.specs.expr_forms.Reference.{qualifiers, ref_behind}
 use Rattle.data_names.specs.Names.{Names}
 use Rattle.data_names.specs.Look.{look}
 use Rattle.word_forms.specs.Word.{name}

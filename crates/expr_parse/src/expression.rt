@@ -1,25 +1,25 @@
 //! Operands and expressions.
 
 ghost use Rattle.grammar_forms.specs.Reading.{Reads};
-ghost use Rattle.expr_forms.specs.Operand as operands;
-ghost use Rattle.expr_forms.specs.Expression as expressions;
-ghost use Rattle.expr_forms.specs.Levels.{inner};
+ghost use Rattle.statement_grammar.specs.expr_forms.Operand as operands;
+ghost use Rattle.statement_grammar.specs.expr_forms.Expression as expressions;
+ghost use Rattle.statement_grammar.specs.expr_forms.Levels.{inner};
 
 use crate::levels::nested;
 use crate::reference::reference;
 use cob_tree::Op;
 use data_names::NameTable;
-use expr_forms::{Chain, Side};
 use expr_sides::{
-    at_operand, at_turn, chain_of, finish, joined, last_fault, literal_kind, literal_side, negated,
-    number_fault, operator, sum_side, tally,
+    at_operand, at_turn, chain_of, drop_chain, drop_side, finish, joined, last_fault, literal_kind,
+    literal_side, negated, number_fault, operator, sum_side, tally,
 };
 use grammar_forms::{Cursor, Unread, Why};
+use statement_grammar::expr_forms::{Chain, Side};
 use std::alloc::Global;
 use word_forms::{literal, sees_name};
 
 /// Reads a literal.
-#[tactic(auto, unfolding(expr_forms::specs::Operand::literal_operand))]
+#[tactic(auto, unfolding(statement_grammar::specs::expr_forms::Operand::literal_operand))]
 pub fn literal_operand(
     alloc: Global,
     cursor: &mut Cursor<'_>,
@@ -34,7 +34,7 @@ pub fn literal_operand(
 
 /// Reads a reference or a literal.
 #[cycle(exprs)]
-#[tactic(auto, unfolding(expr_forms::specs::Operand::operand))]
+#[tactic(auto, unfolding(statement_grammar::specs::expr_forms::Operand::operand))]
 pub fn operand(
     alloc: Global,
     cursor: &mut Cursor<'_>,
@@ -58,7 +58,7 @@ pub fn operand(
 
 /// Reads an operand, or an expression in parentheses.
 #[cycle(exprs)]
-#[tactic(auto, unfolding(expr_forms::specs::Expression::unsigned))]
+#[tactic(auto, unfolding(statement_grammar::specs::expr_forms::Expression::unsigned))]
 pub fn unsigned(
     alloc: Global,
     cursor: &mut Cursor<'_>,
@@ -77,7 +77,7 @@ pub fn unsigned(
 }
 
 #[cycle(exprs)]
-#[tactic(auto, unfolding(expr_forms::specs::Expression::minussed))]
+#[tactic(auto, unfolding(statement_grammar::specs::expr_forms::Expression::minussed))]
 fn minussed(
     alloc: Global,
     cursor: &mut Cursor<'_>,
@@ -96,7 +96,7 @@ fn minussed(
 }
 
 #[cycle(exprs)]
-#[tactic(auto, unfolding(expr_forms::specs::Expression::plussed))]
+#[tactic(auto, unfolding(statement_grammar::specs::expr_forms::Expression::plussed))]
 fn plussed(
     alloc: Global,
     cursor: &mut Cursor<'_>,
@@ -114,7 +114,7 @@ fn plussed(
 
 /// Reads an operand with its sign.
 #[cycle(exprs)]
-#[tactic(auto, unfolding(expr_forms::specs::Expression::unary))]
+#[tactic(auto, unfolding(statement_grammar::specs::expr_forms::Expression::unary))]
 pub fn unary(
     alloc: Global,
     cursor: &mut Cursor<'_>,
@@ -136,7 +136,7 @@ pub fn unary(
 
 /// Reads one more operand behind an operator.
 #[cycle(exprs)]
-#[tactic(auto, unfolding(expr_forms::specs::Expression::operated))]
+#[tactic(auto, unfolding(statement_grammar::specs::expr_forms::Expression::operated))]
 pub fn operated(
     alloc: Global,
     cursor: &mut Cursor<'_>,
@@ -149,15 +149,22 @@ pub fn operated(
     ensures { Reads ((expressions.operated names.now
         (inner names.now levels) op chain count).reads cursor.old) result cursor.new }
 {
-    let (right, count) = unary(alloc, cursor, names, levels, count)?;
-    cursor.note(last_fault(&chain));
-    cursor.note(number_fault(&right));
-    Ok((joined(alloc, op, chain, right)?, count))
+    match unary(alloc, cursor, names, levels, count) {
+        Ok((right, count)) => {
+            cursor.note(last_fault(&chain));
+            cursor.note(number_fault(&right));
+            Ok((joined(alloc, op, chain, right)?, count))
+        }
+        Err(stop) => {
+            drop_chain(chain);
+            Err(stop)
+        }
+    }
 }
 
 /// Reads an operator and one more operand.
 #[cycle(exprs)]
-#[tactic(auto, unfolding(expr_forms::specs::Expression::turn))]
+#[tactic(auto, unfolding(statement_grammar::specs::expr_forms::Expression::turn))]
 pub fn turn(
     alloc: Global,
     cursor: &mut Cursor<'_>,
@@ -168,9 +175,14 @@ pub fn turn(
     ensures { Reads ((expressions.turn names.now (inner names.now levels) state).reads cursor.old)
         result cursor.new }
 {
-    let op = operator(cursor)?;
     let (chain, count) = state;
-    operated(alloc, cursor, names, levels, op, chain, count)
+    match operator(cursor) {
+        Ok(op) => operated(alloc, cursor, names, levels, op, chain, count),
+        Err(stop) => {
+            drop_chain(chain);
+            Err(stop)
+        }
+    }
 }
 
 #[cycle(exprs)]
@@ -193,7 +205,7 @@ fn turns(
 
 /// Goes on behind a first operand.
 #[cycle(exprs)]
-#[tactic(auto, unfolding(expr_forms::specs::Expression::sum))]
+#[tactic(auto, unfolding(statement_grammar::specs::expr_forms::Expression::sum))]
 pub fn sum(
     alloc: Global,
     cursor: &mut Cursor<'_>,
@@ -212,7 +224,7 @@ pub fn sum(
 
 /// Reads an expression.
 #[cycle(exprs)]
-#[tactic(auto, unfolding(expr_forms::specs::Expression::expr))]
+#[tactic(auto, unfolding(statement_grammar::specs::expr_forms::Expression::expr))]
 pub fn expr(
     alloc: Global,
     cursor: &mut Cursor<'_>,
@@ -229,7 +241,7 @@ pub fn expr(
 
 /// Reads an expression in parentheses.
 #[cycle(exprs)]
-#[tactic(auto, unfolding(expr_forms::specs::Expression::in_nested))]
+#[tactic(auto, unfolding(statement_grammar::specs::expr_forms::Expression::in_nested))]
 pub fn in_nested(
     alloc: Global,
     cursor: &mut Cursor<'_>,
@@ -242,6 +254,11 @@ pub fn in_nested(
 {
     let position = cursor.mark(b'(')?;
     let (side, count) = expr(alloc, cursor, names, levels, count)?;
-    cursor.mark(b')')?;
-    Ok((sum_side(position, side), count))
+    match cursor.mark(b')') {
+        Ok(_) => Ok((sum_side(position, side), count)),
+        Err(stop) => {
+            drop_side(side);
+            Err(stop)
+        }
+    }
 }

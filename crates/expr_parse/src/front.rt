@@ -2,28 +2,31 @@
 
 ghost use Rattle.std.specs.Prelude.{◌≡◌};
 ghost use Rattle.grammar_forms.specs.Reading.{Reads};
-ghost use Rattle.expr_forms.specs.Subscript as subscripts;
-ghost use Rattle.expr_forms.specs.Front as fronts;
-ghost use Rattle.expr_forms.specs.Levels.{inner};
+ghost use Rattle.statement_grammar.specs.expr_forms.Subscript as subscripts;
+ghost use Rattle.statement_grammar.specs.expr_forms.Chain.{finish as finished};
+ghost use Rattle.statement_grammar.specs.expr_forms.Front as fronts;
+ghost use Rattle.statement_grammar.specs.expr_forms.Levels.{inner};
+ghost use Rattle.expr_parse.specs.End as ends;
 ghost use Rattle.expr_parse.specs.Front as names_in_front;
 
 use crate::expression::{operated, turn, unary, unsigned};
 use crate::reference::{qualifiers, ref_behind};
 use crate::subscript::more_subs;
 use crate::window::window_behind;
-use cob_base::{Boxed, Items, Word};
+use cob_base::{Items, Word};
 use cob_tree::Op;
 use data_names::{Found, NameTable};
-use expr_forms::{Either, Front, Suffix};
 use expr_sides::{
-    at_colon, at_turn, chain_of, either_fault, finish, found_fault, number_either, operator,
-    ref_either, subs_of, sum_side, tally, with_number,
+    at_colon, at_turn, chain_of, drop_chain, drop_either, drop_subs, either_fault, finish,
+    found_fault, number_either, operator, ref_either, subs_of, sum_of, sum_side, tally,
+    window_suffix, with_number,
 };
 use grammar_forms::{Cursor, Position, Unread};
+use statement_grammar::expr_forms::{Chain, Either, Front, Suffix};
 use std::alloc::Global;
 use word_forms::{name, sees_digits, sees_name};
 
-#[tactic(auto, unfolding(expr_forms::specs::Front::digits_front))]
+#[tactic(auto, unfolding(statement_grammar::specs::expr_forms::Front::digits_front))]
 fn digits_front(alloc: Global, cursor: &mut Cursor<'_>) -> Result<Front, Unread>
     ensures { Reads (fronts.digits_front.reads cursor.old) result cursor.new }
 {
@@ -32,7 +35,7 @@ fn digits_front(alloc: Global, cursor: &mut Cursor<'_>) -> Result<Front, Unread>
 }
 
 #[cycle(exprs)]
-#[tactic(auto, unfolding(expr_forms::specs::Front::plus_front))]
+#[tactic(auto, unfolding(statement_grammar::specs::expr_forms::Front::plus_front))]
 fn plus_front(
     alloc: Global,
     cursor: &mut Cursor<'_>,
@@ -144,7 +147,7 @@ fn name_front(
 }
 
 #[cycle(exprs)]
-#[tactic(auto, unfolding(expr_forms::specs::Front::unary_front))]
+#[tactic(auto, unfolding(statement_grammar::specs::expr_forms::Front::unary_front))]
 fn unary_front(
     alloc: Global,
     cursor: &mut Cursor<'_>,
@@ -160,7 +163,7 @@ fn unary_front(
 }
 
 #[cycle(exprs)]
-#[tactic(auto, unfolding(expr_forms::specs::Front::other_front))]
+#[tactic(auto, unfolding(statement_grammar::specs::expr_forms::Front::other_front))]
 fn other_front(
     alloc: Global,
     cursor: &mut Cursor<'_>,
@@ -179,7 +182,7 @@ fn other_front(
 }
 
 #[cycle(exprs)]
-#[tactic(auto, unfolding(expr_forms::specs::Front::first_front))]
+#[tactic(auto, unfolding(statement_grammar::specs::expr_forms::Front::first_front))]
 pub fn first_front(
     alloc: Global,
     cursor: &mut Cursor<'_>,
@@ -201,7 +204,7 @@ pub fn first_front(
 
 /// Goes on behind an operator after which it is no subscripts.
 #[cycle(exprs)]
-#[tactic(auto, unfolding(expr_forms::specs::Front::decided))]
+#[tactic(auto, unfolding(statement_grammar::specs::expr_forms::Front::decided))]
 fn decided(
     alloc: Global,
     cursor: &mut Cursor<'_>,
@@ -214,13 +217,20 @@ fn decided(
     ensures { Reads ((fronts.decided names.now
         (inner names.now levels) count either op).reads cursor.old) result cursor.new }
 {
-    let Either { chain, leaves, .. } = either;
-    let count = tally(cursor, count, leaves)?;
-    let (chain, count) = operated(alloc, cursor, names, levels, op, chain, count)?;
-    Ok(Front::Sum(chain, count))
+    let (chain, leaves) = sum_of(either);
+    match tally(cursor, count, leaves) {
+        Ok(count) => {
+            let (chain, count) = operated(alloc, cursor, names, levels, op, chain, count)?;
+            Ok(Front::Sum(chain, count))
+        }
+        Err(stop) => {
+            drop_chain(chain);
+            Err(stop)
+        }
+    }
 }
 
-#[tactic(auto, unfolding(expr_forms::specs::Front::number_turn))]
+#[tactic(auto, unfolding(statement_grammar::specs::expr_forms::Front::number_turn))]
 fn number_turn(
     alloc: Global,
     cursor: &mut Cursor<'_>,
@@ -230,14 +240,21 @@ fn number_turn(
 ) -> Result<Front, Unread>
     ensures { Reads ((fronts.number_turn op negative either).reads cursor.old) result cursor.new }
 {
-    let (digits, position) = cursor.digits(alloc)?;
-    cursor.note(either_fault(&either));
-    let either = with_number(alloc, op, negative, digits, position, either)?;
-    Ok(Front::Either(either))
+    match cursor.digits(alloc) {
+        Ok((digits, position)) => {
+            cursor.note(either_fault(&either));
+            let either = with_number(alloc, op, negative, digits, position, either)?;
+            Ok(Front::Either(either))
+        }
+        Err(stop) => {
+            drop_either(either);
+            Err(stop)
+        }
+    }
 }
 
 #[cycle(exprs)]
-#[tactic(auto, unfolding(expr_forms::specs::Front::number_or_decided))]
+#[tactic(auto, unfolding(statement_grammar::specs::expr_forms::Front::number_or_decided))]
 fn number_or_decided(
     alloc: Global,
     cursor: &mut Cursor<'_>,
@@ -259,7 +276,7 @@ fn number_or_decided(
 }
 
 #[cycle(exprs)]
-#[tactic(auto, unfolding(expr_forms::specs::Front::plus_turn))]
+#[tactic(auto, unfolding(statement_grammar::specs::expr_forms::Front::plus_turn))]
 fn plus_turn(
     alloc: Global,
     cursor: &mut Cursor<'_>,
@@ -271,8 +288,13 @@ fn plus_turn(
     ensures { Reads ((fronts.plus_turn names.now
         (inner names.now levels) count either).reads cursor.old) result cursor.new }
 {
-    cursor.mark(b'+')?;
-    number_or_decided(alloc, cursor, names, levels, count, either, Op::Add, false)
+    match cursor.mark(b'+') {
+        Ok(_) => number_or_decided(alloc, cursor, names, levels, count, either, Op::Add, false),
+        Err(stop) => {
+            drop_either(either);
+            Err(stop)
+        }
+    }
 }
 
 /// Whether the last subscript is an item alone.
@@ -283,7 +305,7 @@ fn takes_minus(either: &Either) -> bool
 }
 
 #[cycle(exprs)]
-#[tactic(auto, unfolding(expr_forms::specs::Front::minus_behind))]
+#[tactic(auto, unfolding(statement_grammar::specs::expr_forms::Front::minus_behind))]
 fn minus_behind(
     alloc: Global,
     cursor: &mut Cursor<'_>,
@@ -303,7 +325,7 @@ fn minus_behind(
 }
 
 #[cycle(exprs)]
-#[tactic(auto, unfolding(expr_forms::specs::Front::minus_turn))]
+#[tactic(auto, unfolding(statement_grammar::specs::expr_forms::Front::minus_turn))]
 fn minus_turn(
     alloc: Global,
     cursor: &mut Cursor<'_>,
@@ -315,12 +337,17 @@ fn minus_turn(
     ensures { Reads ((fronts.minus_turn names.now
         (inner names.now levels) count either).reads cursor.old) result cursor.new }
 {
-    cursor.mark(b'-')?;
-    minus_behind(alloc, cursor, names, levels, count, either)
+    match cursor.mark(b'-') {
+        Ok(_) => minus_behind(alloc, cursor, names, levels, count, either),
+        Err(stop) => {
+            drop_either(either);
+            Err(stop)
+        }
+    }
 }
 
 #[cycle(exprs)]
-#[tactic(auto, unfolding(expr_forms::specs::Front::factor_turn))]
+#[tactic(auto, unfolding(statement_grammar::specs::expr_forms::Front::factor_turn))]
 fn factor_turn(
     alloc: Global,
     cursor: &mut Cursor<'_>,
@@ -332,12 +359,17 @@ fn factor_turn(
     ensures { Reads ((fronts.factor_turn names.now
         (inner names.now levels) count either).reads cursor.old) result cursor.new }
 {
-    let op = operator(cursor)?;
-    decided(alloc, cursor, names, levels, count, either, op)
+    match operator(cursor) {
+        Ok(op) => decided(alloc, cursor, names, levels, count, either, op),
+        Err(stop) => {
+            drop_either(either);
+            Err(stop)
+        }
+    }
 }
 
 #[cycle(exprs)]
-#[tactic(auto, unfolding(expr_forms::specs::Front::front_turn))]
+#[tactic(auto, unfolding(statement_grammar::specs::expr_forms::Front::front_turn))]
 fn front_turn(
     alloc: Global,
     cursor: &mut Cursor<'_>,
@@ -385,7 +417,7 @@ pub fn front_turns(
     Ok(front)
 }
 
-#[tactic(auto, unfolding(expr_forms::specs::Front::subs_suffix))]
+#[tactic(auto, unfolding(statement_grammar::specs::expr_forms::Front::subs_suffix))]
 fn subs_suffix(
     alloc: Global,
     cursor: &mut Cursor<'_>,
@@ -399,12 +431,60 @@ fn subs_suffix(
     cursor.note(either.fault);
     let first = subs_of(alloc, either)?;
     let subs = more_subs(alloc, cursor, names, first)?;
-    cursor.mark(b')')?;
-    Ok((Suffix::Subs(subs), count))
+    match cursor.mark(b')') {
+        Ok(_) => Ok((Suffix::Subs(subs), count)),
+        Err(stop) => {
+            drop_subs(subs);
+            Err(stop)
+        }
+    }
+}
+
+/// Goes on behind a sum that begins a window.
+#[cycle(exprs)]
+fn window_end(
+    alloc: Global,
+    cursor: &mut Cursor<'_>,
+    names: &NameTable,
+    levels: u32,
+    alone: bool,
+    chain: Chain,
+    count: u32,
+) -> Result<(Suffix, u32), Unread>
+    ensures { Reads ((fronts.window_suffix names.now
+        (inner names.now levels) alone (finished chain) count).reads cursor.old) result cursor.new }
+{
+    let first = finish(alloc, chain)?;
+    let (window, count) = window_behind(alloc, cursor, names, levels, alone, first, count)?;
+    Ok((window_suffix(alloc, window)?, count))
+}
+
+/// Goes on where a colon is next; the terms are counted now.
+#[cycle(exprs)]
+fn colon_end(
+    alloc: Global,
+    cursor: &mut Cursor<'_>,
+    names: &NameTable,
+    levels: u32,
+    alone: bool,
+    count: u32,
+    either: Either,
+) -> Result<(Suffix, u32), Unread>
+    ensures { Reads ((ends.colon_end names.now
+        (inner names.now levels) alone count either).reads cursor.old) result cursor.new }
+{
+    let (chain, leaves) = sum_of(either);
+    match tally(cursor, count, leaves) {
+        Ok(count) => window_end(alloc, cursor, names, levels, alone, chain, count),
+        Err(stop) => {
+            drop_chain(chain);
+            Err(stop)
+        }
+    }
 }
 
 #[cycle(exprs)]
-#[tactic(auto, unfolding(expr_forms::specs::Front::front_end))]
+#[tactic(auto, unfolding(statement_grammar::specs::expr_forms::Front::front_end))]
 pub fn front_end(
     alloc: Global,
     cursor: &mut Cursor<'_>,
@@ -418,20 +498,10 @@ pub fn front_end(
         cursor.old) result cursor.new }
 {
     match front {
-        Front::Sum(chain, more) => {
-            let first = finish(alloc, chain)?;
-            let (window, count) = window_behind(alloc, cursor, names, levels, alone, first, more)?;
-            Ok((Suffix::Window(Boxed::new(alloc, window)?), count))
-        }
+        Front::Sum(chain, more) => window_end(alloc, cursor, names, levels, alone, chain, more),
         Front::Either(either) => {
             if at_colon(cursor) {
-                let Either { chain, leaves, .. } = either;
-                let count = tally(cursor, count, leaves)?;
-                let first = finish(alloc, chain)?;
-                let (window, count) = window_behind(
-                    alloc, cursor, names, levels, alone, first, count,
-                )?;
-                Ok((Suffix::Window(Boxed::new(alloc, window)?), count))
+                colon_end(alloc, cursor, names, levels, alone, count, either)
             } else {
                 subs_suffix(alloc, cursor, names, count, either)
             }
@@ -441,7 +511,7 @@ pub fn front_end(
 
 /// Reads subscripts or a window.
 #[cycle(exprs)]
-#[tactic(auto, unfolding(expr_forms::specs::Front::in_suffix))]
+#[tactic(auto, unfolding(statement_grammar::specs::expr_forms::Front::in_suffix))]
 pub fn in_suffix(
     alloc: Global,
     cursor: &mut Cursor<'_>,

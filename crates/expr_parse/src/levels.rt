@@ -1,21 +1,21 @@
 //! What stands in parentheses, with so many levels of them.
 
 ghost use Rattle.grammar_forms.specs.Reading.{Reads};
-ghost use Rattle.expr_forms.specs.Reference as references;
-ghost use Rattle.expr_forms.specs.Operand as operands;
-ghost use Rattle.expr_forms.specs.Levels as knots;
-ghost use Rattle.expr_forms.specs.Levels.{inner};
+ghost use Rattle.statement_grammar.specs.expr_forms.Reference as references;
+ghost use Rattle.statement_grammar.specs.expr_forms.Operand as operands;
+ghost use Rattle.statement_grammar.specs.expr_forms.Levels as knots;
+ghost use Rattle.statement_grammar.specs.expr_forms.Levels.{inner};
 
 use crate::expression::{expr, in_nested, literal_operand};
 use crate::front::in_suffix;
 use crate::reference::qualifiers;
 use crate::window::in_window;
-use cob_base::{Boxed, Items, Word};
+use cob_base::{Items, Word};
 use cob_tree::Window;
 use data_names::{Found, NameTable};
-use expr_forms::{Behind, Side, Suffix};
-use expr_sides::{MAX_PARENS, at_operand, found_fault, ref_side, tally};
+use expr_sides::{MAX_PARENS, at_operand, both_behind, drop_subs, found_fault, ref_side, tally};
 use grammar_forms::{Cursor, Position, Unread, Why};
+use statement_grammar::expr_forms::{Behind, Side, Suffix};
 use std::alloc::Global;
 use word_forms::{name, sees_name};
 
@@ -73,7 +73,7 @@ pub fn window(
     in_window(alloc, cursor, names, levels - 1, false, count)
 }
 
-#[tactic(auto, unfolding(expr_forms::specs::Reference::behind))]
+#[tactic(auto, unfolding(statement_grammar::specs::expr_forms::Reference::behind))]
 fn data_behind(
     alloc: Global,
     cursor: &mut Cursor<'_>,
@@ -99,12 +99,13 @@ fn data_behind(
         }),
         Suffix::Subs(subs) => {
             if cursor.sees_mark(b'(') {
-                let (inner, count) = in_window(alloc, cursor, names, MAX_PARENS, true, count)?;
-                Ok(Behind {
-                    subs,
-                    window: Some(Boxed::new(alloc, inner)?),
-                    count,
-                })
+                match in_window(alloc, cursor, names, MAX_PARENS, true, count) {
+                    Ok((inner, count)) => Ok(both_behind(alloc, subs, inner, count)?),
+                    Err(stop) => {
+                        drop_subs(subs);
+                        Err(stop)
+                    }
+                }
             } else {
                 Ok(Behind {
                     subs,
@@ -116,7 +117,7 @@ fn data_behind(
     }
 }
 
-#[tactic(auto, unfolding(expr_forms::specs::Reference::ref_behind))]
+#[tactic(auto, unfolding(statement_grammar::specs::expr_forms::Reference::ref_behind))]
 fn data_ref_behind(
     alloc: Global,
     cursor: &mut Cursor<'_>,
@@ -138,7 +139,7 @@ fn data_ref_behind(
     Ok((ref_side(found, of, subs, window, position), count))
 }
 
-#[tactic(auto, unfolding(expr_forms::specs::Reference::reference_behind))]
+#[tactic(auto, unfolding(statement_grammar::specs::expr_forms::Reference::reference_behind))]
 fn data_words_behind(
     alloc: Global,
     cursor: &mut Cursor<'_>,
@@ -155,7 +156,7 @@ fn data_words_behind(
     data_ref_behind(alloc, cursor, names, found, of, position, count)
 }
 
-#[tactic(auto, unfolding(expr_forms::specs::Reference::reference))]
+#[tactic(auto, unfolding(statement_grammar::specs::expr_forms::Reference::reference))]
 fn data_words(
     alloc: Global,
     cursor: &mut Cursor<'_>,
@@ -169,7 +170,7 @@ fn data_words(
     data_words_behind(alloc, cursor, names, first, position, count)
 }
 
-#[tactic(auto, unfolding(expr_forms::specs::Operand::operand))]
+#[tactic(auto, unfolding(statement_grammar::specs::expr_forms::Operand::operand))]
 fn data_value(
     alloc: Global,
     cursor: &mut Cursor<'_>,
@@ -191,7 +192,7 @@ fn data_value(
 }
 
 /// Reads a reference outside of any expression.
-#[tactic(auto, unfolding(expr_forms::specs::Levels::data_reference))]
+#[tactic(auto, unfolding(statement_grammar::specs::expr_forms::Levels::data_reference))]
 pub fn data_reference(
     alloc: Global,
     cursor: &mut Cursor<'_>,
@@ -204,7 +205,7 @@ pub fn data_reference(
 }
 
 /// Reads a reference outside of any expression behind its first word, which stands there.
-#[tactic(auto, unfolding(expr_forms::specs::Levels::data_reference_behind))]
+#[tactic(auto, unfolding(statement_grammar::specs::expr_forms::Levels::data_reference_behind))]
 pub fn data_reference_behind(
     alloc: Global,
     cursor: &mut Cursor<'_>,
@@ -220,7 +221,7 @@ pub fn data_reference_behind(
 }
 
 /// Reads a reference or a literal outside of any expression.
-#[tactic(auto, unfolding(expr_forms::specs::Levels::data_operand))]
+#[tactic(auto, unfolding(statement_grammar::specs::expr_forms::Levels::data_operand))]
 pub fn data_operand(
     alloc: Global,
     cursor: &mut Cursor<'_>,
@@ -233,7 +234,7 @@ pub fn data_operand(
 }
 
 /// Reads an expression that no other one holds.
-#[tactic(auto, unfolding(expr_forms::specs::Levels::whole_expr))]
+#[tactic(auto, unfolding(statement_grammar::specs::expr_forms::Levels::whole_expr))]
 pub fn whole_expr(alloc: Global, cursor: &mut Cursor<'_>, names: &NameTable) -> Result<Side, Unread>
     ensures { Reads ((knots.whole_expr names.now).reads cursor.old) result cursor.new }
 {

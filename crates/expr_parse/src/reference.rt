@@ -1,19 +1,19 @@
 //! References.
 
 ghost use Rattle.grammar_forms.specs.Reading.{Reads};
-ghost use Rattle.expr_forms.specs.Reference as references;
-ghost use Rattle.expr_forms.specs.Levels.{inner};
+ghost use Rattle.statement_grammar.specs.expr_forms.Reference as references;
+ghost use Rattle.statement_grammar.specs.expr_forms.Levels.{inner};
 
 use crate::levels::{suffix, window};
-use cob_base::{Boxed, Items, Word};
+use cob_base::{Items, Word};
 use data_names::{Found, NameTable};
-use expr_forms::{Behind, Side, Suffix};
-use expr_sides::{at_of, found_fault, ref_side};
+use expr_sides::{at_of, both_behind, drop_subs, found_fault, ref_side};
 use grammar_forms::{Cursor, Position, Unread};
+use statement_grammar::expr_forms::{Behind, Side, Suffix};
 use std::alloc::Global;
 use word_forms::name;
 
-#[tactic(auto, unfolding(expr_forms::specs::Reference::qualifier))]
+#[tactic(auto, unfolding(statement_grammar::specs::expr_forms::Reference::qualifier))]
 fn qualifier(cursor: &mut Cursor<'_>) -> Result<Word, Unread>
     ensures { Reads (references.qualifier.reads cursor.old) result cursor.new }
 {
@@ -38,7 +38,7 @@ pub fn qualifiers(alloc: Global, cursor: &mut Cursor<'_>) -> Result<Items<Word>,
 }
 
 #[cycle(exprs)]
-#[tactic(auto, unfolding(expr_forms::specs::Reference::behind))]
+#[tactic(auto, unfolding(statement_grammar::specs::expr_forms::Reference::behind))]
 fn behind(
     alloc: Global,
     cursor: &mut Cursor<'_>,
@@ -65,12 +65,13 @@ fn behind(
         }),
         Suffix::Subs(subs) => {
             if cursor.sees_mark(b'(') {
-                let (inner, count) = window(alloc, cursor, names, levels, count)?;
-                Ok(Behind {
-                    subs,
-                    window: Some(Boxed::new(alloc, inner)?),
-                    count,
-                })
+                match window(alloc, cursor, names, levels, count) {
+                    Ok((inner, count)) => Ok(both_behind(alloc, subs, inner, count)?),
+                    Err(stop) => {
+                        drop_subs(subs);
+                        Err(stop)
+                    }
+                }
             } else {
                 Ok(Behind {
                     subs,
@@ -84,7 +85,7 @@ fn behind(
 
 /// Reads what stands behind the words of a reference.
 #[cycle(exprs)]
-#[tactic(auto, unfolding(expr_forms::specs::Reference::ref_behind))]
+#[tactic(auto, unfolding(statement_grammar::specs::expr_forms::Reference::ref_behind))]
 pub fn ref_behind(
     alloc: Global,
     cursor: &mut Cursor<'_>,
@@ -109,7 +110,7 @@ pub fn ref_behind(
 
 /// Reads a reference behind its first word.
 #[cycle(exprs)]
-#[tactic(auto, unfolding(expr_forms::specs::Reference::reference_behind))]
+#[tactic(auto, unfolding(statement_grammar::specs::expr_forms::Reference::reference_behind))]
 pub fn reference_behind(
     alloc: Global,
     cursor: &mut Cursor<'_>,
@@ -129,7 +130,7 @@ pub fn reference_behind(
 
 /// Reads a reference.
 #[cycle(exprs)]
-#[tactic(auto, unfolding(expr_forms::specs::Reference::reference))]
+#[tactic(auto, unfolding(statement_grammar::specs::expr_forms::Reference::reference))]
 pub fn reference(
     alloc: Global,
     cursor: &mut Cursor<'_>,

@@ -3,13 +3,16 @@
 ghost use Rattle.std.specs.Prelude.{◌≡◌};
 ghost use Rattle.grammar_forms.specs.Form as form;
 ghost use Rattle.grammar_forms.specs.Reading.{Reads};
-ghost use Rattle.expr_forms.specs.Subscript as subscripts;
+ghost use Rattle.statement_grammar.specs.expr_forms.Subscript as subscripts;
 
 use crate::reference::qualifiers;
 use cob_base::Items;
 use cob_tree::{Place, Sub};
 use data_names::NameTable;
-use expr_sides::{bare_sub, found_fault, item_sub, kind_of, number_sub, place_of, whole_fault_at};
+use expr_sides::{
+    bare_sub, drop_place, drop_subs, found_fault, item_sub, kind_of, number_sub, place_of,
+    sub_added, whole_fault_at,
+};
 use grammar_forms::{Cursor, Unread};
 use std::alloc::Global;
 use word_forms::{name, sees_digits, sees_name};
@@ -20,7 +23,7 @@ fn at_sub(cursor: &Cursor<'_>) -> bool
     cursor.sees_mark(b'+') || sees_digits(cursor) || sees_name(cursor)
 }
 
-#[tactic(auto, unfolding(expr_forms::specs::Subscript::plus_sub_form))]
+#[tactic(auto, unfolding(statement_grammar::specs::expr_forms::Subscript::plus_sub_form))]
 fn plus_sub_form(alloc: Global, cursor: &mut Cursor<'_>) -> Result<Sub, Unread>
     ensures { Reads (subscripts.plus_sub_form.reads cursor.old) result cursor.new }
 {
@@ -29,7 +32,7 @@ fn plus_sub_form(alloc: Global, cursor: &mut Cursor<'_>) -> Result<Sub, Unread>
     Ok(number_sub(digits))
 }
 
-#[tactic(auto, unfolding(expr_forms::specs::Subscript::number_sub_form))]
+#[tactic(auto, unfolding(statement_grammar::specs::expr_forms::Subscript::number_sub_form))]
 fn number_sub_form(alloc: Global, cursor: &mut Cursor<'_>) -> Result<Sub, Unread>
     ensures { Reads (subscripts.number_sub_form.reads cursor.old) result cursor.new }
 {
@@ -37,7 +40,7 @@ fn number_sub_form(alloc: Global, cursor: &mut Cursor<'_>) -> Result<Sub, Unread
     Ok(number_sub(digits))
 }
 
-#[tactic(auto, unfolding(expr_forms::specs::Subscript::item_sub_by))]
+#[tactic(auto, unfolding(statement_grammar::specs::expr_forms::Subscript::item_sub_by))]
 fn item_sub_by(
     alloc: Global,
     cursor: &mut Cursor<'_>,
@@ -48,12 +51,20 @@ fn item_sub_by(
     ensures { Reads ((subscripts.item_sub_by byte negative place).reads cursor.old)
         result cursor.new }
 {
-    cursor.mark(byte)?;
-    let (digits, _) = cursor.digits(alloc)?;
-    Ok(item_sub(alloc, place, negative, digits)?)
+    if let Err(stop) = cursor.mark(byte) {
+        drop_place(place);
+        return Err(stop);
+    }
+    match cursor.digits(alloc) {
+        Ok((digits, _)) => Ok(item_sub(alloc, place, negative, digits)?),
+        Err(stop) => {
+            drop_place(place);
+            Err(stop)
+        }
+    }
 }
 
-#[tactic(auto, unfolding(expr_forms::specs::Subscript::item_sub_behind))]
+#[tactic(auto, unfolding(statement_grammar::specs::expr_forms::Subscript::item_sub_behind))]
 fn item_sub_behind(alloc: Global, cursor: &mut Cursor<'_>, place: Place) -> Result<Sub, Unread>
     ensures { Reads ((subscripts.item_sub_behind place).reads cursor.old) result cursor.new }
 {
@@ -66,7 +77,7 @@ fn item_sub_behind(alloc: Global, cursor: &mut Cursor<'_>, place: Place) -> Resu
     }
 }
 
-#[tactic(auto, unfolding(expr_forms::specs::Subscript::item_sub_form))]
+#[tactic(auto, unfolding(statement_grammar::specs::expr_forms::Subscript::item_sub_form))]
 fn item_sub_form(alloc: Global, cursor: &mut Cursor<'_>, names: &NameTable) -> Result<Sub, Unread>
     ensures { Reads ((subscripts.item_sub_form names.now).reads cursor.old) result cursor.new }
 {
@@ -78,7 +89,7 @@ fn item_sub_form(alloc: Global, cursor: &mut Cursor<'_>, names: &NameTable) -> R
     item_sub_behind(alloc, cursor, place_of(found, of, Items::new(alloc), None))
 }
 
-#[tactic(auto, unfolding(expr_forms::specs::Subscript::sub))]
+#[tactic(auto, unfolding(statement_grammar::specs::expr_forms::Subscript::sub))]
 fn sub(alloc: Global, cursor: &mut Cursor<'_>, names: &NameTable) -> Result<Sub, Unread>
     ensures { Reads ((subscripts.sub names.now).reads cursor.old) result cursor.new }
 {
@@ -88,6 +99,25 @@ fn sub(alloc: Global, cursor: &mut Cursor<'_>, names: &NameTable) -> Result<Sub,
         number_sub_form(alloc, cursor)
     } else {
         item_sub_form(alloc, cursor, names)
+    }
+}
+
+/// One more subscript.
+fn sub_behind(
+    alloc: Global,
+    cursor: &mut Cursor<'_>,
+    names: &NameTable,
+    subs: Items<Sub>,
+) -> Result<Items<Sub>, Unread>
+    ensures { Reads ((form.added (subscripts.sub names.now) subs).reads cursor.old)
+        result cursor.new }
+{
+    match sub(alloc, cursor, names) {
+        Ok(next) => Ok(sub_added(subs, next)?),
+        Err(stop) => {
+            drop_subs(subs);
+            Err(stop)
+        }
     }
 }
 
@@ -102,7 +132,7 @@ pub fn more_subs(
 {
     let mut subs = first;
     'subs: while at_sub(cursor) {
-        subs.push(sub(alloc, cursor, names)?)?;
+        subs = sub_behind(alloc, cursor, names, subs)?;
     }
     Ok(subs)
 }

@@ -2,15 +2,15 @@
 
 ghost use Rattle.std.specs.Prelude.{◌≡◌};
 ghost use Rattle.grammar_forms.specs.Reading.{Reads};
-ghost use Rattle.expr_forms.specs.Window as windows;
-ghost use Rattle.expr_forms.specs.Levels.{inner};
+ghost use Rattle.statement_grammar.specs.expr_forms.Window as windows;
+ghost use Rattle.statement_grammar.specs.expr_forms.Levels.{inner};
 
 use crate::expression::expr;
 use cob_tree::{Expr, Window};
 use data_names::NameTable;
-use expr_forms::Side;
-use expr_sides::{expr_of, whole_fault};
+use expr_sides::{drop_side, drop_window, expr_of, whole_fault};
 use grammar_forms::{Cursor, Unread};
+use statement_grammar::expr_forms::Side;
 use std::alloc::Global;
 
 /// What is counted where a window's second expression begins.
@@ -21,7 +21,7 @@ fn second_count(alone: bool, count: u32) -> u32
 }
 
 #[cycle(exprs)]
-#[tactic(auto, unfolding(expr_forms::specs::Window::length_part))]
+#[tactic(auto, unfolding(statement_grammar::specs::expr_forms::Window::length_part))]
 fn length_part(
     alloc: Global,
     cursor: &mut Cursor<'_>,
@@ -43,7 +43,7 @@ fn length_part(
 
 /// Goes on behind the first expression of a window.
 #[cycle(exprs)]
-#[tactic(auto, unfolding(expr_forms::specs::Window::window_behind))]
+#[tactic(auto, unfolding(statement_grammar::specs::expr_forms::Window::window_behind))]
 pub fn window_behind(
     alloc: Global,
     cursor: &mut Cursor<'_>,
@@ -57,17 +57,33 @@ pub fn window_behind(
         count).reads
         cursor.old) result cursor.new }
 {
-    cursor.mark(b':')?;
+    if let Err(stop) = cursor.mark(b':') {
+        drop_side(first);
+        return Err(stop);
+    }
     cursor.note(whole_fault(&first));
-    let (length, count) = length_part(alloc, cursor, names, levels, second_count(alone, count))?;
-    cursor.mark(b')')?;
-    let from = expr_of(first.what);
-    Ok((Window { from, length }, count))
+    match length_part(alloc, cursor, names, levels, second_count(alone, count)) {
+        Ok((length, count)) => {
+            let from = expr_of(first.what);
+            let window = Window { from, length };
+            match cursor.mark(b')') {
+                Ok(_) => Ok((window, count)),
+                Err(stop) => {
+                    drop_window(window);
+                    Err(stop)
+                }
+            }
+        }
+        Err(stop) => {
+            drop_side(first);
+            Err(stop)
+        }
+    }
 }
 
 /// Reads a window.
 #[cycle(exprs)]
-#[tactic(auto, unfolding(expr_forms::specs::Window::in_window))]
+#[tactic(auto, unfolding(statement_grammar::specs::expr_forms::Window::in_window))]
 pub fn in_window(
     alloc: Global,
     cursor: &mut Cursor<'_>,

@@ -2,13 +2,15 @@
 
 ghost use Rattle.std.specs.Prelude.{◌≡◌};
 ghost use Rattle.cob_base.specs.Answers.{Makes};
-ghost use Rattle.expr_forms.specs.Chain as chains;
+ghost use Rattle.cob_tree.specs.declared.place.Expr.TheVariants as exprs;
+ghost use Rattle.statement_grammar.specs.expr_forms.Chain as chains;
 
+use crate::drops::{drop_expr, drop_side};
 use crate::fault::is_whole;
 use crate::side::expr_of;
 use cob_base::{Boxed, NoMemory};
 use cob_tree::{Expr, Op};
-use expr_forms::{Before, Chain, Make, Side, ValueKind, What};
+use statement_grammar::expr_forms::{Before, Chain, Make, Side, ValueKind, What};
 use std::alloc::Global;
 
 /// A sum of one term.
@@ -21,8 +23,27 @@ pub fn chain_of(side: Side) -> Chain
     }
 }
 
+/// Two expressions under an operator.
+fn both(alloc: Global, op: Op, left: Expr, right: Expr) -> Result<Expr, NoMemory>
+    ensures { Makes (exprs.Both op left right) result }
+{
+    match Boxed::new(alloc, left) {
+        Ok(left) => match Boxed::new(alloc, right) {
+            Ok(right) => Ok(Expr::Both(op, left, right)),
+            Err(fault) => {
+                drop(left);
+                Err(fault)
+            }
+        },
+        Err(fault) => {
+            drop_expr(right);
+            Err(fault)
+        }
+    }
+}
+
 /// The whole sum.
-#[tactic(auto, unfolding(expr_forms::specs::Chain::finish))]
+#[tactic(auto, unfolding(statement_grammar::specs::expr_forms::Chain::finish))]
 pub fn finish(alloc: Global, chain: Chain) -> Result<Side, NoMemory>
     ensures { Makes (chains.finish chain) result }
 {
@@ -30,15 +51,20 @@ pub fn finish(alloc: Global, chain: Chain) -> Result<Side, NoMemory>
     match before {
         None => Ok(last),
         Some(before) => {
-            let whole = before.whole && is_whole(last.kind);
-            let left = Boxed::new(alloc, before.left)?;
-            let right = Boxed::new(alloc, expr_of(last.what))?;
+            let Before {
+                left,
+                op,
+                position,
+                whole,
+            } = before;
+            let whole = whole && is_whole(last.kind);
+            let sum = both(alloc, op, left, expr_of(last.what))?;
             Ok(Side {
-                what: What::Sum(Expr::Both(before.op, left, right)),
+                what: What::Sum(sum),
                 kind: ValueKind::Number(whole),
                 make: Make::Joined,
-                position: before.position,
-                leaf: before.position,
+                position,
+                leaf: position,
             })
         }
     }
@@ -60,39 +86,57 @@ fn multiplied(alloc: Global, op: Op, exact: bool, left: Side, right: Side) -> Re
     ensures { Makes (chains.multiplied op exact left right) result }
 {
     let whole = exact && (is_whole(left.kind) && is_whole(right.kind));
-    let one = Boxed::new(alloc, expr_of(left.what))?;
-    let other = Boxed::new(alloc, expr_of(right.what))?;
+    let position = left.position;
+    let product = both(alloc, op, expr_of(left.what), expr_of(right.what))?;
     Ok(Side {
-        what: What::Sum(Expr::Both(op, one, other)),
+        what: What::Sum(product),
         kind: ValueKind::Number(whole),
         make: Make::Joined,
-        position: left.position,
-        leaf: left.position,
+        position,
+        leaf: position,
     })
 }
 
+/// The sum with one more factor.
+fn factored(
+    alloc: Global,
+    op: Op,
+    exact: bool,
+    chain: Chain,
+    right: Side,
+) -> Result<Chain, NoMemory>
+    ensures { Makes (record {
+      before = chain.before;
+      last = chains.multiplied op exact chain.last right;
+    }) result }
+{
+    let Chain { before, last } = chain;
+    match multiplied(alloc, op, exact, last, right) {
+        Ok(last) => Ok(Chain { before, last }),
+        Err(fault) => {
+            drop(before);
+            Err(fault)
+        }
+    }
+}
+
 /// The sum with one more term or factor.
-#[tactic(auto, unfolding(expr_forms::specs::Chain::joined))]
+#[tactic(auto, unfolding(statement_grammar::specs::expr_forms::Chain::joined))]
 pub fn joined(alloc: Global, op: Op, chain: Chain, right: Side) -> Result<Chain, NoMemory>
     ensures { Makes (chains.joined op chain right) result }
 {
     match op {
-        Op::Add | Op::Sub => {
-            let left = finish(alloc, chain)?;
-            Ok(Chain {
+        Op::Add | Op::Sub => match finish(alloc, chain) {
+            Ok(left) => Ok(Chain {
                 before: Some(opened(op, left)),
                 last: right,
-            })
-        }
-        Op::Mul => {
-            let Chain { before, last } = chain;
-            let last = multiplied(alloc, op, true, last, right)?;
-            Ok(Chain { before, last })
-        }
-        Op::Div => {
-            let Chain { before, last } = chain;
-            let last = multiplied(alloc, op, false, last, right)?;
-            Ok(Chain { before, last })
-        }
+            }),
+            Err(fault) => {
+                drop_side(right);
+                Err(fault)
+            }
+        },
+        Op::Mul => factored(alloc, op, true, chain, right),
+        Op::Div => factored(alloc, op, false, chain, right),
     }
 }

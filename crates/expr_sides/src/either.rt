@@ -1,19 +1,42 @@
 //! What may turn out to be subscripts or the sum of a window, as far as it is read.
 
-ghost use Rattle.std.specs.Prelude.{◌≡◌, Option, None};
+ghost use Rattle.std.specs.Prelude.{◌≡◌, Option, None, [], ◌∷◌, ◌++◌};
 ghost use Rattle.cob_base.specs.Answers.{Makes};
-ghost use Rattle.expr_forms.specs.Either as eithers;
-ghost use Rattle.expr_forms.specs.Fault.{number_fault};
+ghost use Rattle.statement_grammar.specs.expr_forms.Either as eithers;
+ghost use Rattle.statement_grammar.specs.expr_forms.Fault.{number_fault};
 
 use crate::chain::{chain_of, joined};
+use crate::drops::{drop_chain, drop_place, drop_subs};
 use crate::fault::{kind_of, last_fault, whole_fault_at};
 use crate::side::{digits_side, number_of, place_of, ref_side};
 use cob_base::{Boxed, Copied, Items, NoMemory, Text, Word};
 use cob_tree::{Op, Place, Sub};
 use data_names::Found;
-use expr_forms::Either;
 use grammar_forms::{Note, Position};
+use statement_grammar::expr_forms::Either;
 use std::alloc::Global;
+
+/// One more element; the list is let go where there is no memory.
+///
+/// It is generic, so that a check opens no tree where a list isn't kept.
+fn pushed<T: Drop>(mut items: Items<T>, item: T) -> Result<Items<T>, NoMemory>
+    ensures { Makes (items ++ item ∷ []) result }
+{
+    match items.push(item) {
+        Ok(()) => Ok(items),
+        Err(fault) => {
+            drop(items);
+            Err(fault)
+        }
+    }
+}
+
+/// One more subscript.
+pub fn sub_added(subs: Items<Sub>, sub: Sub) -> Result<Items<Sub>, NoMemory>
+    ensures { Makes (subs ++ sub ∷ []) result }
+{
+    pushed(subs, sub)
+}
 
 /// A number as a subscript.
 pub fn number_sub(digits: Text) -> Sub
@@ -29,8 +52,9 @@ pub fn number_sub(digits: Text) -> Sub
 pub fn item_sub(alloc: Global, place: Place, negative: bool, digits: Text) -> Result<Sub, NoMemory>
     ensures { Makes (eithers.item_sub place negative digits) result }
 {
+    let place = Boxed::new(alloc, place)?;
     Ok(Sub {
-        base: Some(Boxed::new(alloc, place)?),
+        base: Some(place),
         plus: number_of(negative, digits),
     })
 }
@@ -40,16 +64,21 @@ pub fn bare_sub(alloc: Global, place: Place) -> Result<Sub, NoMemory>
     ensures { Makes (eithers.bare_sub place) result }
 {
     let mut zero = Text::new(alloc);
-    zero.add(b"0")?;
-    item_sub(alloc, place, false, zero)
+    match zero.add(b"0") {
+        Ok(()) => item_sub(alloc, place, false, zero),
+        Err(fault) => {
+            drop_place(place);
+            Err(fault)
+        }
+    }
 }
 
 /// A number that may be a subscript or begin a sum.
 pub fn number_either(alloc: Global, digits: Text, position: Position) -> Result<Either, NoMemory>
     ensures { Makes (eithers.number_either digits position) result }
 {
-    let mut subs = Items::new(alloc);
-    subs.push(number_sub(digits.copy(alloc)?))?;
+    let copy = digits.copy(alloc)?;
+    let subs = sub_added(Items::new(alloc), number_sub(copy))?;
     Ok(Either {
         subs,
         base: None,
@@ -94,8 +123,26 @@ fn added_sub(
     }
 }
 
+fn subs_added(
+    alloc: Global,
+    subs: Items<Sub>,
+    base: Option<Place>,
+    negative: bool,
+    digits: Text,
+) -> Result<Items<Sub>, NoMemory>
+    ensures { Makes (subs ++ eithers.added_sub base negative digits ∷ []) result }
+{
+    match added_sub(alloc, base, negative, digits) {
+        Ok(sub) => sub_added(subs, sub),
+        Err(fault) => {
+            drop_subs(subs);
+            Err(fault)
+        }
+    }
+}
+
 /// One more number behind `+` or `-`.
-#[tactic(auto, unfolding(expr_forms::specs::Either::with_number))]
+#[tactic(auto, unfolding(statement_grammar::specs::expr_forms::Either::with_number))]
 pub fn with_number(
     alloc: Global,
     op: Op,
@@ -107,32 +154,65 @@ pub fn with_number(
     ensures { Makes (eithers.with_number op negative digits position either) result }
 {
     let Either {
-        mut subs,
+        subs,
         base,
         chain,
         leaves,
         fault,
     } = either;
-    subs.push(added_sub(alloc, base, negative, digits.copy(alloc)?)?)?;
-    Ok(Either {
-        subs,
-        base: None,
-        chain: joined(alloc, op, chain, digits_side(digits, position))?,
-        leaves: leaves.saturating_add(1),
-        fault,
-    })
+    let copy = match digits.copy(alloc) {
+        Ok(copy) => copy,
+        Err(stop) => {
+            drop_subs(subs);
+            drop(base);
+            drop_chain(chain);
+            return Err(stop);
+        }
+    };
+    let subs = match subs_added(alloc, subs, base, negative, copy) {
+        Ok(subs) => subs,
+        Err(stop) => {
+            drop_chain(chain);
+            return Err(stop);
+        }
+    };
+    match joined(alloc, op, chain, digits_side(digits, position)) {
+        Ok(chain) => Ok(Either {
+            subs,
+            base: None,
+            chain,
+            leaves: leaves.saturating_add(1),
+            fault,
+        }),
+        Err(stop) => {
+            drop_subs(subs);
+            Err(stop)
+        }
+    }
 }
 
 /// The subscripts that it spells.
-#[tactic(auto, unfolding(expr_forms::specs::Either::subs_of))]
+#[tactic(auto, unfolding(statement_grammar::specs::expr_forms::Either::subs_of))]
 pub fn subs_of(alloc: Global, either: Either) -> Result<Items<Sub>, NoMemory>
     ensures { Makes (eithers.subs_of either) result }
 {
-    let Either { mut subs, base, .. } = either;
-    if let Some(place) = base {
-        subs.push(bare_sub(alloc, place)?)?;
+    let Either {
+        subs,
+        base,
+        chain,
+        ..
+    } = either;
+    drop_chain(chain);
+    match base {
+        None => Ok(subs),
+        Some(place) => match bare_sub(alloc, place) {
+            Ok(sub) => sub_added(subs, sub),
+            Err(fault) => {
+                drop_subs(subs);
+                Err(fault)
+            }
+        },
     }
-    Ok(subs)
 }
 
 /// The fault of the last operand of the sum that it spells, which stands under an operator.

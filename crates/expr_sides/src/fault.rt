@@ -1,11 +1,11 @@
 //! What is wrong with how a side is used.
 
 ghost use Rattle.std.specs.Prelude.{◌≡◌};
-ghost use Rattle.expr_forms.specs.Fault as faults;
+ghost use Rattle.statement_grammar.specs.expr_forms.Fault as faults;
 
 use data_names::{Found, Kind};
-use expr_forms::{Chain, Make, Side, ValueKind};
 use grammar_forms::{NameKind, Note, Position};
+use statement_grammar::expr_forms::{Chain, Make, Side, ValueKind};
 
 fn fault_at(kind: NameKind, position: Position) -> Option<Note>
     ensures { result ≡ faults.fault_at kind position }
@@ -31,7 +31,7 @@ pub fn is_whole(kind: ValueKind) -> bool
 }
 
 /// The fault of what stands under an operator or a sign.
-#[tactic(auto, unfolding(expr_forms::specs::Fault::number_fault))]
+#[tactic(auto, unfolding(statement_grammar::specs::expr_forms::Fault::number_fault))]
 pub fn number_fault(side: &Side) -> Option<Note>
     ensures { result ≡ faults.number_fault side.now }
 {
@@ -49,7 +49,7 @@ pub fn last_fault(chain: &Chain) -> Option<Note>
 }
 
 /// The fault of what is to be a number without decimals.
-#[tactic(auto, unfolding(expr_forms::specs::Fault::whole_fault_at))]
+#[tactic(auto, unfolding(statement_grammar::specs::expr_forms::Fault::whole_fault_at))]
 pub fn whole_fault_at(position: Position, kind: ValueKind) -> Option<Note>
     ensures { result ≡ faults.whole_fault_at position kind }
 {
@@ -68,7 +68,7 @@ pub fn whole_fault(side: &Side) -> Option<Note>
 }
 
 /// The fault of what is compared or tested.
-#[tactic(auto, unfolding(expr_forms::specs::Fault::value_fault))]
+#[tactic(auto, unfolding(statement_grammar::specs::expr_forms::Fault::value_fault))]
 pub fn value_fault(side: &Side) -> Option<Note>
     ensures { result ≡ faults.value_fault side.now }
 {
@@ -79,7 +79,7 @@ pub fn value_fault(side: &Side) -> Option<Note>
 }
 
 /// The fault of what stands as a condition.
-#[tactic(auto, unfolding(expr_forms::specs::Fault::condition_fault))]
+#[tactic(auto, unfolding(statement_grammar::specs::expr_forms::Fault::condition_fault))]
 pub fn condition_fault(side: &Side) -> Option<Note>
     ensures { result ≡ faults.condition_fault side.now }
 {
@@ -121,7 +121,7 @@ fn kinds_fault(left: &Side, right: &Side) -> Option<Note>
 }
 
 /// The fault of two sides of a relation.
-#[tactic(auto, unfolding(expr_forms::specs::Fault::relation_fault))]
+#[tactic(auto, unfolding(statement_grammar::specs::expr_forms::Fault::relation_fault))]
 pub fn relation_fault(left: &Side, right: &Side) -> Option<Note>
     ensures { result ≡ faults.relation_fault left.now right.now }
 {
@@ -173,7 +173,7 @@ pub fn is_condition(kind: ValueKind) -> bool
 }
 
 /// The fault of a name with so many subscripts behind it, and with a window or none.
-#[tactic(auto, unfolding(expr_forms::specs::Fault::found_fault))]
+#[tactic(auto, unfolding(statement_grammar::specs::expr_forms::Fault::found_fault))]
 pub fn found_fault(found: Found, subs: usize, windowed: bool, position: Position) -> Option<Note>
     ensures { result ≡ faults.found_fault found subs windowed position }
 {

@@ -2,19 +2,25 @@
 //! definition of its name in `expr_forms` says.
 //!
 //! `token` sees which token is next, `fault` says what is wrong with a use, `side`, `chain` and
-//! `either` make what is read. Hold the definitions, not this crate, against ISO 1989:1985.
+//! `either` make what is read, `drops` lets it go. Hold the definitions, not this crate, against
+//! ISO 1989:1985.
 #![tactic(auto)]
 
+mod behind;
 mod chain;
+mod drops;
 mod either;
 mod fault;
 mod limit;
 mod side;
 mod token;
 
+pub use behind::{both_behind, window_suffix};
 pub use chain::{chain_of, finish, joined};
+pub use drops::{drop_chain, drop_either, drop_place, drop_side, drop_subs, drop_window, sum_of};
 pub use either::{
-    bare_sub, either_fault, item_sub, number_either, number_sub, ref_either, subs_of, with_number,
+    bare_sub, either_fault, item_sub, number_either, number_sub, ref_either, sub_added, subs_of,
+    with_number,
 };
 pub use fault::{
     condition_fault, found_fault, is_condition, is_whole, item_of, kind_of, last_fault,

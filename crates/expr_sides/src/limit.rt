@@ -1,7 +1,7 @@
 //! What is counted while a condition or an expression is read.
 
 ghost use Rattle.grammar_forms.specs.Reading.{Reads};
-ghost use Rattle.expr_forms.specs.Limit as limits;
+ghost use Rattle.statement_grammar.specs.expr_forms.Limit as limits;
 
 use grammar_forms::{Cursor, Unread, Why};
 use std::alloc::Global;

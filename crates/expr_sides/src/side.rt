@@ -2,14 +2,14 @@
 
 ghost use Rattle.std.specs.Prelude.{◌≡◌};
 ghost use Rattle.cob_base.specs.Answers.{Makes};
-ghost use Rattle.expr_forms.specs.Side as sides;
+ghost use Rattle.statement_grammar.specs.expr_forms.Side as sides;
 
 use crate::fault::{is_whole, item_of, kind_of};
 use cob_base::{Boxed, Items, NoMemory, Text, Word};
 use cob_tree::{Expr, Figure, Number, Operand, Place, Sub, Window};
 use data_names::Found;
-use expr_forms::{Make, Shape, Side, ValueKind, What};
 use grammar_forms::Position;
+use statement_grammar::expr_forms::{Make, Shape, Side, ValueKind, What};
 use std::alloc::Global;
 
 fn kind_within(window: &Option<Boxed<Window>>, kind: ValueKind) -> ValueKind
@@ -67,7 +67,7 @@ pub fn place_of(
 }
 
 /// A reference alone.
-#[tactic(auto, unfolding(expr_forms::specs::Side::ref_side))]
+#[tactic(auto, unfolding(statement_grammar::specs::expr_forms::Side::ref_side))]
 pub fn ref_side(
     found: Found,
     of: Items<Word>,
@@ -88,7 +88,7 @@ pub fn ref_side(
 }
 
 /// A literal alone.
-#[tactic(auto, unfolding(expr_forms::specs::Side::literal_side))]
+#[tactic(auto, unfolding(statement_grammar::specs::expr_forms::Side::literal_side))]
 pub fn literal_side(operand: Operand, kind: ValueKind, position: Position) -> Side
     ensures { result ≡ sides.literal_side operand kind position }
 {
@@ -145,7 +145,7 @@ pub fn literal_kind(literal: &Operand) -> ValueKind
 }
 
 /// What stands in parentheses, or behind a sign that is dropped.
-#[tactic(auto, unfolding(expr_forms::specs::Side::sum_side))]
+#[tactic(auto, unfolding(statement_grammar::specs::expr_forms::Side::sum_side))]
 pub fn sum_side(position: Position, side: Side) -> Side
     ensures { result ≡ sides.sum_side position side }
 {
@@ -159,7 +159,7 @@ pub fn sum_side(position: Position, side: Side) -> Side
 }
 
 /// The negative.
-#[tactic(auto, unfolding(expr_forms::specs::Side::negated))]
+#[tactic(auto, unfolding(statement_grammar::specs::expr_forms::Side::negated))]
 pub fn negated(alloc: Global, position: Position, side: Side) -> Result<Side, NoMemory>
     ensures { Makes (sides.negated position side) result }
 {
@@ -186,7 +186,7 @@ fn enclosed_what(what: What) -> What
 }
 
 /// What stands in parentheses in which a condition may stand too.
-#[tactic(auto, unfolding(expr_forms::specs::Side::enclosed))]
+#[tactic(auto, unfolding(statement_grammar::specs::expr_forms::Side::enclosed))]
 pub fn enclosed(position: Position, side: Side) -> Side
     ensures { result ≡ sides.enclosed position side }
 {

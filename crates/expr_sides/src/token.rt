@@ -5,7 +5,7 @@ ghost use Rattle.cob_base.specs.Bytes.{colon};
 ghost use Rattle.grammar_forms.specs.Form as form;
 ghost use Rattle.grammar_forms.specs.Part.{is_mark};
 ghost use Rattle.grammar_forms.specs.Reading.{Reads};
-ghost use Rattle.expr_forms.specs.Token as tokens;
+ghost use Rattle.statement_grammar.specs.expr_forms.Token as tokens;
 
 use cob_tree::Op;
 use cobol_lex::TokenKind;
@@ -13,7 +13,7 @@ use grammar_forms::{Cursor, Unread, Why};
 use word_forms::{sees_literal, sees_name};
 
 /// Whether OF or IN is next.
-#[tactic(auto, unfolding(expr_forms::specs::Token::is_of))]
+#[tactic(auto, unfolding(statement_grammar::specs::expr_forms::Token::is_of))]
 pub fn at_of(cursor: &Cursor<'_>) -> bool
     ensures { result ≡ form.is_next tokens.is_of cursor.now }
 {
@@ -21,7 +21,7 @@ pub fn at_of(cursor: &Cursor<'_>) -> bool
 }
 
 /// Whether an operand is next.
-#[tactic(auto, unfolding(expr_forms::specs::Token::begins_operand))]
+#[tactic(auto, unfolding(statement_grammar::specs::expr_forms::Token::begins_operand))]
 pub fn at_operand(cursor: &Cursor<'_>) -> bool
     ensures { result ≡ form.is_next tokens.begins_operand cursor.now }
 {
@@ -48,7 +48,7 @@ fn op_of_byte(byte: u8) -> Option<Op>
 }
 
 /// Whether an operator of an expression is next.
-#[tactic(auto, unfolding(expr_forms::specs::Token::begins_turn))]
+#[tactic(auto, unfolding(statement_grammar::specs::expr_forms::Token::begins_turn))]
 pub fn at_turn(cursor: &Cursor<'_>) -> bool
     ensures { result ≡ form.is_next tokens.begins_turn cursor.now }
 {

@@ -11,28 +11,28 @@ use Rattle.grammar_forms.specs.declared.note.Position.{Position}
 use Rattle.grammar_forms.specs.Form.{Form}
 use Rattle.grammar_forms.proofs.MakerLaws as laws
 use Rattle.grammar_forms.proofs.MakerLaws.{Law}
-use Rattle.fit_programs.specs.Fit.{stmt_names_few, arms_name_few, when_names_few}
-use Rattle.stmt_forms.specs.declared.head.NotPhrase.{NotPhrase}
-use Rattle.stmt_forms.specs.declared.head.NotPhrase.TheVariants as nots
-use Rattle.stmt_forms.specs.declared.head.PerformHead.{PerformHead}
-use Rattle.stmt_forms.specs.declared.head.PerformHead.TheVariants as heads
-use Rattle.stmt_forms.specs.declared.head.ReadHead.{ReadHead}
-use Rattle.stmt_forms.specs.declared.head.ReadHead.TheVariants as reads
-use Rattle.stmt_forms.specs.declared.phrase.Phrase.{Phrase}
-use Rattle.stmt_forms.specs.declared.phrase.Phrase.TheVariants as phrases
-use Rattle.stmt_forms.specs.declared.scope.Scope.{Scope}
-use Rattle.stmt_forms.specs.declared.whens.Whens.{Whens}
-use Rattle.stmt_forms.specs.Part.{Parts}
-use Rattle.stmt_forms.specs.Laws.{PartsAreLawful}
-use Rattle.stmt_forms.specs.Arms.{Level, Found}
-use Rattle.stmt_forms.specs.Arms as arms
-use Rattle.stmt_forms.specs.Choice as choice
-use Rattle.stmt_forms.specs.File as file
-use Rattle.stmt_forms.specs.Loop as loops
-use Rattle.stmt_forms.specs.Stmt as forms
-use Rattle.stmt_forms.proofs.HoldingLaws as law
-use Rattle.stmt_forms.proofs.HoldingLaws.{LevelIsLawful}
-use Rattle.stmt_forms.proofs.SimpleLaws as simple_law
+use Rattle.cobol_laws.specs.fit_programs.Fit.{stmt_names_few, arms_name_few, when_names_few}
+use Rattle.statement_grammar.specs.declared.stmt_forms.head.NotPhrase.{NotPhrase}
+use Rattle.statement_grammar.specs.declared.stmt_forms.head.NotPhrase.TheVariants as nots
+use Rattle.statement_grammar.specs.declared.stmt_forms.head.PerformHead.{PerformHead}
+use Rattle.statement_grammar.specs.declared.stmt_forms.head.PerformHead.TheVariants as heads
+use Rattle.statement_grammar.specs.declared.stmt_forms.head.ReadHead.{ReadHead}
+use Rattle.statement_grammar.specs.declared.stmt_forms.head.ReadHead.TheVariants as reads
+use Rattle.statement_grammar.specs.declared.stmt_forms.phrase.Phrase.{Phrase}
+use Rattle.statement_grammar.specs.declared.stmt_forms.phrase.Phrase.TheVariants as phrases
+use Rattle.statement_grammar.specs.declared.stmt_forms.scope.Scope.{Scope}
+use Rattle.statement_grammar.specs.declared.stmt_forms.whens.Whens.{Whens}
+use Rattle.statement_grammar.specs.stmt_forms.Part.{Parts}
+use Rattle.statement_grammar.specs.stmt_forms.Laws.{PartsAreLawful}
+use Rattle.statement_grammar.specs.stmt_forms.Arms.{Level, Found}
+use Rattle.statement_grammar.specs.stmt_forms.Arms as arms
+use Rattle.statement_grammar.specs.stmt_forms.Choice as choice
+use Rattle.statement_grammar.specs.stmt_forms.File as file
+use Rattle.statement_grammar.specs.stmt_forms.Loop as loops
+use Rattle.statement_grammar.specs.stmt_forms.Stmt as forms
+use Rattle.statement_grammar.proofs.stmt_forms_lemmas.HoldingLaws as law
+use Rattle.statement_grammar.proofs.stmt_forms_lemmas.HoldingLaws.{LevelIsLawful}
+use Rattle.statement_grammar.proofs.stmt_forms_lemmas.SimpleLaws as simple_law
 use Rattle.language.specs.All.{all}
 use Rattle.named_programs.proofs.Made.{all-added}
 use Rattle.few_stmts.specs.Giving.{GivesOfFew}

@@ -8,3 +8,5 @@ pub mod Simple
 pub mod Holding
 -- Sentences, paragraphs and the division.
 pub mod Paragraphs
+-- EXIT without a further word stands alone in the sentences that are read.
+pub mod exit_stmts_lemmas

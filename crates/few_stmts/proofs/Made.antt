@@ -17,7 +17,7 @@ use Rattle.cob_tree.specs.declared.stmt.Stmt.TheVariants as stmts
 use Rattle.cob_tree.specs.declared.stmt.When.{When, roll-When, fold-roll-When}
 use Rattle.language.specs.All.{all}
 use Rattle.named_programs.proofs.Made.{both}
-use Rattle.fit_programs.specs.Fit.{few_step, few_arms, few_when, stmt_names_few, arms_name_few, when_names_few}
+use Rattle.cobol_laws.specs.fit_programs.Fit.{few_step, few_arms, few_when, stmt_names_few, arms_name_few, when_names_few}
 use Rattle.few_stmts.specs.Paragraph.{stmts_name_few}
 
 abbrev pub NamesFew : Stmt → Type 0

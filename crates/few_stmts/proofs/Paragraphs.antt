@@ -5,14 +5,14 @@ use Rattle.cob_tree.specs.declared.program.Paragraph.{Paragraph}
 use Rattle.cob_tree.specs.declared.program.Sentence.{Sentence}
 use Rattle.grammar_forms.specs.declared.note.Position.{Position}
 use Rattle.grammar_forms.proofs.MakerLaws as laws
-use Rattle.stmt_forms.specs.declared.outline.Outline.{Outline}
-use Rattle.stmt_forms.specs.declared.scope.Scope.{Scope}
-use Rattle.stmt_forms.specs.Part.{Parts}
-use Rattle.stmt_forms.specs.Laws.{PartsAreLawful}
-use Rattle.stmt_forms.specs.Arms.{Found}
-use Rattle.stmt_forms.specs.Stmt.{max_nesting}
-use Rattle.stmt_forms.specs.Paragraph as paragraphs
-use Rattle.stmt_forms.proofs.ParagraphLaws as law
+use Rattle.statement_grammar.specs.declared.stmt_forms.outline.Outline.{Outline}
+use Rattle.statement_grammar.specs.declared.stmt_forms.scope.Scope.{Scope}
+use Rattle.statement_grammar.specs.stmt_forms.Part.{Parts}
+use Rattle.statement_grammar.specs.stmt_forms.Laws.{PartsAreLawful}
+use Rattle.statement_grammar.specs.stmt_forms.Arms.{Found}
+use Rattle.statement_grammar.specs.stmt_forms.Stmt.{max_nesting}
+use Rattle.statement_grammar.specs.stmt_forms.Paragraph as paragraphs
+use Rattle.statement_grammar.proofs.stmt_forms_lemmas.ParagraphLaws as law
 use Rattle.named_programs.proofs.Made.{both, all-added}
 use Rattle.few_stmts.specs.Giving.{GivesOfFew}
 use Rattle.few_stmts.specs.Paragraph.{sentence_names_few, sentences_name_few, paragraph_names_few, paragraphs_name_few}

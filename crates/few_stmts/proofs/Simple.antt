@@ -5,15 +5,15 @@ use Rattle.std.specs.Prelude.{codes, nat_lt}
 use Rattle.cob_tree.specs.declared.stmt.Stmt.{Stmt}
 use Rattle.grammar_forms.specs.declared.note.Position.{Position}
 use Rattle.grammar_forms.proofs.MakerLaws as laws
-use Rattle.fit_programs.specs.Fit.{stmt_names_few}
-use Rattle.stmt_forms.specs.declared.scope.Scope.{Scope}
-use Rattle.stmt_forms.specs.Part.{Parts}
-use Rattle.stmt_forms.specs.Laws.{PartsAreLawful}
-use Rattle.stmt_forms.specs.Move as move
-use Rattle.stmt_forms.specs.File as file
-use Rattle.stmt_forms.specs.Jump as jump
-use Rattle.stmt_forms.specs.Stmt as forms
-use Rattle.stmt_forms.proofs.SimpleLaws as law
+use Rattle.cobol_laws.specs.fit_programs.Fit.{stmt_names_few}
+use Rattle.statement_grammar.specs.declared.stmt_forms.scope.Scope.{Scope}
+use Rattle.statement_grammar.specs.stmt_forms.Part.{Parts}
+use Rattle.statement_grammar.specs.stmt_forms.Laws.{PartsAreLawful}
+use Rattle.statement_grammar.specs.stmt_forms.Move as move
+use Rattle.statement_grammar.specs.stmt_forms.File as file
+use Rattle.statement_grammar.specs.stmt_forms.Jump as jump
+use Rattle.statement_grammar.specs.stmt_forms.Stmt as forms
+use Rattle.statement_grammar.proofs.stmt_forms_lemmas.SimpleLaws as law
 use Rattle.named_programs.proofs.Made.{all-added}
 use Rattle.few_stmts.specs.Giving.{GivesOfFew}
 use Rattle.few_stmts.specs.Paragraph.{stmts_name_few}

@@ -3,7 +3,7 @@ use Rattle.std.specs.Prelude.{Bool, List, map}
 use Rattle.cob_tree.specs.declared.program.Paragraph.{Paragraph}
 use Rattle.cob_tree.specs.declared.program.Sentence.{Sentence}
 use Rattle.cob_tree.specs.declared.stmt.Stmt.{Stmt}
-use Rattle.fit_programs.specs.Fit.{stmt_names_few}
+use Rattle.cobol_laws.specs.fit_programs.Fit.{stmt_names_few}
 use Rattle.language.specs.All.{all}
 
 abbrev pub stmts_name_few : List Stmt → Bool

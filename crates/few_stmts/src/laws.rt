@@ -3,10 +3,10 @@
 ghost use Rattle.std.specs.Prelude.{ℕ, ◌≡◌, ◌<◌, ◌^◌, true};
 ghost use Rattle.few_stmts.specs.Giving.{GivesOfFew};
 ghost use Rattle.few_stmts.specs.Paragraph.{paragraphs_name_few};
-ghost use Rattle.stmt_forms.specs.Laws.{PartsAreLawful};
-ghost use Rattle.stmt_forms.specs.Paragraph.{division};
+ghost use Rattle.statement_grammar.specs.stmt_forms.Laws.{PartsAreLawful};
+ghost use Rattle.statement_grammar.specs.stmt_forms.Paragraph.{division};
 
-use stmt_forms::Made;
+use statement_grammar::stmt_forms::Made;
 
 /// Where the tokens that are left can be counted with 18 digits, each GO TO DEPENDING of a division
 /// that is read of them names fewer than 10^18 paragraphs.

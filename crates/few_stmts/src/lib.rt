@@ -4,6 +4,7 @@
 //! `specs/Giving.antt` says what a form gives of few tokens. The crate has no code.
 #![tactic(auto)]
 
+pub mod exit_stmts;
 mod laws;
 
 pub use laws::statements_name_few;

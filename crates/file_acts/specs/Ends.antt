@@ -4,6 +4,8 @@ use Rattle.statements.specs.Filing.{Ended}
 use Rattle.statements.specs.Filing as files
 use Rattle.cob_act.specs.declared.acting.Done.{Done}
 use Rattle.cob_act.specs.declared.acting.Done.TheVariants.{Went, Shown, Chose, Abended}
+use Rattle.file_desk.specs.declared.tried.Tried.{Tried}
+use Rattle.file_desk.specs.declared.tried.Tried.TheVariants as tried
 use Rattle.file_desk.specs.Seen.{Seen}
 use Rattle.file_desk.specs.Falling.{FellOff, SameBench}
 use Rattle.file_acts.specs.declared.fault.Fault.{Fault}
@@ -15,6 +17,12 @@ ended_as Went = files.Went
 ended_as Shown = files.Went
 ended_as (Chose arm) = files.Chose arm
 ended_as (Abended abend) = files.Abended abend
+
+-- what an operation comes to, as the status of a statement or why it broke off
+abbrev pub answered : Tried → Result ℕ Fault
+answered (tried.Status status) = Ok status
+answered tried.Failed = Err faults.Device
+answered tried.NoMemory = Err faults.NoMemory
 
 -- ---- the bench then
 

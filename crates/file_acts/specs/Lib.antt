@@ -2,3 +2,5 @@
 pub mod Ends
 -- an item as a place
 pub mod Record
+-- what a statement makes of a world that stands over devices which tell their files
+pub mod Over

@@ -1,7 +1,13 @@
 //! The statements.
 
-ghost use Rattle.std.specs.Prelude.{◌≤◌, map, vec_len};
-ghost use Rattle.file_acts.specs.Ends.{DoneOver};
+ghost use Rattle.std.specs.Prelude.{◌≡◌, ◌≤◌, ◌==◌, ◌&&◌, IfOk, Ok, if◌then◌else◌, length, map, option_copied, slice_get, take, vec_len};
+ghost use Rattle.cob_store.specs.Store.{fitted, put_at};
+ghost use Rattle.file_model.specs.Attempts.{read_at};
+ghost use Rattle.file_model.specs.World.{World};
+ghost use Rattle.statements.specs.Does.{declared_with};
+ghost use Rattle.statements.specs.Filing.{Chose, Went, address_by, each_file, from_by, opened, read, rewritten, shut, written};
+ghost use Rattle.file_acts.specs.Ends.{DoneOver, ended_as};
+ghost use Rattle.file_acts.specs.Over.{Did, EndsAs, IsOver, PutsOut, Tries, read_then};
 
 use crate::desk::{close, open, read, rewrite, write};
 use crate::fault::Fault;
@@ -10,7 +16,7 @@ use crate::status::{settled, status_spot};
 use cob_act::Done;
 use cob_base::NoMemory;
 use cob_store::{Areas, Spot, Store};
-use cob_tree::{Abend, Opening, Operand, Place, Program};
+use cob_tree::{Abend, FileEntry, Opening, Operand, Place, Program};
 use file_desk::Watched;
 use file_model::{Bench, Device, FileTable};
 
@@ -26,6 +32,14 @@ fn opened(
     ensures bench { DoneOver result bench.old.left bench.new.left
         (map ⟦<Box<dyn Device> as Watched>⟧.seen bench.old.devices.items)
         (map ⟦<Box<dyn Device> as Watched>⟧.seen bench.new.devices.items) }
+    ensures does { (world : World) → IsOver program.now.files
+        (take bench.old.left (map ⟦<Box<dyn Device> as Watched>⟧.seen bench.old.devices.items))
+        table.old.rows world →
+        Did program.now.files result world
+        (opened (declared_with program.now areas.now) store.old world opening)
+        store.new
+        (take bench.new.left (map ⟦<Box<dyn Device> as Watched>⟧.seen bench.new.devices.items))
+        table.new.rows }
 {
     match status_spot(program, areas, store, opening.file) {
         Err(abend) => Ok(Done::Abended(abend)),
@@ -50,6 +64,14 @@ pub fn all_opened(
     ensures bench { DoneOver result bench.old.left bench.new.left
         (map ⟦<Box<dyn Device> as Watched>⟧.seen bench.old.devices.items)
         (map ⟦<Box<dyn Device> as Watched>⟧.seen bench.new.devices.items) }
+    ensures does { (world : World) → IsOver program.now.files
+        (take bench.old.left (map ⟦<Box<dyn Device> as Watched>⟧.seen bench.old.devices.items))
+        table.old.rows world →
+        Did program.now.files result world
+        (each_file (opened (declared_with program.now areas.now)) store.old world openings.now)
+        store.new
+        (take bench.new.left (map ⟦<Box<dyn Device> as Watched>⟧.seen bench.new.devices.items))
+        table.new.rows }
 {
     for opening in openings {
         if let Done::Abended(abend) = opened(program, areas, store, bench, table, *opening)? {
@@ -71,6 +93,14 @@ fn shut(
     ensures bench { DoneOver result bench.old.left bench.new.left
         (map ⟦<Box<dyn Device> as Watched>⟧.seen bench.old.devices.items)
         (map ⟦<Box<dyn Device> as Watched>⟧.seen bench.new.devices.items) }
+    ensures does { (world : World) → IsOver program.now.files
+        (take bench.old.left (map ⟦<Box<dyn Device> as Watched>⟧.seen bench.old.devices.items))
+        table.old.rows world →
+        Did program.now.files result world
+        (shut (declared_with program.now areas.now) store.old world file)
+        store.new
+        (take bench.new.left (map ⟦<Box<dyn Device> as Watched>⟧.seen bench.new.devices.items))
+        table.new.rows }
 {
     match status_spot(program, areas, store, file) {
         Err(abend) => Ok(Done::Abended(abend)),
@@ -95,6 +125,14 @@ pub fn all_shut(
     ensures bench { DoneOver result bench.old.left bench.new.left
         (map ⟦<Box<dyn Device> as Watched>⟧.seen bench.old.devices.items)
         (map ⟦<Box<dyn Device> as Watched>⟧.seen bench.new.devices.items) }
+    ensures does { (world : World) → IsOver program.now.files
+        (take bench.old.left (map ⟦<Box<dyn Device> as Watched>⟧.seen bench.old.devices.items))
+        table.old.rows world →
+        Did program.now.files result world
+        (each_file (shut (declared_with program.now areas.now)) store.old world files.now)
+        store.new
+        (take bench.new.left (map ⟦<Box<dyn Device> as Watched>⟧.seen bench.new.devices.items))
+        table.new.rows }
 {
     for file in files {
         if let Done::Abended(abend) = shut(program, areas, store, bench, table, *file)? {
@@ -104,7 +142,9 @@ pub fn all_shut(
     Ok(Done::Went)
 }
 
-fn make_room(scratch: &mut Vec<u8>, size: usize) -> Result<(), NoMemory> {
+fn make_room(scratch: &mut Vec<u8>, size: usize) -> Result<(), NoMemory>
+    ensures { IfOk result (λ u. length scratch.new.items ≡ size) }
+{
     scratch.clear();
     scratch.resize(size, b' ')?;
     Ok(())
@@ -122,13 +162,18 @@ pub struct Reading<'a> {
 }
 
 // The record is put before the status is.
-fn record_put(store: &mut Store, spot: Spot, status: u8, record: &[u8]) {
+fn record_put(store: &mut Store, spot: Spot, status: u8, bytes: &[u8])
+    ensures { store.new ≡ (if status == 0
+        then put_at store.old spot (fitted spot.length bytes.now) else store.old) }
+{
     if status == 0 {
-        store.put_bytes(spot, record);
+        store.put_bytes(spot, bytes);
     }
 }
 
-fn chosen(arms: bool, arm: usize) -> Done {
+fn chosen(arms: bool, arm: usize) -> Done
+    ensures { ended_as result ≡ (if arms then Chose arm else Went) }
+{
     if arms { Done::Chose(arm) } else { Done::Went }
 }
 
@@ -140,7 +185,11 @@ fn read_end(
     scratch: &mut Vec<u8>,
     reading: Reading,
     status: u8,
-) -> Result<Done, NoMemory> {
+) -> Result<Done, NoMemory>
+    ensures { IfOk result (λ done. EndsAs done store.new
+        (read_then (declared_with program.now areas.now) reading.entry.file
+        (option_copied reading.entry.into) reading.entry.arms status store.old)) }
+{
     if status != 0 {
         return Ok(chosen(reading.arms, 1));
     }
@@ -148,6 +197,43 @@ fn read_end(
         Err(abend) => Ok(Done::Abended(abend)),
         Ok(()) => Ok(chosen(reading.arms, 2)),
     }
+}
+
+// The next record of a file, in `scratch`, which is made as long.
+fn next_record(
+    bench: &mut Bench,
+    table: &mut FileTable,
+    files: &[FileEntry],
+    file: u32,
+    scratch: &mut Vec<u8>,
+    size: usize,
+) -> Result<u8, Fault>
+    ensures bench { DoneOver result bench.old.left bench.new.left
+        (map ⟦<Box<dyn Device> as Watched>⟧.seen bench.old.devices.items)
+        (map ⟦<Box<dyn Device> as Watched>⟧.seen bench.new.devices.items) }
+    ensures does { (world : World) → IsOver files.now
+        (take bench.old.left (map ⟦<Box<dyn Device> as Watched>⟧.seen bench.old.devices.items))
+        table.old.rows world →
+        Tries files.now result
+        (read_at world file (address_by (slice_get files.now file)) size)
+        (take bench.new.left (map ⟦<Box<dyn Device> as Watched>⟧.seen bench.new.devices.items))
+        table.new.rows }
+    ensures came { (world : World) → IsOver files.now
+        (take bench.old.left (map ⟦<Box<dyn Device> as Watched>⟧.seen bench.old.devices.items))
+        table.old.rows world → result ≡ Ok 0 → scratch.new.items
+        ≡ (read_at world file (address_by (slice_get files.now file)) size).bytes }
+    ensures room { IfOk result (λ status. length scratch.new.items ≡ size) }
+{
+    make_room(scratch, size)?;
+    let status = read(bench, table, files, file, scratch.as_mut_slice())?;
+    Ok(status)
+}
+
+// AT END takes care of the end.
+fn is_cared(at_end: bool, status: u8) -> bool
+    ensures { result ≡ (at_end && status == 10) }
+{
+    at_end && status == 10
 }
 
 /// READ. It chooses arm 1 at the end, and 2 where a record came.
@@ -164,17 +250,33 @@ pub fn read_one(
     ensures bench { DoneOver result bench.old.left bench.new.left
         (map ⟦<Box<dyn Device> as Watched>⟧.seen bench.old.devices.items)
         (map ⟦<Box<dyn Device> as Watched>⟧.seen bench.new.devices.items) }
+    ensures does { (world : World) → IsOver program.now.files
+        (take bench.old.left (map ⟦<Box<dyn Device> as Watched>⟧.seen bench.old.devices.items))
+        table.old.rows world →
+        Did program.now.files result world
+        (read (declared_with program.now areas.now) store.old world reading.entry.file
+        (option_copied reading.entry.into) reading.entry.at_end reading.entry.arms)
+        store.new
+        (take bench.new.left (map ⟦<Box<dyn Device> as Watched>⟧.seen bench.new.devices.items))
+        table.new.rows }
 {
     let item = match status_spot(program, areas, store, reading.file) {
         Err(abend) => return Ok(Done::Abended(abend)),
         Ok(item) => item,
     };
     let spot = record_spot(program, areas, reading.file);
-    make_room(scratch, spot.length as usize)?;
     let files = program.files.as_slice();
-    let status = read(bench, table, files, reading.file, scratch.as_mut_slice())?;
+    let status = next_record(
+        bench,
+        table,
+        files,
+        reading.file,
+        scratch,
+        spot.length as usize,
+    )?;
     record_put(store, spot, status, scratch.as_slice());
-    match settled(store, item, reading.at_end && status == 10, status) {
+    let cared = is_cared(reading.at_end, status);
+    match settled(store, item, cared, status) {
         Done::Abended(abend) => Ok(Done::Abended(abend)),
         _ => Ok(read_end(program, areas, store, scratch, reading, status)?),
     }
@@ -188,7 +290,11 @@ fn put_out(
     scratch: &mut Vec<u8>,
     entry: u32,
     from: Option<&Operand>,
-) -> Result<Result<Option<Spot>, Abend>, NoMemory> {
+) -> Result<Result<Option<Spot>, Abend>, NoMemory>
+    ensures { IfOk result (λ answer. PutsOut (declared_with program.now areas.now) entry
+        (from_by (declared_with program.now areas.now) entry store.old (option_copied from.entry))
+        answer store.new scratch.new.items) }
+{
     if let Err(abend) = moved_out(program, areas, store, scratch, entry, from)? {
         return Ok(Err(abend));
     }
@@ -213,6 +319,15 @@ pub fn written(
     ensures bench { DoneOver result bench.old.left bench.new.left
         (map ⟦<Box<dyn Device> as Watched>⟧.seen bench.old.devices.items)
         (map ⟦<Box<dyn Device> as Watched>⟧.seen bench.new.devices.items) }
+    ensures does { (world : World) → IsOver program.now.files
+        (take bench.old.left (map ⟦<Box<dyn Device> as Watched>⟧.seen bench.old.devices.items))
+        table.old.rows world →
+        Did program.now.files result world
+        (written (declared_with program.now areas.now) store.old world entry
+        (option_copied from.entry))
+        store.new
+        (take bench.new.left (map ⟦<Box<dyn Device> as Watched>⟧.seen bench.new.devices.items))
+        table.new.rows }
 {
     match put_out(program, areas, store, scratch, entry, from)? {
         Err(abend) => Ok(Done::Abended(abend)),
@@ -240,6 +355,15 @@ pub fn rewritten(
     ensures bench { DoneOver result bench.old.left bench.new.left
         (map ⟦<Box<dyn Device> as Watched>⟧.seen bench.old.devices.items)
         (map ⟦<Box<dyn Device> as Watched>⟧.seen bench.new.devices.items) }
+    ensures does { (world : World) → IsOver program.now.files
+        (take bench.old.left (map ⟦<Box<dyn Device> as Watched>⟧.seen bench.old.devices.items))
+        table.old.rows world →
+        Did program.now.files result world
+        (rewritten (declared_with program.now areas.now) store.old world entry
+        (option_copied from.entry))
+        store.new
+        (take bench.new.left (map ⟦<Box<dyn Device> as Watched>⟧.seen bench.new.devices.items))
+        table.new.rows }
 {
     match put_out(program, areas, store, scratch, entry, from)? {
         Err(abend) => Ok(Done::Abended(abend)),

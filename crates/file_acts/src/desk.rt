@@ -1,13 +1,16 @@
 //! What devices are asked. A file that the program hasn't is never open, and has no name.
 
-ghost use Rattle.std.specs.Prelude.{ℕ, List, ◌≡◌, ◌<◌, ◌≤◌, ◌^◌, IsTrue, length, map, take, vec_len};
+ghost use Rattle.std.specs.Prelude.{ℕ, List, ◌≡◌, ◌<◌, ◌≤◌, ◌^◌, IsTrue, Ok, false, length, map, slice_get, take, vec_len};
+ghost use Rattle.file_model.specs.Attempts.{closed_at, opened_at, read_at, rewritten_at, written_at};
 ghost use Rattle.file_model.specs.World.{World};
 ghost use Rattle.file_desk.specs.Calls.{addresses_of};
 ghost use Rattle.file_desk.specs.Falling.{Falls, FallsIf};
 ghost use Rattle.file_desk.specs.Seen.{Seen};
-ghost use Rattle.file_desk.specs.Shutting.{ShutsAll};
-ghost use Rattle.file_desk.specs.Standing.{Stands};
-ghost use Rattle.file_acts.specs.Ends.{DoneOver};
+ghost use Rattle.file_desk.specs.Shutting.{ShutsAll, ShutsOnShelves};
+ghost use Rattle.file_desk.specs.Standing.{Stands, TellAll};
+ghost use Rattle.statements.specs.Filing.{address_by};
+ghost use Rattle.file_acts.specs.Ends.{DoneOver, answered};
+ghost use Rattle.file_acts.specs.Over.{IsOver, Tries};
 
 use crate::fault::Fault;
 use cob_tree::{FileEntry, Opening};
@@ -15,7 +18,8 @@ use file_desk::{Tried, Watched};
 use file_model::{Bench, Device, FileTable};
 
 fn status_of(tried: Tried) -> Result<u8, Fault>
-    ensures { (left left_now : ℕ) (old new : List Seen) →
+    ensures answer { result ≡ answered tried }
+    ensures bench { (left left_now : ℕ) (old new : List Seen) →
         Falls tried left left_now old new → DoneOver result left left_now old new }
 {
     match tried {
@@ -40,6 +44,8 @@ fn has_row(table: &FileTable, files: &[FileEntry], file: u32) -> bool
     ensures rows { IsTrue result → length table.now.rows ≡ length files.now }
     ensures few { IsTrue result → length files.now < 2 ^ 32 }
     ensures file { IsTrue result → file < length files.now }
+    ensures has { length table.now.rows ≡ length files.now → length files.now < 2 ^ 32 →
+        file < length files.now → IsTrue result }
 {
     has_rows(table, files) && (file as usize) < files.len()
 }
@@ -53,6 +59,13 @@ pub fn open(
     ensures bench { DoneOver result bench.old.left bench.new.left
         (map ⟦<Box<dyn Device> as Watched>⟧.seen bench.old.devices.items)
         (map ⟦<Box<dyn Device> as Watched>⟧.seen bench.new.devices.items) }
+    ensures does { (world : World) → IsOver files.now
+        (take bench.old.left (map ⟦<Box<dyn Device> as Watched>⟧.seen bench.old.devices.items))
+        table.old.rows world →
+        Tries files.now result (opened_at world (addresses_of files.now) opening.file
+        (address_by (slice_get files.now opening.file)) opening.how)
+        (take bench.new.left (map ⟦<Box<dyn Device> as Watched>⟧.seen bench.new.devices.items))
+        table.new.rows }
 {
     if !has_row(table, files, opening.file) {
         return Ok(30);
@@ -70,6 +83,12 @@ pub fn close(
     ensures bench { DoneOver result bench.old.left bench.new.left
         (map ⟦<Box<dyn Device> as Watched>⟧.seen bench.old.devices.items)
         (map ⟦<Box<dyn Device> as Watched>⟧.seen bench.new.devices.items) }
+    ensures does { (world : World) → IsOver files.now
+        (take bench.old.left (map ⟦<Box<dyn Device> as Watched>⟧.seen bench.old.devices.items))
+        table.old.rows world →
+        Tries files.now result (closed_at world file)
+        (take bench.new.left (map ⟦<Box<dyn Device> as Watched>⟧.seen bench.new.devices.items))
+        table.new.rows }
 {
     if !has_row(table, files, file) {
         return Ok(42);
@@ -88,6 +107,18 @@ pub fn read(
     ensures bench { DoneOver result bench.old.left bench.new.left
         (map ⟦<Box<dyn Device> as Watched>⟧.seen bench.old.devices.items)
         (map ⟦<Box<dyn Device> as Watched>⟧.seen bench.new.devices.items) }
+    ensures does { (world : World) → IsOver files.now
+        (take bench.old.left (map ⟦<Box<dyn Device> as Watched>⟧.seen bench.old.devices.items))
+        table.old.rows world →
+        Tries files.now result
+        (read_at world file (address_by (slice_get files.now file)) (length into.old))
+        (take bench.new.left (map ⟦<Box<dyn Device> as Watched>⟧.seen bench.new.devices.items))
+        table.new.rows }
+    ensures record { (world : World) → IsOver files.now
+        (take bench.old.left (map ⟦<Box<dyn Device> as Watched>⟧.seen bench.old.devices.items))
+        table.old.rows world → result ≡ Ok 0 →
+        into.new ≡ (read_at world file (address_by (slice_get files.now file))
+        (length into.old)).bytes }
 {
     if !has_row(table, files, file) {
         return Ok(47);
@@ -106,6 +137,13 @@ pub fn write(
     ensures bench { DoneOver result bench.old.left bench.new.left
         (map ⟦<Box<dyn Device> as Watched>⟧.seen bench.old.devices.items)
         (map ⟦<Box<dyn Device> as Watched>⟧.seen bench.new.devices.items) }
+    ensures does { (world : World) → IsOver files.now
+        (take bench.old.left (map ⟦<Box<dyn Device> as Watched>⟧.seen bench.old.devices.items))
+        table.old.rows world →
+        Tries files.now result
+        (written_at world file (address_by (slice_get files.now file)) bytes.now)
+        (take bench.new.left (map ⟦<Box<dyn Device> as Watched>⟧.seen bench.new.devices.items))
+        table.new.rows }
 {
     if !has_row(table, files, file) {
         return Ok(48);
@@ -124,6 +162,13 @@ pub fn rewrite(
     ensures bench { DoneOver result bench.old.left bench.new.left
         (map ⟦<Box<dyn Device> as Watched>⟧.seen bench.old.devices.items)
         (map ⟦<Box<dyn Device> as Watched>⟧.seen bench.new.devices.items) }
+    ensures does { (world : World) → IsOver files.now
+        (take bench.old.left (map ⟦<Box<dyn Device> as Watched>⟧.seen bench.old.devices.items))
+        table.old.rows world →
+        Tries files.now result
+        (rewritten_at world file (address_by (slice_get files.now file)) bytes.now)
+        (take bench.new.left (map ⟦<Box<dyn Device> as Watched>⟧.seen bench.new.devices.items))
+        table.new.rows }
 {
     if !has_row(table, files, file) {
         return Ok(49);
@@ -145,6 +190,16 @@ pub fn close_left(bench: &mut Bench, table: &mut FileTable, files: &[FileEntry])
         ShutsAll (addresses_of files.now)
         (take bench.new.left (map ⟦<Box<dyn Device> as Watched>⟧.seen bench.new.devices.items))
         table.new.rows (length files.now) result world }
+    ensures shelves { result ≡ false → (world : World) → IsOver files.now
+        (take bench.old.left (map ⟦<Box<dyn Device> as Watched>⟧.seen bench.old.devices.items))
+        table.old.rows world →
+        ShutsOnShelves (addresses_of files.now)
+        (take bench.new.left (map ⟦<Box<dyn Device> as Watched>⟧.seen bench.new.devices.items))
+        table.new.rows world }
+    ensures telling { TellAll (take bench.old.left
+        (map ⟦<Box<dyn Device> as Watched>⟧.seen bench.old.devices.items))
+        → TellAll (take bench.new.left
+        (map ⟦<Box<dyn Device> as Watched>⟧.seen bench.new.devices.items)) }
 {
     has_rows(table, files) && file_desk::close_open(bench, table, files)
 }

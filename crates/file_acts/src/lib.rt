@@ -2,9 +2,9 @@
 //!
 //! Each statement is done in the order that `statements` says (Filing there): FROM, the status item
 //! is reached, the device is asked, the record and the status are stored, then INTO, and what the
-//! statement comes to. The parts that ask no device have that meaning as their contracts. What a
-//! device is asked is done by `file_desk`. A condition that each bench meets tells callers in other
-//! crates that no device is made here.
+//! statement comes to. Over devices that tell their files each statement has exactly that effect,
+//! in every world that stands over them (`does`). What a device is asked is done by `file_desk`. A
+//! condition that each bench meets tells callers in other crates that no device is made here.
 #![tactic(auto)]
 
 mod acts;

@@ -1,6 +1,6 @@
 //! Statuses: where they are stored, and how a statement ends by them.
 
-ghost use Rattle.std.specs.Prelude.{◌≡◌, ◌&&◌, ◌||◌, IfSome, is_some, not, option_copied, slice_get};
+ghost use Rattle.std.specs.Prelude.{◌≡◌, ◌&&◌, ◌||◌, is_some, not, option_copied, slice_get};
 ghost use Rattle.statements.specs.Does.{declared_with};
 ghost use Rattle.statements.specs.Filing.{always_ends, end_by, status_bytes, status_by, status_place, status_spot, with_status};
 ghost use Rattle.file_acts.specs.Ends.{ended_as};
@@ -53,8 +53,7 @@ fn status_bytes(status: u8) -> [u8; 2]
 }
 
 fn put_status(store: &mut Store, item: Option<Spot>, status: u8)
-    ensures { IfSome item (λ spot. spot.length ≡ 2) →
-        store.new ≡ with_status store.old item status }
+    ensures { store.new ≡ with_status store.old item status }
 {
     if let Some(spot) = item {
         let bytes = status_bytes(status);
@@ -84,8 +83,7 @@ fn end_by(cared: bool, status: u8) -> Done
 pub fn settled(store: &mut Store, item: Option<Spot>, cared: bool, status: u8) -> Done
     ensures end { ended_as result
         ≡ end_by ((is_some item || cared) && not (always_ends status)) status }
-    ensures store { IfSome item (λ spot. spot.length ≡ 2) →
-        store.new ≡ with_status store.old item status }
+    ensures store { store.new ≡ with_status store.old item status }
 {
     put_status(store, item, status);
     end_by((item.is_some() || cared) && !always_ends(status), status)

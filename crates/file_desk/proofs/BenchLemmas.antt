@@ -1,5 +1,5 @@
 -- The devices on a bench after a call, and after a device is taken off.
-use Rattle.std.proofs.Common.{◌≡◌, ◌∙◌, sym, subst, ℕ, zero, suc, ◌<◌, Bool, true, false, List, [], ◌∷◌, ◌++◌, length, take, drop, Option, Some, None, IfSome, refl, ap, arith, slice_get, slice_set, if◌then◌else◌, length-take, min}
+use Rattle.std.proofs.Common.{◌≡◌, ◌∙◌, sym, subst, ℕ, zero, suc, ◌<◌, Bool, true, false, List, [], ◌∷◌, ◌++◌, length, take, drop, Option, Some, None, IfSome, IsSome, refl, ap, arith, slice_get, slice_set, if◌then◌else◌, length-take, min}
 use Rattle.std.specs.Str.{bytes_eq}
 use Rattle.file_model.specs.declared.mem_file.MemFile.{MemFile}
 use Rattle.file_model.specs.declared.table.FileRow.{FileRow}
@@ -34,8 +34,8 @@ cut_set (first ∷ devices) (suc at) new = ap (λ l. first ∷ l) (cut_set devic
 pub place_below : (name : List ℕ) (devices : List Seen) (left at : ℕ) → IsFirstAt name (take left devices) at → at < left
 place_below name devices left at first = let w : at < length (take left devices) = first.within in let e : length (take left devices) ≡ min left (length devices) = length-take left devices in omega arith
 
-same_now : (o : Option Seen) (before after : Seen) → o ≡ Some before → after.name ≡ before.name → after.faults ≡ before.faults → SameBut o after
-same_now o before after e n f = subst (λ (d : Option Seen). SameBut d after) (sym e) (n, f)
+same_now : (o : Option Seen) (before after : Seen) → o ≡ Some before → after.name ≡ before.name → after.faults ≡ before.faults → (IsSome before.files → IsSome after.files) → SameBut o after
+same_now o before after e n f t = subst (λ (d : Option Seen). SameBut d after) (sym e) (n, f, t)
 
 pub found_before : (name : List ℕ) (devices : List Seen) (left at : ℕ) (device : Seen) → IsFirstAt name (take left devices) at → slice_get devices at ≡ Some device → device_found name (take left devices) ≡ Some device
 found_before name devices left at device first here = found_at name (take left devices) at device first (get_take devices left at (place_below name devices left at first) ∙ here)
@@ -52,7 +52,7 @@ kept_called name old new left at Tells first called =
       count = refl;
       bench = bench_called name old new left at Tells false first called;
       behind = ap (drop left) called.there ∙ drop_set old left at called.after (place_below name old left at first);
-      same = same_now (device_found name (take left old)) called.before called.after (found_before name old left at called.before first called.here) called.named called.counted;
+      same = same_now (device_found name (take left old)) called.before called.after (found_before name old left at called.before first called.here) called.named called.counted called.telling;
     }
 
 put_nothing : (name : List ℕ) (new : Seen) (devices : List Seen) → device_found name devices ≡ None → device_put name new devices ≡ devices
@@ -88,7 +88,7 @@ kept_same name left devices = go (device_found name (take left devices)) refl
       count = refl;
       bench = sym (put_itself name device (take left devices) e);
       behind = refl;
-      same = subst (λ (o : Option Seen). SameBut o device) (sym e) (refl, refl);
+      same = subst (λ (o : Option Seen). SameBut o device) (sym e) (refl, refl, λ told. told);
     }
 
 -- ---- a device that failed

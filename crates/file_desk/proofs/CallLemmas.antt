@@ -1,6 +1,6 @@
 -- What a call of one device, or a rotation, makes of the devices of a bench.
 use Rattle.std.proofs.Common.{◌≡◌, ◌∙◌, sym, subst, ℕ, zero, suc, ◌<◌, ◌≤◌, ◌+◌, ◌-◌, Bool, true, false, List, [], ◌∷◌, ◌++◌, map, length, take, drop, Option, Some, None, refl, ap, arith, slice_get, slice_set, if◌then◌else◌, get_or}
-use Rattle.std.proofs.Common.{inl, inr, IfSome, length-append, length-take, length-drop}
+use Rattle.std.proofs.Common.{inl, inr, IfSome, IsSome, length-append, length-take, length-drop}
 use Rattle.std.proofs.lemmas.Bool.{cases_lt}
 use Rattle.std.proofs.lemmas.List.{map-set, map-append, length-map, take-map, drop-map, take-append-le}
 use Rattle.std.specs.Str.{bytes_eq}
@@ -15,9 +15,9 @@ pub seen_at : {A : Type 0} (see : A → Seen) (items : List A) (n at : ℕ) (ite
 seen_at see items n at item e within is = slice_get-map see items at ∙ ap (option_map see) (slice_get_read items n at item e within is)
 
 pub called_of : {A : Type 0} (see : A → Seen) (items : List A) (n at : ℕ) (old new : A) (Tells : Option (List MemFile) → Option (List MemFile) → Type 0) (fails : Bool) →
-    n ≡ length items → at < n → old ≡ get_or items at old → (see new).name ≡ (see old).name → Tells (see old).files (see new).files → Counts fails (see old).faults (see new).faults →
+    n ≡ length items → at < n → old ≡ get_or items at old → (see new).name ≡ (see old).name → Tells (see old).files (see new).files → (IsSome (see old).files → IsSome (see new).files) → Counts fails (see old).faults (see new).faults →
     Called at Tells fails (map see items) (map see (slice_set items at new))
-called_of see items n at old new Tells fails e within is named tells counted =
+called_of see items n at old new Tells fails e within is named tells telling counted =
     record {
       before = see old;
       after = see new;
@@ -25,6 +25,7 @@ called_of see items n at old new Tells fails e within is named tells counted =
       there = map-set see items at new;
       named = named;
       tells = tells;
+      telling = telling;
       counted = counted;
     }
 

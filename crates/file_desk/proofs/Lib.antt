@@ -1,6 +1,7 @@
 pub mod FileLemmas
 pub mod DeviceLemmas
 pub mod StandLemmas
+pub mod TellLemmas
 pub mod CallLemmas
 pub mod AddressLemmas
 pub mod TakingLemmas

@@ -1,5 +1,5 @@
 -- The files that are open are closed, one after the other.
-use Rattle.std.proofs.Common.{◌≡◌, ◌∙◌, sym, subst, ℕ, suc, ◌<◌, ◌+◌, Bool, true, false, ◌||◌, List, length, Some, IfSome, is_some, refl, ap, arith, slice_get, if◌then◌else◌}
+use Rattle.std.proofs.Common.{◌≡◌, ◌∙◌, sym, subst, ℕ, zero, suc, ◌<◌, ◌+◌, Bool, true, false, ◌||◌, List, length, Some, IfSome, is_some, refl, ap, arith, slice_get, if◌then◌else◌}
 use Rattle.file_model.specs.declared.table.FileRow.{FileRow}
 use Rattle.file_model.specs.Attempts.{Address, closed, closed_at, permitted, state_of, with_state}
 use Rattle.file_model.specs.Status.{may_close}
@@ -9,7 +9,7 @@ use Rattle.file_desk.specs.declared.tried.Tried.TheVariants as tried
 use Rattle.file_desk.specs.Seen.{Seen, device_found}
 use Rattle.file_desk.specs.Standing.{Stands, without}
 use Rattle.file_desk.specs.Calls.{Comes}
-use Rattle.file_desk.specs.Shutting.{ShutsAll, ShutsOne, shut_at}
+use Rattle.file_desk.specs.Shutting.{Shut, ShutOne, ShutsAll, ShutsOnShelves, ShutsOne, shut_at}
 use Rattle.file_desk.proofs.BenchLemmas.{at_some}
 use Rattle.file_desk.proofs.EndLemmas.{close_tried}
 use Rattle.file_desk.proofs.OpLemmas.{RowAt, StateOf, may_close_open, row_at, state_at, state_is}
@@ -73,3 +73,28 @@ or_true false = refl
 pub or_false : (before : Bool) → before ≡ (before || false)
 or_false true = refl
 or_false false = refl
+
+-- ---- the shelves
+
+shut_shelves : (world : World) (file : ℕ) → (shut_at world file).shelves ≡ world.shelves
+shut_shelves world file = go (is_some (state_of world file).row.how)
+  where
+    go : (b : Bool) → (if b then with_state world file closed else world).shelves ≡ world.shelves
+    go true = refl
+    go false = refl
+
+or_none : (before here : Bool) → false ≡ (before || here) → (before ≡ false) × (here ≡ false)
+or_none true here e = absurd (let x : false ≡ true = e in cc)
+or_none false here e = (refl, sym e)
+
+all_shelves : (addresses : List Address) (files : ℕ) (failed : Bool) (world now : World) → failed ≡ false → Shut addresses files failed world now → now.shelves ≡ world.shelves
+all_shelves addresses zero failed world now none shut = ap (λ (w : World). w.shelves) shut.1
+all_shelves addresses (suc files) failed world now none shut =
+    let b = or_none shut.0 shut.1 (sym none ∙ shut.3) in
+    ap (λ (w : World). w.shelves) (subst (λ (h : Bool). ShutOne addresses files h shut.2 now) b.1 shut.5)
+    ∙ shut_shelves shut.2 files
+    ∙ all_shelves addresses files shut.0 world shut.2 b.0 shut.4
+
+-- where no device failed
+pub on_shelves : (addresses : List Address) (devices : List Seen) (table : List FileRow) (files : ℕ) (failed : Bool) (world : World) → failed ≡ false → ShutsAll addresses devices table files failed world → ShutsOnShelves addresses devices table world
+on_shelves addresses devices table files failed world none so = (so.0, all_shelves addresses files failed world so.0 none so.1, so.2)

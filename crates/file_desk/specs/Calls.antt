@@ -1,5 +1,5 @@
 -- What a call makes of the devices of a bench.
-use Rattle.std.specs.Prelude.{ℕ, suc, ◌≡◌, Bool, true, List, ◌∷◌, ◌++◌, map, take, drop, Option, Some, None, slice_get, slice_set}
+use Rattle.std.specs.Prelude.{ℕ, suc, ◌≡◌, Bool, true, List, ◌∷◌, ◌++◌, map, take, drop, Option, Some, None, IsSome, slice_get, slice_set}
 use Rattle.cob_tree.specs.declared.file.FileEntry.{FileEntry}
 use Rattle.file_model.specs.declared.mem_file.MemFile.{MemFile}
 use Rattle.file_model.specs.declared.table.FileRow.{FileRow}
@@ -15,7 +15,8 @@ use Rattle.file_desk.specs.Standing.{Stands, without}
 abbrev pub addresses_of : List FileEntry → List Address
 addresses_of files = map (λ file. address_of file.assign) files
 
--- the device at a place was called, and what its call says of the files holds
+-- the device at a place was called, and what its call says of the files holds; where it told them
+-- it still does
 pub record Called (at : ℕ) (Tells : Option (List MemFile) → Option (List MemFile) → Type 0)
     (fails : Bool) (old new : List Seen) : Type 0 where
   pub before : Seen
@@ -24,6 +25,7 @@ pub record Called (at : ℕ) (Tells : Option (List MemFile) → Option (List Mem
   pub there : new ≡ slice_set old at after
   pub named : after.name ≡ before.name
   pub tells : Tells before.files after.files
+  pub telling : IsSome before.files → IsSome after.files
   pub counted : Counts fails before.faults after.faults
 
 -- the device at a place was taken off: it stands right behind the bench
@@ -36,10 +38,12 @@ pub record TakenOff (at left left_now : ℕ) (old new : List Seen) : Type 0 wher
 
 -- ---- the devices after an operation
 
--- a device's name and its count stay
+-- a device's name and its count stay, and where it told its files it still does
 abbrev pub SameBut : Option Seen → Seen → Type 0
 SameBut None now = Unit {0}
-SameBut (Some device) now = (now.name ≡ device.name) × (now.faults ≡ device.faults)
+SameBut (Some device) now =
+    (now.name ≡ device.name) × (now.faults ≡ device.faults)
+    × (IsSome device.files → IsSome now.files)
 
 -- at most the files of the first device of that name changed
 pub record Kept (name : List ℕ) (left left_now : ℕ) (old new : List Seen) : Type 0 where

@@ -33,3 +33,8 @@ ShutsOne addresses devices table file failed world =
 abbrev pub ShutsAll : List Address → List Seen → List FileRow → ℕ → Bool → World → Type 0
 ShutsAll addresses devices table files failed world =
     (now : World) × Shut addresses files failed world now × Stands addresses devices table now
+
+-- such a world with the same shelves
+abbrev pub ShutsOnShelves : List Address → List Seen → List FileRow → World → Type 0
+ShutsOnShelves addresses devices table world =
+    (now : World) × (now.shelves ≡ world.shelves) × Stands addresses devices table now

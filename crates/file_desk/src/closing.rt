@@ -1,13 +1,13 @@
 //! CLOSE, and the end of a run.
 
-ghost use Rattle.std.specs.Prelude.{◌≡◌, ◌≢◌, ◌<◌, ◌^◌, Some, length, map, slice_get, slice_set, take};
+ghost use Rattle.std.specs.Prelude.{◌≡◌, ◌≢◌, ◌<◌, ◌^◌, Some, false, length, map, slice_get, slice_set, take};
 ghost use Rattle.file_model.specs.Status.{closed_row};
 ghost use Rattle.file_model.specs.Attempts.{Address, closed_at};
 ghost use Rattle.file_model.specs.World.{World};
 ghost use Rattle.file_desk.specs.Calls.{Comes, Leaves, addresses_of};
 ghost use Rattle.file_desk.specs.Falling.{FallsIf};
-ghost use Rattle.file_desk.specs.Shutting.{ShutsAll, ShutsOne};
-ghost use Rattle.file_desk.specs.Standing.{Stands};
+ghost use Rattle.file_desk.specs.Shutting.{ShutsAll, ShutsOnShelves, ShutsOne};
+ghost use Rattle.file_desk.specs.Standing.{Stands, TellAll};
 
 use crate::address::{device_of, name_of};
 use crate::calls::close_at;
@@ -79,6 +79,10 @@ fn close_if_open(bench: &mut Bench, table: &mut FileTable, files: &[FileEntry], 
         ShutsOne (addresses_of files.now)
         (take bench.new.left (map ⟦<Box<dyn Device> as Watched>⟧.seen bench.new.devices.items))
         table.new.rows file result world }
+    ensures telling { TellAll (take bench.old.left
+        (map ⟦<Box<dyn Device> as Watched>⟧.seen bench.old.devices.items))
+        → TellAll (take bench.new.left
+        (map ⟦<Box<dyn Device> as Watched>⟧.seen bench.new.devices.items)) }
 {
     if table.may_close(file) != 0 {
         return false;
@@ -106,6 +110,17 @@ pub fn close_open(bench: &mut Bench, table: &mut FileTable, files: &[FileEntry])
         ShutsAll (addresses_of files.now)
         (take bench.new.left (map ⟦<Box<dyn Device> as Watched>⟧.seen bench.new.devices.items))
         table.new.rows (length files.now) result world }
+    ensures shelves { result ≡ false → (world : World) →
+        Stands (addresses_of files.now)
+        (take bench.old.left (map ⟦<Box<dyn Device> as Watched>⟧.seen bench.old.devices.items))
+        table.old.rows world →
+        ShutsOnShelves (addresses_of files.now)
+        (take bench.new.left (map ⟦<Box<dyn Device> as Watched>⟧.seen bench.new.devices.items))
+        table.new.rows world }
+    ensures telling { TellAll (take bench.old.left
+        (map ⟦<Box<dyn Device> as Watched>⟧.seen bench.old.devices.items))
+        → TellAll (take bench.new.left
+        (map ⟦<Box<dyn Device> as Watched>⟧.seen bench.new.devices.items)) }
 {
     let mut failed = false;
     for file in 0..files.len() {

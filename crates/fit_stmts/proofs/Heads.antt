@@ -18,26 +18,26 @@ use Rattle.grammar_forms.specs.declared.note.Position.{Position}
 use Rattle.grammar_forms.specs.Form.{Form}
 use Rattle.grammar_forms.proofs.MakerLaws as laws
 use Rattle.grammar_forms.proofs.MakerLaws.{Law}
-use Rattle.stmt_forms.specs.declared.head.PerformHead.{PerformHead}
-use Rattle.stmt_forms.specs.declared.head.PerformHead.TheVariants as heads
-use Rattle.stmt_forms.specs.declared.head.ReadHead.{ReadHead}
-use Rattle.stmt_forms.specs.declared.head.ReadHead.TheVariants as reads
-use Rattle.stmt_forms.specs.declared.scope.Scope.{Scope}
-use Rattle.stmt_forms.specs.Part.{Parts}
-use Rattle.stmt_forms.specs.Arms as arms
-use Rattle.stmt_forms.specs.Choice as choice
-use Rattle.stmt_forms.specs.Loop as loops
-use Rattle.stmt_forms.specs.Loop.{Controlled}
-use Rattle.stmt_forms.proofs.HoldingLaws as law
+use Rattle.statement_grammar.specs.declared.stmt_forms.head.PerformHead.{PerformHead}
+use Rattle.statement_grammar.specs.declared.stmt_forms.head.PerformHead.TheVariants as heads
+use Rattle.statement_grammar.specs.declared.stmt_forms.head.ReadHead.{ReadHead}
+use Rattle.statement_grammar.specs.declared.stmt_forms.head.ReadHead.TheVariants as reads
+use Rattle.statement_grammar.specs.declared.stmt_forms.scope.Scope.{Scope}
+use Rattle.statement_grammar.specs.stmt_forms.Part.{Parts}
+use Rattle.statement_grammar.specs.stmt_forms.Arms as arms
+use Rattle.statement_grammar.specs.stmt_forms.Choice as choice
+use Rattle.statement_grammar.specs.stmt_forms.Loop as loops
+use Rattle.statement_grammar.specs.stmt_forms.Loop.{Controlled}
+use Rattle.statement_grammar.proofs.stmt_forms_lemmas.HoldingLaws as law
 use Rattle.named_forms.specs.Giving.{Gives}
 use Rattle.named_forms.proofs.Giving.{any, hence, still, pure, refuse, note, key, maybe, chosen, where_next, ◌>>=◌, ◌>>◌}
-use Rattle.stmt_spelling.specs.Part.{Kept}
-use Rattle.stmt_spelling.specs.Stmt.{Some_of, IfAny}
+use Rattle.part_spelling.specs.stmt_spelling.Part.{Kept}
+use Rattle.part_spelling.specs.stmt_spelling.Stmt.{Some_of, IfAny}
 use Rattle.fit_stmts.specs.Fits.{Fits}
 use Rattle.fit_stmts.specs.Given.{NumberFits, FileFits, PartsFit}
 use Rattle.fit_stmts.proofs.Shape.{IsFile, FitsControl, FitsTurns, FitsSubject, Compares, FitsTest, TakesRecord, FitsStmt}
-use Rattle.readable_stmts.proofs.From.{GivesFrom, Begins, bind_from, word_from, where_begun, digits}
-use Rattle.readable_stmts.proofs.Lists.{some-one, items}
+use Rattle.readable_procedures.proofs.readable_stmts_lemmas.From.{GivesFrom, Begins, bind_from, word_from, where_begun, digits}
+use Rattle.readable_procedures.proofs.readable_stmts_lemmas.Lists.{some-one, items}
 use Rattle.fit_stmts.proofs.Made.{made}
 use Rattle.fit_stmts.proofs.Simple as simple
 

@@ -10,35 +10,35 @@ use Rattle.cob_tree.specs.declared.stmt.Stmt.TheOpen.{Stmt-F}
 use Rattle.cob_tree.specs.declared.stmt.Stmt.TheVariants as stmts
 use Rattle.cob_tree.specs.declared.stmt.When.{When}
 use Rattle.cobol_lex.specs.declared.token.TokenKind.{TokenKind}
-use Rattle.stmt_forms.specs.declared.head.NotPhrase.{NotPhrase}
-use Rattle.stmt_forms.specs.declared.head.NotPhrase.TheVariants as nots
-use Rattle.stmt_forms.specs.declared.head.PerformHead.{PerformHead}
-use Rattle.stmt_forms.specs.declared.head.PerformHead.TheVariants as heads
-use Rattle.stmt_forms.specs.declared.head.ReadHead.{ReadHead}
-use Rattle.stmt_forms.specs.declared.head.ReadHead.TheVariants as reads
-use Rattle.stmt_forms.specs.declared.phrase.Phrase.{Phrase}
-use Rattle.stmt_forms.specs.declared.phrase.Phrase.TheVariants as phrases
-use Rattle.stmt_forms.specs.declared.scope.Scope.{Scope}
-use Rattle.stmt_forms.specs.declared.whens.Whens.{Whens}
-use Rattle.stmt_forms.specs.Part.{Parts}
-use Rattle.stmt_forms.specs.Laws.{PartsAreLawful}
-use Rattle.stmt_forms.specs.Arms.{Level, Found, Arm}
-use Rattle.stmt_forms.specs.Arms as arms
-use Rattle.stmt_forms.specs.Choice as choice
-use Rattle.stmt_forms.specs.File as file
-use Rattle.stmt_forms.specs.Loop as loops
-use Rattle.stmt_forms.specs.Stmt as forms
-use Rattle.stmt_forms.proofs.HoldingLaws as law
-use Rattle.stmt_forms.proofs.HoldingLaws.{LevelIsLawful}
+use Rattle.statement_grammar.specs.declared.stmt_forms.head.NotPhrase.{NotPhrase}
+use Rattle.statement_grammar.specs.declared.stmt_forms.head.NotPhrase.TheVariants as nots
+use Rattle.statement_grammar.specs.declared.stmt_forms.head.PerformHead.{PerformHead}
+use Rattle.statement_grammar.specs.declared.stmt_forms.head.PerformHead.TheVariants as heads
+use Rattle.statement_grammar.specs.declared.stmt_forms.head.ReadHead.{ReadHead}
+use Rattle.statement_grammar.specs.declared.stmt_forms.head.ReadHead.TheVariants as reads
+use Rattle.statement_grammar.specs.declared.stmt_forms.phrase.Phrase.{Phrase}
+use Rattle.statement_grammar.specs.declared.stmt_forms.phrase.Phrase.TheVariants as phrases
+use Rattle.statement_grammar.specs.declared.stmt_forms.scope.Scope.{Scope}
+use Rattle.statement_grammar.specs.declared.stmt_forms.whens.Whens.{Whens}
+use Rattle.statement_grammar.specs.stmt_forms.Part.{Parts}
+use Rattle.statement_grammar.specs.stmt_forms.Laws.{PartsAreLawful}
+use Rattle.statement_grammar.specs.stmt_forms.Arms.{Level, Found, Arm}
+use Rattle.statement_grammar.specs.stmt_forms.Arms as arms
+use Rattle.statement_grammar.specs.stmt_forms.Choice as choice
+use Rattle.statement_grammar.specs.stmt_forms.File as file
+use Rattle.statement_grammar.specs.stmt_forms.Loop as loops
+use Rattle.statement_grammar.specs.stmt_forms.Stmt as forms
+use Rattle.statement_grammar.proofs.stmt_forms_lemmas.HoldingLaws as law
+use Rattle.statement_grammar.proofs.stmt_forms_lemmas.HoldingLaws.{LevelIsLawful}
 use Rattle.named_forms.specs.Giving.{Gives}
 use Rattle.named_forms.proofs.Giving.{any, hence, pure, refuse, key, chosen, where_next, loop, ◌>>=◌, ◌>>◌}
-use Rattle.stmt_spelling.specs.Part.{Kept}
-use Rattle.stmt_spelling.specs.Stmt.{Each, Some_of, IfAny}
+use Rattle.part_spelling.specs.stmt_spelling.Part.{Kept}
+use Rattle.part_spelling.specs.stmt_spelling.Stmt.{Each, Some_of, IfAny}
 use Rattle.fit_stmts.specs.Fits.{Fits}
 use Rattle.fit_stmts.specs.Given.{PartsFit}
 use Rattle.fit_stmts.proofs.Shape.{FitsSubject, FitsArms, FitsWhen, HeldOrNone, FitsShape}
 use Rattle.fit_stmts.proofs.Trees.{Good, gathered}
-use Rattle.readable_stmts.proofs.Lists.{each-added, each-hence, some-added}
+use Rattle.readable_procedures.proofs.readable_stmts_lemmas.Lists.{each-added, each-hence, some-added}
 use Rattle.fit_stmts.proofs.Made.{made, made_arms, made_when}
 use Rattle.fit_stmts.proofs.Simple as simple
 use Rattle.fit_stmts.proofs.Simple.{Fine, Stmts}

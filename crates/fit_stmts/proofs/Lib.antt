@@ -14,3 +14,9 @@ pub mod Heads
 pub mod Holding
 pub mod Sentences
 pub mod Paragraphs
+-- What a source is restructured to keeps what is asked of its VARYINGs and of choices by cells.
+pub mod sound_bodies_lemmas
+-- What is written of a program whose statements pass tests passes tests too.
+pub mod fit_control_lemmas
+-- Tests of the parts of statements by the names that a program declares itself.
+pub mod own_fits_lemmas

@@ -6,10 +6,10 @@ use Rattle.cob_tree.specs.declared.stmt.Arms.{Arms, out-roll-Arms}
 use Rattle.cob_tree.specs.declared.stmt.Stmt.{Stmt, roll-Stmt, out-Stmt, out-roll-Stmt}
 use Rattle.cob_tree.specs.declared.stmt.Stmt.TheOpen.{Stmt-F}
 use Rattle.cob_tree.specs.declared.stmt.When.{When, out-roll-When}
-use Rattle.stmt_forms.specs.declared.scope.Scope.{Scope}
-use Rattle.stmt_forms.specs.Arms.{arms_of}
-use Rattle.stmt_forms.specs.Choice.{when_of}
-use Rattle.stmt_spelling.specs.Stmt.{Some_of, IfAny}
+use Rattle.statement_grammar.specs.declared.stmt_forms.scope.Scope.{Scope}
+use Rattle.statement_grammar.specs.stmt_forms.Arms.{arms_of}
+use Rattle.statement_grammar.specs.stmt_forms.Choice.{when_of}
+use Rattle.part_spelling.specs.stmt_spelling.Stmt.{Some_of, IfAny}
 use Rattle.fit_stmts.specs.Fits.{Fits}
 use Rattle.fit_stmts.proofs.Shape.{FitsArms, FitsTest, FitsWhen, FitsShape, FitsStmt}
 

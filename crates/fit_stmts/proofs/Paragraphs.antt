@@ -4,18 +4,18 @@ use Rattle.std.specs.Prelude.{codes}
 use Rattle.cob_tree.specs.declared.program.Paragraph.{Paragraph}
 use Rattle.cob_tree.specs.declared.program.Sentence.{Sentence}
 use Rattle.cobol_lex.specs.declared.token.TokenKind.{TokenKind}
-use Rattle.stmt_forms.specs.declared.outline.Outline.{Outline}
-use Rattle.stmt_forms.specs.Part.{Parts}
-use Rattle.stmt_forms.specs.Laws.{PartsAreLawful}
-use Rattle.stmt_forms.specs.Paragraph as paragraphs
-use Rattle.stmt_forms.specs.Paragraph.{scope_of, paragraph_of}
-use Rattle.stmt_forms.proofs.ParagraphLaws as law
+use Rattle.statement_grammar.specs.declared.stmt_forms.outline.Outline.{Outline}
+use Rattle.statement_grammar.specs.stmt_forms.Part.{Parts}
+use Rattle.statement_grammar.specs.stmt_forms.Laws.{PartsAreLawful}
+use Rattle.statement_grammar.specs.stmt_forms.Paragraph as paragraphs
+use Rattle.statement_grammar.specs.stmt_forms.Paragraph.{scope_of, paragraph_of}
+use Rattle.statement_grammar.proofs.stmt_forms_lemmas.ParagraphLaws as law
 use Rattle.named_forms.specs.Giving.{Gives}
 use Rattle.named_forms.proofs.Giving.{any, still, pure, note, key, period, ended, where_next, loop, ◌>>=◌, ◌>>◌}
-use Rattle.stmt_spelling.specs.Part.{Kept}
+use Rattle.part_spelling.specs.stmt_spelling.Part.{Kept}
 use Rattle.fit_stmts.specs.Fits.{Fits}
 use Rattle.fit_stmts.specs.Given.{PartsFit, FitSentences, FitParagraphs}
-use Rattle.readable_stmts.proofs.From.{bind_from, where_begun}
+use Rattle.readable_procedures.proofs.readable_stmts_lemmas.From.{bind_from, where_begun}
 use Rattle.fit_stmts.proofs.Sentences as sentence
 
 module _ (fits : Fits) where

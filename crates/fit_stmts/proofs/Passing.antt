@@ -7,8 +7,8 @@ use Rattle.cob_tree.specs.declared.stmt.Stmt.{fold-roll-Stmt}
 use Rattle.cob_tree.specs.declared.stmt.Stmt.TheOpen.{Stmt-F}
 use Rattle.cob_tree.specs.declared.stmt.Stmt.TheVariants as stmts
 use Rattle.named_programs.proofs.Made.{both}
-use Rattle.stmt_forms.specs.declared.scope.Scope.{Scope}
-use Rattle.stmt_spelling.specs.Stmt.{Each}
+use Rattle.statement_grammar.specs.declared.stmt_forms.scope.Scope.{Scope}
+use Rattle.part_spelling.specs.stmt_spelling.Stmt.{Each}
 use Rattle.fit_stmts.specs.Fits.{Fits}
 use Rattle.fit_stmts.specs.Given.{FitSentence, FitSentences, FitParagraphs}
 use Rattle.fit_stmts.specs.Statement as fit

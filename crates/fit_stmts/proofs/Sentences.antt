@@ -5,24 +5,24 @@ use Rattle.cob_tree.specs.declared.program.Sentence.{Sentence}
 use Rattle.cob_tree.specs.declared.stmt.Stmt.{Stmt}
 use Rattle.cobol_lex.specs.declared.token.TokenKind.{TokenKind}
 use Rattle.grammar_forms.specs.declared.note.Position.{Position}
-use Rattle.stmt_forms.specs.declared.scope.Scope.{Scope}
-use Rattle.stmt_forms.specs.Part.{Parts}
-use Rattle.stmt_forms.specs.Laws.{PartsAreLawful}
-use Rattle.stmt_forms.specs.Arms.{Found}
-use Rattle.stmt_forms.specs.Stmt.{max_nesting}
-use Rattle.stmt_forms.specs.Paragraph as paragraphs
-use Rattle.stmt_forms.specs.Verb.{begins_stmt}
+use Rattle.statement_grammar.specs.declared.stmt_forms.scope.Scope.{Scope}
+use Rattle.statement_grammar.specs.stmt_forms.Part.{Parts}
+use Rattle.statement_grammar.specs.stmt_forms.Laws.{PartsAreLawful}
+use Rattle.statement_grammar.specs.stmt_forms.Arms.{Found}
+use Rattle.statement_grammar.specs.stmt_forms.Stmt.{max_nesting}
+use Rattle.statement_grammar.specs.stmt_forms.Paragraph as paragraphs
+use Rattle.statement_grammar.specs.stmt_forms.Verb.{begins_stmt}
 use Rattle.named_programs.specs.Part.{is_filled}
 use Rattle.named_forms.specs.Giving.{Gives}
 use Rattle.named_forms.proofs.Giving.{hence, pure, refuse, key, period, chosen, where_next, loop, ◌>>=◌, ◌>>◌}
-use Rattle.stmt_spelling.specs.Part.{Kept}
-use Rattle.stmt_spelling.specs.Stmt.{Each, Some_of}
+use Rattle.part_spelling.specs.stmt_spelling.Part.{Kept}
+use Rattle.part_spelling.specs.stmt_spelling.Stmt.{Each, Some_of}
 use Rattle.fit_stmts.specs.Fits.{Fits}
 use Rattle.fit_stmts.specs.Given.{PartsFit, FitSentence, FitSentences}
 use Rattle.fit_stmts.proofs.Shape.{FitsStmt}
 use Rattle.fit_stmts.proofs.Trees.{Good, gathered}
-use Rattle.readable_stmts.proofs.From.{GivesFrom, Begins, from, hence_from, branch_from, loop_begun}
-use Rattle.readable_stmts.proofs.Lists.{some-one, added, items, items_all}
+use Rattle.readable_procedures.proofs.readable_stmts_lemmas.From.{GivesFrom, Begins, from, hence_from, branch_from, loop_begun}
+use Rattle.readable_procedures.proofs.readable_stmts_lemmas.Lists.{some-one, added, items, items_all}
 use Rattle.fit_stmts.proofs.Simple as simple
 use Rattle.fit_stmts.proofs.Simple.{Stmts}
 use Rattle.fit_stmts.proofs.Holding as holding

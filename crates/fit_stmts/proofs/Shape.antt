@@ -17,9 +17,9 @@ use Rattle.cob_tree.specs.declared.stmt.Arms.{Arms, out-Arms}
 use Rattle.cob_tree.specs.declared.stmt.Stmt.{Stmt, out-Stmt}
 use Rattle.cob_tree.specs.declared.stmt.Stmt.TheOpen.{Stmt-F}
 use Rattle.cob_tree.specs.declared.stmt.When.{When, out-When}
-use Rattle.stmt_forms.specs.declared.scope.Scope.{Scope}
-use Rattle.stmt_forms.specs.Loop.{looped}
-use Rattle.stmt_spelling.specs.Stmt.{IfAny, Some_of}
+use Rattle.statement_grammar.specs.declared.stmt_forms.scope.Scope.{Scope}
+use Rattle.statement_grammar.specs.stmt_forms.Loop.{looped}
+use Rattle.part_spelling.specs.stmt_spelling.Stmt.{IfAny, Some_of}
 use Rattle.fit_stmts.specs.Fits.{Fits}
 
 module _ (fits : Fits) where

@@ -13,23 +13,23 @@ use Rattle.cob_tree.specs.declared.stmt.When.{When}
 use Rattle.cobol_lex.specs.declared.token.TokenKind.{TokenKind}
 use Rattle.grammar_forms.specs.declared.note.Position.{Position}
 use Rattle.grammar_forms.proofs.MakerLaws as laws
-use Rattle.stmt_forms.specs.declared.scope.Scope.{Scope}
-use Rattle.stmt_forms.specs.Part.{Parts}
-use Rattle.stmt_forms.specs.Move as move
-use Rattle.stmt_forms.specs.Arithmetic as arithmetic
-use Rattle.stmt_forms.specs.Arithmetic.{Goal, Work, added_to, subtracted_from, multiplied_by, divided_into, target_of}
-use Rattle.stmt_forms.specs.File as file
-use Rattle.stmt_forms.specs.Jump as jump
-use Rattle.stmt_forms.specs.Stmt as forms
-use Rattle.stmt_forms.proofs.SimpleLaws as law
+use Rattle.statement_grammar.specs.declared.stmt_forms.scope.Scope.{Scope}
+use Rattle.statement_grammar.specs.stmt_forms.Part.{Parts}
+use Rattle.statement_grammar.specs.stmt_forms.Move as move
+use Rattle.statement_grammar.specs.stmt_forms.Arithmetic as arithmetic
+use Rattle.statement_grammar.specs.stmt_forms.Arithmetic.{Goal, Work, added_to, subtracted_from, multiplied_by, divided_into, target_of}
+use Rattle.statement_grammar.specs.stmt_forms.File as file
+use Rattle.statement_grammar.specs.stmt_forms.Jump as jump
+use Rattle.statement_grammar.specs.stmt_forms.Stmt as forms
+use Rattle.statement_grammar.proofs.stmt_forms_lemmas.SimpleLaws as law
 use Rattle.named_forms.specs.Giving.{Gives}
 use Rattle.named_forms.proofs.Giving.{any, hence, still, pure, refuse, note, key, maybe, where_next, loop, ◌>>=◌, ◌>>◌}
-use Rattle.stmt_spelling.specs.Part.{Kept}
-use Rattle.stmt_spelling.specs.Stmt.{Each, Some_of, IfAny}
+use Rattle.part_spelling.specs.stmt_spelling.Part.{Kept}
+use Rattle.part_spelling.specs.stmt_spelling.Stmt.{Each, Some_of, IfAny}
 use Rattle.fit_stmts.specs.Fits.{Fits}
 use Rattle.fit_stmts.specs.Given.{OperandFits, PlaceFits, EntryFits, FileFits, PartsFit}
 use Rattle.fit_stmts.proofs.Shape.{Value, Number, IsFile, IsLabel, IsOpened, Receives, TakesResult, Targets, Results, FitsCalc, TakesRecord, WrittenFrom, FitsShape, FitsStmt}
-use Rattle.readable_stmts.proofs.Lists.{some-added, some-one, some-under, added, items, some}
+use Rattle.readable_procedures.proofs.readable_stmts_lemmas.Lists.{some-added, some-one, some-under, added, items, some}
 use Rattle.fit_stmts.proofs.Made.{made}
 
 module _ {Side Known : Type 0} {parts : Parts Side Known} {kept : Kept Side} {fits : Fits} {Kind : TokenKind → Type 0} (F : PartsFit parts kept fits Kind) where

@@ -18,15 +18,15 @@ use Rattle.cob_tree.specs.declared.stmt.Arms.{Arms, out-Arms}
 use Rattle.cob_tree.specs.declared.stmt.Stmt.{Stmt, out-Stmt}
 use Rattle.cob_tree.specs.declared.stmt.Stmt.TheOpen.{Stmt-F}
 use Rattle.cob_tree.specs.declared.stmt.When.{When, out-When}
-use Rattle.stmt_forms.specs.declared.scope.Scope.{Scope}
-use Rattle.stmt_forms.specs.Loop.{looped}
-use Rattle.stmt_forms.specs.Part.{Parts}
-use Rattle.stmt_forms.specs.Stmt.{max_nesting}
-use Rattle.readable_stmts.proofs.Lists.{each-hence}
-use Rattle.stmt_spelling.specs.Part.{Kept}
-use Rattle.stmt_spelling.specs.Stmt as spell
-use Rattle.stmt_spelling.specs.Stmt.{Each, IfAny, Some_of, SpellsCalc, SpellsControl, SpellsTurns, SpellsSubject, SpellsTest, SpellsArms, SpellsWhen, SpellsShape, SpellsStmt, SpellsList}
-use Rattle.stmt_spelling.specs.Division.{SpellsSentence, SpellsSentences}
+use Rattle.statement_grammar.specs.declared.stmt_forms.scope.Scope.{Scope}
+use Rattle.statement_grammar.specs.stmt_forms.Loop.{looped}
+use Rattle.statement_grammar.specs.stmt_forms.Part.{Parts}
+use Rattle.statement_grammar.specs.stmt_forms.Stmt.{max_nesting}
+use Rattle.readable_procedures.proofs.readable_stmts_lemmas.Lists.{each-hence}
+use Rattle.part_spelling.specs.stmt_spelling.Part.{Kept}
+use Rattle.part_spelling.specs.stmt_spelling.Stmt as spell
+use Rattle.part_spelling.specs.stmt_spelling.Stmt.{Each, IfAny, Some_of, SpellsCalc, SpellsControl, SpellsTurns, SpellsSubject, SpellsTest, SpellsArms, SpellsWhen, SpellsShape, SpellsStmt, SpellsList}
+use Rattle.part_spelling.specs.stmt_spelling.Division.{SpellsSentence, SpellsSentences}
 use Rattle.fit_stmts.specs.Fits.{Fits}
 use Rattle.fit_stmts.specs.Given.{FitSentence, FitSentences}
 use Rattle.fit_stmts.specs.Spelling.{FitsSpell}

@@ -4,7 +4,7 @@ use Rattle.std.proofs.lemmas.Bool.{and_parts}
 use Rattle.language.specs.All.{all}
 use Rattle.named_programs.specs.Part.{is_filled, if_any}
 use Rattle.named_programs.proofs.Made.{both}
-use Rattle.stmt_spelling.specs.Stmt.{Each, IfAny, Some_of}
+use Rattle.part_spelling.specs.stmt_spelling.Stmt.{Each, IfAny, Some_of}
 use Rattle.fit_stmts.specs.Statement.{some_pass}
 
 -- ---- tests

@@ -23,9 +23,9 @@ use Rattle.cob_tree.specs.declared.stmt.Stmt.TheOpen.{Stmt-F, Arms-F, When-F}
 use Rattle.cob_tree.specs.declared.stmt.When.{When, roll-When, out-When, roll-out-When, fold-roll-When}
 use Rattle.language.specs.All.{all}
 use Rattle.named_programs.specs.Part.{is_filled}
-use Rattle.stmt_forms.specs.declared.scope.Scope.{Scope}
-use Rattle.stmt_forms.specs.Loop.{looped}
-use Rattle.stmt_spelling.specs.Stmt.{Each, IfAny, Some_of}
+use Rattle.statement_grammar.specs.declared.stmt_forms.scope.Scope.{Scope}
+use Rattle.statement_grammar.specs.stmt_forms.Loop.{looped}
+use Rattle.part_spelling.specs.stmt_spelling.Stmt.{Each, IfAny, Some_of}
 use Rattle.fit_stmts.specs.Fits.{Fits}
 use Rattle.fit_stmts.specs.Statement as fit
 use Rattle.fit_stmts.specs.Statement.{held, fit_receiver, fit_target, fit_targets, fit_results, fit_numbers, fit_calc, fit_control, fit_turns, fit_subject, fit_compared, fit_test, fit_into, fit_from, fit_stmt, fit_arms, fit_when, are_fit_stmts}

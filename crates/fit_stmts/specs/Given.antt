@@ -11,12 +11,12 @@ use Rattle.cobol_lex.specs.declared.token.TokenKind.TheVariants as kinds
 use Rattle.grammar_forms.specs.declared.note.Position.{Position}
 use Rattle.named_forms.specs.Giving.{Gives}
 use Rattle.named_programs.specs.Part.{is_filled}
-use Rattle.stmt_forms.specs.declared.scope.Scope.{Scope}
-use Rattle.stmt_forms.specs.Paragraph.{sentence_of, scope_of}
-use Rattle.stmt_forms.specs.Part.{Parts}
-use Rattle.stmt_forms.specs.Stmt.{max_nesting}
-use Rattle.stmt_spelling.specs.Part.{Kept}
-use Rattle.stmt_spelling.specs.Stmt.{Each}
+use Rattle.statement_grammar.specs.declared.stmt_forms.scope.Scope.{Scope}
+use Rattle.statement_grammar.specs.stmt_forms.Paragraph.{sentence_of, scope_of}
+use Rattle.statement_grammar.specs.stmt_forms.Part.{Parts}
+use Rattle.statement_grammar.specs.stmt_forms.Stmt.{max_nesting}
+use Rattle.part_spelling.specs.stmt_spelling.Part.{Kept}
+use Rattle.part_spelling.specs.stmt_spelling.Stmt.{Each}
 use Rattle.fit_stmts.specs.Fits.{Fits}
 use Rattle.fit_stmts.specs.Scope.{are_in_scope}
 use Rattle.fit_stmts.specs.Statement.{are_fit_stmts}

@@ -7,3 +7,9 @@ pub mod Scope
 pub mod Spelling
 -- What parts that are read have to do with the tests.
 pub mod Given
+-- What a source is restructured to keeps what is asked of its VARYINGs and of choices by cells.
+pub mod sound_bodies
+-- What is written of a program whose statements pass tests passes tests too.
+pub mod fit_control
+-- Tests of the parts of statements by the names that a program declares itself.
+pub mod own_fits

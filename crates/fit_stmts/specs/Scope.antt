@@ -7,8 +7,8 @@ use Rattle.cob_tree.specs.declared.stmt.Stmt.TheOpen.{Stmt-F, Arms-F, When-F}
 use Rattle.cob_tree.specs.declared.stmt.When.{When, fold-When}
 use Rattle.language.specs.All.{all}
 use Rattle.named_programs.specs.Part.{if_any}
-use Rattle.stmt_forms.specs.declared.scope.Scope.{Scope}
-use Rattle.stmt_forms.specs.Loop.{looped}
+use Rattle.statement_grammar.specs.declared.stmt_forms.scope.Scope.{Scope}
+use Rattle.statement_grammar.specs.stmt_forms.Loop.{looped}
 
 abbrev pub Scoped : Type 0
 Scoped = Scope → Bool

@@ -6,9 +6,9 @@ use Rattle.cob_tree.specs.declared.place.Operand.{Operand}
 use Rattle.cob_tree.specs.declared.place.Operand.TheVariants as operands
 use Rattle.cob_tree.specs.declared.place.Place.{Place}
 use Rattle.cob_tree.specs.declared.program.Program.{Program}
-use Rattle.stmt_forms.specs.Part.{Parts}
-use Rattle.stmt_spelling.specs.Part.{Kept, SpellsPlace, SpellsValue, SpellsNumber, SpellsNumberPlace, MovesTo, SpellsExpr, Without, WithoutExpr, SpellsCond, SpellsFile, SpellsRecord, SpellsEntry, SpellsRange}
-use Rattle.stmt_spelling.specs.Stmt.{Whole, CountsTurns}
+use Rattle.statement_grammar.specs.stmt_forms.Part.{Parts}
+use Rattle.part_spelling.specs.stmt_spelling.Part.{Kept, SpellsPlace, SpellsValue, SpellsNumber, SpellsNumberPlace, MovesTo, SpellsExpr, Without, WithoutExpr, SpellsCond, SpellsFile, SpellsRecord, SpellsEntry, SpellsRange}
+use Rattle.part_spelling.specs.stmt_spelling.Stmt.{Whole, CountsTurns}
 use Rattle.fit_stmts.specs.Fits.{Fits}
 
 module _ {Side Known : Type 0} (parts : Parts Side Known) (kept : Kept Side) (program : Program)

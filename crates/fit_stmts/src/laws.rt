@@ -14,14 +14,14 @@ ghost use Rattle.fit_stmts.specs.Spelling.{FitsSpell};
 ghost use Rattle.fit_stmts.specs.Statement.{are_fit_stmts, are_fit_paragraphs};
 ghost use Rattle.named_forms.specs.Giving.{Gives};
 ghost use Rattle.named_programs.specs.Part.{is_filled};
-ghost use Rattle.stmt_forms.specs.declared.scope.Scope as scopes;
-ghost use Rattle.stmt_forms.specs.Laws.{PartsAreLawful};
-ghost use Rattle.stmt_forms.specs.Paragraph.{division};
-ghost use Rattle.stmt_spelling.specs.Division.{SpellsSentences};
-ghost use Rattle.stmt_spelling.specs.Stmt.{SpellsList};
+ghost use Rattle.statement_grammar.specs.declared.stmt_forms.scope.Scope as scopes;
+ghost use Rattle.statement_grammar.specs.stmt_forms.Laws.{PartsAreLawful};
+ghost use Rattle.statement_grammar.specs.stmt_forms.Paragraph.{division};
+ghost use Rattle.part_spelling.specs.stmt_spelling.Division.{SpellsSentences};
+ghost use Rattle.part_spelling.specs.stmt_spelling.Stmt.{SpellsList};
 
-use stmt_forms::Made;
-use stmt_spelling::Keeps;
+use part_spelling::stmt_spelling::Keeps;
+use statement_grammar::stmt_forms::Made;
 
 /// What is asked of each token of a source.
 pub trait Asks {

@@ -1,9 +1,12 @@
-//! Statements that have in them what they are to, told by tests: they spell what is printed of them,
-//! and those of a PROCEDURE DIVISION that is read with no fault pass the tests, over open parts and
-//! open tests of parts (`specs/Fits.antt`). The crate has no code.
+//! Statements that have in them what they are to, told by tests: they spell what is printed of
+//! them, and those of a PROCEDURE DIVISION that is read with no fault pass the tests, over open
+//! parts and open tests of parts (`specs/Fits.antt`). The crate has no code.
 #![tactic(auto)]
 
+pub mod fit_control;
 mod laws;
+pub mod own_fits;
+pub mod sound_bodies;
 
 pub use laws::{
     Asks, Tests, fit_paragraphs_pass, fit_sentences_spell, fit_statements_spell,

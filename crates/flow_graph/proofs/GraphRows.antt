@@ -1,21 +1,20 @@
 -- The graph that the nodes at the sorted labels make.
-use Rattle.std.proofs.Common.{◌≡◌, ℕ, ◌*◌, Bool, List, [], ◌∷◌, length, map, ap, ap₂, ◌∙◌, arith}
-use Rattle.std.specs.List.Sorted.{IsPermutation, IsSorted}
-use Rattle.std.specs.Ordering.{nat_cmp}
+use Rattle.std.proofs.Common.{◌≡◌, ℕ, ◌*◌, Bool, List, [], ◌∷◌, map, ap, ap₂, ◌∙◌, arith}
+use Rattle.std.specs.List.Sorted.{IsNonDecreasingBy, IsPermutation}
 use Rattle.cob_tree.specs.declared.program.Program.{Program}
 use Rattle.cob_tree.specs.declared.program.Range as code
 use Rattle.language.specs.Control.{control_of}
 use Rattle.control.specs.Graph as graph
-use Rattle.graph_rules.specs.Families as families
-use Rattle.graph_rules.specs.Reduced as reduced
-use Rattle.lowering.specs.Lower as lower
-use Rattle.lowering.specs.Lowered.{nodes_of, place_in}
-use Rattle.lowering.specs.Reached.{kept_nodes}
-use Rattle.lowering.specs.Rests.{Has}
-use Rattle.lowering.specs.Told.{Told}
-use Rattle.lowering.specs.WellFormed.{IsLabelOf}
-use Rattle.lowering.specs.flow.Comes.{entry_of}
-use Rattle.lowering.proofs.graphs.Families.{found-self}
+use Rattle.control_laws.specs.graph_rules.Families as families
+use Rattle.control_laws.specs.graph_rules.Reduced as reduced
+use Rattle.control_laws.specs.lowering.Lower as lower
+use Rattle.control_laws.specs.lowering.Lowered.{nodes_of, place_in}
+use Rattle.control_laws.specs.lowering.Reached.{kept_nodes}
+use Rattle.control_laws.specs.lowering.Rests.{Has}
+use Rattle.control_laws.specs.lowering.Told.{Told}
+use Rattle.control_laws.specs.lowering.WellFormed.{IsLabelOf}
+use Rattle.control_laws.specs.lowering.flow.Comes.{entry_of}
+use Rattle.control_laws.proofs.lowering_lemmas.graphs.Families.{found-self}
 use Rattle.branch_tree.specs.Graphs.{seen_added}
 use Rattle.branch_tree.specs.declared.graph.Graph.{Graph}
 use Rattle.lower_places.specs.Fall.{seen_range}
@@ -24,13 +23,12 @@ use Rattle.lower_places.specs.Leaf.{point_of}
 use Rattle.lower_stmts.specs.Along.{told_by}
 use Rattle.lower_stmts.specs.declared.telling.Telling.{Telling}
 use Rattle.rest_table.specs.declared.spot.Spot.{Spot}
-use Rattle.range_trees.specs.Nodes.{IsWhole, node_in}
-use Rattle.flow_levels.specs.Reaching.{AllPlaces, IsMarked}
+use Rattle.range_trees.specs.Nodes.{node_in}
+use Rattle.flow_levels.specs.Reaching.{IsMarked}
 use Rattle.flow_graph.specs.Lowered.{AreNodesAt, IsLoweredIn, node_of}
 use Rattle.flow_graph.specs.Reaching.{AreReachedIn, Begins, IsRangeIn}
 use Rattle.flow_graph.proofs.LabelRows.{nodes_within, reached_label}
-use Rattle.flow_graph.proofs.NodeRows.{Found, from_sorted, get_in, in_is, is_in, is_there, IsIn, same_nodes, sorted_rising, to_sorted}
-use Rattle.flow_graph.proofs.Reached.{reaches_below}
+use Rattle.flow_graph.proofs.NodeRows.{Found, from_sorted, in_is, is_in, is_there, IsIn, same_nodes, sorted_rising, to_sorted}
 
 found_by : (told : Told) (place_of : ℕ → ℕ) (trees : graph.Label → graph.Tree) (xs : List lower.Node) → Has told place_of trees xs → Found trees xs
 found_by told place_of trees [] h = tt
@@ -53,12 +51,7 @@ module _ (telling : Telling) (spots : List Spot) (range : code.Range) where
       turned ∙ ap lower.point (first_place program is place number first at)
 
   module _ (places sorted : List ℕ) (marks : List Bool) (marked : IsMarked places marks) (moved : IsPermutation places sorted) (reached : AreReachedIn telling spots range places) where
-    pub labels_below : IsWhole telling spots → (program : Program) × IsRangeIn telling spots range program → AllPlaces (3 * length spots) sorted
-    labels_below whole some label there =
-        reaches_below telling spots range whole some.0 some.1 label
-        ((reached some.0 some.1).0 label (from_sorted places marks marked sorted moved label (get_in sorted there.0 label there.1)))
-
-    pub is_lowered : IsSorted nat_cmp sorted → (made : Graph) (place number : ℕ) → number ≡ entry_of (seen_range range) → place ≡ placed_at number → made.entry ≡ point_of place →
+    pub is_lowered : IsNonDecreasingBy (λ (n : ℕ). n) sorted → (made : Graph) (place number : ℕ) → number ≡ entry_of (seen_range range) → place ≡ placed_at number → made.entry ≡ point_of place →
         AreNodesAt telling spots range sorted made.nodes.items → made.added.items ≡ [] → IsLoweredIn telling spots range made
     is_lowered up made place number first at entry nodes none program is =
         let told = told_by telling in

@@ -5,7 +5,7 @@ use Rattle.std.proofs.Math.Seq.{drop-cons}
 use Rattle.std.proofs.lemmas.List.{drop_all}
 use Rattle.language.specs.Language as language
 use Rattle.control.specs.Graph as graph
-use Rattle.lowering.specs.Reached.{ArmsJumpTo, JumpsTo}
+use Rattle.control_laws.specs.lowering.Reached.{ArmsJumpTo, JumpsTo}
 use Rattle.branch_tree.specs.Trees.{seen_body, seen_end, seen_tree, seen_trees}
 use Rattle.branch_tree.specs.declared.tree.Tree as code
 use Rattle.branch_tree.proofs.TreeRows.{seen_tree_is}

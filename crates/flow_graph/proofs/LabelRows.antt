@@ -8,14 +8,14 @@ use Rattle.cob_tree.specs.declared.program.Sentence.{Sentence}
 use Rattle.language.specs.Control.{control_of, section_last, seen_paragraph, seen_paragraphs, seen_sentence}
 use Rattle.language.specs.Language.{Program, Range}
 use Rattle.control.specs.Graph.{Label, Tree, tree, End, Pick, Jump, Return, Stop, Dead, Trees, no_more, more, end_of}
-use Rattle.lowering.specs.Told.{IsSource, Told}
-use Rattle.lowering.specs.Lower as lower
-use Rattle.lowering.specs.Lower.{Node}
-use Rattle.lowering.specs.Lowered.{find, lowered, nodes_from, nodes_of, place_in, total, Within}
-use Rattle.lowering.specs.Reached.{ArmsJumpTo, entered, IsReached, jumped, JumpsTo}
-use Rattle.lowering.specs.WellFormed.{AllAreWell, AreWell, IsLabelOf, IsRangeOf, IsWellEnd, IsWellTree}
-use Rattle.lowering.specs.flow.Comes.{entry_of}
-use Rattle.lowering.proofs.graphs.WellFormed.{all-well, named-label}
+use Rattle.control_laws.specs.lowering.Told.{IsSource, Told}
+use Rattle.control_laws.specs.lowering.Lower as lower
+use Rattle.control_laws.specs.lowering.Lower.{Node}
+use Rattle.control_laws.specs.lowering.Lowered.{find, lowered, nodes_from, nodes_of, place_in, total, Within}
+use Rattle.control_laws.specs.lowering.Reached.{ArmsJumpTo, entered, IsReached, jumped, JumpsTo}
+use Rattle.control_laws.specs.lowering.WellFormed.{AllAreWell, AreWell, IsLabelOf, IsRangeOf, IsWellEnd, IsWellTree}
+use Rattle.control_laws.specs.lowering.flow.Comes.{entry_of}
+use Rattle.control_laws.proofs.lowering_lemmas.graphs.WellFormed.{all-well, named-label}
 use Rattle.lower_places.proofs.SizeLemmas.{sizes-seen}
 use Rattle.lower_places.specs.Layout.{end_from, paragraph_size}
 use Rattle.rest_table.specs.Paragraphs.{left_at, nodes_of_paragraph, sentence_size, sentence_sizes}

@@ -6,5 +6,7 @@ pub mod LabelRows
 pub mod Reached
 -- kept nodes beside sorted labels
 pub mod NodeRows
+-- nodes that are made, one after the other, and sorted
+pub mod MadeRows
 -- the graph made of them
 pub mod GraphRows

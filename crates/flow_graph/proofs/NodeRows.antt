@@ -1,31 +1,19 @@
 -- The nodes of a range that are kept, beside those at sorted labels.
-use Rattle.std.proofs.Common.{◌≡◌, ℕ, zero, suc, ◌+◌, ◌≤◌, ◌<◌, ◌==◌, ◌⊎◌, inl, inr, Bool, true, false, if◌then◌else◌, List, [], ◌∷◌, ◌++◌, drop, get_or, length, map, Some, slice_get, refl, ap, ap₂, sym, ◌∙◌, subst, arith, add-one, eqb}
+use Rattle.std.proofs.Common.{◌≡◌, ℕ, zero, suc, ◌+◌, ◌≤◌, ◌<◌, ◌==◌, ◌⊎◌, inl, inr, Bool, true, false, if◌then◌else◌, List, [], ◌∷◌, get_or, length, map, Some, slice_get, refl, ap, ap₂, sym, ◌∙◌, subst, arith, eqb}
 use Rattle.std.specs.List.{Contains, IsDistinct, AllByRecursion}
-use Rattle.std.specs.List.Sorted.{IsNonDecreasingBy, IsPermutation, IsSorted}
-use Rattle.std.specs.Ordering.{nat_cmp}
-use Rattle.std.proofs.Math.Seq.{drop-cons}
+use Rattle.std.specs.List.Sorted.{IsNonDecreasingBy, IsPermutation}
 use Rattle.std.proofs.lemmas.Bool.Decides.{eqb_tells}
-use Rattle.std.proofs.lemmas.List.{drop_all, map-append, append_assoc, append-nil}
-use Rattle.std.proofs.lemmas.List.Sorted.{Contains-permutation, IsNonDecreasingBy-from_sort, IsPermutation-sym}
+use Rattle.std.proofs.lemmas.List.Sorted.{Contains-permutation, IsPermutation-sym}
 use Rattle.std.proofs.lemmas.Map.Keys.{IsDistinct-head, IsDistinct-tail, IsDistinct-IsPermutation}
 use Rattle.std.proofs.lemmas.Option.{slice_get_within, slice_get-get_or}
 use Rattle.control.specs.Graph.{Label, Tree}
-use Rattle.graph_rules.specs.Reduced as reduced
-use Rattle.lowering.specs.Lower.{Node}
-use Rattle.lowering.specs.Lowered.{Within}
-use Rattle.lowering.specs.Reached.{kept_nodes}
-use Rattle.lowering.specs.WellFormed.{IsLabelOf}
+use Rattle.control_laws.specs.lowering.Lower.{Node}
+use Rattle.control_laws.specs.lowering.Lowered.{Within}
+use Rattle.control_laws.specs.lowering.Reached.{kept_nodes}
+use Rattle.control_laws.specs.lowering.WellFormed.{IsLabelOf}
 use Rattle.flow_levels.specs.Reaching.{Holds, IsMarked}
 use Rattle.flow_levels.proofs.Searching.{distinct}
-use Rattle.cob_tree.specs.declared.program.Program.{Program}
-use Rattle.cob_tree.specs.declared.program.Range as code
-use Rattle.branch_tree.specs.Graphs.{seen_node, seen_nodes}
-use Rattle.branch_tree.specs.declared.graph.Node as made
-use Rattle.branch_tree.specs.declared.tree.Tree as made_tree
-use Rattle.lower_stmts.specs.declared.telling.Telling.{Telling}
-use Rattle.rest_table.specs.declared.spot.Spot.{Spot}
-use Rattle.range_trees.specs.Nodes.{IsNodeIn, IsTableOf, node_in}
-use Rattle.flow_graph.specs.Lowered.{AreNodesAt, node_by, node_of, node_with}
+use Rattle.flow_graph.specs.Lowered.{node_by, node_of}
 use Rattle.flow_graph.proofs.LabelRows.{label_above}
 
 abbrev pub IsIn : List ℕ → ℕ → Type 0
@@ -168,9 +156,9 @@ contains_holds : (xs : List ℕ) (label : ℕ) → Contains xs label → Holds x
 contains_holds xs label c = (c.0, slice_get-get_or xs c.0 label c.1 ∙ ap (λ (n : ℕ). Some n) c.2)
 
 module _ (places : List ℕ) (marks : List Bool) (marked : IsMarked places marks) (sorted : List ℕ) (moved : IsPermutation places sorted) where
-  pub sorted_rising : IsSorted nat_cmp sorted → Rising 0 sorted
+  pub sorted_rising : IsNonDecreasingBy (λ (n : ℕ). n) sorted → Rising 0 sorted
   sorted_rising up =
-      rising_of 0 sorted (IsDistinct-IsPermutation eqb flips places sorted moved (distinct places marked.once)) (IsNonDecreasingBy-from_sort (λ (n : ℕ). n) sorted up) (λ label there. omega arith)
+      rising_of 0 sorted (IsDistinct-IsPermutation eqb flips places sorted moved (distinct places marked.once)) up (λ label there. omega arith)
 
   pub to_sorted : (label : ℕ) → Holds places label → IsIn sorted label
   to_sorted label h =
@@ -179,41 +167,3 @@ module _ (places : List ℕ) (marks : List Bool) (marked : IsMarked places marks
 
   pub from_sorted : (label : ℕ) → IsIn sorted label → Holds places label
   from_sorted label h = contains_holds places label (Contains-permutation sorted places label (IsPermutation-sym places sorted moved) (holds_contains sorted label (in_holds sorted label h)))
-
--- The nodes at labels, so far.
-
-pub same_read : (xs : List ℕ) (i a b : ℕ) → i < length xs → get_or xs i a ≡ get_or xs i b
-same_read xs i a b lt =
-    let both : Some (get_or xs i a) ≡ Some (get_or xs i b) = sym (slice_get-get_or xs i a lt) ∙ slice_get-get_or xs i b lt in
-    cc
-
-pub label_in : (labels : List ℕ) (i label bound : ℕ) → i < length labels → label ≡ get_or labels i label → ((l : ℕ) → Holds labels l → l < bound) → label < bound
-label_in labels i label bound lt is below = below label (i, slice_get-get_or labels i label lt ∙ ap (λ (n : ℕ). Some n) (sym is))
-
-module _ (telling : Telling) (spots : List Spot) (range : code.Range) (labels : List ℕ) where
-  abbrev node_at : Program → ℕ → reduced.Node
-  node_at program = node_by (node_in telling program range)
-
-  abbrev pub NodesSoFar : ℕ → List made.Node → Type 0
-  NodesSoFar i nodes = (program : Program) → IsTableOf telling spots program →
-      seen_nodes nodes ++ map (node_at program) (drop i labels) ≡ map (node_at program) labels
-
-  pub nodes_begin : (nodes : List made.Node) → nodes ≡ [] → NodesSoFar 0 nodes
-  nodes_begin nodes none program table = ap (λ ns. seen_nodes ns ++ map (node_at program) labels) none
-
-  pub nodes_over : (i : ℕ) (nodes : List made.Node) → length labels ≤ i → NodesSoFar i nodes → AreNodesAt telling spots range labels nodes
-  nodes_over i nodes le so program table =
-      sym (append-nil (seen_nodes nodes)) ∙ ap (λ ls. seen_nodes nodes ++ map (node_at program) ls) (sym (drop_all i labels le)) ∙ so program table
-
-  pub nodes_more : (i label : ℕ) → i < length labels → label ≡ get_or labels i label → (nodes new : List made.Node) (tree : made_tree.Tree) → IsNodeIn telling spots range label tree →
-      new ≡ nodes ++ node_with label tree ∷ [] → NodesSoFar i nodes → NodesSoFar (i + 1) new
-  nodes_more i label lt is nodes new tree node added so program table =
-      let first : drop i labels ≡ label ∷ drop (i + 1) labels = rw (add-one i) (drop-cons labels i label lt) ∙ ap (λ l. l ∷ drop (i + 1) labels) (sym is) in
-      let others = map (node_at program) (drop (i + 1) labels) in
-      let here : seen_node (node_with label tree) ≡ node_at program label = ap (λ t. record { label = label; tree = t }) (node program table) in
-      ap (λ ns. seen_nodes ns ++ others) added
-      ∙ ap (λ ns. ns ++ others) (map-append seen_node nodes (node_with label tree ∷ []))
-      ∙ append_assoc (seen_nodes nodes) (seen_node (node_with label tree) ∷ []) others
-      ∙ ap (λ n. seen_nodes nodes ++ n ∷ others) here
-      ∙ ap (λ ls. seen_nodes nodes ++ map (node_at program) ls) (sym first)
-      ∙ so program table

@@ -5,8 +5,8 @@ use Rattle.cob_tree.specs.declared.program.Program.{Program}
 use Rattle.cob_tree.specs.declared.program.Range as code
 use Rattle.language.specs.Control.{control_of}
 use Rattle.control.specs.Graph as graph
-use Rattle.lowering.specs.Lowered.{nodes_of}
-use Rattle.lowering.specs.Reached.{entered, jumped, JumpsTo}
+use Rattle.control_laws.specs.lowering.Lowered.{nodes_of}
+use Rattle.control_laws.specs.lowering.Reached.{entered, jumped, JumpsTo}
 use Rattle.lower_places.specs.Fall.{seen_range}
 use Rattle.lower_places.specs.Layout.{end_from}
 use Rattle.lower_stmts.specs.Along.{told_by}

@@ -1,7 +1,7 @@
 -- Lists of labels to which trees jump.
 use Rattle.std.specs.Prelude.{ℕ, ◌≡◌, ◌<◌, ◌⊎◌, List, Some, slice_get}
 use Rattle.control.specs.Graph as graph
-use Rattle.lowering.specs.Reached.{ArmsJumpTo, JumpsTo}
+use Rattle.control_laws.specs.lowering.Reached.{ArmsJumpTo, JumpsTo}
 use Rattle.flow_levels.specs.Reaching.{Holds}
 
 -- the list has these labels too then, and stands as it stood otherwise

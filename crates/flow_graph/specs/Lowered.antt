@@ -1,13 +1,13 @@
 -- The graph of a range, as lowering has it.
-use Rattle.std.specs.Prelude.{ℕ, ◌≡◌, Bool, List, [], map}
+use Rattle.std.specs.Prelude.{ℕ, ◌≡◌, Bool, List, [], ◌∷◌, ◌++◌, map, All}
 use Rattle.language.specs.Language as language
 use Rattle.control.specs.Graph as graph
-use Rattle.graph_rules.specs.Reduced as reduced
-use Rattle.lowering.specs.Told.{Told}
-use Rattle.lowering.specs.Lower as lower
-use Rattle.lowering.specs.Lowered.{lowered, nodes_of}
-use Rattle.lowering.specs.Reached.{kept_nodes}
-use Rattle.lowering.specs.WellFormed.{AreJustReached}
+use Rattle.control_laws.specs.graph_rules.Reduced as reduced
+use Rattle.control_laws.specs.lowering.Told.{Told}
+use Rattle.control_laws.specs.lowering.Lower as lower
+use Rattle.control_laws.specs.lowering.Lowered.{lowered, nodes_of}
+use Rattle.control_laws.specs.lowering.Reached.{kept_nodes}
+use Rattle.control_laws.specs.lowering.WellFormed.{AreJustReached}
 use Rattle.branch_tree.specs.Graphs.{seen_graph, seen_nodes}
 use Rattle.branch_tree.specs.declared.graph.Graph.{Graph}
 use Rattle.branch_tree.specs.declared.graph.Node.{Node}
@@ -19,7 +19,7 @@ use Rattle.lower_places.specs.Fall.{seen_range}
 use Rattle.lower_stmts.specs.Along.{told_by}
 use Rattle.lower_stmts.specs.declared.telling.Telling.{Telling}
 use Rattle.rest_table.specs.declared.spot.Spot.{Spot}
-use Rattle.range_trees.specs.Nodes.{IsTableOf, node_in}
+use Rattle.range_trees.specs.Nodes.{IsNodeIn, IsTableOf, node_in}
 use Rattle.flow_graph.specs.Reaching.{IsRangeIn}
 
 -- a node of lowering as one that the rules reduce
@@ -51,6 +51,22 @@ IsLoweredIn telling spots range made =
 -- a node with this label
 abbrev pub node_with : ℕ → Tree → Node
 node_with label tree = record { label = label; tree = tree }
+
+-- it is the node at the label
+abbrev pub IsMade : Telling → List Spot → code.Range → Node → Type 0
+IsMade telling spots range node = IsNodeIn telling spots range node.label node.tree
+
+-- one more node, at this label
+abbrev pub AddsNode : Telling → List Spot → code.Range → ℕ → (before after : List Node) → Type 0
+AddsNode telling spots range label before after =
+    (tree : Tree) × IsNodeIn telling spots range label tree
+    × (after ≡ before ++ node_with label tree ∷ [])
+
+-- these are the nodes at the labels, in their order
+pub record AreMade (telling : Telling) (spots : List Spot) (range : code.Range) (labels : List ℕ)
+    (nodes : List Node) : Type 0 where
+  pub order : map (λ node. node.label) nodes ≡ labels
+  pub trees : All (IsMade telling spots range) nodes
 
 -- the nodes at these labels
 abbrev pub node_by : (graph.Label → graph.Tree) → graph.Label → reduced.Node

@@ -4,9 +4,9 @@ use Rattle.cob_tree.specs.declared.program.Program.{Program}
 use Rattle.cob_tree.specs.declared.program.Range as code
 use Rattle.language.specs.Control.{control_of}
 use Rattle.control.specs.Graph as graph
-use Rattle.lowering.specs.Lowered.{lowered}
-use Rattle.lowering.specs.Reached.{IsReached}
-use Rattle.lowering.specs.WellFormed.{IsRangeOf}
+use Rattle.control_laws.specs.lowering.Lowered.{lowered}
+use Rattle.control_laws.specs.lowering.Reached.{IsReached}
+use Rattle.control_laws.specs.lowering.WellFormed.{IsRangeOf}
 use Rattle.lower_places.specs.Fall.{seen_range}
 use Rattle.lower_stmts.specs.Along.{told_by}
 use Rattle.lower_stmts.specs.declared.telling.Telling.{Telling}

@@ -1,10 +1,11 @@
 //! The lowered graph of a range: the trees of its reached nodes, in the order of their labels.
 //!
 //! `lower` looks for the labels that are reached from the range's entry, as `flow_levels::reached`
-//! looks for places, and has the tree at each by `range_trees::label_tree`. Hold it against
+//! looks for places, and has the tree at each by `range_trees::label_tree`, once. Hold it against
 //! `IsLowered` of `specs/Lowered`.
 #![tactic(auto)]
 
+mod adding;
 mod nodes;
 mod reaching;
 

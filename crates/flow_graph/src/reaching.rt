@@ -1,15 +1,17 @@
 //! The labels that are reached.
 
-ghost use Rattle.std.specs.Prelude.{◌≡◌, ◌≤◌, ◌<◌, ◌*◌, ◌^◌, length, OnOk};
+ghost use Rattle.std.specs.Prelude.{[], ◌≡◌, ◌≤◌, ◌<◌, ◌*◌, ◌^◌, length, OnOk};
 ghost use Rattle.cob_tree.specs.declared.program.Program.{Program};
 ghost use Rattle.control.specs.Graph.{end_of};
 ghost use Rattle.branch_tree.specs.Trees.{seen_tree, seen_trees};
 ghost use Rattle.flow_levels.specs.Reaching.{IsMarked};
 ghost use Rattle.flow_graph.specs.Jumps.{AddsArmJumps, AddsJumps, ArmsJumpBelow, JumpBelow};
+ghost use Rattle.flow_graph.specs.Lowered.{AddsNode, AreMade};
 ghost use Rattle.range_trees.specs.Nodes.{IsWhole};
 ghost use Rattle.flow_graph.specs.Reaching.{AddsNodeJumps, AreReachedIn, Begins, IsRangeIn, NodeJumpsBelow};
 
-use branch_tree::{End, Tree};
+use crate::adding::push_node;
+use branch_tree::{End, Node, Tree};
 use cob_base::NoMemory;
 use cob_tree::Range;
 use flow_levels::Reach;
@@ -54,10 +56,11 @@ fn visit_arms(reach: &mut Reach, arms: &[Tree]) -> Result<(), NoMemory>
     Ok(())
 }
 
-/// Adds the labels to which the node at a label jumps.
+/// Adds the node at a label, and the labels to which it jumps.
 fn visit_node(
     alloc: Global,
     reach: &mut Reach,
+    nodes: &mut Vec<Node>,
     spots: &[Spot<'_>],
     label: u32,
     range: Range,
@@ -72,19 +75,27 @@ fn visit_node(
     ensures adds { OnOk result
         (AddsNodeJumps telling.now spots.now range label reach.old.places.items
         reach.new.places.items) }
+    ensures node { OnOk result
+        (AddsNode telling.now spots.now range label nodes.old.items nodes.new.items) }
     ensures marked { IsMarked reach.new.places.items reach.new.marks.items }
     ensures size { length reach.new.marks.items ≡ length reach.old.marks.items }
 {
     let tree = label_tree(alloc, spots, label, range, telling)?;
-    let visited = visit_tree(reach, &tree);
-    drop(tree);
-    visited
+    match visit_tree(reach, &tree) {
+        Ok(()) => push_node(nodes, label, tree),
+        Err(fault) => {
+            drop(tree);
+            Err(fault)
+        }
+    }
 }
 
-/// Makes these the labels that are reached in the range from this one.
+/// Makes these the labels that are reached in the range from this one, and adds their nodes, in the
+/// order in which they are come to.
 pub fn reach_from(
     alloc: Global,
     reach: &mut Reach,
+    nodes: &mut Vec<Node>,
     spots: &[Spot<'_>],
     entry: u32,
     range: Range,
@@ -95,7 +106,10 @@ pub fn reach_from(
     requires size { length reach.old.marks.items ≡ 3 * length spots.now }
     requires entry { Begins telling.now spots.now range entry }
     requires range { (program : Program) × IsRangeIn telling.now spots.now range program }
+    requires none { nodes.old.items ≡ [] }
     ensures reach { OnOk result (AreReachedIn telling.now spots.now range reach.new.places.items) }
+    ensures made { OnOk result
+        (AreMade telling.now spots.now range reach.new.places.items nodes.new.items) }
     ensures marked { IsMarked reach.new.places.items reach.new.marks.items }
     ensures size { length reach.new.marks.items ≡ length reach.old.marks.items }
 {
@@ -106,7 +120,7 @@ pub fn reach_from(
             return Ok(());
         }
         let label = reach.places[at];
-        visit_node(alloc, reach, spots, label, range, telling)?;
+        visit_node(alloc, reach, nodes, spots, label, range, telling)?;
     }
     Ok(())
 }

@@ -18,7 +18,7 @@ use Rattle.language.specs.Language as language
 use Rattle.language.specs.Items.{Do}
 use Rattle.language.specs.Control.{test_of, always, arith_of, arith_stmt, Both, both_arms, arm_before, else_of, Branch, branches_before, tests_of, picker_by, evaluate_of, cell_chosen, count_from, stmts_of, seen, seen_when, seen_stmts}
 use Rattle.language.proofs.Rows.{seen_if_any, seen_when_is}
-use Rattle.lowering.specs.Told.{arm_count}
+use Rattle.control_laws.specs.lowering.Told.{arm_count}
 use Rattle.flow_paths.specs.Step.{at, some_given, first_is_barred}
 use Rattle.flow_places.specs.declared.table.Place.{Place}
 use Rattle.flow_places.specs.declared.table.Place.TheVariants.{Goes, Chooses}

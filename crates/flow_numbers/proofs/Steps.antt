@@ -5,7 +5,7 @@ use Rattle.language.specs.Language.{Act, Picker, By, If, ByCell, Chooser, Choose
 use Rattle.language.specs.Language as language
 use Rattle.language.specs.Items.{Item, Do, before, before_arm, past_sentence, from_loop}
 use Rattle.control.specs.Items.{way_after, to_one}
-use Rattle.lowering.specs.Told.{arm_count}
+use Rattle.control_laws.specs.lowering.Told.{arm_count}
 use Rattle.flow_paths.specs.Step.{Point, at, start, Next, by_way, led, some_given, first_is_barred, without_first, ways_from, ways_of, next}
 use Rattle.flow_paths.specs.Step as lang
 use Rattle.flow_paths.specs.Flow.{part}

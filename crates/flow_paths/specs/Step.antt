@@ -6,8 +6,8 @@ use Rattle.control.specs.Outcome.{Got}
 use Rattle.control.specs.Doing.{Doing}
 use Rattle.control.specs.Items.{Way, On, Halts, Into, To, ToEnd, item_way}
 use Rattle.control.specs.Source.{rest_of}
-use Rattle.lowering.specs.Told.{arm_count}
-use Rattle.lowering.specs.flow.Paths.{is_first}
+use Rattle.control_laws.specs.lowering.Told.{arm_count}
+use Rattle.control_laws.specs.lowering.flow.Paths.{is_first}
 
 -- where control is: a paragraph, and what is still to do there
 pub record Point : Type 0 where

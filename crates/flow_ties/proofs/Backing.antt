@@ -8,17 +8,17 @@ use Rattle.language.specs.Items.{Turning, Counted, Tests, Steps, StepsAfter, Ite
 use Rattle.control.specs.Items.{On, To, ToEnd, way_after, tried, on, to_one, item_way}
 use Rattle.control.specs.Source.{rest_of}
 use Rattle.language.specs.Language.{paragraph_at}
-use Rattle.lowering.specs.Told.{Told, MayGive, OwnPicker, arm_count}
-use Rattle.lowering.specs.flow.Paths.{free_pick, free}
-use Rattle.lowering.proofs.rests.Wholes.{OwnItem}
-use Rattle.lowering.proofs.flow.Freely.{arm-told}
+use Rattle.control_laws.specs.lowering.Told.{Told, MayGive, OwnPicker, arm_count}
+use Rattle.control_laws.specs.lowering.flow.Paths.{free_pick, free}
+use Rattle.control_laws.proofs.lowering_lemmas.rests.Wholes.{OwnItem}
+use Rattle.control_laws.proofs.lowering_lemmas.flow.Freely.{arm-told}
 use Rattle.flow_paths.specs.Step.{Point, at, start, item_by, by_way, way_of, led, some_given, way_count, first_is_barred, ways_of, way_at}
 use Rattle.flow_ties.specs.Uncounted.{uncounted}
 use Rattle.flow_ties.proofs.Uncounting.{s-body, s-arm, s-turn, s-nil, s-items, s-past, s-loop, IsPlain, tests-plain, steps-plain, after-plain, counted}
 use Rattle.flow_ties.proofs.Ways.{way-led}
 use Rattle.flow_ties.proofs.Telling.{none-given}
 use Rattle.flow_ties.specs.Laws.{SomeArmIsGiven}
-use Rattle.lowering.specs.Completes.{first_is_dead}
+use Rattle.control_laws.specs.lowering.Completes.{first_is_dead}
 
 module _ (told : Told) (program : Program) (number : ℕ) where
   abbrev U : List Item → List Item

@@ -11,9 +11,9 @@ use Rattle.language.specs.Items.{Item, Do, ends_at}
 use Rattle.language.specs.Items as language
 use Rattle.control.specs.Source.{rest_of, comes_to, source_step}
 use Rattle.control.specs.Source as machine
-use Rattle.lowering.specs.Told.{Told, IsSource}
-use Rattle.lowering.specs.flow.Paths.{Flow, free, nothing_left}
-use Rattle.lowering.specs.flow.Paths as theory
+use Rattle.control_laws.specs.lowering.Told.{Told, IsSource}
+use Rattle.control_laws.specs.lowering.flow.Paths.{Flow, free, nothing_left}
+use Rattle.control_laws.specs.lowering.flow.Paths as theory
 use Rattle.flow_paths.specs.declared.trail.FlowFault.{FlowFault}
 use Rattle.flow_paths.specs.declared.trail.FlowFault.TheVariants.{Overlap, Reentry}
 use Rattle.flow_paths.specs.Step.{Point, Next, Ways, Calls, Stops, Ends, next, way_at}

@@ -10,12 +10,12 @@ use Rattle.language.specs.Items.{Item, ends_at}
 use Rattle.language.specs.Items as language
 use Rattle.control.specs.Items.{Way, On, Halts, Into, To, ToEnd, item_way}
 use Rattle.control.specs.Source.{rest_of, comes_to, goes, falls, source_step}
-use Rattle.lowering.specs.Told.{Told, IsSource}
-use Rattle.lowering.specs.flow.Paths.{Flow, free, nothing_left}
-use Rattle.lowering.specs.flow.Paths as theory
-use Rattle.lowering.proofs.flow.Faults.{over-stays}
-use Rattle.lowering.proofs.rests.Joints.{source_at}
-use Rattle.lowering.proofs.rests.Wholes.{OwnItem}
+use Rattle.control_laws.specs.lowering.Told.{Told, IsSource}
+use Rattle.control_laws.specs.lowering.flow.Paths.{Flow, free, nothing_left}
+use Rattle.control_laws.specs.lowering.flow.Paths as theory
+use Rattle.control_laws.proofs.lowering_lemmas.flow.Faults.{over-stays}
+use Rattle.control_laws.proofs.lowering_lemmas.rests.Joints.{source_at}
+use Rattle.control_laws.proofs.lowering_lemmas.rests.Wholes.{OwnItem}
 use Rattle.flow_paths.specs.declared.trail.FlowFault.TheVariants.{Overlap, Reentry}
 use Rattle.flow_paths.specs.Step.{Point, at, start, is_present, Ends, next}
 use Rattle.flow_paths.specs.Flow.{main_range, is_exit, Pending, returning, top_exit, FreeStep, FlowPath, begins_flow, steps_flow, is_among, fault_of, ends_of, IsFaulty}

@@ -6,13 +6,13 @@ use Rattle.language.specs.Language.{Paragraph, Program, paragraph_at, Range, Mai
 use Rattle.language.specs.Items.{Item, Do}
 use Rattle.control.specs.Items.{Way, On, To, ToEnd, Into, item_way}
 use Rattle.control.specs.Source.{rest_of}
-use Rattle.lowering.specs.Told.{Told, IsSource}
-use Rattle.lowering.specs.flow.Comes.{IsNoExit, entry_of, begins}
-use Rattle.lowering.specs.flow.Comes as theory
-use Rattle.lowering.specs.flow.Paths.{free}
-use Rattle.lowering.specs.flow.Entered.{FreelyComes}
-use Rattle.lowering.proofs.rests.Wholes.{OwnItem}
-use Rattle.lowering.proofs.rests.Fits.{comes-fits, rest-fits}
+use Rattle.control_laws.specs.lowering.Told.{Told, IsSource}
+use Rattle.control_laws.specs.lowering.flow.Comes.{IsNoExit, entry_of, begins}
+use Rattle.control_laws.specs.lowering.flow.Comes as theory
+use Rattle.control_laws.specs.lowering.flow.Paths.{free}
+use Rattle.control_laws.specs.lowering.flow.Entered.{FreelyComes}
+use Rattle.control_laws.proofs.lowering_lemmas.rests.Wholes.{OwnItem}
+use Rattle.control_laws.proofs.lowering_lemmas.rests.Fits.{comes-fits, rest-fits}
 use Rattle.flow_paths.specs.Step.{Point, at, start, is_present, next, next_in, way_at}
 use Rattle.flow_paths.specs.Flow.{main_range, part, is_exit}
 use Rattle.flow_paths.specs.Levels.{Comes, enters, chooses, over, passes}

@@ -6,9 +6,9 @@ use Rattle.language.specs.Language.{Chooser, Picker, If, By, ByCell, Test, Act, 
 use Rattle.language.specs.Language as language
 use Rattle.language.specs.Items.{Turning, Counted, Tests, Steps, StepsAfter, Item, Do, SentenceEnd, Turn, before_body, before_arm, past_sentence, from_loop}
 use Rattle.control.specs.Items.{Way, On, Halts, Into, To, ToEnd, way_after, on, turns, steps_on, to_one, item_way}
-use Rattle.lowering.specs.Told.{Told, MayGive, OwnPicker, arm_count}
-use Rattle.lowering.specs.flow.Paths.{next_way, later_ways, is_first, is_below, first_arm, not_dead, arm_for, free}
-use Rattle.lowering.proofs.rests.Wholes.{OwnItem}
+use Rattle.control_laws.specs.lowering.Told.{Told, MayGive, OwnPicker, arm_count}
+use Rattle.control_laws.specs.lowering.flow.Paths.{next_way, later_ways, is_first, is_below, first_arm, not_dead, arm_for, free}
+use Rattle.control_laws.proofs.lowering_lemmas.rests.Wholes.{OwnItem}
 use Rattle.flow_paths.specs.Step.{Point, at, start, Next, Ways, Calls, Stops, turning_by, by_way, way_of, led, some_given, way_count, first_is_barred, ways_of, next_in, way_at}
 use Rattle.flow_ties.specs.Uncounted.{uncounted, point_at}
 use Rattle.flow_ties.specs.Laws.{SomeArmIsGiven}

@@ -2,9 +2,9 @@
 use Rattle.std.specs.Prelude.{ℕ, List}
 use Rattle.language.specs.Language.{Chooser, Program, Range}
 use Rattle.language.specs.Items.{Item}
-use Rattle.lowering.specs.Told.{Told, MayGive, IsSource}
-use Rattle.lowering.specs.flow.Entered.{FreelyComes}
-use Rattle.lowering.specs.flow.Paths as theory
+use Rattle.control_laws.specs.lowering.Told.{Told, MayGive, IsSource}
+use Rattle.control_laws.specs.lowering.flow.Entered.{FreelyComes}
+use Rattle.control_laws.specs.lowering.flow.Paths as theory
 use Rattle.flow_paths.specs.Flow.{IsFaulty}
 use Rattle.flow_paths.specs.Levels.{Comes}
 use Rattle.flow_ties.specs.Uncounted.{point_at, range_of}

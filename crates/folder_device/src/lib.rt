@@ -2,7 +2,7 @@
 //! DISK.
 //!
 //! It is an edge of what is proved: it keeps the trait's clauses on names, lengths and counts of
-//! failures, and tells nothing of what files hold. One test tries it on a real folder.
+//! failures, and tells nothing of what files hold. A test of `run_tests` tries it on a real folder.
 #![tactic(auto)]
 
 mod folder_file;
@@ -198,6 +198,3 @@ impl<R: Files + Drop> Device for FolderDevice<R> {
         self.count
     }
 }
-
-#[cfg(test)]
-mod tests;

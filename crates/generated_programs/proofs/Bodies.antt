@@ -13,14 +13,14 @@ use Rattle.cob_tree.specs.declared.stmt.Arms.{roll-Arms}
 use Rattle.cob_tree.specs.declared.stmt.Stmt.{Stmt}
 use Rattle.cob_tree.specs.declared.stmt.Stmt.TheOpen.{Stmt-F}
 use Rattle.cob_tree.specs.declared.stmt.Stmt.TheVariants as stmts
-use Rattle.stmt_forms.specs.declared.scope.Scope.{Scope}
-use Rattle.stmt_forms.specs.Paragraph.{scope_of}
-use Rattle.stmt_forms.specs.Part.{Parts}
-use Rattle.stmt_spelling.specs.Division.{SpellsSentence, SpellsSentences}
-use Rattle.stmt_spelling.specs.Part.{Kept, Without, SpellsValue, SpellsNumber, SpellsPlace, SpellsCond, SpellsLabel, SpellsRange}
-use Rattle.stmt_spelling.specs.Stmt.{Each, SpellsStmt, SpellsList}
-use Rattle.readable_stmts.specs.Body.{SpellsBehind, SpellsBodies}
-use Rattle.readable_stmts.proofs.Made.{made, made_arms}
+use Rattle.statement_grammar.specs.declared.stmt_forms.scope.Scope.{Scope}
+use Rattle.statement_grammar.specs.stmt_forms.Paragraph.{scope_of}
+use Rattle.statement_grammar.specs.stmt_forms.Part.{Parts}
+use Rattle.part_spelling.specs.stmt_spelling.Division.{SpellsSentence, SpellsSentences}
+use Rattle.part_spelling.specs.stmt_spelling.Part.{Kept, Without, SpellsValue, SpellsNumber, SpellsPlace, SpellsCond, SpellsLabel, SpellsRange}
+use Rattle.part_spelling.specs.stmt_spelling.Stmt.{Each, SpellsStmt, SpellsList}
+use Rattle.readable_procedures.specs.readable_stmts.Body.{SpellsBehind, SpellsBodies}
+use Rattle.readable_procedures.proofs.readable_stmts_lemmas.Made.{made, made_arms}
 use Rattle.program_gen.specs.Generated.{next_of, picked, counter, whole, count_one, jump_below, sentence, jumping, groups_of, perform_group, performs_of, generated}
 
 -- the counter is below this number

@@ -16,8 +16,8 @@ use Rattle.data_rules.specs.Standing.{standing_of}
 use Rattle.data_rules.specs.Value.{may_have_value}
 use Rattle.kept_rules.specs.Named.{IsTitled}
 use Rattle.named_forms.specs.Numbered.{is_literal, literal_step}
-use Rattle.printed_declarations.specs.FileRules.{KeepsRules}
-use Rattle.printed_declarations.specs.Rules.{base, sizes, PictureSuits, EntryKeeps}
+use Rattle.kept_rules.specs.printed_declarations.FileRules.{KeepsRules}
+use Rattle.kept_rules.specs.printed_declarations.Rules.{base, sizes, PictureSuits, EntryKeeps}
 use Rattle.program_gen.specs.Generated.{whole, counter_entry, generated}
 use Rattle.generated_programs.proofs.Names.{gen-data, counter-data, number-fits}
 

@@ -12,3 +12,7 @@ pub mod Procedures
 pub mod Bodies
 -- They are spelled.
 pub mod Spelled
+-- What is printed of a generated program has no more bytes and tokens than a source may have.
+pub mod short_generated_lemmas
+-- What is printed of a generated program reads to that very program.
+pub mod readable_generated_lemmas

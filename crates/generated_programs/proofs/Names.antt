@@ -18,7 +18,7 @@ use Rattle.word_forms.specs.Word.{is_free, is_data_word}
 use Rattle.named_programs.specs.Part.{are_digits, number_named}
 use Rattle.numbered_words.proofs.NumberedLemmas.{decimal_is_digits, numbered_is_capital_word, letter_is_capital_word}
 use Rattle.procedure_names.specs.Procedures.{header_name}
-use Rattle.printable_tokens.specs.Header.{IsHeaderName}
+use Rattle.printable_programs.specs.printable_tokens.Header.{IsHeaderName}
 use Rattle.printable_programs.specs.Part.{is_printable_name}
 use Rattle.program_gen.specs.Generated.{group_word, whole}
 use Rattle.program_gen.proofs.NameLemmas.{gen_is_stem, group_is_stem}

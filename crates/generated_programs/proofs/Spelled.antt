@@ -19,19 +19,19 @@ use Rattle.data_names.specs.Names.{Names, names_of, names_from}
 use Rattle.term_sizes.specs.Condition.{cond_terms}
 use Rattle.term_sizes.specs.Expression.{if_any, window_most, place_most, operand_most, most_by, expr_terms, operand_terms}
 use Rattle.procedure_names.specs.declared.table.ProcedureTable.{ProcedureTable}
-use Rattle.expr_forms.specs.declared.side.Make.TheVariants as makes
-use Rattle.expr_forms.specs.declared.side.Side.{Side}
-use Rattle.expr_forms.specs.declared.side.ValueKind.TheVariants as values
-use Rattle.expr_forms.specs.Fault.{is_condition}
-use Rattle.stmt_forms.specs.Part.{Parts}
+use Rattle.statement_grammar.specs.declared.expr_forms.side.Make.TheVariants as makes
+use Rattle.statement_grammar.specs.declared.expr_forms.side.Side.{Side}
+use Rattle.statement_grammar.specs.declared.expr_forms.side.ValueKind.TheVariants as values
+use Rattle.statement_grammar.specs.expr_forms.Fault.{is_condition}
+use Rattle.statement_grammar.specs.stmt_forms.Part.{Parts}
 use Rattle.statement_grammar.specs.declared.known.Known.{Known}
 use Rattle.statement_grammar.specs.Whole.{parts_of}
-use Rattle.expr_spelling.specs.Printable.{Judged, literal, is_number, judged_place, judged_operand, judged_expr}
-use Rattle.expr_spelling.specs.Spelled.{PlaceHasRoom, OperandHasRoom}
-use Rattle.expr_spelling.proofs.Layers.{judged-Place, judged-Number, judged-Leaf, judged-place, terms-Leaf, terms-Place, terms-Number, terms-place}
-use Rattle.cond_spelling.specs.Printable.{is_value, are_comparable, IsPrintableCond}
-use Rattle.cond_spelling.proofs.Layers.{fit-Relation, terms-Relation}
-use Rattle.stmt_spelling.specs.Division.{SpellsDivision}
+use Rattle.part_spelling.specs.expr_spelling.Printable.{Judged, literal, is_number, judged_place, judged_operand, judged_expr}
+use Rattle.part_spelling.specs.expr_spelling.Spelled.{PlaceHasRoom, OperandHasRoom}
+use Rattle.part_spelling.proofs.expr_spelling_lemmas.Layers.{judged-Place, judged-Number, judged-Leaf, judged-place, terms-Leaf, terms-Place, terms-Number, terms-place}
+use Rattle.part_spelling.specs.cond_spelling.Printable.{is_value, are_comparable, IsPrintableCond}
+use Rattle.part_spelling.proofs.cond_spelling_lemmas.Layers.{fit-Relation, terms-Relation}
+use Rattle.part_spelling.specs.stmt_spelling.Division.{SpellsDivision}
 use Rattle.part_spelling.specs.Kept.{kept_of}
 use Rattle.part_spelling.proofs.Conds.{cond_spelled}
 use Rattle.part_spelling.proofs.Headers.{header_spelled}
@@ -42,8 +42,8 @@ use Rattle.part_spelling.proofs.Uses.{operand_free}
 use Rattle.readable_procedures.specs.Own as own
 use Rattle.readable_procedures.specs.Told.{behind_section, own_procedures}
 use Rattle.readable_procedures.proofs.Labels as labels
-use Rattle.readable_stmts.specs.Body as body
-use Rattle.readable_stmts.proofs.Headed as headed
+use Rattle.readable_procedures.specs.readable_stmts.Body as body
+use Rattle.readable_procedures.proofs.readable_stmts_lemmas.Headed as headed
 use Rattle.program_gen.specs.Generated.{counter, whole, generated}
 use Rattle.generated_programs.proofs.Bodies.{is_below, PartsAreSpelled, bodies}
 use Rattle.generated_programs.proofs.Procedures.{has-procedures, labelled}

@@ -2,10 +2,10 @@
 use Rattle.std.specs.Prelude.{ℕ, ◌≤◌, [], ◌∷◌}
 use Rattle.kept_rules.specs.Named.{IsTitled}
 use Rattle.printable_programs.specs.Whole.{IsPrintableProgram}
-use Rattle.printed_declarations.specs.FileRules.{KeepsRules}
+use Rattle.kept_rules.specs.printed_declarations.FileRules.{KeepsRules}
 use Rattle.data_names.specs.Names.{names_of}
 use Rattle.statement_grammar.specs.Whole.{parts_of}
-use Rattle.stmt_spelling.specs.Division.{SpellsDivision}
+use Rattle.part_spelling.specs.stmt_spelling.Division.{SpellsDivision}
 use Rattle.part_spelling.specs.Kept.{kept_of}
 use Rattle.readable_procedures.specs.Outline.{HasProcedures}
 use Rattle.readable_procedures.specs.Told.{own_procedures}

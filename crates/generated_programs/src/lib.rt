@@ -1,9 +1,11 @@
 //! What the generated programs have in them, so that what is printed of them can be read: their
-//! names and numbers can be printed, the entry of the counter keeps the rules, each paragraph is told
-//! by its name, and their statements are spelled. The crate has no code.
+//! names and numbers can be printed, the entry of the counter keeps the rules, each paragraph is
+//! told by its name, and their statements are spelled. The crate has no code.
 #![tactic(auto)]
 
 mod laws;
+pub mod readable_generated;
+pub mod short_generated;
 
 pub use laws::{
     generated_programs_are_printable, generated_programs_are_spelled,

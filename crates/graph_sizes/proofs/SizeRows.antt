@@ -5,10 +5,10 @@ use Rattle.cob_tree.specs.Places.{stmt_places}
 use Rattle.cob_tree.specs.declared.stmt.Stmt.{Stmt}
 use Rattle.language.specs.Language.{Picker, Stmts, none, also}
 use Rattle.control.specs.Graph.{Label}
-use Rattle.lowering.specs.Completes.{size, sizes, size_arms}
+use Rattle.control_laws.specs.lowering.Completes.{size, sizes, size_arms}
 use Rattle.lower_places.proofs.SizeLemmas.{size-seen}
-use Rattle.graph_rules.specs.Shapes.{followed, arm_stmts, arms_stmts, last_stmts}
-use Rattle.closing.specs.Dispatches.{set_to, number_in}
+use Rattle.control_laws.specs.graph_rules.Shapes.{followed, arm_stmts, arms_stmts, last_stmts}
+use Rattle.control_laws.specs.closing.Dispatches.{set_to, number_in}
 use Rattle.branch_tree.specs.Choosers.{seen_picker}
 use Rattle.branch_tree.specs.declared.chooser.Picker as code
 use Rattle.branch_tree.specs.declared.chooser.Test as tests

@@ -1,7 +1,7 @@
 -- How large what stands in trees is.
 use Rattle.std.specs.Prelude.{ℕ, Bool, if◌then◌else◌}
-use Rattle.lowering.specs.Completes.{size, sizes}
-use Rattle.graph_rules.specs.Shapes.{arm_stmts}
+use Rattle.control_laws.specs.lowering.Completes.{size, sizes}
+use Rattle.control_laws.specs.graph_rules.Shapes.{arm_stmts}
 use Rattle.branch_tree.specs.Trees.{seen_piece, seen_tree, stated}
 use Rattle.branch_tree.specs.declared.tree.Leaves.{Leaves}
 use Rattle.branch_tree.specs.declared.tree.Piece.{Piece}

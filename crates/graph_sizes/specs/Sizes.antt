@@ -1,8 +1,8 @@
 -- How large graphs are: labels, and statements. A choice at the end of a tree is no statement.
 use Rattle.std.specs.Prelude.{ℕ, ◌+◌, sum_by}
 use Rattle.control.specs.Graph.{Tree, tree, End, Pick, Jump, Return, Stop, Dead, Trees, no_more, more}
-use Rattle.lowering.specs.Completes.{sizes}
-use Rattle.graph_rules.specs.Reduced.{Node, Graph}
+use Rattle.control_laws.specs.lowering.Completes.{sizes}
+use Rattle.control_laws.specs.graph_rules.Reduced.{Node, Graph}
 
 -- the statements of a tree, with those of the arms at its end
 abbrev mutual

@@ -1,8 +1,8 @@
 //! How large graphs are.
 
 ghost use Rattle.std.specs.Prelude.{◌≡◌, ◌-◌, ◌^◌, min, sum_by};
-ghost use Rattle.lowering.specs.Completes.{sizes};
-ghost use Rattle.graph_rules.specs.Shapes.{last_stmts};
+ghost use Rattle.control_laws.specs.lowering.Completes.{sizes};
+ghost use Rattle.control_laws.specs.graph_rules.Shapes.{last_stmts};
 ghost use Rattle.branch_tree.specs.Graphs.{seen_graph, seen_node};
 ghost use Rattle.branch_tree.specs.Trees.{seen_end, seen_tree, jump_within, return_within};
 ghost use Rattle.tree_nesting.specs.Within.{end_within};

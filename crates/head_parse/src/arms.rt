@@ -3,14 +3,14 @@
 ghost use Rattle.std.specs.Prelude.{◌≡◌};
 ghost use Rattle.grammar_forms.specs.Form as form;
 ghost use Rattle.grammar_forms.specs.Reading.{Reads};
-ghost use Rattle.stmt_forms.specs.Arms as forms;
-ghost use Rattle.stmt_forms.specs.Stmt as all;
+ghost use Rattle.statement_grammar.specs.stmt_forms.Arms as forms;
+ghost use Rattle.statement_grammar.specs.stmt_forms.Stmt as all;
 
 use grammar_forms::{Cursor, Unread, Why};
-use stmt_forms::{ArithmeticVerb, NotPhrase, Phrase};
+use statement_grammar::stmt_forms::{ArithmeticVerb, NotPhrase, Phrase};
 
 /// Takes nothing, where a level is left.
-#[tactic(auto, unfolding(stmt_forms::specs::Stmt::enter))]
+#[tactic(auto, unfolding(statement_grammar::specs::stmt_forms::Stmt::enter))]
 pub fn enter(cursor: &Cursor<'_>, levels: u32) -> Result<(), Unread>
     ensures { Reads ((all.enter levels).reads cursor.now) result cursor.now }
 {
@@ -21,7 +21,7 @@ pub fn enter(cursor: &Cursor<'_>, levels: u32) -> Result<(), Unread>
     }
 }
 
-#[tactic(auto, unfolding(stmt_forms::specs::Arms::begins_phrase))]
+#[tactic(auto, unfolding(statement_grammar::specs::stmt_forms::Arms::begins_phrase))]
 fn at_phrase(cursor: &Cursor<'_>, phrase: Phrase) -> bool
     ensures { result ≡ form.is_next (forms.begins_phrase phrase) cursor.now }
 {
@@ -31,7 +31,7 @@ fn at_phrase(cursor: &Cursor<'_>, phrase: Phrase) -> bool
     }
 }
 
-#[tactic(auto, unfolding(stmt_forms::specs::Arms::end_words))]
+#[tactic(auto, unfolding(statement_grammar::specs::stmt_forms::Arms::end_words))]
 fn end_words(cursor: &mut Cursor<'_>) -> Result<(), Unread>
     ensures { Reads (forms.end_words.reads cursor.old) result cursor.new }
 {
@@ -40,7 +40,7 @@ fn end_words(cursor: &mut Cursor<'_>) -> Result<(), Unread>
     Ok(())
 }
 
-#[tactic(auto, unfolding(stmt_forms::specs::Arms::size_words))]
+#[tactic(auto, unfolding(statement_grammar::specs::stmt_forms::Arms::size_words))]
 fn size_words(cursor: &mut Cursor<'_>) -> Result<(), Unread>
     ensures { Reads (forms.size_words.reads cursor.old) result cursor.new }
 {
@@ -50,7 +50,7 @@ fn size_words(cursor: &mut Cursor<'_>) -> Result<(), Unread>
     Ok(())
 }
 
-#[tactic(auto, unfolding(stmt_forms::specs::Arms::phrase_words))]
+#[tactic(auto, unfolding(statement_grammar::specs::stmt_forms::Arms::phrase_words))]
 fn phrase_words(cursor: &mut Cursor<'_>, phrase: Phrase) -> Result<(), Unread>
     ensures { Reads ((forms.phrase_words phrase).reads cursor.old) result cursor.new }
 {
@@ -60,7 +60,7 @@ fn phrase_words(cursor: &mut Cursor<'_>, phrase: Phrase) -> Result<(), Unread>
     }
 }
 
-#[tactic(auto, unfolding(stmt_forms::specs::Arms::entering_words))]
+#[tactic(auto, unfolding(statement_grammar::specs::stmt_forms::Arms::entering_words))]
 fn entering_words(cursor: &mut Cursor<'_>, phrase: Phrase, levels: u32) -> Result<(), Unread>
     ensures { Reads ((forms.entering_words phrase (all.enter levels)).reads cursor.old)
         result cursor.new }
@@ -70,7 +70,7 @@ fn entering_words(cursor: &mut Cursor<'_>, phrase: Phrase, levels: u32) -> Resul
 }
 
 /// Takes the words of a first phrase, where they are next, and tells whether they were.
-#[tactic(auto, unfolding(stmt_forms::specs::Arms::first_phrase))]
+#[tactic(auto, unfolding(statement_grammar::specs::stmt_forms::Arms::first_phrase))]
 pub fn first_phrase(cursor: &mut Cursor<'_>, phrase: Phrase, levels: u32) -> Result<bool, Unread>
     ensures { Reads ((forms.first_phrase phrase (all.enter levels)).reads cursor.old)
         result cursor.new }
@@ -83,7 +83,7 @@ pub fn first_phrase(cursor: &mut Cursor<'_>, phrase: Phrase, levels: u32) -> Res
     }
 }
 
-#[tactic(auto, unfolding(stmt_forms::specs::Arms::own_words))]
+#[tactic(auto, unfolding(statement_grammar::specs::stmt_forms::Arms::own_words))]
 fn own_words(
     cursor: &mut Cursor<'_>,
     phrase: Phrase,
@@ -101,7 +101,7 @@ fn own_words(
     Ok(NotPhrase::Own)
 }
 
-#[tactic(auto, unfolding(stmt_forms::specs::Arms::behind_not))]
+#[tactic(auto, unfolding(statement_grammar::specs::stmt_forms::Arms::behind_not))]
 fn behind_not(
     cursor: &mut Cursor<'_>,
     phrase: Phrase,
@@ -118,7 +118,7 @@ fn behind_not(
     }
 }
 
-#[tactic(auto, unfolding(stmt_forms::specs::Arms::not_or_none))]
+#[tactic(auto, unfolding(statement_grammar::specs::stmt_forms::Arms::not_or_none))]
 fn not_or_none(
     cursor: &mut Cursor<'_>,
     phrase: Phrase,
@@ -137,7 +137,7 @@ fn not_or_none(
 }
 
 /// Takes NOT and the words of a second phrase, as far as they are next and are its own.
-#[tactic(auto, unfolding(stmt_forms::specs::Arms::not_phrase))]
+#[tactic(auto, unfolding(statement_grammar::specs::stmt_forms::Arms::not_phrase))]
 pub fn not_phrase(
     cursor: &mut Cursor<'_>,
     phrase: Phrase,
@@ -157,7 +157,7 @@ pub fn not_phrase(
 }
 
 /// Takes the word that ends a statement, where it is next, unless NOT was read.
-#[tactic(auto, unfolding(stmt_forms::specs::Arms::end_word))]
+#[tactic(auto, unfolding(statement_grammar::specs::stmt_forms::Arms::end_word))]
 pub fn end_word(cursor: &mut Cursor<'_>, word: &[u8], not_read: bool) -> Result<(), Unread>
     ensures { Reads ((forms.end_word word.now not_read).reads cursor.old) result cursor.new }
 {
@@ -168,7 +168,7 @@ pub fn end_word(cursor: &mut Cursor<'_>, word: &[u8], not_read: bool) -> Result<
 }
 
 /// Takes the word that ends arithmetic, where it is next, unless NOT was read.
-#[tactic(auto, unfolding(stmt_forms::specs::Arms::end_work))]
+#[tactic(auto, unfolding(statement_grammar::specs::stmt_forms::Arms::end_work))]
 pub fn end_work(cursor: &mut Cursor<'_>, verb: ArithmeticVerb, not_read: bool) -> Result<(), Unread>
     ensures { Reads ((forms.end_work verb not_read).reads cursor.old) result cursor.new }
 {

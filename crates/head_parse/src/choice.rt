@@ -3,29 +3,30 @@
 ghost use Rattle.std.specs.Prelude.{◌≡◌};
 ghost use Rattle.grammar_forms.specs.Form as form;
 ghost use Rattle.grammar_forms.specs.Reading.{Reads};
-ghost use Rattle.stmt_forms.specs.Choice as forms;
-ghost use Rattle.stmt_forms.specs.Stmt as all;
+ghost use Rattle.statement_grammar.specs.stmt_forms.Choice as forms;
+ghost use Rattle.statement_grammar.specs.stmt_forms.Stmt as all;
 
 use crate::arms::enter;
 use cob_base::Items;
 use cob_tree::{Cond, Expr, Subject, Test};
 use grammar_forms::{Cursor, Unread, Why};
-use part_readers::Parts;
+use part_readers::{Parts, drop_condition, drop_expr, drop_tests, test_added};
 use std::alloc::Global;
 
-#[tactic(auto, unfolding(stmt_forms::specs::Choice::settled))]
+#[tactic(auto, unfolding(statement_grammar::specs::stmt_forms::Choice::settled))]
 fn settled(cursor: &Cursor<'_>, found: (Cond, bool)) -> Result<Cond, Unread>
     ensures { Reads ((forms.settled found).reads cursor.now) result cursor.now }
 {
     let (cond, not_read) = found;
     if not_read {
+        drop_condition(cond);
         Err(Unread::Stop(Why::Syntax))
     } else {
         Ok(cond)
     }
 }
 
-#[tactic(auto, unfolding(stmt_forms::specs::Choice::test_cond))]
+#[tactic(auto, unfolding(statement_grammar::specs::stmt_forms::Choice::test_cond))]
 fn test_cond<P: Parts>(parts: &P, alloc: Global, cursor: &mut Cursor<'_>) -> Result<Cond, Unread>
     ensures { Reads ((forms.test_cond (P.parts parts.now)).reads cursor.old) result cursor.new }
 {
@@ -34,7 +35,7 @@ fn test_cond<P: Parts>(parts: &P, alloc: Global, cursor: &mut Cursor<'_>) -> Res
 }
 
 /// IF up to its statements.
-#[tactic(auto, unfolding(stmt_forms::specs::Choice::if_head))]
+#[tactic(auto, unfolding(statement_grammar::specs::stmt_forms::Choice::if_head))]
 pub fn if_head<P: Parts>(
     parts: &P,
     alloc: Global,
@@ -51,7 +52,7 @@ pub fn if_head<P: Parts>(
     Ok(cond)
 }
 
-#[tactic(auto, unfolding(stmt_forms::specs::Choice::truth_subject))]
+#[tactic(auto, unfolding(statement_grammar::specs::stmt_forms::Choice::truth_subject))]
 fn truth_subject<P: Parts>(
     parts: &P,
     cursor: &mut Cursor<'_>,
@@ -67,7 +68,7 @@ fn truth_subject<P: Parts>(
     }
 }
 
-#[tactic(auto, unfolding(stmt_forms::specs::Choice::value_subject))]
+#[tactic(auto, unfolding(statement_grammar::specs::stmt_forms::Choice::value_subject))]
 fn value_subject<P: Parts>(
     parts: &P,
     alloc: Global,
@@ -87,7 +88,7 @@ fn at_truth(cursor: &Cursor<'_>) -> bool
     cursor.sees(b"TRUE") || cursor.sees(b"FALSE")
 }
 
-#[tactic(auto, unfolding(stmt_forms::specs::Choice::subject))]
+#[tactic(auto, unfolding(statement_grammar::specs::stmt_forms::Choice::subject))]
 fn subject<P: Parts>(
     parts: &P,
     alloc: Global,
@@ -102,7 +103,7 @@ fn subject<P: Parts>(
     }
 }
 
-#[tactic(auto, unfolding(stmt_forms::specs::Choice::any_test))]
+#[tactic(auto, unfolding(statement_grammar::specs::stmt_forms::Choice::any_test))]
 fn any_test(cursor: &mut Cursor<'_>) -> Result<Test, Unread>
     ensures { Reads (forms.any_test.reads cursor.old) result cursor.new }
 {
@@ -110,7 +111,7 @@ fn any_test(cursor: &mut Cursor<'_>) -> Result<Test, Unread>
     Ok(Test::Any)
 }
 
-#[tactic(auto, unfolding(stmt_forms::specs::Choice::cond_test))]
+#[tactic(auto, unfolding(statement_grammar::specs::stmt_forms::Choice::cond_test))]
 fn cond_test<P: Parts>(parts: &P, alloc: Global, cursor: &mut Cursor<'_>) -> Result<Test, Unread>
     ensures { Reads ((forms.cond_test (P.parts parts.now)).reads cursor.old) result cursor.new }
 {
@@ -118,7 +119,7 @@ fn cond_test<P: Parts>(parts: &P, alloc: Global, cursor: &mut Cursor<'_>) -> Res
     Ok(Test::Holds(cond))
 }
 
-#[tactic(auto, unfolding(stmt_forms::specs::Choice::compared))]
+#[tactic(auto, unfolding(statement_grammar::specs::stmt_forms::Choice::compared))]
 fn compared<P: Parts>(
     parts: &P,
     alloc: Global,
@@ -134,7 +135,7 @@ fn compared<P: Parts>(
     Ok(parts.expr_of(side))
 }
 
-#[tactic(auto, unfolding(stmt_forms::specs::Choice::negation))]
+#[tactic(auto, unfolding(statement_grammar::specs::stmt_forms::Choice::negation))]
 fn negation(cursor: &mut Cursor<'_>) -> Result<bool, Unread>
     ensures { Reads (forms.negation.reads cursor.old) result cursor.new }
 {
@@ -154,7 +155,7 @@ pub fn at_thru(cursor: &Cursor<'_>) -> bool
 }
 
 /// THRU or THROUGH.
-#[tactic(auto, unfolding(stmt_forms::specs::Choice::thru))]
+#[tactic(auto, unfolding(statement_grammar::specs::stmt_forms::Choice::thru))]
 pub fn thru(cursor: &mut Cursor<'_>) -> Result<(), Unread>
     ensures { Reads (forms.thru.reads cursor.old) result cursor.new }
 {
@@ -166,7 +167,7 @@ pub fn thru(cursor: &mut Cursor<'_>) -> Result<(), Unread>
     Ok(())
 }
 
-#[tactic(auto, unfolding(stmt_forms::specs::Choice::last_value))]
+#[tactic(auto, unfolding(statement_grammar::specs::stmt_forms::Choice::last_value))]
 fn last_value<P: Parts>(
     parts: &P,
     alloc: Global,
@@ -181,7 +182,7 @@ fn last_value<P: Parts>(
     Ok(Some(last))
 }
 
-#[tactic(auto, unfolding(stmt_forms::specs::Choice::last_part))]
+#[tactic(auto, unfolding(statement_grammar::specs::stmt_forms::Choice::last_part))]
 fn last_part<P: Parts>(
     parts: &P,
     alloc: Global,
@@ -198,7 +199,7 @@ fn last_part<P: Parts>(
     }
 }
 
-#[tactic(auto, unfolding(stmt_forms::specs::Choice::value_test))]
+#[tactic(auto, unfolding(statement_grammar::specs::stmt_forms::Choice::value_test))]
 fn value_test<P: Parts>(
     parts: &P,
     alloc: Global,
@@ -210,11 +211,16 @@ fn value_test<P: Parts>(
 {
     let not = negation(cursor)?;
     let from = compared(parts, alloc, cursor, known)?;
-    let to = last_part(parts, alloc, cursor, known)?;
-    Ok(Test::Value { not, from, to })
+    match last_part(parts, alloc, cursor, known) {
+        Ok(to) => Ok(Test::Value { not, from, to }),
+        Err(stop) => {
+            drop_expr(from);
+            Err(stop)
+        }
+    }
 }
 
-#[tactic(auto, unfolding(stmt_forms::specs::Choice::test_by))]
+#[tactic(auto, unfolding(statement_grammar::specs::stmt_forms::Choice::test_by))]
 fn test_by<P: Parts>(
     parts: &P,
     alloc: Global,
@@ -230,7 +236,7 @@ fn test_by<P: Parts>(
     }
 }
 
-#[tactic(auto, unfolding(stmt_forms::specs::Choice::one_test))]
+#[tactic(auto, unfolding(statement_grammar::specs::stmt_forms::Choice::one_test))]
 fn one_test<P: Parts>(
     parts: &P,
     alloc: Global,
@@ -247,7 +253,7 @@ fn one_test<P: Parts>(
     }
 }
 
-#[tactic(auto, unfolding(stmt_forms::specs::Choice::next_test))]
+#[tactic(auto, unfolding(statement_grammar::specs::stmt_forms::Choice::next_test))]
 fn next_test<P: Parts>(
     parts: &P,
     alloc: Global,
@@ -261,6 +267,26 @@ fn next_test<P: Parts>(
     one_test(parts, alloc, cursor, known)
 }
 
+/// One more test.
+fn test_behind<P: Parts>(
+    parts: &P,
+    alloc: Global,
+    cursor: &mut Cursor<'_>,
+    known: &Option<P::Known>,
+    found: Items<Test>,
+) -> Result<Items<Test>, Unread>
+    ensures { Reads ((form.added (forms.next_test (P.parts parts.now) known.now) found).reads
+        cursor.old) result cursor.new }
+{
+    match next_test(parts, alloc, cursor, known) {
+        Ok(next) => Ok(test_added(found, next)?),
+        Err(stop) => {
+            drop_tests(found);
+            Err(stop)
+        }
+    }
+}
+
 fn more_tests<P: Parts>(
     parts: &P,
     alloc: Global,
@@ -272,12 +298,12 @@ fn more_tests<P: Parts>(
         result cursor.new }
 {
     'items: while cursor.sees(b"WHEN") {
-        found.push(next_test(parts, alloc, cursor, known)?)?;
+        found = test_behind(parts, alloc, cursor, known, found)?;
     }
     Ok(found)
 }
 
-#[tactic(auto, unfolding(stmt_forms::specs::Choice::all_tests))]
+#[tactic(auto, unfolding(statement_grammar::specs::stmt_forms::Choice::all_tests))]
 fn all_tests<P: Parts>(
     parts: &P,
     alloc: Global,
@@ -288,13 +314,12 @@ fn all_tests<P: Parts>(
         result cursor.new }
 {
     let first = one_test(parts, alloc, cursor, known)?;
-    let mut found = Items::new(alloc);
-    found.push(first)?;
+    let found = test_added(Items::new(alloc), first)?;
     more_tests(parts, alloc, cursor, known, found)
 }
 
 /// The first tests of EVALUATE.
-#[tactic(auto, unfolding(stmt_forms::specs::Choice::first_tests))]
+#[tactic(auto, unfolding(statement_grammar::specs::stmt_forms::Choice::first_tests))]
 pub fn first_tests<P: Parts>(
     parts: &P,
     alloc: Global,
@@ -308,7 +333,7 @@ pub fn first_tests<P: Parts>(
     all_tests(parts, alloc, cursor, known)
 }
 
-#[tactic(auto, unfolding(stmt_forms::specs::Choice::other_words))]
+#[tactic(auto, unfolding(statement_grammar::specs::stmt_forms::Choice::other_words))]
 fn other_words(cursor: &mut Cursor<'_>) -> Result<Option<Items<Test>>, Unread>
     ensures { Reads (forms.other_words.reads cursor.old) result cursor.new }
 {
@@ -317,7 +342,7 @@ fn other_words(cursor: &mut Cursor<'_>) -> Result<Option<Items<Test>>, Unread>
 }
 
 /// The tests behind a further WHEN, or none where OTHER is.
-#[tactic(auto, unfolding(stmt_forms::specs::Choice::when_head))]
+#[tactic(auto, unfolding(statement_grammar::specs::stmt_forms::Choice::when_head))]
 pub fn when_head<P: Parts>(
     parts: &P,
     alloc: Global,
@@ -337,7 +362,7 @@ pub fn when_head<P: Parts>(
 }
 
 /// EVALUATE and its subject.
-#[tactic(auto, unfolding(stmt_forms::specs::Choice::evaluate_head))]
+#[tactic(auto, unfolding(statement_grammar::specs::stmt_forms::Choice::evaluate_head))]
 pub fn evaluate_head<P: Parts>(
     parts: &P,
     alloc: Global,

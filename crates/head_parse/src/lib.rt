@@ -8,10 +8,8 @@
 
 mod arms;
 mod choice;
-mod control;
 mod read;
 
-pub use arms::{end_word, end_work, first_phrase, not_phrase};
-pub use choice::{evaluate_head, first_tests, if_head, when_head};
-pub use control::{loop_end, perform_head};
+pub use arms::{end_word, end_work, enter, first_phrase, not_phrase};
+pub use choice::{at_thru, evaluate_head, first_tests, if_head, thru, when_head};
 pub use read::read_head;

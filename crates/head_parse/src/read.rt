@@ -1,17 +1,17 @@
 //! READ up to its arms.
 
 ghost use Rattle.grammar_forms.specs.Reading.{Reads};
-ghost use Rattle.stmt_forms.specs.Arms as forms;
-ghost use Rattle.stmt_forms.specs.File as files;
+ghost use Rattle.statement_grammar.specs.stmt_forms.Arms as forms;
+ghost use Rattle.statement_grammar.specs.stmt_forms.File as files;
 
 use cob_tree::Place;
 use grammar_forms::{Cursor, Unread};
 use part_readers::Parts;
+use statement_grammar::stmt_forms::ReadHead;
 use std::alloc::Global;
-use stmt_forms::ReadHead;
 
 /// READ and the name of its file, by its place among the files.
-#[tactic(auto, unfolding(stmt_forms::specs::File::read_file))]
+#[tactic(auto, unfolding(statement_grammar::specs::stmt_forms::File::read_file))]
 fn read_file<P: Parts>(parts: &P, cursor: &mut Cursor<'_>) -> Result<Option<u32>, Unread>
     ensures { Reads ((files.read_file (P.parts parts.now)).reads cursor.old) result cursor.new }
 {
@@ -19,7 +19,7 @@ fn read_file<P: Parts>(parts: &P, cursor: &mut Cursor<'_>) -> Result<Option<u32>
     parts.file(cursor)
 }
 
-#[tactic(auto, unfolding(stmt_forms::specs::File::into_item))]
+#[tactic(auto, unfolding(statement_grammar::specs::stmt_forms::File::into_item))]
 fn into_item<P: Parts>(
     parts: &P,
     alloc: Global,
@@ -37,7 +37,7 @@ fn into_item<P: Parts>(
 }
 
 /// `[RECORD] [INTO reference]`, of READ.
-#[tactic(auto, unfolding(stmt_forms::specs::File::into_part))]
+#[tactic(auto, unfolding(statement_grammar::specs::stmt_forms::File::into_part))]
 fn into_part<P: Parts>(
     parts: &P,
     alloc: Global,
@@ -55,7 +55,7 @@ fn into_part<P: Parts>(
     }
 }
 
-#[tactic(auto, unfolding(stmt_forms::specs::Arms::read_open))]
+#[tactic(auto, unfolding(statement_grammar::specs::stmt_forms::Arms::read_open))]
 fn read_open<P: Parts>(
     parts: &P,
     alloc: Global,
@@ -72,7 +72,7 @@ fn read_open<P: Parts>(
     }
 }
 
-#[tactic(auto, unfolding(stmt_forms::specs::Arms::read_sentence))]
+#[tactic(auto, unfolding(statement_grammar::specs::stmt_forms::Arms::read_sentence))]
 fn read_sentence(cursor: &mut Cursor<'_>, file: Option<u32>) -> Result<ReadHead, Unread>
     ensures { Reads ((forms.read_sentence file).reads cursor.old) result cursor.new }
 {
@@ -83,7 +83,7 @@ fn read_sentence(cursor: &mut Cursor<'_>, file: Option<u32>) -> Result<ReadHead,
     }
 }
 
-#[tactic(auto, unfolding(stmt_forms::specs::Arms::read_next))]
+#[tactic(auto, unfolding(statement_grammar::specs::stmt_forms::Arms::read_next))]
 fn read_next<P: Parts>(
     parts: &P,
     alloc: Global,
@@ -102,7 +102,7 @@ fn read_next<P: Parts>(
 }
 
 /// READ up to its arms.
-#[tactic(auto, unfolding(stmt_forms::specs::Arms::read_head))]
+#[tactic(auto, unfolding(statement_grammar::specs::stmt_forms::Arms::read_head))]
 pub fn read_head<P: Parts>(
     parts: &P,
     alloc: Global,

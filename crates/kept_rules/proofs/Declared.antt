@@ -4,22 +4,22 @@ use Rattle.std.specs.List.{fold}
 use Rattle.std.proofs.lemmas.Bool.{and_parts}
 use Rattle.cob_tree.specs.declared.entry.Entry.{Entry}
 use Rattle.cob_tree.specs.declared.program.Program.{Program}
-use Rattle.data_forms.specs.declared.draft.Divisions.{Divisions}
-use Rattle.data_forms.specs.declared.draft.EntryDraft.{EntryDraft}
-use Rattle.data_forms.specs.declared.draft.FdDraft.{FdDraft}
-use Rattle.data_forms.specs.declared.draft.SelectDraft.{SelectDraft}
+use Rattle.statement_grammar.specs.declared.data_forms.draft.Divisions.{Divisions}
+use Rattle.statement_grammar.specs.declared.data_forms.draft.EntryDraft.{EntryDraft}
+use Rattle.statement_grammar.specs.declared.data_forms.draft.FdDraft.{FdDraft}
+use Rattle.statement_grammar.specs.declared.data_forms.draft.SelectDraft.{SelectDraft}
 use Rattle.grammar_forms.specs.declared.note.Note.{Note}
 use Rattle.language.specs.All.{all}
 use Rattle.named_programs.specs.Part.{is_filled}
-use Rattle.named_data.specs.Drafts.{entry_literal, entries_literal, fd_literal, data_literal}
+use Rattle.named_parts.specs.named_data.Drafts.{entry_literal, entries_literal, fd_literal, data_literal}
 use Rattle.data_sizes.specs.Size.{sized}
 use Rattle.data_rules.specs.declared.declaring.Declared.{Declared}
 use Rattle.data_rules.specs.declared.judging.Judged.{Judged}
 use Rattle.data_rules.specs.Declaring.{section_bases, record_bases, bases_of, settle, settle_all, settle_records, entries_of, judge, judge_all, judge_records, files_fault, fault_of}
 use Rattle.data_rules.specs.File.{file_number, file_of, selects_fault, fds_fault}
-use Rattle.data_spelling.specs.Sections.{Fd}
-use Rattle.printed_declarations.specs.Rules.{base, bases, sizes, EntriesKeep}
-use Rattle.printed_declarations.specs.FileRules.{AreDistinct, AreDescribed, KeepsRules}
+use Rattle.part_spelling.specs.data_spelling.Sections.{Fd}
+use Rattle.kept_rules.specs.printed_declarations.Rules.{base, bases, sizes, EntriesKeep}
+use Rattle.kept_rules.specs.printed_declarations.FileRules.{AreDistinct, AreDescribed, KeepsRules}
 use Rattle.kept_rules.specs.Laws.{DeclaredProgramsKeepRules}
 use Rattle.kept_rules.proofs.Entries.{none_of}
 use Rattle.kept_rules.proofs.Sections.{Placed, placed_base, section, flat_fds, all-flat, settled_from, settled-append, drafts_of, settles, AllFine, faults_from, judges, all-fine, same-bases, stand-in, AreLiteral, all-keep}

@@ -8,10 +8,10 @@ use Rattle.std.proofs.lemmas.Slice.Eq.{bytes_eq-Decides}
 use Rattle.cob_tree.specs.declared.entry.Entry.{Entry}
 use Rattle.cob_tree.specs.declared.picture.Picture.{Picture}
 use Rattle.cob_tree.specs.declared.place.Operand.{Operand}
-use Rattle.data_forms.specs.declared.draft.Clause.{Clause}
-use Rattle.data_forms.specs.declared.draft.Clause.TheVariants as clauses
-use Rattle.data_forms.specs.declared.draft.SpanDraft.{SpanDraft}
-use Rattle.data_forms.specs.declared.draft.ThruDraft.{ThruDraft}
+use Rattle.statement_grammar.specs.declared.data_forms.draft.Clause.{Clause}
+use Rattle.statement_grammar.specs.declared.data_forms.draft.Clause.TheVariants as clauses
+use Rattle.statement_grammar.specs.declared.data_forms.draft.SpanDraft.{SpanDraft}
+use Rattle.statement_grammar.specs.declared.data_forms.draft.ThruDraft.{ThruDraft}
 use Rattle.grammar_forms.specs.declared.note.NameKind.{NameKind}
 use Rattle.grammar_forms.specs.declared.note.NameKind.TheVariants.{Redefines as BadRedefines, Usage, Value, Unknown}
 use Rattle.grammar_forms.specs.declared.note.Note.{Note}
@@ -26,10 +26,10 @@ use Rattle.data_rules.specs.Item.{picture_by as picture_fault_by, is_signed, sig
 use Rattle.data_rules.specs.Literal.{fits}
 use Rattle.data_rules.specs.Redefining.{is_called_by, is_called, is_meant, if_meant, meant_at, redefined, name_fault, item_fault as redefined_item_fault, redefines_by, is_short}
 use Rattle.data_rules.specs.Value.{to_fault, span_fault, and_span, may_have_value, thru_fault, second_fault, literals_fault, value_by}
-use Rattle.printed_pictures.specs.Writable.{IsWritable}
+use Rattle.kept_rules.specs.printed_pictures.Writable.{IsWritable}
 use Rattle.kept_rules.proofs.Pictures.{read_pictures_are_writable}
-use Rattle.data_spelling.specs.Printable.{IfAny}
-use Rattle.printed_declarations.specs.Rules.{PictureSuits, SignSuits, Repeats, SpanFits, SpansFit, is_level}
+use Rattle.part_spelling.specs.data_spelling.Printable.{IfAny}
+use Rattle.kept_rules.specs.printed_declarations.Rules.{PictureSuits, SignSuits, Repeats, SpanFits, SpansFit, is_level}
 
 -- ---- several faults that are none
 

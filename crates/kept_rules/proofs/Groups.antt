@@ -9,22 +9,22 @@ use Rattle.std.proofs.lemmas.Slice.Eq.{bytes_eq-Decides}
 use Rattle.cob_tree.specs.declared.entry.Entry.{Entry}
 use Rattle.cob_tree.specs.declared.file.FileEntry.{FileEntry}
 use Rattle.cob_tree.specs.declared.program.Program.{Program}
-use Rattle.data_forms.specs.declared.draft.EntryDraft.{EntryDraft}
-use Rattle.data_forms.specs.declared.draft.FdDraft.{FdDraft}
-use Rattle.data_forms.specs.declared.draft.SelectDraft.{SelectDraft}
+use Rattle.statement_grammar.specs.declared.data_forms.draft.EntryDraft.{EntryDraft}
+use Rattle.statement_grammar.specs.declared.data_forms.draft.FdDraft.{FdDraft}
+use Rattle.statement_grammar.specs.declared.data_forms.draft.SelectDraft.{SelectDraft}
 use Rattle.grammar_forms.specs.declared.note.NameKind.TheVariants.{Duplicate, Usage}
 use Rattle.grammar_forms.specs.declared.note.Note.{Note}
 use Rattle.grammar_forms.specs.Note.{earliest}
 use Rattle.language.specs.All.{all}
 use Rattle.named_programs.specs.Part.{is_filled}
-use Rattle.named_data.specs.Drafts.{entries_literal, fd_literal}
+use Rattle.named_parts.specs.named_data.Drafts.{entries_literal, fd_literal}
 use Rattle.data_rules.specs.Base.{base_of}
 use Rattle.data_rules.specs.Declaring.{settled}
 use Rattle.data_rules.specs.Fault.{fault_at}
 use Rattle.data_rules.specs.File.{is_selected, is_described, again_fault, named_fault, select_fault, selects_from, fd_fault, fds_from, number_by, file_number, file_of}
-use Rattle.data_spelling.specs.Drafts.{file_title}
-use Rattle.data_spelling.specs.Sections.{Fd, records, all_records, StandIn, AreFiled, AreApart}
-use Rattle.printed_declarations.specs.FileRules.{is_named, AreDistinct, fd_title, is_titled, AreThere, AreApartFds, AreDescribed}
+use Rattle.part_spelling.specs.data_spelling.Drafts.{file_title}
+use Rattle.part_spelling.specs.data_spelling.Sections.{Fd, records, all_records, StandIn, AreFiled, AreApart}
+use Rattle.kept_rules.specs.printed_declarations.FileRules.{is_named, AreDistinct, fd_title, is_titled, AreThere, AreApartFds, AreDescribed}
 use Rattle.kept_rules.proofs.Entries.{none_of, first-none}
 use Rattle.kept_rules.proofs.Sections.{section, flat_fds, settled_from, settled-append, stand-in}
 

@@ -6,16 +6,16 @@ use Rattle.std.specs.Option.{is_some}
 use Rattle.std.proofs.lemmas.Bool.{and_parts}
 use Rattle.cob_tree.specs.declared.entry.Entry.{Entry}
 use Rattle.cob_tree.specs.declared.program.Program.{Program}
-use Rattle.data_forms.specs.declared.draft.Clause.{Clause}
-use Rattle.data_forms.specs.declared.draft.Clause.TheVariants as clauses
-use Rattle.data_forms.specs.declared.draft.EntryDraft.{EntryDraft}
-use Rattle.data_forms.specs.declared.draft.SpanDraft.{SpanDraft}
+use Rattle.statement_grammar.specs.declared.data_forms.draft.Clause.{Clause}
+use Rattle.statement_grammar.specs.declared.data_forms.draft.Clause.TheVariants as clauses
+use Rattle.statement_grammar.specs.declared.data_forms.draft.EntryDraft.{EntryDraft}
+use Rattle.statement_grammar.specs.declared.data_forms.draft.SpanDraft.{SpanDraft}
 use Rattle.data_names.specs.Names.{is_group}
 use Rattle.grammar_forms.specs.declared.note.NameKind.TheVariants.{Level}
 use Rattle.grammar_forms.specs.declared.note.Position.{Position}
 use Rattle.language.specs.All.{all}
 use Rattle.named_programs.specs.Part.{is_filled, if_any}
-use Rattle.named_data.specs.Drafts.{clause_literal, entry_literal, span_literal}
+use Rattle.named_parts.specs.named_data.Drafts.{clause_literal, entry_literal, span_literal}
 use Rattle.part_tokens.specs.Place.{entry_name, item_name}
 use Rattle.data_rules.specs.declared.clause.ClauseKind.TheVariants as kinds
 use Rattle.data_rules.specs.Base.{base_of, condition_of, item_of, level_of, number_of, spans_in, spans_of, span_of, redefines_of as marks_of}
@@ -27,10 +27,10 @@ use Rattle.data_rules.specs.Redefining.{redefined_by, redefined_in, redefines_fa
 use Rattle.data_rules.specs.Rule.{target_of, fits_at, fits_fault, condition_fault, clauses_fault, item_fault, kind_fault, entry_fault}
 use Rattle.data_rules.specs.Standing.{before, behind, holder_of, standing_of}
 use Rattle.data_rules.specs.Value.{missing_by, missing_fault, value_fault}
-use Rattle.data_spelling.specs.Printable.{IfAny}
-use Rattle.printed_declarations.specs.Rules.{marked, base, bases, sizes, PictureSuits, SignSuits, Repeats, Redefines, ItemKeeps, FitAt, FitHolder, IsFilled, ConditionKeeps, KindKeeps, EntryKeeps}
-use Rattle.printed_declarations.proofs.Bases.{same-entry}
-use Rattle.printed_declarations.proofs.Lookup.{any-found}
+use Rattle.part_spelling.specs.data_spelling.Printable.{IfAny}
+use Rattle.kept_rules.specs.printed_declarations.Rules.{marked, base, bases, sizes, PictureSuits, SignSuits, Repeats, Redefines, ItemKeeps, FitAt, FitHolder, IsFilled, ConditionKeeps, KindKeeps, EntryKeeps}
+use Rattle.kept_rules.proofs.printed_declarations_lemmas.Bases.{same-entry}
+use Rattle.kept_rules.proofs.printed_declarations_lemmas.Lookup.{any-found}
 use Rattle.kept_rules.proofs.Entries.{first-none, kept, pictured, signed, repeated, Valued, valued, Redefined, Found, found, named-so, spans-fit, a-level}
 
 -- ---- the first clause of a kind is of it

@@ -17,7 +17,7 @@ use Rattle.picture_data.specs.declared.symbols.Shape.TheVariants as shapes
 use Rattle.picture_data.specs.declared.symbols.Symbols.{Symbols}
 use Rattle.picture_data.specs.Symbols.{symbol_s, symbol_v, symbol_9, symbol_a, symbol_x, behind, behind_sign, behind_point, behind_nine, behind_letter, behind_any, most, counted, added, too_many, picture_by, number}
 use Rattle.picture_data.specs.Reading.{read_from, step, step_by, symbol_by, placed, kept, digit, closed, in_count, finish, finish_by, ended, start, flaw_of, picture_of}
-use Rattle.printed_pictures.specs.Writable.{IsWritable}
+use Rattle.kept_rules.specs.printed_pictures.Writable.{IsWritable}
 
 -- letters and other characters: one at least, and no more than their limit
 abbrev Sized : Shape → Symbols → Type 0

@@ -18,10 +18,10 @@ use Rattle.part_tokens.specs.Place.{item_name}
 use Rattle.word_forms.specs.Word.{is_data_word}
 use Rattle.data_rules.specs.Redefining.{last_alike}
 use Rattle.data_rules.specs.Standing.{before}
-use Rattle.data_spelling.specs.Printable.{IsLiteral, IfAny, AreLiteralSpans, IsDataWord, ArePrintableEntries, ArePrintableFiles, ArePrintableFds, IsPrintable}
-use Rattle.data_spelling.specs.Sections.{Fd, records, all_records}
-use Rattle.printed_declarations.specs.Rules.{base, bases, Redefines, KindKeeps, EntriesKeep}
-use Rattle.printed_declarations.specs.FileRules.{AreThere, KeepsRules}
+use Rattle.part_spelling.specs.data_spelling.Printable.{IsLiteral, IfAny, AreLiteralSpans, IsDataWord, ArePrintableEntries, ArePrintableFiles, ArePrintableFds, IsPrintable}
+use Rattle.part_spelling.specs.data_spelling.Sections.{Fd, records, all_records}
+use Rattle.kept_rules.specs.printed_declarations.Rules.{base, bases, Redefines, KindKeeps, EntriesKeep}
+use Rattle.kept_rules.specs.printed_declarations.FileRules.{AreThere, KeepsRules}
 use Rattle.kept_rules.specs.Named.{file_titled, entry_titled, span_literal, values_literal, IsTitled, AreStated}
 use Rattle.kept_rules.proofs.Entries.{named-so}
 

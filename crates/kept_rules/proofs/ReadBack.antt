@@ -2,12 +2,12 @@
 use Rattle.std.proofs.Common.{◌≡◌, ℕ, true}
 use Rattle.cob_tree.specs.declared.place.Place.{Place}
 use Rattle.cob_tree.specs.declared.program.Program.{Program}
-use Rattle.data_forms.specs.declared.draft.Divisions.{Divisions}
+use Rattle.statement_grammar.specs.declared.data_forms.draft.Divisions.{Divisions}
 use Rattle.grammar_forms.specs.Form.{Form}
-use Rattle.named_data.specs.Drafts.{data_literal}
+use Rattle.named_parts.specs.named_data.Drafts.{data_literal}
 use Rattle.spelled_forms.proofs.Makers.{hence}
-use Rattle.data_spelling.proofs.Divisions.{divisions}
-use Rattle.printed_declarations.proofs.Declared.{printed_divisions_declare}
+use Rattle.part_spelling.proofs.data_spelling_lemmas.Divisions.{divisions}
+use Rattle.kept_rules.proofs.printed_declarations_lemmas.Declared.{printed_divisions_declare}
 use Rattle.kept_rules.specs.Laws.{Declares, ReadBack}
 use Rattle.kept_rules.specs.Named.{IsTitled, AreStated}
 use Rattle.kept_rules.proofs.Declared.{declared_programs_keep_rules}

@@ -3,19 +3,19 @@ use Rattle.std.proofs.Common.{◌≡◌, ℕ, zero, suc, ◌+◌, Bool, true, fa
 use Rattle.std.specs.Prelude.{◌==◌, slice_get}
 use Rattle.cob_tree.specs.declared.entry.Entry.{Entry}
 use Rattle.cob_tree.specs.declared.program.Program.{Program}
-use Rattle.data_forms.specs.declared.draft.EntryDraft.{EntryDraft}
-use Rattle.data_forms.specs.declared.draft.FdDraft.{FdDraft}
-use Rattle.data_forms.specs.declared.draft.SelectDraft.{SelectDraft}
+use Rattle.statement_grammar.specs.declared.data_forms.draft.EntryDraft.{EntryDraft}
+use Rattle.statement_grammar.specs.declared.data_forms.draft.FdDraft.{FdDraft}
+use Rattle.statement_grammar.specs.declared.data_forms.draft.SelectDraft.{SelectDraft}
 use Rattle.grammar_forms.specs.declared.note.Note.{Note}
 use Rattle.grammar_forms.specs.Note.{earliest}
-use Rattle.named_data.specs.Drafts.{entry_literal}
+use Rattle.named_parts.specs.named_data.Drafts.{entry_literal}
 use Rattle.data_rules.specs.declared.judging.Judged.{Judged}
 use Rattle.data_rules.specs.Base.{base_of, condition_of, item_of, level_of}
 use Rattle.data_rules.specs.Declaring.{section_bases, record_bases, settled, settled_at, settle, settle_all, judged_at, judge, judge_all}
 use Rattle.data_rules.specs.File.{file_number}
 use Rattle.data_rules.specs.Rule.{entry_fault}
-use Rattle.data_spelling.specs.Sections.{StandIn}
-use Rattle.printed_declarations.specs.Rules.{base, bases, sizes, EntriesKeep}
+use Rattle.part_spelling.specs.data_spelling.Sections.{StandIn}
+use Rattle.kept_rules.specs.printed_declarations.Rules.{base, bases, sizes, EntriesKeep}
 use Rattle.kept_rules.proofs.Entries.{none_of}
 use Rattle.kept_rules.proofs.Kept.{same-base, entry-keeps}
 

@@ -3,16 +3,16 @@ use Rattle.std.specs.Prelude.{ℕ, ◌≡◌, true, List, None}
 use Rattle.cob_tree.specs.declared.entry.Entry.{Entry}
 use Rattle.cob_tree.specs.declared.place.Place.{Place}
 use Rattle.cob_tree.specs.declared.program.Program.{Program}
-use Rattle.data_forms.specs.declared.draft.Divisions.{Divisions}
-use Rattle.data_forms.specs.Divisions.{divisions}
+use Rattle.statement_grammar.specs.declared.data_forms.draft.Divisions.{Divisions}
+use Rattle.statement_grammar.specs.data_forms.Divisions.{divisions}
 use Rattle.grammar_forms.specs.Form.{Form}
-use Rattle.named_data.specs.Drafts.{data_literal}
+use Rattle.named_parts.specs.named_data.Drafts.{data_literal}
 use Rattle.data_rules.specs.Declaring.{declared_of}
 use Rattle.spelled_forms.specs.Spelling.{Spelled}
-use Rattle.data_spelling.specs.Kinds.{divisions_kinds}
-use Rattle.data_spelling.specs.Printable.{BeforeProcedures}
-use Rattle.data_spelling.specs.Sections.{Fd, IsSorted}
-use Rattle.printed_declarations.specs.FileRules.{KeepsRules}
+use Rattle.part_spelling.specs.data_spelling.Kinds.{divisions_kinds}
+use Rattle.part_spelling.specs.data_spelling.Printable.{BeforeProcedures}
+use Rattle.part_spelling.specs.data_spelling.Sections.{Fd, IsSorted}
+use Rattle.kept_rules.specs.printed_declarations.FileRules.{KeepsRules}
 
 -- drafts of this name that declare exactly the program's files and entries, with no fault
 abbrev pub Declares : Program → Divisions → Type 0

@@ -10,7 +10,7 @@ use Rattle.language.specs.All.{all}
 use Rattle.named_forms.specs.Numbered.{is_literal}
 use Rattle.named_programs.specs.Part.{if_any}
 use Rattle.word_forms.specs.Word.{is_data_word}
-use Rattle.data_spelling.specs.Printable.{SpellsStatus}
+use Rattle.part_spelling.specs.data_spelling.Printable.{SpellsStatus}
 
 abbrev pub file_titled : FileEntry → Bool
 file_titled file = is_data_word file.name

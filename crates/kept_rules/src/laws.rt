@@ -2,12 +2,12 @@
 
 ghost use Rattle.std.specs.Prelude.{◌≡◌, ℕ, true};
 ghost use Rattle.cob_tree.specs.declared.program.Program.{Program};
-ghost use Rattle.data_forms.specs.declared.draft.Divisions.{Divisions};
+ghost use Rattle.statement_grammar.specs.declared.data_forms.draft.Divisions.{Divisions};
 ghost use Rattle.kept_rules.specs.Laws.{Declares, DeclaredProgramsKeepRules, ReadBack};
 ghost use Rattle.kept_rules.specs.Named.{IsTitled, AreStated};
-ghost use Rattle.named_data.specs.Drafts.{data_literal};
+ghost use Rattle.named_parts.specs.named_data.Drafts.{data_literal};
 
-use data_forms::Refers;
+use statement_grammar::data_forms::Refers;
 
 /// Its files and entries keep the rules.
 pub fn declared_programs_keep_rules()

@@ -2,6 +2,10 @@
 //! printed of it declares the same. The crate has no code.
 #![tactic(auto)]
 
+pub mod added_entries;
+pub mod fresh_items;
 mod laws;
+pub mod printed_declarations;
+pub mod printed_pictures;
 
 pub use laws::{declared_programs_keep_rules, printed_declarations_read_back};

@@ -3,11 +3,11 @@ use Rattle.std.proofs.Common.{◌≡◌, ◌≢◌, ◌≤◌, ◌<◌, ℕ, len
 use Rattle.std.proofs.lemmas.Bool.Decides.{eqb_tells}
 use Rattle.language.specs.Language.{Set, Test, If, Do, Choose, StopRun, Stmts, none, also, Arms, done, given}
 use Rattle.control.specs.Graph.{Label, Tree, tree, End, Pick, Jump, Return, Stop, Dead, Trees, no_more, more, body_of, end_of}
-use Rattle.graph_rules.specs.Loops.{Flagged, Endless}
-use Rattle.graph_rules.specs.Shapes.{followed, alone, Live, ToLabel, end_at, Targets, NoTarget, Only, Several, flat, flat_end, flat_arms}
-use Rattle.graph_rules.specs.Reduced.{Form, pretest, posttest, form_two, is_bare, stays}
-use Rattle.closing.specs.Closes.{none_left_out}
-use Rattle.closing.specs.Dispatches.{stated_tree, stated_end, stated_arms, flag_jump, set_to}
+use Rattle.control_laws.specs.graph_rules.Loops.{Flagged, Endless}
+use Rattle.control_laws.specs.graph_rules.Shapes.{followed, alone, Live, ToLabel, end_at, Targets, NoTarget, Only, Several, flat, flat_end, flat_arms}
+use Rattle.control_laws.specs.graph_rules.Reduced.{Form, pretest, posttest, form_two, is_bare, stays}
+use Rattle.control_laws.specs.closing.Closes.{none_left_out}
+use Rattle.control_laws.specs.closing.Dispatches.{stated_tree, stated_end, stated_arms, flag_jump, set_to}
 use Rattle.language.specs.Language as language
 use Rattle.loop_rules.specs.declared.forms.Form as shape
 use Rattle.loop_rules.specs.declared.forms.Form.TheVariants as form

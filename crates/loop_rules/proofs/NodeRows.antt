@@ -3,10 +3,10 @@ use Rattle.std.proofs.Common.{◌≡◌, ◌<◌, ℕ, Bool, true, false, if◌t
 use Rattle.std.proofs.lemmas.List.{map-set, length-map}
 use Rattle.control.specs.Doing.{is_above}
 use Rattle.control.specs.Graph.{Label, Tree}
-use Rattle.graph_rules.specs.Families.{Added}
-use Rattle.graph_rules.specs.Shapes.{Live, Targets, NoTarget, Only, Several, leaves_to, other_targets}
-use Rattle.graph_rules.specs.Reduced.{Node, Graph, Form, tree_in, with_tree, count, form_of, looped_graph, close_form, close_by, close_graph, at_most_one, loops}
-use Rattle.closing.specs.Dispatches.{Rising}
+use Rattle.control_laws.specs.graph_rules.Families.{Added}
+use Rattle.control_laws.specs.graph_rules.Shapes.{Live, Targets, NoTarget, Only, Several, leaves_to, other_targets}
+use Rattle.control_laws.specs.graph_rules.Reduced.{Node, Graph, Form, tree_in, with_tree, count, form_of, looped_graph, close_form, close_by, close_graph, at_most_one, loops}
+use Rattle.control_laws.specs.closing.Dispatches.{Rising}
 use Rattle.branch_tree.specs.declared.graph.Node as code
 use Rattle.branch_tree.specs.declared.graph.Added as code_added
 use Rattle.branch_tree.specs.declared.tree.Tree as code_tree

@@ -1,11 +1,11 @@
 //! Loop on a node.
 
 ghost use Rattle.std.specs.Prelude.{◌≡◌, ◌<◌, ◌^◌, true, length, OnOk, OnErr};
-ghost use Rattle.closing.specs.Dispatches.{Rising};
+ghost use Rattle.control_laws.specs.closing.Dispatches.{Rising};
 ghost use Rattle.control.specs.Graph as graph;
-ghost use Rattle.graph_rules.specs.Loops.{Flagged, Endless, loop_of};
-ghost use Rattle.graph_rules.specs.Reduced.{loops, close_graph, at_most_one};
-ghost use Rattle.graph_rules.specs.Shapes.{flat};
+ghost use Rattle.control_laws.specs.graph_rules.Loops.{Flagged, Endless, loop_of};
+ghost use Rattle.control_laws.specs.graph_rules.Reduced.{loops, close_graph, at_most_one};
+ghost use Rattle.control_laws.specs.graph_rules.Shapes.{flat};
 ghost use Rattle.branch_tree.specs.Graphs.{seen_graph, seen_nodes};
 ghost use Rattle.branch_tree.specs.Trees.{seen_tree};
 ghost use Rattle.tree_rules.specs.Places.{label_at};

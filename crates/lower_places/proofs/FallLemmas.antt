@@ -6,7 +6,7 @@ use Rattle.cob_tree.specs.declared.program.Program.{Program}
 use Rattle.language.specs.Control.{control_of, seen_paragraphs}
 use Rattle.language.specs.Language as language
 use Rattle.control.specs.Graph as graph
-use Rattle.lowering.specs.Lower as lower
+use Rattle.control_laws.specs.lowering.Lower as lower
 use Rattle.lower_places.specs.Layout.{paragraph_size, places_from, place_at, AreAt, IsLayout}
 use Rattle.lower_places.specs.Leaf.{seen_leaf}
 use Rattle.lower_places.specs.Fall.{fallen, fallen_to}

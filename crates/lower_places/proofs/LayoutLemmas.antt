@@ -8,7 +8,7 @@ use Rattle.cob_tree.specs.declared.program.Sentence.{Sentence}
 use Rattle.cob_tree.specs.declared.program.Paragraph.{Paragraph}
 use Rattle.cob_tree.specs.declared.program.Program.{Program}
 use Rattle.language.specs.Control.{seen_paragraphs, seen_sentence, section_last}
-use Rattle.lowering.specs.Lowered.{total, place_from}
+use Rattle.control_laws.specs.lowering.Lowered.{total, place_from}
 use Rattle.lower_places.specs.Layout.{paragraph_size, places_from, end_from, place_at, IsLayout}
 use Rattle.lower_places.proofs.SizeLemmas.{sizes-seen}
 

@@ -16,9 +16,9 @@ use Rattle.language.specs.Language as language
 use Rattle.language.specs.Control.{cell_of, number_written, setting, move_to, move_of, lowered_cell, arith_act, arith_stmt, control_in, loop_of, perform_of, seen, seen_both, seen_stmts}
 use Rattle.language.proofs.Rows.{seen_move, seen_arith, seen_loop, seen_perform}
 use Rattle.control.specs.Graph as graph
-use Rattle.lowering.specs.Told.{Told}
-use Rattle.lowering.specs.Completes.{skips, size}
-use Rattle.lowering.specs.Lower as lower
+use Rattle.control_laws.specs.lowering.Told.{Told}
+use Rattle.control_laws.specs.lowering.Completes.{skips, size}
+use Rattle.control_laws.specs.lowering.Lower as lower
 use Rattle.cut_lists.specs.Told.{told_of}
 use Rattle.lower_places.specs.declared.leaf.Going.{Going}
 use Rattle.lower_places.specs.declared.leaf.Going.TheVariants as going

@@ -4,7 +4,7 @@ use Rattle.cob_tree.specs.declared.program.Program.{Program}
 use Rattle.cob_tree.specs.declared.program.Range as code
 use Rattle.language.specs.Control.{control_of}
 use Rattle.language.specs.Language.{Range, Main, Part}
-use Rattle.lowering.specs.Lower as lower
+use Rattle.control_laws.specs.lowering.Lower as lower
 use Rattle.lower_places.specs.Layout.{AreAt, IsLayout}
 use Rattle.lower_places.specs.Leaf.{seen_leaf, point_of}
 use Rattle.lower_places.specs.declared.leaf.Leaf.TheVariants as leaf

@@ -4,7 +4,7 @@ use Rattle.cob_tree.specs.Places.{stmt_places}
 use Rattle.cob_tree.specs.declared.program.Paragraph.{Paragraph}
 use Rattle.cob_tree.specs.declared.program.Program.{Program}
 use Rattle.language.specs.Control.{control_of}
-use Rattle.lowering.specs.Lowered.{place_in}
+use Rattle.control_laws.specs.lowering.Lowered.{place_in}
 
 -- the places of a paragraph's statements
 abbrev pub paragraph_size : Paragraph → ℕ

@@ -8,9 +8,9 @@ use Rattle.language.specs.Control.{arm_before, Branch, else_of, seen, seen_stmts
 use Rattle.language.specs.Language as language
 use Rattle.language.proofs.Rows.{seen_when_is}
 use Rattle.control.specs.Graph as graph
-use Rattle.lowering.specs.Told.{Told}
-use Rattle.lowering.specs.Completes.{sizes}
-use Rattle.lowering.specs.Lower as lower
+use Rattle.control_laws.specs.lowering.Told.{Told}
+use Rattle.control_laws.specs.lowering.Completes.{sizes}
+use Rattle.control_laws.specs.lowering.Lower as lower
 use Rattle.branch_tree.specs.Trees.{seen_tree, seen_trees, trees_of}
 use Rattle.branch_tree.specs.declared.tree.Tree as code
 use Rattle.lower_trees.specs.Arms.{AddsArm}

@@ -2,8 +2,8 @@
 use Rattle.std.proofs.Common.{◌≡◌, refl, ap, sym, ◌∙◌}
 use Rattle.language.specs.Language.{Stmt, Stmts, none, also}
 use Rattle.control.specs.Graph.{Tree, tree, End, Dead, body_of, end_of}
-use Rattle.graph_rules.specs.Shapes.{followed, alone}
-use Rattle.lowering.specs.Lower.{only, with_first}
+use Rattle.control_laws.specs.graph_rules.Shapes.{followed, alone}
+use Rattle.control_laws.specs.lowering.Lower.{only, with_first}
 use Rattle.lower_trees.specs.Loops.{before}
 use Rattle.lower_trees.proofs.StartRows.{followed_none}
 

@@ -19,9 +19,9 @@ use Rattle.language.specs.OwnItems.{subject_own}
 use Rattle.language.proofs.OwnCells.{expr-no_cell}
 use Rattle.language.proofs.Rows.{seen_if_any, seen_if, seen_evaluate, seen_loop, seen_arith, seen_read, seen_both_is, seen_when_is, seen_go, seen_go_depending, seen_next_sentence, seen_exit_paragraph, seen_exit_section, seen_exit_perform}
 use Rattle.control.specs.Graph as graph
-use Rattle.lowering.specs.Told.{Told}
-use Rattle.lowering.specs.Completes.{cut, first_is_dead, whole}
-use Rattle.lowering.specs.Lower as lower
+use Rattle.control_laws.specs.lowering.Told.{Told}
+use Rattle.control_laws.specs.lowering.Completes.{cut, first_is_dead, whole}
+use Rattle.control_laws.specs.lowering.Lower as lower
 use Rattle.cut_lists.specs.Told.{told_of, status_missing}
 use Rattle.lower_stmts.specs.Arms.{if_arms, phrase_arms, seen_phrase, when_arms, when_tests}
 use Rattle.lower_stmts.specs.Turns.{loop_begun}

@@ -6,9 +6,9 @@ use Rattle.cob_tree.specs.Places.{stmt_places}
 use Rattle.cob_tree.specs.declared.stmt.Stmt.{Stmt}
 use Rattle.language.specs.Control.{seen, seen_stmts}
 use Rattle.control.specs.Graph as graph
-use Rattle.lowering.specs.Told.{Told}
-use Rattle.lowering.specs.Completes.{size}
-use Rattle.lowering.specs.Lower as lower
+use Rattle.control_laws.specs.lowering.Told.{Told}
+use Rattle.control_laws.specs.lowering.Completes.{size}
+use Rattle.control_laws.specs.lowering.Lower as lower
 use Rattle.lower_places.proofs.SizeLemmas.{size-seen}
 
 module _ (told : Told) (place_of : ℕ → ℕ) (last : ℕ) (leaving : lower.Leaving) (after : graph.End) (behind : graph.Tree) where

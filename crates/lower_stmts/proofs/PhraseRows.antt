@@ -5,9 +5,9 @@ use Rattle.cob_tree.specs.declared.stmt.Arms.{Arms, out-Arms}
 use Rattle.cob_tree.specs.declared.stmt.Stmt.{Stmt}
 use Rattle.language.specs.Control.{seen_stmts}
 use Rattle.control.specs.Graph as graph
-use Rattle.lowering.specs.Told.{Told}
-use Rattle.lowering.specs.Completes.{sizes}
-use Rattle.lowering.specs.Lower as lower
+use Rattle.control_laws.specs.lowering.Told.{Told}
+use Rattle.control_laws.specs.lowering.Completes.{sizes}
+use Rattle.control_laws.specs.lowering.Lower as lower
 use Rattle.branch_tree.specs.Trees.{seen_trees}
 use Rattle.branch_tree.specs.declared.tree.Tree as code
 use Rattle.lower_trees.specs.Arms.{AddsArm}

@@ -4,8 +4,8 @@ use Rattle.cob_tree.specs.declared.stmt.Stmt.{Stmt}
 use Rattle.language.specs.Control.{seen_stmts}
 use Rattle.language.specs.Language as language
 use Rattle.control.specs.Graph as graph
-use Rattle.graph_rules.specs.Shapes.{followed}
-use Rattle.lowering.specs.Lower as lower
+use Rattle.control_laws.specs.graph_rules.Shapes.{followed}
+use Rattle.control_laws.specs.lowering.Lower as lower
 use Rattle.branch_tree.specs.Trees.{seen_body, seen_tree}
 use Rattle.branch_tree.specs.declared.tree.End.{End}
 use Rattle.branch_tree.specs.declared.tree.Piece.{Piece}

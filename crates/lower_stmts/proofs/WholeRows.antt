@@ -13,10 +13,10 @@ use Rattle.language.specs.Control.{cell_of, number_written, setting, move_to, mo
 use Rattle.language.specs.Language as language
 use Rattle.language.proofs.Rows.{seen_move, seen_arith, seen_loop, seen_perform}
 use Rattle.control.specs.Graph as graph
-use Rattle.graph_rules.specs.Shapes.{followed, alone}
-use Rattle.lowering.specs.Told.{Told}
-use Rattle.lowering.specs.Completes.{completes, cut, first_is_dead, skips, whole}
-use Rattle.lowering.specs.Lower as lower
+use Rattle.control_laws.specs.graph_rules.Shapes.{followed, alone}
+use Rattle.control_laws.specs.lowering.Told.{Told}
+use Rattle.control_laws.specs.lowering.Completes.{completes, cut, first_is_dead, skips, whole}
+use Rattle.control_laws.specs.lowering.Lower as lower
 use Rattle.cut_lists.specs.Cutting.{IsCut}
 use Rattle.cut_lists.specs.Told.{told_of}
 use Rattle.cut_lists.proofs.Alike.{stmt-alike}

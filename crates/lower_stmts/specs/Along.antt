@@ -4,8 +4,8 @@ use Rattle.cob_tree.specs.declared.stmt.Stmt.{Stmt}
 use Rattle.language.specs.Control.{seen, seen_stmts}
 use Rattle.language.specs.Language.{Stmts}
 use Rattle.control.specs.Graph as graph
-use Rattle.lowering.specs.Told.{Told}
-use Rattle.lowering.specs.Lower as lower
+use Rattle.control_laws.specs.lowering.Told.{Told}
+use Rattle.control_laws.specs.lowering.Lower as lower
 use Rattle.cut_lists.specs.Told.{told_of}
 use Rattle.branch_tree.specs.Trees.{seen_body, seen_end, seen_tree}
 use Rattle.branch_tree.specs.declared.tree.End.{End}

@@ -9,7 +9,7 @@ use Rattle.language.specs.Control.{arm_before, both_arms, branches_before, else_
 use Rattle.language.specs.Language as language
 use Rattle.language.specs.OwnItems.{stmts_own}
 use Rattle.control.specs.Graph as graph
-use Rattle.lowering.specs.Lower as lower
+use Rattle.control_laws.specs.lowering.Lower as lower
 use Rattle.branch_tree.specs.Trees.{seen_end, seen_trees}
 use Rattle.branch_tree.specs.declared.tree.End.{End}
 use Rattle.branch_tree.specs.declared.tree.Tree as code

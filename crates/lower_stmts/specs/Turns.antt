@@ -5,9 +5,9 @@ use Rattle.cob_tree.specs.declared.stmt.Stmt.{Stmt}
 use Rattle.language.specs.Control.{always, control_in, seen_stmts}
 use Rattle.language.specs.Language as language
 use Rattle.control.specs.Graph as graph
-use Rattle.lowering.specs.Told.{Told}
-use Rattle.lowering.specs.Lower as lower
-use Rattle.graph_rules.specs.Shapes.{followed}
+use Rattle.control_laws.specs.lowering.Told.{Told}
+use Rattle.control_laws.specs.lowering.Lower as lower
+use Rattle.control_laws.specs.graph_rules.Shapes.{followed}
 use Rattle.branch_tree.specs.Trees.{seen_body, seen_end, seen_tree}
 use Rattle.branch_tree.specs.declared.tree.Piece.{Piece}
 use Rattle.branch_tree.specs.declared.tree.End.{End}

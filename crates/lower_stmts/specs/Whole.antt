@@ -4,10 +4,10 @@ use Rattle.cob_tree.specs.declared.stmt.Stmt.{Stmt}
 use Rattle.language.specs.Control.{seen}
 use Rattle.language.specs.Language as language
 use Rattle.control.specs.Graph as graph
-use Rattle.graph_rules.specs.Shapes.{followed, alone}
-use Rattle.lowering.specs.Told.{Told}
-use Rattle.lowering.specs.Completes.{completes, cut, skips, whole}
-use Rattle.lowering.specs.Lower as lower
+use Rattle.control_laws.specs.graph_rules.Shapes.{followed, alone}
+use Rattle.control_laws.specs.lowering.Told.{Told}
+use Rattle.control_laws.specs.lowering.Completes.{completes, cut, skips, whole}
+use Rattle.control_laws.specs.lowering.Lower as lower
 use Rattle.cut_lists.specs.Told.{told_of}
 use Rattle.cob_tree.specs.declared.file.FileEntry.{FileEntry}
 use Rattle.branch_tree.specs.Trees.{seen_body}

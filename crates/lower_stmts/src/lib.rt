@@ -2,7 +2,7 @@
 //!
 //! `run_on` goes along a list and adds to a body; it answers how the tree ends, or none where it
 //! comes to the list's end, behind which the caller goes on. Hold it against `build` of
-//! `lowering/specs/Lower`, and `turn_tree` and `loop_tree` against `loop_nodes`.
+//! `control_laws/specs/lowering/Lower`, and `turn_tree` and `loop_tree` against `loop_nodes`.
 #![tactic(auto)]
 
 mod along;

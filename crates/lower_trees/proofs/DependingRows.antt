@@ -1,8 +1,8 @@
 -- The arms of a GO TO DEPENDING.
 use Rattle.std.proofs.Common.{◌≡◌, ℕ, List, [], ◌∷◌, ◌++◌, map, refl, ap, ap₂, ◌∙◌}
 use Rattle.control.specs.Graph as graph
-use Rattle.lowering.specs.Lower as lower
-use Rattle.lowering.specs.Told.{Told}
+use Rattle.control_laws.specs.lowering.Lower as lower
+use Rattle.control_laws.specs.lowering.Told.{Told}
 use Rattle.branch_tree.specs.declared.tree.Tree as code
 use Rattle.branch_tree.specs.Trees.{seen_tree, seen_trees, trees_of}
 use Rattle.lower_places.specs.declared.layout.Layout.{Layout}

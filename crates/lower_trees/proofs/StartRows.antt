@@ -9,7 +9,7 @@ use Rattle.language.specs.OwnItems.{place_own}
 use Rattle.language.proofs.OwnCells.{place-no_cell}
 use Rattle.language.proofs.Rows.{seen_move}
 use Rattle.control.specs.Graph as graph
-use Rattle.graph_rules.specs.Shapes.{followed, alone}
+use Rattle.control_laws.specs.graph_rules.Shapes.{followed, alone}
 use Rattle.branch_tree.specs.Trees.{seen_piece, seen_body, end_step, piece_step, tree_step}
 use Rattle.branch_tree.specs.declared.tree.Piece.{Piece, fold-roll-Piece}
 use Rattle.branch_tree.specs.declared.tree.Piece.TheVariants as piece

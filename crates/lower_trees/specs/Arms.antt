@@ -3,7 +3,7 @@ use Rattle.std.specs.Prelude.{ℕ, ◌≡◌, List, [], ◌∷◌, ◌++◌, map
 use Rattle.cob_tree.specs.declared.place.Place.{Place}
 use Rattle.language.specs.Language.{By, Depending}
 use Rattle.control.specs.Graph as graph
-use Rattle.lowering.specs.Lower as lower
+use Rattle.control_laws.specs.lowering.Lower as lower
 use Rattle.cut_lists.specs.Told.{told_of}
 use Rattle.cob_tree.specs.declared.file.FileEntry.{FileEntry}
 use Rattle.branch_tree.specs.declared.tree.Tree as code

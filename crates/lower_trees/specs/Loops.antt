@@ -2,8 +2,8 @@
 use Rattle.std.specs.Prelude.{ℕ, ◌≡◌, Bool, true, false, if◌then◌else◌, [], ◌∷◌, Option, Some, None}
 use Rattle.language.specs.Language.{Act, Lower, Above, Control, Times, Until, Varying, Stmts, none, also, Do}
 use Rattle.control.specs.Graph.{Label, Tree, tree, End, Jump, Dead, body_of, end_of}
-use Rattle.graph_rules.specs.Shapes.{followed}
-use Rattle.lowering.specs.Lower.{head, third, back, only, by_test, loop_start, node, loop_nodes}
+use Rattle.control_laws.specs.graph_rules.Shapes.{followed}
+use Rattle.control_laws.specs.lowering.Lower.{head, third, back, only, by_test, loop_start, node, loop_nodes}
 
 -- the label to which its body comes back
 abbrev pub back_by : Option Control → ℕ → Label

@@ -5,8 +5,8 @@ use Rattle.cob_tree.specs.declared.control.Control.{Control}
 use Rattle.language.specs.Control.{control_in, test_of}
 use Rattle.language.specs.Language.{Stmts}
 use Rattle.control.specs.Graph.{Tree, more, no_more}
-use Rattle.graph_rules.specs.Shapes.{followed}
-use Rattle.lowering.specs.Lower.{only, by_test}
+use Rattle.control_laws.specs.graph_rules.Shapes.{followed}
+use Rattle.control_laws.specs.lowering.Lower.{only, by_test}
 use Rattle.branch_tree.specs.declared.tree.Piece.{Piece}
 use Rattle.branch_tree.specs.declared.tree.Tree as code
 use Rattle.branch_tree.specs.Trees.{seen_body, seen_tree, seen_trees}

@@ -4,7 +4,7 @@ ghost use Rattle.std.specs.Prelude.{◌≡◌, ◌∷◌, [], ◌++◌, length, 
 ghost use Rattle.language.specs.Language.{By, Depending};
 ghost use Rattle.control.specs.Graph.{Pick};
 ghost use Rattle.branch_tree.specs.Trees.{seen_end, seen_tree, seen_trees};
-ghost use Rattle.lowering.specs.Lower.{only};
+ghost use Rattle.control_laws.specs.lowering.Lower.{only};
 ghost use Rattle.lower_places.specs.Leaf.{seen_leaf};
 ghost use Rattle.lower_trees.specs.Arms.{AddsArm, AddsJumps, IsDepending, IsDependingEnd};
 

@@ -1,6 +1,7 @@
 //! The trees of a lowered graph.
 //!
-//! Hold them against `build` and `loop_nodes` of `lowering/specs/Lower`, one function for each row.
+//! Hold them against `build` and `loop_nodes` of `control_laws/specs/lowering/Lower`, one function
+//! for each row.
 #![tactic(auto)]
 
 mod ends;

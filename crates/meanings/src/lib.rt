@@ -11,8 +11,6 @@ mod next;
 mod rest;
 mod state;
 mod step;
-#[cfg(test)]
-mod tests;
 
 pub use state::{Item, Over, PlainState, Waiting};
 pub use step::{begun, plain_step};

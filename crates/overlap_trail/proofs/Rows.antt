@@ -11,7 +11,7 @@ use Rattle.language.specs.Language.{Picker, By, If, Holds, Chooser, Evaluate, Ar
 use Rattle.language.specs.Items.{Item, Do, Turn, Steps, before, before_body, before_arm}
 use Rattle.language.specs.Control.{always, Both, both_arms, arm_before, else_of, Branch, branches_before, picker_by, evaluate_of, cell_chosen, count_from, stmts_of, perform_of, loop_of, seen_when}
 use Rattle.language.proofs.Rows.{seen_if_any}
-use Rattle.lowering.specs.Told.{arm_count}
+use Rattle.control_laws.specs.lowering.Told.{arm_count}
 use Rattle.flow_paths.specs.Step.{Point, at, Ways, some_given, first_is_barred, without_first, ways_from, next}
 use Rattle.flow_numbers.specs.declared.kind.Kind.{Kind}
 use Rattle.flow_numbers.specs.declared.kind.Kind.TheVariants.{Before, Again, After}

@@ -1,7 +1,7 @@
 //! Operands that are numbers.
 
 ghost use Rattle.grammar_forms.specs.Reading.{Reads};
-ghost use Rattle.stmt_forms.specs.Arithmetic as forms;
+ghost use Rattle.statement_grammar.specs.stmt_forms.Arithmetic as forms;
 
 use crate::parts::Parts;
 use cob_tree::Operand;
@@ -9,7 +9,7 @@ use grammar_forms::{Cursor, Unread};
 use std::alloc::Global;
 
 /// An operand that is a number.
-#[tactic(auto, unfolding(stmt_forms::specs::Arithmetic::number_operand))]
+#[tactic(auto, unfolding(statement_grammar::specs::stmt_forms::Arithmetic::number_operand))]
 pub fn number_operand<P: Parts>(
     parts: &P,
     alloc: Global,

@@ -3,8 +3,8 @@
 ghost use Rattle.std.specs.Prelude.{◌≡◌};
 ghost use Rattle.grammar_forms.specs.Form as form;
 ghost use Rattle.grammar_forms.specs.Reading.{Reads};
-ghost use Rattle.stmt_forms.specs.Part.{Parts as PartForms};
-ghost use Rattle.stmt_forms.specs.Laws.{PartsAreLawful};
+ghost use Rattle.statement_grammar.specs.stmt_forms.Part.{Parts as PartForms};
+ghost use Rattle.statement_grammar.specs.stmt_forms.Laws.{PartsAreLawful};
 
 use cob_base::{Text, Word};
 use cob_tree::{Cond, Expr, Operand, Place};

@@ -3,7 +3,7 @@
 ghost use Rattle.std.specs.Prelude.{◌≡◌};
 ghost use Rattle.grammar_forms.specs.Form as form;
 ghost use Rattle.grammar_forms.specs.Reading.{Reads};
-ghost use Rattle.stmt_forms.specs.Jump as forms;
+ghost use Rattle.statement_grammar.specs.stmt_forms.Jump as forms;
 
 use crate::parts::Parts;
 use cobol_lex::TokenKind;
@@ -21,7 +21,7 @@ pub fn at_digits(cursor: &Cursor<'_>) -> bool
 }
 
 /// Whether the name of a procedure is next.
-#[tactic(auto, unfolding(stmt_forms::specs::Jump::begins_procedure))]
+#[tactic(auto, unfolding(statement_grammar::specs::stmt_forms::Jump::begins_procedure))]
 pub fn at_procedure<P: Parts>(parts: &P, cursor: &Cursor<'_>) -> bool
     ensures { result ≡ form.is_next (forms.begins_procedure (P.parts parts.now)) cursor.now }
 {
@@ -29,7 +29,7 @@ pub fn at_procedure<P: Parts>(parts: &P, cursor: &Cursor<'_>) -> bool
 }
 
 /// The entry and exit of what has this name, or 0 where nothing has it.
-#[tactic(auto, unfolding(stmt_forms::specs::Jump::procedure_named))]
+#[tactic(auto, unfolding(statement_grammar::specs::stmt_forms::Jump::procedure_named))]
 pub fn procedure_named<P: Parts>(
     parts: &P,
     cursor: &mut Cursor<'_>,
@@ -51,7 +51,7 @@ pub fn procedure_named<P: Parts>(
     }
 }
 
-#[tactic(auto, unfolding(stmt_forms::specs::Jump::word_procedure))]
+#[tactic(auto, unfolding(statement_grammar::specs::stmt_forms::Jump::word_procedure))]
 fn word_procedure<P: Parts>(parts: &P, cursor: &mut Cursor<'_>) -> Result<(u32, u32), Unread>
     ensures { Reads ((forms.word_procedure (P.parts parts.now)).reads cursor.old)
         result cursor.new }
@@ -60,7 +60,7 @@ fn word_procedure<P: Parts>(parts: &P, cursor: &mut Cursor<'_>) -> Result<(u32, 
     procedure_named(parts, cursor, name.as_slice(), position)
 }
 
-#[tactic(auto, unfolding(stmt_forms::specs::Jump::digits_procedure))]
+#[tactic(auto, unfolding(statement_grammar::specs::stmt_forms::Jump::digits_procedure))]
 fn digits_procedure<P: Parts>(
     parts: &P,
     alloc: Global,
@@ -74,7 +74,7 @@ fn digits_procedure<P: Parts>(
 }
 
 /// The name of a procedure, and its entry and exit.
-#[tactic(auto, unfolding(stmt_forms::specs::Jump::procedure))]
+#[tactic(auto, unfolding(statement_grammar::specs::stmt_forms::Jump::procedure))]
 pub fn procedure<P: Parts>(
     parts: &P,
     alloc: Global,

@@ -2,12 +2,12 @@
 
 ghost use Rattle.std.specs.Prelude.{◌≡◌};
 ghost use Rattle.grammar_forms.specs.Form as form;
-ghost use Rattle.stmt_forms.specs.Verb as forms;
+ghost use Rattle.statement_grammar.specs.stmt_forms.Verb as forms;
 
 use grammar_forms::Cursor;
 
 /// Whether DISPLAY, MOVE or SET is next.
-#[tactic(auto, unfolding(stmt_forms::specs::Verb::begins_moving))]
+#[tactic(auto, unfolding(statement_grammar::specs::stmt_forms::Verb::begins_moving))]
 pub fn at_moving(cursor: &Cursor<'_>) -> bool
     ensures { result ≡ form.is_next forms.begins_moving cursor.now }
 {
@@ -15,7 +15,7 @@ pub fn at_moving(cursor: &Cursor<'_>) -> bool
 }
 
 /// Whether OPEN, CLOSE, WRITE or REWRITE is next.
-#[tactic(auto, unfolding(stmt_forms::specs::Verb::begins_filing))]
+#[tactic(auto, unfolding(statement_grammar::specs::stmt_forms::Verb::begins_filing))]
 pub fn at_filing(cursor: &Cursor<'_>) -> bool
     ensures { result ≡ form.is_next forms.begins_filing cursor.now }
 {
@@ -24,7 +24,7 @@ pub fn at_filing(cursor: &Cursor<'_>) -> bool
 }
 
 /// Whether GO, NEXT, STOP, EXIT or CONTINUE is next.
-#[tactic(auto, unfolding(stmt_forms::specs::Verb::begins_jumping))]
+#[tactic(auto, unfolding(statement_grammar::specs::stmt_forms::Verb::begins_jumping))]
 pub fn at_jumping(cursor: &Cursor<'_>) -> bool
     ensures { result ≡ form.is_next forms.begins_jumping cursor.now }
 {
@@ -33,7 +33,7 @@ pub fn at_jumping(cursor: &Cursor<'_>) -> bool
 }
 
 /// Whether ADD or SUBTRACT is next.
-#[tactic(auto, unfolding(stmt_forms::specs::Verb::begins_adding))]
+#[tactic(auto, unfolding(statement_grammar::specs::stmt_forms::Verb::begins_adding))]
 pub fn at_adding(cursor: &Cursor<'_>) -> bool
     ensures { result ≡ form.is_next forms.begins_adding cursor.now }
 {
@@ -41,7 +41,7 @@ pub fn at_adding(cursor: &Cursor<'_>) -> bool
 }
 
 /// Whether MULTIPLY or DIVIDE is next.
-#[tactic(auto, unfolding(stmt_forms::specs::Verb::begins_multiplying))]
+#[tactic(auto, unfolding(statement_grammar::specs::stmt_forms::Verb::begins_multiplying))]
 pub fn at_multiplying(cursor: &Cursor<'_>) -> bool
     ensures { result ≡ form.is_next forms.begins_multiplying cursor.now }
 {
@@ -49,7 +49,7 @@ pub fn at_multiplying(cursor: &Cursor<'_>) -> bool
 }
 
 /// Whether a verb of arithmetic is next.
-#[tactic(auto, unfolding(stmt_forms::specs::Verb::begins_arithmetic))]
+#[tactic(auto, unfolding(statement_grammar::specs::stmt_forms::Verb::begins_arithmetic))]
 pub fn at_arithmetic(cursor: &Cursor<'_>) -> bool
     ensures { result ≡ form.is_next forms.begins_arithmetic cursor.now }
 {
@@ -57,7 +57,7 @@ pub fn at_arithmetic(cursor: &Cursor<'_>) -> bool
 }
 
 /// Whether IF or EVALUATE is next.
-#[tactic(auto, unfolding(stmt_forms::specs::Verb::begins_choice))]
+#[tactic(auto, unfolding(statement_grammar::specs::stmt_forms::Verb::begins_choice))]
 pub fn at_choice(cursor: &Cursor<'_>) -> bool
     ensures { result ≡ form.is_next forms.begins_choice cursor.now }
 {
@@ -65,7 +65,7 @@ pub fn at_choice(cursor: &Cursor<'_>) -> bool
 }
 
 /// Whether a statement is next that holds no other.
-#[tactic(auto, unfolding(stmt_forms::specs::Verb::begins_simple))]
+#[tactic(auto, unfolding(statement_grammar::specs::stmt_forms::Verb::begins_simple))]
 pub fn at_simple(cursor: &Cursor<'_>) -> bool
     ensures { result ≡ form.is_next forms.begins_simple cursor.now }
 {
@@ -73,7 +73,7 @@ pub fn at_simple(cursor: &Cursor<'_>) -> bool
 }
 
 /// Whether a statement is next that may hold others.
-#[tactic(auto, unfolding(stmt_forms::specs::Verb::begins_holding))]
+#[tactic(auto, unfolding(statement_grammar::specs::stmt_forms::Verb::begins_holding))]
 pub fn at_holding(cursor: &Cursor<'_>) -> bool
     ensures { result ≡ form.is_next forms.begins_holding cursor.now }
 {
@@ -82,7 +82,7 @@ pub fn at_holding(cursor: &Cursor<'_>) -> bool
 }
 
 /// Whether a statement is next.
-#[tactic(auto, unfolding(stmt_forms::specs::Verb::begins_stmt))]
+#[tactic(auto, unfolding(statement_grammar::specs::stmt_forms::Verb::begins_stmt))]
 pub fn at_stmt(cursor: &Cursor<'_>) -> bool
     ensures { result ≡ form.is_next forms.begins_stmt cursor.now }
 {

@@ -20,24 +20,24 @@ use Rattle.part_tokens.specs.Condition.{cond_tokens, rel_tokens, not_tokens, cla
 use Rattle.data_names.specs.Names.{Names}
 use Rattle.procedure_names.specs.declared.table.ProcedureTable.{ProcedureTable}
 use Rattle.term_sizes.specs.Condition.{cond_terms}
-use Rattle.expr_forms.specs.Fault.{is_condition}
-use Rattle.expr_forms.specs.Token.{is_of, begins_turn}
-use Rattle.cond_forms.specs.Token.{begins_rel, begins_rel_behind, begins_sign, begins_class, joins}
+use Rattle.statement_grammar.specs.expr_forms.Fault.{is_condition}
+use Rattle.statement_grammar.specs.expr_forms.Token.{is_of, begins_turn}
+use Rattle.statement_grammar.specs.cond_forms.Token.{begins_rel, begins_rel_behind, begins_sign, begins_class, joins}
 use Rattle.statement_grammar.specs.Whole.{parts_of}
 use Rattle.spelled_forms.specs.Spelling.{first_of}
 use Rattle.spelled_forms.proofs.Makers.{where_behind}
-use Rattle.stmt_spelling.specs.Behind.{verbs, closings, EndsStmt}
-use Rattle.stmt_spelling.specs.Part.{SpellsCond}
-use Rattle.stmt_spelling.proofs.Behind.{none_of, none-among, first-append}
-use Rattle.expr_spelling.specs.Printable.{is_number, judged_expr, judged_place, IsPrintableExpr, IsPrintablePlace}
-use Rattle.expr_spelling.specs.Spelled.{Ends, continues_place, continues_expr}
-use Rattle.cond_spelling.specs.Behind.{continues_part, continues_cond}
-use Rattle.cond_spelling.specs.Printable.{cond_fit, IsPrintableCond}
-use Rattle.cond_spelling.proofs.Layers.{cond-cases, tokens-Relation, tokens-Class, tokens-SignIs, tokens-Named, tokens-Not, fit-Class, fit-SignIs, fit-Named, fit-And, fit-Or}
-use Rattle.cond_spelling.proofs.Tests.{Rejects, expr-front, place-front, place-rejects}
-use Rattle.cond_spelling.proofs.Primaries.{relation-fit, plain-And, plain-Or, within-And, within-Or}
-use Rattle.cond_spelling.proofs.Conditions.{whole_cond}
-use Rattle.cond_spelling.proofs.BeforeNot.{whole_before}
+use Rattle.part_spelling.specs.stmt_spelling.Behind.{verbs, closings, EndsStmt}
+use Rattle.part_spelling.specs.stmt_spelling.Part.{SpellsCond}
+use Rattle.part_spelling.proofs.stmt_spelling_lemmas.Behind.{none_of, none-among, first-append}
+use Rattle.part_spelling.specs.expr_spelling.Printable.{is_number, judged_expr, judged_place, IsPrintableExpr, IsPrintablePlace}
+use Rattle.part_spelling.specs.expr_spelling.Spelled.{Ends, continues_place, continues_expr}
+use Rattle.part_spelling.specs.cond_spelling.Behind.{continues_part, continues_cond}
+use Rattle.part_spelling.specs.cond_spelling.Printable.{cond_fit, IsPrintableCond}
+use Rattle.part_spelling.proofs.cond_spelling_lemmas.Layers.{cond-cases, tokens-Relation, tokens-Class, tokens-SignIs, tokens-Named, tokens-Not, fit-Class, fit-SignIs, fit-Named, fit-And, fit-Or}
+use Rattle.part_spelling.proofs.cond_spelling_lemmas.Tests.{Rejects, expr-front, place-front, place-rejects}
+use Rattle.part_spelling.proofs.cond_spelling_lemmas.Primaries.{relation-fit, plain-And, plain-Or, within-And, within-Or}
+use Rattle.part_spelling.proofs.cond_spelling_lemmas.Conditions.{whole_cond}
+use Rattle.part_spelling.proofs.cond_spelling_lemmas.BeforeNot.{whole_before}
 use Rattle.part_spelling.specs.Kept.{kept_of}
 use Rattle.part_spelling.proofs.Exprs.{rejects-test}
 

@@ -17,11 +17,11 @@ use Rattle.procedure_names.specs.declared.table.ProcedureTable.{ProcedureTable}
 use Rattle.term_sizes.specs.Expression.{expr_terms}
 use Rattle.statement_grammar.specs.Whole.{parts_of}
 use Rattle.spelled_forms.proofs.Makers.{where_behind}
-use Rattle.stmt_spelling.specs.Part.{is_test_word, is_value_word, SpellsExpr}
-use Rattle.expr_spelling.specs.Printable.{IsPrintableExpr}
-use Rattle.expr_spelling.proofs.Tests.{key-apart}
-use Rattle.expr_spelling.proofs.Levels.{whole_expr}
-use Rattle.cond_spelling.proofs.Tests.{Rejects, expr-rejects}
+use Rattle.part_spelling.specs.stmt_spelling.Part.{is_test_word, is_value_word, SpellsExpr}
+use Rattle.part_spelling.specs.expr_spelling.Printable.{IsPrintableExpr}
+use Rattle.part_spelling.proofs.expr_spelling_lemmas.Tests.{key-apart}
+use Rattle.part_spelling.proofs.expr_spelling_lemmas.Levels.{whole_expr}
+use Rattle.part_spelling.proofs.cond_spelling_lemmas.Tests.{Rejects, expr-rejects}
 use Rattle.part_spelling.specs.Kept.{kept_of}
 use Rattle.part_spelling.proofs.Told.{part-expr}
 

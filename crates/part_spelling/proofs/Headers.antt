@@ -15,15 +15,15 @@ use Rattle.data_names.specs.Names.{Names}
 use Rattle.procedure_names.specs.declared.table.Header.{Header}
 use Rattle.procedure_names.specs.declared.table.ProcedureTable.{ProcedureTable}
 use Rattle.procedure_names.specs.Procedures as procedures
-use Rattle.stmt_forms.specs.Jump.{begins_procedure}
-use Rattle.stmt_forms.specs.Verb.{begins_stmt, begins_simple, begins_moving, begins_filing, begins_jumping, begins_holding, begins_arithmetic, begins_adding, begins_multiplying, begins_choice}
+use Rattle.statement_grammar.specs.stmt_forms.Jump.{begins_procedure}
+use Rattle.statement_grammar.specs.stmt_forms.Verb.{begins_stmt, begins_simple, begins_moving, begins_filing, begins_jumping, begins_holding, begins_arithmetic, begins_adding, begins_multiplying, begins_choice}
 use Rattle.statement_grammar.specs.Name as forms
 use Rattle.statement_grammar.specs.Whole.{parts_of}
 use Rattle.spelled_forms.proofs.Makers.{hence}
 use Rattle.spelled_forms.proofs.Tokens.{valued}
-use Rattle.stmt_spelling.specs.Behind.{is_one_of, behind_parts}
-use Rattle.stmt_spelling.specs.Division.{SpellsHeader}
-use Rattle.stmt_spelling.proofs.Behind.{no-key}
+use Rattle.part_spelling.specs.stmt_spelling.Behind.{is_one_of, behind_parts}
+use Rattle.part_spelling.specs.stmt_spelling.Division.{SpellsHeader}
+use Rattle.part_spelling.proofs.stmt_spelling_lemmas.Behind.{no-key}
 use Rattle.part_spelling.specs.Kept.{kept_of}
 use Rattle.part_spelling.specs.Named.{IsHeader}
 use Rattle.part_spelling.proofs.Named.{word-free}

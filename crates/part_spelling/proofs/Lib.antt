@@ -16,3 +16,11 @@ pub mod Turns
 pub mod Uses
 -- Room for terms.
 pub mod Room
+-- Places, operands and expressions that can be printed are spelled by their tokens.
+pub mod expr_spelling_lemmas
+-- So are conditions that can be printed.
+pub mod cond_spelling_lemmas
+-- Statements, sentences, paragraphs and sections are spelled by theirs, where their parts are.
+pub mod stmt_spelling_lemmas
+-- What a program prints before its PROCEDURE DIVISION spells drafts of its files and entries.
+pub mod data_spelling_lemmas

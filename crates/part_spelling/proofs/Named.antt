@@ -17,16 +17,16 @@ use Rattle.data_names.specs.Look.{look, look_file}
 use Rattle.data_names.specs.Names.{Names}
 use Rattle.procedure_names.specs.declared.table.ProcedureTable.{ProcedureTable}
 use Rattle.procedure_names.specs.Procedures.{header_name}
-use Rattle.expr_forms.specs.Fault.{kind_of, usage}
-use Rattle.expr_forms.specs.Side.{ref_side}
+use Rattle.statement_grammar.specs.expr_forms.Fault.{kind_of, usage}
+use Rattle.statement_grammar.specs.expr_forms.Side.{ref_side}
 use Rattle.statement_grammar.specs.Name as forms
 use Rattle.statement_grammar.specs.Whole.{parts_of}
 use Rattle.spelled_forms.specs.Spelling.{first_of, Spelled}
 use Rattle.spelled_forms.proofs.Makers.{pure, note, where_behind, ending, behind_none}
 use Rattle.spelled_forms.proofs.Tokens.{name}
-use Rattle.stmt_spelling.specs.Part.{SpellsFile, SpellsRecord, SpellsLabel, SpellsRange}
-use Rattle.expr_spelling.specs.Printable.{reference}
-use Rattle.expr_spelling.proofs.Places.{by_tokens}
+use Rattle.part_spelling.specs.stmt_spelling.Part.{SpellsFile, SpellsRecord, SpellsLabel, SpellsRange}
+use Rattle.part_spelling.specs.expr_spelling.Printable.{reference}
+use Rattle.part_spelling.proofs.expr_spelling_lemmas.Places.{by_tokens}
 use Rattle.part_spelling.specs.Kept.{IsEntrySide, kept_of}
 use Rattle.part_spelling.specs.Named.{IsNamedFile, IsNamedRecord, IsLabel, IsRange}
 

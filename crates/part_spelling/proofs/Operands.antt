@@ -15,17 +15,17 @@ use Rattle.part_tokens.specs.Place.{figure_word, operand_tokens}
 use Rattle.word_forms.specs.Word.{is_name}
 use Rattle.data_names.specs.Names.{Names}
 use Rattle.procedure_names.specs.declared.table.ProcedureTable.{ProcedureTable}
-use Rattle.expr_forms.specs.Token.{begins_operand}
+use Rattle.statement_grammar.specs.expr_forms.Token.{begins_operand}
 use Rattle.statement_grammar.specs.Whole.{parts_of}
 use Rattle.spelled_forms.specs.Spelling.{first_of}
 use Rattle.spelled_forms.proofs.Makers.{where_behind}
-use Rattle.stmt_spelling.specs.Part.{IsLiteral, SpellsItem, SpellsOperand, SpellsPlace}
-use Rattle.expr_spelling.specs.Printable.{IsPrintableOperand, IsPrintablePlace}
-use Rattle.expr_spelling.specs.Spelled.{HasRoom, PlaceHasRoom, OperandHasRoom}
-use Rattle.expr_spelling.proofs.Layers.{operand-cases, tokens-Place, tokens-Number, tokens-Text, tokens-Figure, judged-Place}
-use Rattle.expr_spelling.proofs.Tests.{no-data-word, name-operand, digits-operand, decimal-operand, text-operand, figure-listed, figure-operand}
-use Rattle.expr_spelling.proofs.Places.{by_tokens, place-first}
-use Rattle.expr_spelling.proofs.Levels.{data_reference, data_operand}
+use Rattle.part_spelling.specs.stmt_spelling.Part.{IsLiteral, SpellsItem, SpellsOperand, SpellsPlace}
+use Rattle.part_spelling.specs.expr_spelling.Printable.{IsPrintableOperand, IsPrintablePlace}
+use Rattle.part_spelling.specs.expr_spelling.Spelled.{HasRoom, PlaceHasRoom, OperandHasRoom}
+use Rattle.part_spelling.proofs.expr_spelling_lemmas.Layers.{operand-cases, tokens-Place, tokens-Number, tokens-Text, tokens-Figure, judged-Place}
+use Rattle.part_spelling.proofs.expr_spelling_lemmas.Tests.{no-data-word, name-operand, digits-operand, decimal-operand, text-operand, figure-listed, figure-operand}
+use Rattle.part_spelling.proofs.expr_spelling_lemmas.Places.{by_tokens, place-first}
+use Rattle.part_spelling.proofs.expr_spelling_lemmas.Levels.{data_reference, data_operand}
 use Rattle.part_spelling.specs.Kept.{kept_of}
 use Rattle.part_spelling.proofs.Told.{operand-place}
 

@@ -8,7 +8,7 @@ use Rattle.cob_tree.specs.declared.place.Place.{Place, out-roll-Place}
 use Rattle.cob_tree.specs.declared.place.Sub.{Sub}
 use Rattle.cob_tree.specs.declared.place.Window.{Window, out-roll-Window}
 use Rattle.term_sizes.specs.Expression.{if_any, expr_terms, window_most, place_most, most_by, operand_most}
-use Rattle.expr_spelling.specs.Spelled.{size_terms, HasRoom, made_window, made_place, PlaceHasRoom, OperandHasRoom}
+use Rattle.part_spelling.specs.expr_spelling.Spelled.{size_terms, HasRoom, made_window, made_place, PlaceHasRoom, OperandHasRoom}
 
 sized : (size : Option Expr) → if_any expr_terms size ≡ size_terms size
 sized None = refl

@@ -17,17 +17,17 @@ use Rattle.word_forms.specs.Word.{has_letter, is_data_word, is_free, is_name, is
 use Rattle.word_forms.specs.Constant.{begins_literal, figure_of_word}
 use Rattle.data_names.specs.Names.{Names}
 use Rattle.procedure_names.specs.declared.table.ProcedureTable.{ProcedureTable}
-use Rattle.expr_forms.specs.Token.{is_of, begins_operand, begins_turn}
-use Rattle.stmt_forms.specs.Loop.{continues_item}
+use Rattle.statement_grammar.specs.expr_forms.Token.{is_of, begins_operand, begins_turn}
+use Rattle.statement_grammar.specs.stmt_forms.Loop.{continues_item}
 use Rattle.statement_grammar.specs.Use.{operand_of, place_of, entry_of}
 use Rattle.statement_grammar.specs.Whole.{parts_of}
-use Rattle.stmt_spelling.specs.Behind.{is_one_of, behind_parts, BehindPart}
-use Rattle.stmt_spelling.specs.Part.{PartsAreTold}
-use Rattle.stmt_spelling.proofs.Behind.{none_of, none-among, no-key}
-use Rattle.expr_spelling.specs.Spelled.{Ends, continues_place, continues_expr, what_of}
-use Rattle.expr_spelling.proofs.Ends.{operand-ends}
-use Rattle.expr_spelling.proofs.Layers.{operand-cases}
-use Rattle.expr_spelling.proofs.Tests.{name-operand}
+use Rattle.part_spelling.specs.stmt_spelling.Behind.{is_one_of, behind_parts, BehindPart}
+use Rattle.part_spelling.specs.stmt_spelling.Part.{PartsAreTold}
+use Rattle.part_spelling.proofs.stmt_spelling_lemmas.Behind.{none_of, none-among, no-key}
+use Rattle.part_spelling.specs.expr_spelling.Spelled.{Ends, continues_place, continues_expr, what_of}
+use Rattle.part_spelling.proofs.expr_spelling_lemmas.Ends.{operand-ends}
+use Rattle.part_spelling.proofs.expr_spelling_lemmas.Layers.{operand-cases}
+use Rattle.part_spelling.proofs.expr_spelling_lemmas.Tests.{name-operand}
 use Rattle.part_spelling.specs.Kept.{kept_of}
 
 -- ---- words that may stand behind parts

@@ -22,21 +22,21 @@ use Rattle.word_forms.specs.Constant as constants
 use Rattle.data_names.specs.Look.{look}
 use Rattle.data_names.specs.Names.{Names}
 use Rattle.procedure_names.specs.declared.table.ProcedureTable.{ProcedureTable}
-use Rattle.expr_forms.specs.Levels as knots
-use Rattle.expr_forms.specs.Reference as references
-use Rattle.expr_forms.specs.Side.{digits_side, literal_side}
-use Rattle.expr_forms.specs.Token.{is_of}
-use Rattle.stmt_forms.specs.Loop.{continues_item}
+use Rattle.statement_grammar.specs.expr_forms.Levels as knots
+use Rattle.statement_grammar.specs.expr_forms.Reference as references
+use Rattle.statement_grammar.specs.expr_forms.Side.{digits_side, literal_side}
+use Rattle.statement_grammar.specs.expr_forms.Token.{is_of}
+use Rattle.statement_grammar.specs.stmt_forms.Loop.{continues_item}
 use Rattle.statement_grammar.specs.Whole.{parts_of}
 use Rattle.spelled_forms.specs.Spelling.{first_of, Spelled}
 use Rattle.spelled_forms.proofs.Makers.{pure, where_behind, bind, ending}
-use Rattle.stmt_spelling.specs.Stmt.{CountsTurns}
-use Rattle.expr_spelling.specs.Printable.{IsPrintableOperand, IsPrintablePlace}
-use Rattle.expr_spelling.specs.Spelled.{Ends, continues_place, IsOperandSide, made_place, WindowHasRoom, PlaceHasRoom, OperandHasRoom}
-use Rattle.expr_spelling.proofs.Layers.{operand-cases, place-cases, window-cases, tokens-Place, tokens-Number, tokens-Text, tokens-Figure, tokens-place, tokens-window, windows_tokens, judged-Place, judged-Number}
-use Rattle.expr_spelling.proofs.Tests.{place-ends, mark-no-of, first-tail, no-data-word, figure-listed}
-use Rattle.expr_spelling.proofs.Places.{at_same, qualifiers, whole-is, fit-place, ref_behind}
-use Rattle.expr_spelling.proofs.Levels.{outer_spells}
+use Rattle.part_spelling.specs.stmt_spelling.Stmt.{CountsTurns}
+use Rattle.part_spelling.specs.expr_spelling.Printable.{IsPrintableOperand, IsPrintablePlace}
+use Rattle.part_spelling.specs.expr_spelling.Spelled.{Ends, continues_place, IsOperandSide, made_place, WindowHasRoom, PlaceHasRoom, OperandHasRoom}
+use Rattle.part_spelling.proofs.expr_spelling_lemmas.Layers.{operand-cases, place-cases, window-cases, tokens-Place, tokens-Number, tokens-Text, tokens-Figure, tokens-place, tokens-window, windows_tokens, judged-Place, judged-Number}
+use Rattle.part_spelling.proofs.expr_spelling_lemmas.Tests.{place-ends, mark-no-of, first-tail, no-data-word, figure-listed}
+use Rattle.part_spelling.proofs.expr_spelling_lemmas.Places.{at_same, qualifiers, whole-is, fit-place, ref_behind}
+use Rattle.part_spelling.proofs.expr_spelling_lemmas.Levels.{outer_spells}
 use Rattle.part_spelling.specs.Kept.{kept_of}
 use Rattle.part_spelling.proofs.Told.{operand-place}
 

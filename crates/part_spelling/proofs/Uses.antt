@@ -8,18 +8,18 @@ use Rattle.cob_tree.specs.declared.program.Program.{Program}
 use Rattle.grammar_forms.specs.declared.note.Position.{Position}
 use Rattle.data_names.specs.Names.{Names}
 use Rattle.procedure_names.specs.declared.table.ProcedureTable.{ProcedureTable}
-use Rattle.expr_forms.specs.declared.side.Make.{Make}
-use Rattle.expr_forms.specs.declared.side.Make.TheVariants as makes
-use Rattle.expr_forms.specs.declared.side.Side.{Side}
-use Rattle.expr_forms.specs.declared.side.ValueKind.{ValueKind}
-use Rattle.expr_forms.specs.declared.side.ValueKind.TheVariants as values
-use Rattle.expr_forms.specs.Fault.{compared_as, is_condition, condition_fault, condition_fault_at, inexact_fault}
+use Rattle.statement_grammar.specs.declared.expr_forms.side.Make.{Make}
+use Rattle.statement_grammar.specs.declared.expr_forms.side.Make.TheVariants as makes
+use Rattle.statement_grammar.specs.declared.expr_forms.side.Side.{Side}
+use Rattle.statement_grammar.specs.declared.expr_forms.side.ValueKind.{ValueKind}
+use Rattle.statement_grammar.specs.declared.expr_forms.side.ValueKind.TheVariants as values
+use Rattle.statement_grammar.specs.expr_forms.Fault.{compared_as, is_condition, condition_fault, condition_fault_at, inexact_fault}
 use Rattle.statement_grammar.specs.Use.{known_of, record_kind, moved_fault, compared_fault, subject_fault}
-use Rattle.expr_spelling.specs.Printable.{Judged, judged_expr, judged_operand}
-use Rattle.expr_spelling.specs.Spelled.{IsKnownAs}
-use Rattle.expr_spelling.proofs.Exprs.{number-free, whole-none, whole-free}
-use Rattle.cond_spelling.specs.Printable.{is_plain, kinds_suit}
-use Rattle.cond_spelling.proofs.Relations.{value-free}
+use Rattle.part_spelling.specs.expr_spelling.Printable.{Judged, judged_expr, judged_operand}
+use Rattle.part_spelling.specs.expr_spelling.Spelled.{IsKnownAs}
+use Rattle.part_spelling.proofs.expr_spelling_lemmas.Exprs.{number-free, whole-none, whole-free}
+use Rattle.part_spelling.specs.cond_spelling.Printable.{is_plain, kinds_suit}
+use Rattle.part_spelling.proofs.cond_spelling_lemmas.Relations.{value-free}
 use Rattle.part_spelling.specs.Use.{MayMove, MayCompare, OperandIsFree, ExprIsFree}
 
 condition-none : (position : Position) (kind : ValueKind) → is_condition kind ≡ true → condition_fault_at position kind ≡ None

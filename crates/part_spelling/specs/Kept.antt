@@ -3,13 +3,13 @@
 use Rattle.std.specs.Prelude.{ℕ, ◌≡◌, []}
 use Rattle.cob_tree.specs.declared.program.Program.{Program}
 use Rattle.data_names.specs.Names.{Names}
-use Rattle.expr_forms.specs.declared.side.Side.{Side}
-use Rattle.expr_forms.specs.declared.side.What.TheVariants as whats
-use Rattle.expr_forms.specs.Fault.{kind_of}
+use Rattle.statement_grammar.specs.declared.expr_forms.side.Side.{Side}
+use Rattle.statement_grammar.specs.declared.expr_forms.side.What.TheVariants as whats
+use Rattle.statement_grammar.specs.expr_forms.Fault.{kind_of}
 use Rattle.statement_grammar.specs.Use.{bare_place}
-use Rattle.expr_spelling.specs.Printable.{reference}
-use Rattle.expr_spelling.specs.Spelled.{IsOperandSide, IsExprSide}
-use Rattle.stmt_spelling.specs.Part.{Kept}
+use Rattle.part_spelling.specs.expr_spelling.Printable.{reference}
+use Rattle.part_spelling.specs.expr_spelling.Spelled.{IsOperandSide, IsExprSide}
+use Rattle.part_spelling.specs.stmt_spelling.Part.{Kept}
 
 module _ (names : Names) (program : Program) where
   -- a record that is written, by its name alone

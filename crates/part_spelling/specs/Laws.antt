@@ -8,19 +8,19 @@ use Rattle.cob_tree.specs.declared.place.Place.{Place}
 use Rattle.cob_tree.specs.declared.program.Program.{Program}
 use Rattle.cobol_print.specs.Unit.{all_tokens}
 use Rattle.program_units.specs.Division.{paragraphs_units}
-use Rattle.stmt_forms.specs.Paragraph.{division}
+use Rattle.statement_grammar.specs.stmt_forms.Paragraph.{division}
 use Rattle.spelled_forms.specs.Spelling.{Spelled}
 use Rattle.data_names.specs.Names.{Names}
 use Rattle.procedure_names.specs.declared.table.ProcedureTable.{ProcedureTable}
 use Rattle.term_sizes.specs.Condition.{cond_terms}
 use Rattle.term_sizes.specs.Expression.{expr_terms, place_most, operand_most}
 use Rattle.statement_grammar.specs.Whole.{parts_of}
-use Rattle.stmt_spelling.specs.Part.{PartsAreTold, SpellsOperand, SpellsPlace, SpellsExpr, SpellsCond, SpellsFile, SpellsRecord, SpellsLabel, SpellsRange}
-use Rattle.stmt_spelling.specs.Division.{AtEnd, SpellsHeader, SpellsDivision}
-use Rattle.stmt_spelling.specs.Stmt.{CountsTurns}
-use Rattle.expr_spelling.specs.Printable.{IsPrintableExpr, IsPrintableOperand, IsPrintablePlace}
-use Rattle.expr_spelling.specs.Spelled.{PlaceHasRoom, OperandHasRoom}
-use Rattle.cond_spelling.specs.Printable.{IsPrintableCond}
+use Rattle.part_spelling.specs.stmt_spelling.Part.{PartsAreTold, SpellsOperand, SpellsPlace, SpellsExpr, SpellsCond, SpellsFile, SpellsRecord, SpellsLabel, SpellsRange}
+use Rattle.part_spelling.specs.stmt_spelling.Division.{AtEnd, SpellsHeader, SpellsDivision}
+use Rattle.part_spelling.specs.stmt_spelling.Stmt.{CountsTurns}
+use Rattle.part_spelling.specs.expr_spelling.Printable.{IsPrintableExpr, IsPrintableOperand, IsPrintablePlace}
+use Rattle.part_spelling.specs.expr_spelling.Spelled.{PlaceHasRoom, OperandHasRoom}
+use Rattle.part_spelling.specs.cond_spelling.Printable.{IsPrintableCond}
 use Rattle.part_spelling.specs.Kept.{kept_of}
 use Rattle.part_spelling.specs.Named.{IsNamedFile, IsNamedRecord, IsHeader, IsLabel, IsRange}
 use Rattle.part_spelling.specs.Use.{OperandIsFree, ExprIsFree}

@@ -15,7 +15,7 @@ use Rattle.procedure_names.specs.declared.table.ProcedureTable.{ProcedureTable}
 use Rattle.procedure_names.specs.Procedures.{header_name, header_of}
 use Rattle.statement_grammar.specs.Name.{is_record, procedure_of}
 use Rattle.part_tokens.specs.Place.{item_name}
-use Rattle.expr_spelling.specs.Printable.{reference}
+use Rattle.part_spelling.specs.expr_spelling.Printable.{reference}
 
 module _ (names : Names) (program : Program) where
   -- a file, found by its name

@@ -8,18 +8,18 @@ use Rattle.cob_tree.specs.declared.program.Program.{Program}
 use Rattle.grammar_forms.specs.declared.note.Position.{Position}
 use Rattle.data_names.specs.Names.{Names}
 use Rattle.procedure_names.specs.declared.table.ProcedureTable.{ProcedureTable}
-use Rattle.expr_forms.specs.declared.side.Make.{Make}
-use Rattle.expr_forms.specs.declared.side.Make.TheVariants as makes
-use Rattle.expr_forms.specs.declared.side.Side.{Side}
-use Rattle.expr_forms.specs.declared.side.ValueKind.{ValueKind}
-use Rattle.expr_forms.specs.Fault.{compared_as, is_condition, kind_of, value_fault, number_fault, whole_fault, condition_fault}
+use Rattle.statement_grammar.specs.declared.expr_forms.side.Make.{Make}
+use Rattle.statement_grammar.specs.declared.expr_forms.side.Make.TheVariants as makes
+use Rattle.statement_grammar.specs.declared.expr_forms.side.Side.{Side}
+use Rattle.statement_grammar.specs.declared.expr_forms.side.ValueKind.{ValueKind}
+use Rattle.statement_grammar.specs.expr_forms.Fault.{compared_as, is_condition, kind_of, value_fault, number_fault, whole_fault, condition_fault}
 use Rattle.statement_grammar.specs.Use.{known_of, record_kind, moved_fault, move_fault, into_fault, subject_fault}
 use Rattle.statement_grammar.specs.Whole.{parts_of}
-use Rattle.stmt_spelling.specs.Part.{Without, WithoutExpr, MovesTo}
-use Rattle.expr_spelling.specs.Printable.{Judged, is_number, is_counting, judged_expr, judged_operand, reference}
-use Rattle.cond_spelling.specs.Printable.{kinds_suit}
+use Rattle.part_spelling.specs.stmt_spelling.Part.{Without, WithoutExpr, MovesTo}
+use Rattle.part_spelling.specs.expr_spelling.Printable.{Judged, is_number, is_counting, judged_expr, judged_operand, reference}
+use Rattle.part_spelling.specs.cond_spelling.Printable.{kinds_suit}
 use Rattle.part_spelling.specs.Kept.{IsEntrySide, kept_of}
-use Rattle.expr_spelling.specs.Spelled.{IsExprSide, IsOperandSide}
+use Rattle.part_spelling.specs.expr_spelling.Spelled.{IsExprSide, IsOperandSide}
 
 -- such a value may be moved to such a receiver, wherever they stand
 abbrev pub MayMove : Make → (from to : ValueKind) → Type 0

@@ -2,7 +2,11 @@
 //! has no code.
 #![tactic(auto)]
 
+pub mod cond_spelling;
+pub mod data_spelling;
+pub mod expr_spelling;
 mod laws;
+pub mod stmt_spelling;
 
 pub use laws::{
     parts_are_spelled, parts_are_told, printed_procedures_are_spelled, terms_have_room,

@@ -1,11 +1,11 @@
-//! Tests of the crates that read, print, count and generate, and of numbers: what no clause says.
+//! Tests of the crates that read, print, copy and generate, and of numbers: what no clause says.
 //!
 //! They stand here, over the crates as these are, since a crate with tests of its own is proved
 //! twice. A module names the part that it tests.
 #![tactic(auto)]
 
 #[cfg(test)]
-mod generating;
+mod copying;
 #[cfg(test)]
 mod lines;
 #[cfg(test)]
@@ -16,8 +16,6 @@ mod orders;
 mod pictures;
 #[cfg(test)]
 mod printing;
-#[cfg(test)]
-mod terms;
 #[cfg(test)]
 mod tokens;
 #[cfg(test)]

@@ -1,7 +1,7 @@
 //! Pictures: the text behind PIC to what an item holds.
 //!
 //! `read_picture` reads numbers (S, 9 and V) and characters (X, A and 9), with counts; hold
-//! `specs/Picture` against ISO 1989:1985, PICTURE clause. Edited pictures aren't read. The byte
+//! `specs/Reading` against ISO 1989:1985, PICTURE clause. Edited pictures aren't read. The byte
 //! that a fault names is the first up to which no picture begins, or the last where more are
 //! needed.
 #![tactic(auto)]

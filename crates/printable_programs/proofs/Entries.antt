@@ -36,8 +36,8 @@ use Rattle.program_units.specs.Entry.{level_text, redefines_tokens, sign_tokens,
 use Rattle.program_units.specs.Division.{select_tokens, status_tokens}
 use Rattle.cobol_print.specs.Given.{IsPrintable, IsGivenPicture, IsGivenFile, IsGivenEntry, file_of}
 use Rattle.cobol_print.specs.Unit.{is_ink}
-use Rattle.printable_tokens.specs.Printable.{is_printable_text}
-use Rattle.display_programs.proofs.Free.{text-free}
+use Rattle.printable_programs.specs.printable_tokens.Printable.{is_printable_text}
+use Rattle.printable_programs.proofs.display_programs_lemmas.Free.{text-free}
 use Rattle.printable_programs.specs.Part.{is_printable_name, is_printable_place, is_printable_operand}
 use Rattle.printable_programs.specs.Whole.{is_printable_file, is_printable_picture, is_printable_span, is_printable_count, is_printable_entry}
 use Rattle.printable_programs.proofs.Tokens.{Fits, none, word, printable-name, entry-free, entry-fine, ◌∷∷◌, ◌+++◌}

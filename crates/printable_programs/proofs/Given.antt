@@ -12,7 +12,7 @@ use Rattle.named_programs.specs.Part.{if_any}
 use Rattle.named_forms.specs.Giving.{Each}
 use Rattle.part_tokens.specs.File.{name_tokens, file_name, label_of, paragraph_label}
 use Rattle.cobol_print.specs.Given.{IsGivenFile, IsGivenEntry, IsGivenSentence, IsGivenParagraph}
-use Rattle.display_programs.proofs.Free.{label-free}
+use Rattle.printable_programs.proofs.display_programs_lemmas.Free.{label-free}
 use Rattle.printable_programs.specs.Part.{is_printable_name, is_printable_place}
 use Rattle.printable_programs.specs.Statement.{is_printable_sentence}
 use Rattle.printable_programs.specs.Whole.{is_printable_file, is_printable_entry, IfNamed, IsPrintableParagraph, IsPrintableProgram}

@@ -12,3 +12,17 @@ pub mod Entries
 pub mod Given
 -- What is made of parts that can be printed.
 pub mod Made
+-- The tokens of each source can be printed.
+pub mod printable_tokens_lemmas
+-- Programs of one paragraph that shows literals and stops can be printed, and with which tokens.
+pub mod display_programs_lemmas
+-- What is read of such tokens can be printed: references, operands, expressions and conditions.
+pub mod printable_exprs_lemmas
+-- So can statements and paragraphs, over open forms of operands and conditions.
+pub mod printable_stmts_lemmas
+-- So can files and entries.
+pub mod printable_data_lemmas
+-- So can the paragraphs of a PROCEDURE DIVISION, over the names of a program.
+pub mod printable_division_lemmas
+-- What is written of a program that can be printed can be printed, as far as its control goes.
+pub mod printable_control_lemmas

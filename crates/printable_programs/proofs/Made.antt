@@ -31,7 +31,7 @@ use Rattle.cob_tree.specs.declared.stmt.When.{When, roll-When, fold-roll-When}
 use Rattle.language.specs.All.{all}
 use Rattle.named_programs.specs.Part.{if_any, number_named}
 use Rattle.named_programs.proofs.Made.{both}
-use Rattle.printable_tokens.specs.Printable.{is_printable_text}
+use Rattle.printable_programs.specs.printable_tokens.Printable.{is_printable_text}
 use Rattle.printable_programs.specs.Part as part
 use Rattle.printable_programs.specs.Part.{is_printable_name, is_printable_place, are_printable_places, is_printable_operand, are_printable_operands, is_printable_expr, is_printable_sub, is_printable_window}
 use Rattle.printable_programs.specs.Beside as beside

@@ -23,8 +23,8 @@ use Rattle.part_tokens.specs.Token.{Tokens, is_reserved_shape, number_token}
 use Rattle.part_tokens.specs.Place.{entry_name, item_name}
 use Rattle.word_forms.specs.Word.{is_letter, has_letter, is_free, is_data_word}
 use Rattle.cobol_print.specs.Given.{IsFree, AreFree}
-use Rattle.printable_tokens.specs.Printable.{IsPrintableWord}
-use Rattle.display_programs.proofs.Free.{reserved, name-free, data-free}
+use Rattle.printable_programs.specs.printable_tokens.Printable.{IsPrintableWord}
+use Rattle.printable_programs.proofs.display_programs_lemmas.Free.{reserved, name-free, data-free}
 use Rattle.printable_programs.specs.Part.{is_printable_name, is_printable_operand}
 use Rattle.printable_programs.specs.Whole.{is_printable_entry, is_printable_picture, is_printable_count, is_printable_span}
 

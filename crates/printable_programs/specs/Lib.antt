@@ -8,3 +8,17 @@ pub mod Statement
 pub mod Whole
 -- What holds of them.
 pub mod Laws
+-- The tokens of each source can be printed.
+pub mod printable_tokens
+-- Programs of one paragraph that shows literals and stops can be printed, and with which tokens.
+pub mod display_programs
+-- What is read of such tokens can be printed: references, operands, expressions and conditions.
+pub mod printable_exprs
+-- So can statements and paragraphs, over open forms of operands and conditions.
+pub mod printable_stmts
+-- So can files and entries.
+pub mod printable_data
+-- So can the paragraphs of a PROCEDURE DIVISION, over the names of a program.
+pub mod printable_division
+-- What is written of a program that can be printed can be printed, as far as its control goes.
+pub mod printable_control

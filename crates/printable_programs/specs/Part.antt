@@ -12,7 +12,7 @@ use Rattle.cobol_lex.specs.Word.{fits_word}
 use Rattle.word_forms.specs.Word.{is_data_word}
 use Rattle.language.specs.All.{all, if_there}
 use Rattle.named_programs.specs.Part.{number_named}
-use Rattle.printable_tokens.specs.Printable.{is_printable_text}
+use Rattle.printable_programs.specs.printable_tokens.Printable.{is_printable_text}
 
 -- a name of data, of a file or of a program: a word in capitals with a letter, which isn't reserved
 abbrev pub is_printable_name : List ℕ → Bool

@@ -12,8 +12,8 @@ use Rattle.cob_tree.specs.declared.program.Program.{Program}
 use Rattle.language.specs.All.{all}
 use Rattle.named_programs.specs.Part.{if_any}
 use Rattle.named_forms.specs.Giving.{Each}
-use Rattle.printable_tokens.specs.Header.{IsHeaderName}
-use Rattle.printable_tokens.specs.Printable.{is_printable_text}
+use Rattle.printable_programs.specs.printable_tokens.Header.{IsHeaderName}
+use Rattle.printable_programs.specs.printable_tokens.Printable.{is_printable_text}
 use Rattle.printable_programs.specs.Part.{is_printable_name, is_printable_place, is_printable_operand}
 use Rattle.printable_programs.specs.Statement.{are_printable_sentences}
 

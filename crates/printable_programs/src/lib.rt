@@ -4,6 +4,13 @@
 //! `specs/Whole.antt` says which these are. The crate has no code.
 #![tactic(auto)]
 
+pub mod display_programs;
 mod laws;
+pub mod printable_control;
+pub mod printable_data;
+pub mod printable_division;
+pub mod printable_exprs;
+pub mod printable_stmts;
+pub mod printable_tokens;
 
 pub use laws::printable_programs_are_given;

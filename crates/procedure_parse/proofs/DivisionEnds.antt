@@ -5,8 +5,8 @@ use Rattle.grammar_forms.specs.Form.{Input, Got}
 use Rattle.grammar_forms.specs.Part.{ended}
 use Rattle.grammar_forms.proofs.Lawful.{then_got, got_is}
 use Rattle.grammar_forms.proofs.Reader.{ended_rest}
-use Rattle.stmt_forms.specs.Part.{Parts}
-use Rattle.stmt_forms.specs.Paragraph as forms
+use Rattle.statement_grammar.specs.stmt_forms.Part.{Parts}
+use Rattle.statement_grammar.specs.stmt_forms.Paragraph as forms
 
 pub division_ends : {Side Known : Type 0} (parts : Parts Side Known) (p : Input) (found : List Paragraph) (q : Input) → (forms.division parts).reads p ≡ Got found q → q.rest ≡ []
 unfolding forms.division

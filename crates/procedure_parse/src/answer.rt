@@ -3,7 +3,7 @@
 ghost use Rattle.std.specs.Prelude.{◌≡◌, ◌≤◌, List, None, Option, IfErr, IfOk, length};
 ghost use Rattle.cob_tree.specs.declared.program.Paragraph.{Paragraph};
 ghost use Rattle.grammar_forms.specs.declared.note.Note.{Note};
-ghost use Rattle.stmt_forms.specs.Paragraph.{division as form};
+ghost use Rattle.statement_grammar.specs.stmt_forms.Paragraph.{division as form};
 ghost use Rattle.procedure_parse.specs.Answer as answers;
 
 use crate::paragraph::division;

@@ -9,8 +9,8 @@ use Rattle.branch_tree.specs.Trees.{seen_tree}
 use Rattle.choice_writing.specs.declared.placing.Placed.{Placed}
 use Rattle.cell_words.specs.declared.cells.CellItem.{CellItem}
 use Rattle.body_writing.specs.Procedures.{is_main}
-use Rattle.shaped_ranges.specs.declared.shaping.Closed.{Closed}
-use Rattle.made_procedures.specs.Made.{AreParagraphsOf, IsParagraphOf}
+use Rattle.procedure_split.specs.declared.shaped_ranges.shaping.Closed.{Closed}
+use Rattle.procedure_split.specs.made_procedures.Made.{AreParagraphsOf, IsParagraphOf}
 
 same-some : {X : Type 0} (x y : X) → Some x ≡ Some y → x ≡ y
 same-some x y is = cc

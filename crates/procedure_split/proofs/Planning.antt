@@ -8,9 +8,9 @@ use Rattle.cob_tree.specs.declared.program.Range as code
 use Rattle.language.specs.Control.{control_of}
 use Rattle.language.specs.Language.{Program, Range, Main, Part, same_range}
 use Rattle.control.proofs.Ranges.{same-self}
-use Rattle.lowering.specs.Told.{Told}
-use Rattle.lowering.specs.WellFormed.{IsRangeOf}
-use Rattle.graph_rules.specs.Walked.{In, is_in}
+use Rattle.control_laws.specs.lowering.Told.{Told}
+use Rattle.control_laws.specs.lowering.WellFormed.{IsRangeOf}
+use Rattle.control_laws.specs.graph_rules.Walked.{In, is_in}
 use Rattle.cut_lists.specs.Told.{told_of}
 use Rattle.procedure_split.specs.Split.{AreGraphs, IsSplitFault, Planned}
 use Rattle.flow_table.proofs.Sections.{seen-length}
@@ -20,12 +20,12 @@ use Rattle.range_plan.specs.Planned.{IsPlanOf}
 use Rattle.range_plan.proofs.CobolPlans.{cobol-planned}
 use Rattle.branch_tree.specs.declared.graph.Graph.{Graph}
 use Rattle.lower_places.specs.Fall.{range_by, seen_range}
-use Rattle.shaped_ranges.specs.Graphs.{AreGraphsOf}
-use Rattle.shaped_ranges.specs.Laws.{HasFlow}
-use Rattle.shaped_ranges.specs.Limit.{IsLoweringFault}
-use Rattle.shaped_ranges.specs.Shaped.{AllShaped, IsTooDeep}
-use Rattle.shaped_ranges.specs.Steps.{AreRangesOf}
-use Rattle.shaped_ranges.specs.declared.shaping.Closed.{Closed}
+use Rattle.procedure_split.specs.shaped_ranges.Graphs.{AreGraphsOf}
+use Rattle.procedure_split.specs.shaped_ranges.Laws.{HasFlow}
+use Rattle.procedure_split.specs.shaped_ranges.Limit.{IsLoweringFault}
+use Rattle.procedure_split.specs.shaped_ranges.Shaped.{AllShaped, IsTooDeep}
+use Rattle.procedure_split.specs.shaped_ranges.Steps.{AreRangesOf}
+use Rattle.procedure_split.specs.declared.shaped_ranges.shaping.Closed.{Closed}
 
 as-seen : (entry : ℕ) (exit : Option ℕ) → range_by entry exit ≡ ending_at entry exit
 as-seen entry None = refl

@@ -5,7 +5,7 @@ use Rattle.cob_tree.specs.declared.program.Range.{Range}
 use Rattle.cell_table.specs.Row.{CellRange}
 use Rattle.cell_table.specs.Seen.{seen_cells, seen_ranges}
 use Rattle.cell_table.specs.declared.row.ShapedRange.{ShapedRange}
-use Rattle.shaped_ranges.specs.declared.shaping.Closed.{Closed}
+use Rattle.procedure_split.specs.declared.shaped_ranges.shaping.Closed.{Closed}
 use Rattle.procedure_split.specs.Rows.{row_of, rows_of}
 
 pub rows-length : (order : List Range) (closed : List Closed) → length closed ≡ length order →

@@ -1,6 +1,6 @@
 -- How many items of each kind are added.
 use Rattle.std.specs.Prelude.{◌+◌, List, [], ◌∷◌}
-use Rattle.graph_rules.specs.Families.{Added, Never, Flag, Count, State, Exit}
+use Rattle.control_laws.specs.graph_rules.Families.{Added, Never, Flag, Count, State, Exit}
 use Rattle.flow_report.specs.declared.report.AddedCounts.{AddedCounts}
 
 abbrev pub none_added : AddedCounts

@@ -10,3 +10,25 @@ pub mod Counted
 pub mod Written
 -- the structured program of a program without a fault
 pub mod Split
+-- The counters of graphs have items that serve.
+pub mod counter_serving
+-- The graphs of a program's ranges, and the bodies that these are shaped to.
+pub mod shaped_ranges
+-- The paragraphs made of shaped ranges are the program that the headline speaks of.
+pub mod made_procedures
+-- What a program without a fault is split into is structured and behaves as the program.
+pub mod split_behaviour
+-- What it is split into is structured as the tests of the tree tell it: no EXIT stands in it.
+pub mod split_form
+-- How deep a program nests that is split, where choices have arms.
+pub mod split_depth
+-- A program is split in one way: into one structured program, or past one limit, and not both.
+pub mod one_split
+-- A program has one summary of its ranges.
+pub mod one_summary
+-- The rules of restructuring keep the arms of choices.
+pub mod kept_arms
+-- Lowering gives each choice of a graph its arms, where statements are as they are read.
+pub mod lowered_arms
+-- A program written of shaped bodies nests no deeper than is judged of these bodies.
+pub mod written_depth

@@ -6,7 +6,7 @@ use Rattle.branch_tree.specs.Graphs.{seen_added}
 use Rattle.control.specs.Graph.{body_of}
 use Rattle.branch_tree.specs.Trees.{seen_tree}
 use Rattle.cell_table.specs.Row.{CellRange}
-use Rattle.shaped_ranges.specs.declared.shaping.Closed.{Closed}
+use Rattle.procedure_split.specs.declared.shaped_ranges.shaping.Closed.{Closed}
 
 abbrev pub row_of : Range → Closed → CellRange
 row_of range closed = record {

@@ -11,9 +11,9 @@ use Rattle.pending_returns.specs.declared.facts.Summary.{Summary}
 use Rattle.range_plan.specs.Planned.{IsPlanOf}
 use Rattle.branch_tree.specs.declared.graph.Graph.{Graph}
 use Rattle.region_rewrite.specs.Shape.{nesting_passed}
-use Rattle.shaped_ranges.specs.Limit.{AreLowered, ArePast}
-use Rattle.shaped_ranges.specs.Shaped.{AllShaped, IsOneTooDeep}
-use Rattle.shaped_ranges.specs.declared.shaping.Closed.{Closed}
+use Rattle.procedure_split.specs.shaped_ranges.Limit.{AreLowered, ArePast}
+use Rattle.procedure_split.specs.shaped_ranges.Shaped.{AllShaped, IsOneTooDeep}
+use Rattle.procedure_split.specs.declared.shaped_ranges.shaping.Closed.{Closed}
 use Rattle.cell_table.specs.Items.{item_kinds}
 use Rattle.procedure_split.specs.Counted.{counts_of}
 use Rattle.procedure_split.specs.Rows.{rows_of}

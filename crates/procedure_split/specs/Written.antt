@@ -4,7 +4,7 @@ use Rattle.cob_tree.specs.declared.entry.Entry.{Entry}
 use Rattle.cob_tree.specs.declared.program.Paragraph.{Paragraph}
 use Rattle.cob_tree.specs.declared.program.Program.{Program}
 use Rattle.cob_tree.specs.declared.program.Range.{Range}
-use Rattle.cell_serving.specs.Entries.{CellEntry, entries_of}
+use Rattle.cobol_laws.specs.cell_serving.Entries.{CellEntry, entries_of}
 use Rattle.out_names.specs.Naming.{names_of}
 use Rattle.out_names.specs.Words.{program_words, table_of}
 use Rattle.choice_writing.specs.declared.placing.Placed.{Placed}
@@ -13,8 +13,8 @@ use Rattle.cell_table.specs.CellItems.{AreCellItems}
 use Rattle.cell_table.specs.Items.{item_kinds}
 use Rattle.cell_table.specs.Names.{entries_for, item_kind, seen_item}
 use Rattle.cell_table.specs.declared.naming.AddedItem.{AddedItem}
-use Rattle.shaped_ranges.specs.declared.shaping.Closed.{Closed}
-use Rattle.made_procedures.specs.Made.{AreAsMany, AreParagraphsOf, ArePlacesIn}
+use Rattle.procedure_split.specs.declared.shaped_ranges.shaping.Closed.{Closed}
+use Rattle.procedure_split.specs.made_procedures.Made.{AreAsMany, AreParagraphsOf, ArePlacesIn}
 use Rattle.procedure_split.specs.Counted.{counts_of}
 use Rattle.procedure_split.specs.Rows.{rows_of}
 use Rattle.procedure_split.specs.declared.writing.Split.{Split}

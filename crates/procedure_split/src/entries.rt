@@ -2,7 +2,7 @@
 
 ghost use Rattle.std.specs.Prelude.{◌≡◌, ◌++◌, map};
 ghost use Rattle.cob_base.specs.Answers.{Makes};
-ghost use Rattle.cell_serving.specs.Entries.{entries_of};
+ghost use Rattle.cobol_laws.specs.cell_serving.Entries.{entries_of};
 ghost use Rattle.cell_table.specs.Names.{seen_item};
 
 use cell_entries::add_entries;

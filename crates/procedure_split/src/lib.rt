@@ -6,13 +6,24 @@
 //! `specs/Written.antt` says what is written of shaped ranges.
 #![tactic(auto)]
 
+pub mod counter_serving;
 mod counting;
 mod entries;
+pub mod kept_arms;
+pub mod lowered_arms;
+pub mod made_procedures;
+pub mod one_split;
+pub mod one_summary;
 mod paragraphs;
 mod placing;
 mod rows;
+pub mod shaped_ranges;
+pub mod split_behaviour;
+pub mod split_depth;
+pub mod split_form;
 mod splitting;
 mod writing;
+pub mod written_depth;
 
 pub use paragraphs::paragraphs_of;
 pub use placing::places_of;

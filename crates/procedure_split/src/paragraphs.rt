@@ -5,16 +5,16 @@ ghost use Rattle.cob_base.specs.Answers.{Makes};
 ghost use Rattle.lower_places.specs.Fall.{seen_range};
 ghost use Rattle.branch_tree.specs.Trees.{seen_tree};
 ghost use Rattle.body_writing.specs.Procedures.{is_main};
-ghost use Rattle.made_procedures.specs.Made.{AreAsMany, AreParagraphsOf, IsParagraphOf};
+ghost use Rattle.procedure_split.specs.made_procedures.Made.{AreAsMany, AreParagraphsOf, IsParagraphOf};
 ghost use Rattle.procedure_split.specs.Paragraphs.{paragraph_named};
 
+use crate::shaped_ranges::Closed;
 use body_writing::write_procedure;
 use branch_tree::Tree;
 use cell_words::CellItem;
 use choice_writing::Placed;
 use cob_base::{Items, NoMemory, Word};
 use cob_tree::{Paragraph, Range, Sentence};
-use shaped_ranges::Closed;
 use std::alloc::Global;
 
 fn is_main(range: Range) -> bool

@@ -2,7 +2,7 @@
 
 ghost use Rattle.std.specs.Prelude.{◌≡◌, ◌++◌, ◌*◌, ◌+◌, ◌^◌, IfOk, OnOk};
 ghost use Rattle.std.specs.List.Sorted.{IsNonDecreasingBy, IsPermutation};
-ghost use Rattle.made_procedures.specs.Made.{ArePlacesIn};
+ghost use Rattle.procedure_split.specs.made_procedures.Made.{ArePlacesIn};
 ghost use Rattle.procedure_split.specs.Places.{key_of, place_at, places_from};
 
 use choice_writing::Placed;

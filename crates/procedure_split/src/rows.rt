@@ -4,10 +4,10 @@ ghost use Rattle.std.specs.Prelude.{◌≡◌, length, IfOk};
 ghost use Rattle.cell_table.specs.Seen.{seen_cells, seen_ranges};
 ghost use Rattle.procedure_split.specs.Rows.{row_of, rows_of};
 
+use crate::shaped_ranges::Closed;
 use cell_table::ShapedRange;
 use cob_base::NoMemory;
 use cob_tree::Range;
-use shaped_ranges::Closed;
 use std::alloc::Global;
 
 fn row_of<'a>(range: Range, closed: &'a Closed) -> ShapedRange<'a>

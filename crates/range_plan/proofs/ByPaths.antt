@@ -7,14 +7,14 @@ use Rattle.cob_tree.specs.declared.program.Range as tree
 use Rattle.language.specs.Language.{Program, Range, Main, Part, Perform, same_range}
 use Rattle.language.specs.Items.{Do}
 use Rattle.control.proofs.Ranges.{same-self, same-range, range-tells}
-use Rattle.lowering.specs.Told.{Told, IsSource}
-use Rattle.lowering.specs.flow.Entered.{FreelyComes, IsEntered}
-use Rattle.lowering.specs.flow.Paths as theory
-use Rattle.lowering.specs.flow.Called.{IsCalled}
-use Rattle.lowering.proofs.flow.FreeFlow.{free-as-checked}
-use Rattle.graph_rules.specs.Walked.{is_in, In}
-use Rattle.headline.specs.Chain.{CallsStandLater}
-use Rattle.headline.specs.CallsReached.{GivesSome, CalledByPaths}
+use Rattle.control_laws.specs.lowering.Told.{Told, IsSource}
+use Rattle.control_laws.specs.lowering.flow.Entered.{FreelyComes, IsEntered}
+use Rattle.control_laws.specs.lowering.flow.Paths as theory
+use Rattle.control_laws.specs.lowering.flow.Called.{IsCalled}
+use Rattle.control_laws.proofs.lowering_lemmas.flow.FreeFlow.{free-as-checked}
+use Rattle.control_laws.specs.graph_rules.Walked.{is_in, In}
+use Rattle.control_laws.specs.headline.Chain.{CallsStandLater}
+use Rattle.control_laws.specs.headline.CallsReached.{GivesSome, CalledByPaths}
 use Rattle.flow_paths.specs.Step.{Point, at, Calls, next}
 use Rattle.flow_paths.specs.Flow.{main_range, part, Pending, FreePath, IsFaulty, CallsIn, ReturnsIn, IsRange}
 use Rattle.flow_paths.specs.Levels.{Comes, Levels, bottom, called}

@@ -7,11 +7,11 @@ use Rattle.language.specs.Control.{control_of}
 use Rattle.language.specs.Language.{Chooser, Evaluate, Read, Arith, Depending}
 use Rattle.language.specs.OwnItems.{NamesOwnItems}
 use Rattle.statements.specs.Does.{declared_in}
-use Rattle.lowering.specs.flow.Paths as theory
+use Rattle.control_laws.specs.lowering.flow.Paths as theory
 use Rattle.cut_lists.specs.Told.{status_missing, never_ends, told_of}
-use Rattle.cobol_parts.specs.Named.{NamesOwnParagraphs}
-use Rattle.cobol_parts.proofs.Sources.{source}
-use Rattle.cobol_parts.proofs.SomeArm.{gives-some}
+use Rattle.cobol_laws.specs.cobol_parts.Named.{NamesOwnParagraphs}
+use Rattle.cobol_laws.proofs.cobol_parts_lemmas.Sources.{source}
+use Rattle.cobol_laws.proofs.cobol_parts_lemmas.SomeArm.{gives-some}
 use Rattle.flow_paths.specs.Flow.{IsFaulty}
 use Rattle.flow_numbers.specs.Kinds.{has_no_status, never_first_of}
 use Rattle.flow_ties.proofs.SameFaults.{faulty-here}

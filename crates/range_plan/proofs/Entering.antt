@@ -4,14 +4,14 @@ use Rattle.language.specs.Language.{Program, Range, Main, Part, Perform, same_ra
 use Rattle.language.specs.Items.{Do}
 use Rattle.control.specs.Source.{rest_of}
 use Rattle.control.proofs.Ranges.{same-range}
-use Rattle.lowering.specs.Told.{Told, IsSource}
-use Rattle.lowering.specs.flow.Called.{IsCalled}
-use Rattle.lowering.specs.flow.Paths.{free}
-use Rattle.lowering.specs.flow.Entered.{IsEntered, main, performed}
-use Rattle.lowering.proofs.rests.Fits.{comes-fits, rest-fits}
-use Rattle.graph_rules.specs.Walked.{is_in, In}
-use Rattle.headline.specs.Chain.{CallsStandLater}
-use Rattle.headline.specs.CallsReached.{CalledByPaths}
+use Rattle.control_laws.specs.lowering.Told.{Told, IsSource}
+use Rattle.control_laws.specs.lowering.flow.Called.{IsCalled}
+use Rattle.control_laws.specs.lowering.flow.Paths.{free}
+use Rattle.control_laws.specs.lowering.flow.Entered.{IsEntered, main, performed}
+use Rattle.control_laws.proofs.lowering_lemmas.rests.Fits.{comes-fits, rest-fits}
+use Rattle.control_laws.specs.graph_rules.Walked.{is_in, In}
+use Rattle.control_laws.specs.headline.Chain.{CallsStandLater}
+use Rattle.control_laws.specs.headline.CallsReached.{CalledByPaths}
 
 position-in : (ranges : List Range) (range : Range) → In range ranges → (place : ℕ) × (slice_get ranges place ≡ Some range)
 position-in [] range h = absurd (let k : ⊥ = cc in k)

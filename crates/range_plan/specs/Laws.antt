@@ -7,17 +7,17 @@ use Rattle.language.specs.Control.{control_of}
 use Rattle.language.specs.OwnItems.{NamesOwnItems}
 use Rattle.language.specs.Language.{Program, Range, Main, Part}
 use Rattle.control.specs.Graph.{Label}
-use Rattle.lowering.specs.Told.{Told, IsSource}
-use Rattle.lowering.specs.Lowered.{lowered}
-use Rattle.lowering.specs.Reached.{AreReached}
-use Rattle.lowering.specs.WellFormed.{AreJustReached}
-use Rattle.lowering.specs.flow.Entered.{FreelyComes, IsEntered}
-use Rattle.lowering.specs.flow.Paths.{IsFaulty}
-use Rattle.graph_rules.specs.Walked.{In}
-use Rattle.headline.specs.Chain.{CallsStandLater, IsPlan}
-use Rattle.headline.specs.CallsReached.{GivesSome, CalledByPaths}
+use Rattle.control_laws.specs.lowering.Told.{Told, IsSource}
+use Rattle.control_laws.specs.lowering.Lowered.{lowered}
+use Rattle.control_laws.specs.lowering.Reached.{AreReached}
+use Rattle.control_laws.specs.lowering.WellFormed.{AreJustReached}
+use Rattle.control_laws.specs.lowering.flow.Entered.{FreelyComes, IsEntered}
+use Rattle.control_laws.specs.lowering.flow.Paths.{IsFaulty}
+use Rattle.control_laws.specs.graph_rules.Walked.{In}
+use Rattle.control_laws.specs.headline.Chain.{CallsStandLater, IsPlan}
+use Rattle.control_laws.specs.headline.CallsReached.{GivesSome, CalledByPaths}
 use Rattle.cut_lists.specs.Told.{told_of, returns_by}
-use Rattle.cobol_parts.specs.Named.{NamesOwnParagraphs}
+use Rattle.cobol_laws.specs.cobol_parts.Named.{NamesOwnParagraphs}
 use Rattle.flow_paths.specs.Flow as flow
 use Rattle.flow_numbers.specs.Kinds.{never_first_of}
 use Rattle.pending_returns.specs.declared.facts.Summary.{Summary}

@@ -15,10 +15,10 @@ use Rattle.language.specs.Language as language
 use Rattle.language.specs.OwnItems.{stmt_own, stmts_own}
 use Rattle.language.proofs.Rows.{seen_loop}
 use Rattle.control.specs.Graph as graph
-use Rattle.lowering.specs.Told.{Told}
-use Rattle.lowering.specs.Completes.{size}
-use Rattle.lowering.specs.Lower as lower
-use Rattle.lowering.specs.Lowered.{place_in}
+use Rattle.control_laws.specs.lowering.Told.{Told}
+use Rattle.control_laws.specs.lowering.Completes.{size}
+use Rattle.control_laws.specs.lowering.Lower as lower
+use Rattle.control_laws.specs.lowering.Lowered.{place_in}
 use Rattle.branch_tree.specs.Trees.{seen_body, seen_end}
 use Rattle.branch_tree.specs.declared.tree.End.{End}
 use Rattle.branch_tree.specs.declared.tree.Piece.{Piece}

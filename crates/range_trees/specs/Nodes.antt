@@ -6,8 +6,8 @@ use Rattle.cob_tree.specs.declared.stmt.Stmt.{Stmt}
 use Rattle.language.specs.Control.{control_of, seen, seen_stmts}
 use Rattle.language.specs.Language as language
 use Rattle.control.specs.Graph as graph
-use Rattle.lowering.specs.Lowered.{lowered, place_in}
-use Rattle.lowering.specs.Told.{IsSource}
+use Rattle.control_laws.specs.lowering.Lowered.{lowered, place_in}
+use Rattle.control_laws.specs.lowering.Told.{IsSource}
 use Rattle.branch_tree.specs.Trees.{seen_tree}
 use Rattle.branch_tree.specs.declared.tree.Tree as tree
 use Rattle.lower_places.specs.Fall.{seen_range}

@@ -2,7 +2,7 @@
 
 ghost use Rattle.std.specs.Prelude.{◌≡◌, ◌*◌, ◌<◌, ◌^◌, length, IfOk, MatchOption};
 ghost use Rattle.cob_tree.specs.declared.stmt.Stmt.TheVariants.{Loop};
-ghost use Rattle.lowering.specs.Lower.{point};
+ghost use Rattle.control_laws.specs.lowering.Lower.{point};
 ghost use Rattle.rest_table.specs.Spots.{Fits};
 ghost use Rattle.range_trees.specs.Nodes.{GoesOnIn, HoldsNoLoop, IsNodeIn, IsTurnIn, IsWhole, LeavesIn};
 

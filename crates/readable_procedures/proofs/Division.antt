@@ -23,22 +23,22 @@ use Rattle.procedure_names.specs.declared.table.Header.{Header}
 use Rattle.procedure_names.specs.declared.table.ProcedureTable.{ProcedureTable}
 use Rattle.procedure_names.specs.Procedures as procedures
 use Rattle.procedure_names.specs.Procedures.{scanned, unheaded, headed, whole_count, closed, procedures_of, again_fault, header_of}
-use Rattle.stmt_forms.specs.declared.outline.Outline.{Outline}
-use Rattle.stmt_forms.specs.Jump.{begins_procedure}
-use Rattle.stmt_forms.specs.Paragraph as paragraphs
-use Rattle.stmt_forms.specs.Paragraph.{with_pending, at_least_one, all_of, outline_of, scope_of, paragraph_of}
-use Rattle.stmt_forms.specs.Verb.{begins_stmt}
-use Rattle.stmt_forms.specs.Laws.{PartsAreLawful}
-use Rattle.stmt_forms.proofs.ParagraphLaws as paragraph_laws
-use Rattle.expr_forms.specs.declared.side.Side.{Side}
-use Rattle.stmt_forms.specs.Part.{Parts}
+use Rattle.statement_grammar.specs.declared.stmt_forms.outline.Outline.{Outline}
+use Rattle.statement_grammar.specs.stmt_forms.Jump.{begins_procedure}
+use Rattle.statement_grammar.specs.stmt_forms.Paragraph as paragraphs
+use Rattle.statement_grammar.specs.stmt_forms.Paragraph.{with_pending, at_least_one, all_of, outline_of, scope_of, paragraph_of}
+use Rattle.statement_grammar.specs.stmt_forms.Verb.{begins_stmt}
+use Rattle.statement_grammar.specs.stmt_forms.Laws.{PartsAreLawful}
+use Rattle.statement_grammar.proofs.stmt_forms_lemmas.ParagraphLaws as paragraph_laws
+use Rattle.statement_grammar.specs.declared.expr_forms.side.Side.{Side}
+use Rattle.statement_grammar.specs.stmt_forms.Part.{Parts}
 use Rattle.statement_grammar.specs.declared.known.Known.{Known}
 use Rattle.statement_grammar.specs.Name as words
 use Rattle.statement_grammar.specs.Whole.{parts_of}
 use Rattle.statement_grammar.proofs.PartLaws as part_laws
 use Rattle.sentence_tokens.proofs.Plainly as plainly
 use Rattle.sentence_tokens.proofs.Makers as makers
-use Rattle.stmt_spelling.specs.Division.{is_bare_by}
+use Rattle.part_spelling.specs.stmt_spelling.Division.{is_bare_by}
 use Rattle.readable_procedures.specs.Names.{own_name, own_names, AreDifferent}
 use Rattle.readable_procedures.specs.Outline.{MayFollow, is_bare, AreHeaded, AreOutlined}
 use Rattle.readable_procedures.specs.Own.{IsReadWith, without_indices}

@@ -8,7 +8,7 @@ use Rattle.grammar_forms.specs.Part.{is_key, is_period, period}
 use Rattle.grammar_forms.proofs.Turns.{Consumes}
 use Rattle.procedure_names.specs.declared.scan.Scan.{Scan}
 use Rattle.procedure_names.specs.Procedures.{header_name, headed, unheaded, begun_by, scanned}
-use Rattle.stmt_forms.specs.Verb.{begins_stmt}
+use Rattle.statement_grammar.specs.stmt_forms.Verb.{begins_stmt}
 use Rattle.sentence_tokens.specs.Plain.{NoPeriods, Plain}
 use Rattle.readable_procedures.proofs.Taken.{sign-of}
 use Rattle.readable_procedures.proofs.Verbs as verbs

@@ -17,7 +17,7 @@ use Rattle.procedure_names.specs.declared.table.Header.{Header}
 use Rattle.procedure_names.specs.declared.table.ProcedureTable.{ProcedureTable}
 use Rattle.procedure_names.specs.Procedures as procedures
 use Rattle.procedure_names.specs.Procedures.{with_empty, with_name, at_least_one, closed}
-use Rattle.stmt_spelling.specs.Division.{is_bare_by}
+use Rattle.part_spelling.specs.stmt_spelling.Division.{is_bare_by}
 use Rattle.readable_procedures.specs.Names.{own_name, own_names, AreDifferent}
 use Rattle.readable_procedures.specs.Outline.{MayFollow, is_bare, AreHeaded, MayBegin, AreOutlined, HasProcedures}
 use Rattle.readable_procedures.specs.Told.{behind_section, sentences_told, paragraph_told, paragraphs_told, own_procedures}

@@ -27,3 +27,7 @@ pub mod Division
 pub mod Titles
 -- Paragraphs with names alone.
 pub mod Named
+-- A PROCEDURE DIVISION that is read with no fault is spelled by what is printed of it.
+pub mod readable_stmts_lemmas
+-- Operands, expressions and conditions that are read can be printed so that they are read back.
+pub mod readable_exprs_lemmas

@@ -3,7 +3,7 @@ use Rattle.std.proofs.Common.{◌≡◌, Bool, false, List, [], ◌∷◌, Optio
 use Rattle.std.specs.Prelude.{ℕ}
 use Rattle.cob_tree.specs.declared.program.Paragraph.{Paragraph}
 use Rattle.cob_tree.specs.declared.program.Sentence.{Sentence}
-use Rattle.stmt_spelling.specs.Division.{is_bare_by}
+use Rattle.part_spelling.specs.stmt_spelling.Division.{is_bare_by}
 use Rattle.readable_procedures.specs.Outline.{MayFollow, is_bare, AreHeaded, MayBegin, AreOutlined, HaveNamesAlone}
 
 follows : (name section : Option (List ℕ)) (word : List ℕ) → name ≡ Some word → section ≡ None → MayFollow false name section

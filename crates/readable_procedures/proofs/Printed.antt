@@ -17,21 +17,21 @@ use Rattle.program_units.specs.Division.{sentence_units, paragraph_units, paragr
 use Rattle.procedure_names.specs.declared.scan.Scan.{Scan}
 use Rattle.procedure_names.specs.Procedures as procedures
 use Rattle.procedure_names.specs.Procedures.{scanned, procedures_of, section_headed, paragraph_headed}
-use Rattle.stmt_forms.specs.Part.{Parts}
-use Rattle.stmt_forms.specs.Laws.{PartsAreLawful}
+use Rattle.statement_grammar.specs.stmt_forms.Part.{Parts}
+use Rattle.statement_grammar.specs.stmt_forms.Laws.{PartsAreLawful}
 use Rattle.sentence_tokens.proofs.Parts.{PartsArePlain}
-use Rattle.stmt_forms.specs.Paragraph as paragraphs
-use Rattle.stmt_forms.specs.Verb.{begins_stmt}
-use Rattle.stmt_forms.specs.declared.scope.Scope.{Scope}
-use Rattle.stmt_forms.proofs.ParagraphLaws as paragraph_laws
+use Rattle.statement_grammar.specs.stmt_forms.Paragraph as paragraphs
+use Rattle.statement_grammar.specs.stmt_forms.Verb.{begins_stmt}
+use Rattle.statement_grammar.specs.declared.stmt_forms.scope.Scope.{Scope}
+use Rattle.statement_grammar.proofs.stmt_forms_lemmas.ParagraphLaws as paragraph_laws
 use Rattle.statement_grammar.specs.Name as words
 use Rattle.spelled_forms.specs.Spelling.{kinds_of, here, first_of}
 use Rattle.spelled_forms.proofs.Makers.{parts}
-use Rattle.stmt_spelling.specs.Part.{Kept, PartsAreTold}
-use Rattle.stmt_spelling.specs.Division.{SpellsSentences, SpellsHeader, SpellsHeaded, SpellsParagraphs, SpellsFirst, SpellsDivision, is_bare_by}
-use Rattle.stmt_spelling.proofs.Behind.{first-append}
-use Rattle.stmt_spelling.proofs.Nested.{tokens-append}
-use Rattle.stmt_spelling.proofs.Bodies.{NoStmt, sentence_tokens, sentences, begins-sentences}
+use Rattle.part_spelling.specs.stmt_spelling.Part.{Kept, PartsAreTold}
+use Rattle.part_spelling.specs.stmt_spelling.Division.{SpellsSentences, SpellsHeader, SpellsHeaded, SpellsParagraphs, SpellsFirst, SpellsDivision, is_bare_by}
+use Rattle.part_spelling.proofs.stmt_spelling_lemmas.Behind.{first-append}
+use Rattle.part_spelling.proofs.stmt_spelling_lemmas.Nested.{tokens-append}
+use Rattle.part_spelling.proofs.stmt_spelling_lemmas.Bodies.{NoStmt, sentence_tokens, sentences, begins-sentences}
 use Rattle.readable_procedures.specs.Told.{sentences_told, paragraph_told, paragraphs_told, own_procedures}
 use Rattle.readable_procedures.proofs.Taken.{value-is}
 use Rattle.readable_procedures.proofs.Goes.{behind-first, header-first, none-behind}

@@ -13,16 +13,16 @@ use Rattle.grammar_forms.proofs.Turns.{loop-unrolls}
 use Rattle.named_programs.specs.Part.{is_filled}
 use Rattle.procedure_names.specs.declared.scan.Scan.{Scan}
 use Rattle.procedure_names.specs.Procedures.{unheaded}
-use Rattle.stmt_forms.specs.declared.scope.Scope.{Scope}
-use Rattle.stmt_forms.specs.Arms.{Found}
-use Rattle.stmt_forms.specs.Laws.{PartsAreLawful}
-use Rattle.stmt_forms.specs.Jump.{exit_behind}
-use Rattle.stmt_forms.specs.Paragraph.{sentence_closed, sentence_end, sentence, sentences_from, begins_exit_word, exit_alone, exit_sentence, exit_sentences, sentences_by_exit, sentences}
-use Rattle.stmt_forms.specs.Stmt.{max_nesting, level, stmts, stmts_from}
-use Rattle.stmt_forms.specs.Verb.{begins_stmt}
-use Rattle.stmt_forms.proofs.HoldingLaws as holding_laws
-use Rattle.stmt_forms.proofs.ParagraphLaws as paragraph_laws
-use Rattle.stmt_forms.specs.Part.{Parts}
+use Rattle.statement_grammar.specs.declared.stmt_forms.scope.Scope.{Scope}
+use Rattle.statement_grammar.specs.stmt_forms.Arms.{Found}
+use Rattle.statement_grammar.specs.stmt_forms.Laws.{PartsAreLawful}
+use Rattle.statement_grammar.specs.stmt_forms.Jump.{exit_behind}
+use Rattle.statement_grammar.specs.stmt_forms.Paragraph.{sentence_closed, sentence_end, sentence, sentences_from, begins_exit_word, exit_alone, exit_sentence, exit_sentences, sentences_by_exit, sentences}
+use Rattle.statement_grammar.specs.stmt_forms.Stmt.{max_nesting, level, stmts, stmts_from}
+use Rattle.statement_grammar.specs.stmt_forms.Verb.{begins_stmt}
+use Rattle.statement_grammar.proofs.stmt_forms_lemmas.HoldingLaws as holding_laws
+use Rattle.statement_grammar.proofs.stmt_forms_lemmas.ParagraphLaws as paragraph_laws
+use Rattle.statement_grammar.specs.stmt_forms.Part.{Parts}
 use Rattle.sentence_tokens.proofs.Makers as makers
 use Rattle.sentence_tokens.proofs.Parts.{PartsArePlain}
 use Rattle.sentence_tokens.proofs.Simple as simple

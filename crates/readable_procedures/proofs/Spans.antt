@@ -7,7 +7,7 @@ use Rattle.cob_tree.specs.declared.program.Sentence.{Sentence}
 use Rattle.procedure_names.specs.declared.table.Header.{Header}
 use Rattle.procedure_names.specs.declared.table.ProcedureTable.{ProcedureTable}
 use Rattle.procedure_names.specs.Procedures.{header_of, range_of}
-use Rattle.stmt_spelling.specs.Division.{is_bare_by}
+use Rattle.part_spelling.specs.stmt_spelling.Division.{is_bare_by}
 use Rattle.readable_procedures.specs.Names.{AreDifferent}
 use Rattle.readable_procedures.specs.Outline.{MayFollow, is_bare, AreHeaded, MayBegin, AreOutlined}
 use Rattle.readable_procedures.specs.Told.{behind_section}

@@ -5,7 +5,7 @@ use Rattle.std.specs.List.{list_all}
 use Rattle.std.proofs.lemmas.Bool.Decides.{nat_tests}
 use Rattle.cob_base.specs.Spelling.{word_byte, folded, IsWord}
 use Rattle.cob_tree.specs.declared.program.Paragraph.{Paragraph}
-use Rattle.display_programs.proofs.Free.{LabelIs, A_word, A_number, label-is, word-token, number-token}
+use Rattle.printable_programs.proofs.display_programs_lemmas.Free.{LabelIs, A_word, A_number, label-is, word-token, number-token}
 use Rattle.named_forms.specs.Giving.{Each}
 use Rattle.printable_programs.specs.Whole.{IfNamed, IsPrintableParagraph}
 use Rattle.procedure_names.specs.Procedures.{header_name, is_digit, is_number}

@@ -8,7 +8,7 @@ use Rattle.cobol_lex.specs.declared.token.TokenKind.TheVariants as kinds
 use Rattle.grammar_forms.specs.Part.{is_key, is_period}
 use Rattle.word_forms.specs.Word.{is_free}
 use Rattle.procedure_names.specs.Procedures.{header_name}
-use Rattle.stmt_forms.specs.Verb.{begins_moving, begins_filing, begins_jumping, begins_adding, begins_multiplying, begins_arithmetic, begins_choice, begins_simple, begins_holding, begins_stmt}
+use Rattle.statement_grammar.specs.stmt_forms.Verb.{begins_moving, begins_filing, begins_jumping, begins_adding, begins_multiplying, begins_arithmetic, begins_choice, begins_simple, begins_holding, begins_stmt}
 
 pub record IsVerb (kind : TokenKind) : Type 0 where
   pub headless : header_name kind ≡ None

@@ -13,9 +13,9 @@ use Rattle.printable_programs.specs.Whole.{IsPrintableParagraph}
 use Rattle.procedure_names.specs.declared.table.ProcedureTable.{ProcedureTable}
 use Rattle.procedure_names.specs.Procedures.{procedures_of}
 use Rattle.statement_grammar.specs.Whole.{parts_of}
-use Rattle.stmt_forms.specs.Paragraph.{division}
+use Rattle.statement_grammar.specs.stmt_forms.Paragraph.{division}
 use Rattle.spelled_forms.specs.Spelling.{kinds_of}
-use Rattle.stmt_spelling.specs.Division.{SpellsDivision}
+use Rattle.part_spelling.specs.stmt_spelling.Division.{SpellsDivision}
 use Rattle.part_spelling.specs.Kept.{kept_of}
 use Rattle.readable_procedures.specs.Names.{AreTitled}
 use Rattle.readable_procedures.specs.Outline.{AreOutlined, HaveNamesAlone, HasProcedures}

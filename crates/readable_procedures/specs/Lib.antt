@@ -8,3 +8,7 @@ pub mod Outline
 pub mod Own
 -- What holds of it.
 pub mod Laws
+-- A PROCEDURE DIVISION that is read with no fault is spelled by what is printed of it.
+pub mod readable_stmts
+-- Operands, expressions and conditions that are read can be printed so that they are read back.
+pub mod readable_exprs

@@ -3,7 +3,7 @@ use Rattle.std.specs.Prelude.{ℕ, ◌≡◌, Bool, true, false, ◌⊎◌, List
 use Rattle.cob_tree.specs.declared.program.Paragraph.{Paragraph}
 use Rattle.cob_tree.specs.declared.program.Program.{Program}
 use Rattle.named_programs.specs.Part.{is_filled}
-use Rattle.stmt_spelling.specs.Division.{is_bare_by}
+use Rattle.part_spelling.specs.stmt_spelling.Division.{is_bare_by}
 use Rattle.readable_procedures.specs.Names.{own_names, AreDifferent, AreTitled}
 
 -- behind a section of which nothing else is printed only a section may follow

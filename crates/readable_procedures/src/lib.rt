@@ -4,6 +4,8 @@
 #![tactic(auto)]
 
 mod laws;
+pub mod readable_exprs;
+pub mod readable_stmts;
 
 pub use laws::{
     named_paragraphs_are_outlined, printable_names_are_titles, printed_headers_are_own,

@@ -1,13 +1,15 @@
 -- The literal at a text's end.
-use Rattle.std.proofs.Common.{◌≡◌, ℕ, ◌==◌, true, false, cond, List, [], ◌∷◌, ◌++◌, reverse, Option, None, Some, Ok, Err, sym, ap, refl, ◌∙◌}
-use Rattle.std.proofs.lemmas.List.{reverse-append, reverse-reverse}
+use Rattle.std.proofs.Common.{◌≡◌, ℕ, zero, suc, ◌+◌, ◌<◌, ◌==◌, ◌||◌, Bool, true, false, cond, List, [], ◌∷◌, ◌++◌, length, take, drop, set, get_or, replicate, arith, append_assoc, reverse, Option, None, Some, Ok, Err, sym, ap, refl, ◌∙◌}
+use Rattle.std.specs.List.{list_any}
+use Rattle.std.proofs.lemmas.List.{reverse-append, reverse-reverse, map-append, take_more, take_more_set, drop-set-lt}
+use Rattle.std.proofs.Math.Seq.{drop-drop}
 use Rattle.std.proofs.lemmas.Bool.Decides.{Decides-eqb}
 use Rattle.ref_format.specs.declared.placed.Placed.{Placed}
 use Rattle.ref_format.specs.declared.fault.FormatFault.{FormatFault}
 use Rattle.ref_format.specs.declared.joining.Literal.{Literal}
 use Rattle.ref_format.specs.declared.joining.Literal.TheVariants.{Closed, InQuotes, InApostrophes}
 use Rattle.ref_format.specs.Placed.{placed, bytes_of}
-use Rattle.ref_format.specs.Joining.{behind, behind_byte, literal_at_end, unspaced_front, trimmed, line_end, joined_or}
+use Rattle.ref_format.specs.Joining.{behind, behind_byte, has_mark, literal_at_end, unspaced_front, trimmed, line_end, joined_or}
 
 pub behind-append : (literal : Literal) (front rest : List ℕ) → behind literal (front ++ rest) ≡ behind (behind literal front) rest
 behind-append literal [] rest = refl
@@ -26,6 +28,20 @@ literal_at_end-append front rest = ap (behind Closed) (bytes_of-append front res
 
 pub literal_at_end-placed : (text : List Placed) (number : ℕ) (bytes : List ℕ) → literal_at_end (text ++ placed number bytes) ≡ behind (literal_at_end text) bytes
 literal_at_end-placed text number bytes = literal_at_end-append text (placed number bytes) ∙ ap (behind (literal_at_end text)) (bytes_of-placed number bytes)
+
+or_false : (a b : Bool) → (a || b) ≡ false → (a ≡ false) × (b ≡ false)
+or_false true b e = absurd cc
+or_false false b e = (refl, e)
+
+-- without a mark no literal opens
+pub behind-unmarked : (bytes : List ℕ) → has_mark bytes ≡ false → behind Closed bytes ≡ Closed
+behind-unmarked [] e = refl
+behind-unmarked (b ∷ bytes) e =
+    let both = or_false _ _ e in
+    let quotes = or_false (b == 34) (list_any (λ b. b == 34) bytes) both.0 in
+    let apostrophes = or_false (b == 39) (list_any (λ b. b == 39) bytes) both.1 in
+    let rest : has_mark bytes ≡ false = rw (quotes.1, apostrophes.1) in
+    rw (quotes.0, apostrophes.0) (behind-unmarked bytes rest)
 
 -- a space neither opens nor closes a literal
 behind_byte-space : (literal : Literal) → behind_byte literal 32 ≡ literal
@@ -71,3 +87,25 @@ none_of_ok (Some found) value answer e = absurd cc
 pub some_of_err : {A : Type 0} (fault : Option FormatFault) (value : A) (error : FormatFault) → joined_or fault (Ok value) ≡ Err error → fault ≡ Some error
 some_of_err None value error e = absurd cc
 some_of_err (Some found) value error e = cc
+
+-- ---- bytes that are put over blanks
+
+placed_more : (line at : ℕ) (bytes : List ℕ) → at < length bytes → placed line (take (at + 1) bytes) ≡ placed line (take at bytes) ++ record { byte = get_or bytes at 0; line = line } ∷ []
+placed_more line at bytes h = ap (placed line) (take_more bytes at 0 h) ∙ map-append (λ b. record { byte = b; line = line }) (take at bytes) (get_or bytes at 0 ∷ [])
+
+pub put_done : (text old : List Placed) (n at line : ℕ) (bytes : List ℕ) (p : Placed) → n < length text → at < length bytes → take n text ≡ old ++ placed line (take at bytes) → p ≡ record { byte = get_or bytes at 0; line = line } → take (n + 1) (set text n p) ≡ old ++ placed line (take (at + 1) bytes)
+put_done text old n at line bytes p room h done is =
+    take_more_set text n p room
+    ∙ ap (λ xs. xs ++ p ∷ []) done
+    ∙ append_assoc old (placed line (take at bytes)) (p ∷ [])
+    ∙ ap (λ q. old ++ (placed line (take at bytes) ++ q ∷ [])) is
+    ∙ ap (λ xs. old ++ xs) (sym (placed_more line at bytes h))
+
+pub blank_here : (text : List Placed) (n k : ℕ) (blank d : Placed) → drop n text ≡ replicate (suc k) blank → get_or text n d ≡ blank
+blank_here [] zero k blank d e = absurd cc
+blank_here [] (suc n) k blank d e = absurd cc
+blank_here (p ∷ text) zero k blank d e = cc
+blank_here (p ∷ text) (suc n) k blank d e = blank_here text n k blank d e
+
+pub blanks_left : (text : List Placed) (n k : ℕ) (p blank : Placed) → drop n text ≡ replicate (suc k) blank → drop (n + 1) (set text n p) ≡ replicate k blank
+blanks_left text n k p blank e = drop-set-lt (n + 1) text n p (omega arith) ∙ sym (drop-drop 1 n text) ∙ ap (drop 1) e

@@ -16,6 +16,13 @@ untabbed before (b ∷ bs) =
 unfoldable pub card_of : List ℕ → List ℕ
 card_of line = take 72 (untabbed 0 line ++ replicate 72 space)
 
+-- the same of a line without tabs
+abbrev pub plain_card : List ℕ → List ℕ
+plain_card line = take 72 (line ++ replicate 72 space)
+
+abbrev pub has_tab : List ℕ → Bool
+has_tab bytes = list_any (λ b. b == tab) bytes
+
 -- the bytes from one column to another, which count from 1
 abbrev pub columns : ℕ → ℕ → List ℕ → List ℕ
 columns from to card = take (to + 1 - from) (drop (from - 1) card)

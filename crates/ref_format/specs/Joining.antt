@@ -1,5 +1,6 @@
 -- Kept lines as one text.
 use Rattle.std.specs.Prelude.{ℕ, ◌≡◌, ◌==◌, ◌&&◌, ◌||◌, not, Bool, false, is_none, if◌then◌else◌, List, [], ◌∷◌, ◌++◌, drop, reverse, slice_index, Option, Some, None, Result, Ok, Err}
+use Rattle.std.specs.List.{list_any}
 use Rattle.cob_base.specs.Bytes.{line_feed, space, quote, apostrophe}
 use Rattle.ref_format.specs.declared.placed.Placed.{Placed}
 use Rattle.ref_format.specs.declared.fault.FormatFault.{FormatFault}
@@ -27,6 +28,10 @@ behind literal (b ∷ bs) = behind (behind_byte literal b) bs
 -- the literal that is open at the text's end
 abbrev pub literal_at_end : List Placed → Literal
 literal_at_end text = behind Closed (bytes_of text)
+
+-- a mark that could open a literal stands among the bytes
+abbrev pub has_mark : List ℕ → Bool
+has_mark bytes = list_any (λ b. b == quote) bytes || list_any (λ b. b == apostrophe) bytes
 
 -- ---- what a line adds
 
@@ -114,5 +119,5 @@ program_text bytes = joined None [] (kept_lines bytes)
 
 -- the literal is the one that is open at the text's end, and the text begins with a kept line
 pub record IsSound (joining : Joining) : Type 0 where
-  pub open_at_end : joining.literal ≡ literal_at_end joining.text
-  pub begins : joining.last ≡ None → joining.text ≡ []
+  pub open_at_end : joining.literal ≡ literal_at_end joining.text.items
+  pub begins : joining.last ≡ None → joining.text.items ≡ []

@@ -37,9 +37,21 @@ impl Entries {
             || (goes_on_over card.now && self.old.inside)) }
         ensures answer { result ≡ (is_without_text card.now || self.new.inside) }
     {
-        self.inside = (comment_header(card) && !self.over) || (entry_goes_on(card) && self.inside);
-        self.over = division_header(card) || self.over;
-        without_text(card) || self.inside
+        self.inside = self.begins(card) || self.goes_on(card);
+        self.over = self.over || division_header(card);
+        self.inside || without_text(card)
+    }
+
+    fn begins(&self, card: &[u8; 72]) -> bool
+        ensures { result ≡ (is_comment_header card.now && not self.now.over) }
+    {
+        !self.over && comment_header(card)
+    }
+
+    fn goes_on(&self, card: &[u8; 72]) -> bool
+        ensures { result ≡ (goes_on_over card.now && self.now.inside) }
+    {
+        self.inside && entry_goes_on(card)
     }
 }
 

@@ -1,11 +1,12 @@
 //! The text of the kept lines.
 
+ghost use Rattle.ref_format.specs.Joining.{has_mark};
 ghost use Rattle.std.specs.Prelude.{◌≡◌, None, Some, OnOk, ◌++◌, [], length};
 
 use crate::column::{behind_spaces, blank, controls};
 use crate::fault::FormatFault;
 use crate::placed::Placed;
-use cob_base::{Items, NoMemory};
+use cob_base::NoMemory;
 use std::alloc::Global;
 
 /// The literal that is open where a text ends.
@@ -17,7 +18,7 @@ pub enum Literal {
 }
 
 impl Literal {
-    ghost use Rattle.ref_format.specs.Joining.{behind_byte, lacks_mark as without_mark};
+    ghost use Rattle.ref_format.specs.Joining.{behind, behind_byte, lacks_mark as without_mark};
 
     fn behind(self, byte: u8) -> Literal
         ensures { result ≡ behind_byte self byte }
@@ -28,6 +29,27 @@ impl Literal {
             (Literal::InQuotes, b'"' | b'\n') => Literal::Closed,
             (Literal::InApostrophes, b'\'' | b'\n') => Literal::Closed,
             _ => self,
+        }
+    }
+
+    fn behind_all(self, bytes: &[u8]) -> Literal
+        ensures { result ≡ behind self bytes.now }
+    {
+        let mut literal = self;
+        for byte in bytes {
+            literal = literal.behind(*byte);
+        }
+        literal
+    }
+
+    /// The literal that is open behind these bytes of a line, before which none is.
+    fn in_line(bytes: &[u8]) -> Literal
+        ensures { result ≡ behind Literal.Closed bytes.now }
+    {
+        if has_mark(bytes) {
+            Literal::Closed.behind_all(bytes)
+        } else {
+            Literal::Closed
         }
     }
 
@@ -43,10 +65,23 @@ impl Literal {
     }
 }
 
+/// Whether a mark stands in the bytes that could open a literal.
+fn has_mark(bytes: &[u8]) -> bool
+    ensures { result ≡ has_mark bytes.now }
+{
+    let mut quote = false;
+    let mut apostrophe = false;
+    for byte in bytes {
+        quote |= *byte == b'"';
+        apostrophe |= *byte == b'\'';
+    }
+    quote || apostrophe
+}
+
 /// The text of the lines so far.
 #[derive(Drop)]
 pub struct Joining {
-    pub text: Items<Placed>,
+    pub text: Vec<Placed>,
     /// The line that was kept last.
     pub last: Option<u32>,
     pub literal: Literal,
@@ -63,10 +98,12 @@ impl Joining {
     ghost use Rattle.ref_format.specs.declared.joining.Literal.TheVariants.{Closed};
 
     pub fn new(alloc: Global) -> Joining
-        ensures { result ≡ record { text = []; last = None; literal = Closed } }
+        ensures text { result.text.items ≡ [] }
+        ensures last { result.last ≡ None }
+        ensures literal { result.literal ≡ Closed }
     {
         Joining {
-            text: Items::new(alloc),
+            text: Vec::new(alloc),
             last: None,
             literal: Literal::Closed,
         }
@@ -78,7 +115,7 @@ impl Joining {
         ensures sound { OnOk result (IsSound self.new) }
         ensures last { OnOk result (self.new.last ≡ Some number) }
         ensures text { OnOk result
-            (self.new.text ≡ with_line self.old.last self.old.text (line_of number card.now)) }
+            (self.new.text.items ≡ with_line self.old.last self.old.text.items (line_of number card.now)) }
         ensures fault { let line = line_of number card.now in
             let fault = fault_of self.old.last self.old.literal line in
             Answers Memory (joined_or fault (Ok tt)) result }
@@ -90,7 +127,7 @@ impl Joining {
             self.go_on(number, card)?;
         } else {
             self.end_line()?;
-            self.put(number, &card[7..])?;
+            self.put_line(number, &card[7..])?;
         }
         self.last = Some(number);
         Ok(())
@@ -123,8 +160,8 @@ impl Joining {
     /// Goes on with a continuation line.
     fn go_on(&mut self, number: u32, card: &[u8; 72]) -> Result<(), NoMemory>
         ensures text { OnOk result
-            (self.new.text
-            ≡ trimmed self.old.literal self.old.text
+            (self.new.text.items
+            ≡ trimmed self.old.literal self.old.text.items
             ++ placed number (continuing self.old.literal card.now)) }
         ensures literal { OnOk result
             (self.new.literal ≡ behind self.old.literal (continuing self.old.literal card.now)) }
@@ -142,30 +179,43 @@ impl Joining {
 
     /// Ends the line that was kept last.
     fn end_line(&mut self) -> Result<(), NoMemory>
-        ensures text { OnOk result (self.new.text ≡ self.old.text ++ line_end self.old.last) }
-        ensures literal { OnOk result (self.new.literal ≡ Closed) }
+        ensures { OnOk result (self.new.text.items ≡ self.old.text.items ++ line_end self.old.last) }
     {
         if let Some(line) = self.last {
             self.text.push(Placed { byte: b'\n', line })?;
         }
-        self.literal = Literal::Closed;
+        Ok(())
+    }
+
+    /// Puts the bytes of a line, before which no literal is open.
+    fn put_line(&mut self, line: u32, bytes: &[u8]) -> Result<(), NoMemory>
+        ensures text { OnOk result (self.new.text.items ≡ self.old.text.items ++ placed line bytes.now) }
+        ensures literal { OnOk result (self.new.literal ≡ behind Closed bytes.now) }
+    {
+        let before = self.text.len();
+        self.text
+            .resize(before + bytes.len(), Placed { byte: b' ', line })?;
+        for (at, byte) in bytes.iter().enumerate() {
+            self.text[before + at].byte = *byte;
+        }
+        self.literal = Literal::in_line(bytes);
         Ok(())
     }
 
     fn put(&mut self, line: u32, bytes: &[u8]) -> Result<(), NoMemory>
-        ensures text { OnOk result (self.new.text ≡ self.old.text ++ placed line bytes.now) }
+        ensures text { OnOk result (self.new.text.items ≡ self.old.text.items ++ placed line bytes.now) }
         ensures literal { OnOk result (self.new.literal ≡ behind self.old.literal bytes.now) }
     {
         for byte in bytes {
             self.text.push(Placed { byte: *byte, line })?;
-            self.literal = self.literal.behind(*byte);
         }
+        self.literal = self.literal.behind_all(bytes);
         Ok(())
     }
 
     /// Drops the spaces at the text's end.
     fn trim(&mut self)
-        ensures text { self.new.text ≡ unspaced_end self.old.text }
+        ensures text { self.new.text.items ≡ unspaced_end self.old.text.items }
         ensures literal { self.new.literal ≡ self.old.literal }
     {
         while let Some(last) = self.text.as_slice().last() {

@@ -59,5 +59,5 @@ pub fn unfold(alloc: Global, bytes: &[u8]) -> Result<Items<Placed>, FormatFault>
         last: _,
         literal: _,
     } = joining;
-    Ok(text)
+    Ok(Items::from_vec(text))
 }

@@ -1,7 +1,7 @@
 -- The lowest label at which a rule applies, node by node.
 use Rattle.std.proofs.Common.{◌≡◌, ◌<◌, ◌≤◌, ◌+◌, ℕ, zero, suc, Bool, true, false, if◌then◌else◌, List, [], ◌∷◌, length, drop, Some, None, refl, ap, sym, ◌∙◌, arith, add-one}
 use Rattle.control.specs.Graph.{Label}
-use Rattle.graph_rules.specs.Reduced.{Node, lowest}
+use Rattle.control_laws.specs.graph_rules.Reduced.{Node, lowest}
 use Rattle.tree_rules.specs.Places.{label_at}
 
 module _ (applies : Label → Bool) where

@@ -4,10 +4,10 @@ use Rattle.std.specs.Prelude.{IfOk}
 use Rattle.std.proofs.lemmas.List.{length-map}
 use Rattle.cob_tree.specs.declared.fault.SplitFault.{SplitFault}
 use Rattle.control.specs.Graph.{tree, body_of, end_of}
-use Rattle.graph_rules.specs.Reduced.{Node, Graph}
-use Rattle.closing.specs.Closes.{IsClosed, closed_graph}
-use Rattle.closing.specs.Laws.{PlainEnd}
-use Rattle.closing.proofs.closing.ClosedEnding.{closed-ends}
+use Rattle.control_laws.specs.graph_rules.Reduced.{Node, Graph}
+use Rattle.control_laws.specs.closing.Closes.{IsClosed, closed_graph}
+use Rattle.control_laws.specs.closing.Laws.{PlainEnd}
+use Rattle.control_laws.proofs.closing_lemmas.closing.ClosedEnding.{closed-ends}
 use Rattle.branch_tree.specs.declared.graph.Node as code
 use Rattle.branch_tree.specs.Graphs.{seen_node, seen_nodes}
 use Rattle.branch_tree.specs.Trees.{seen_tree, seen_body, seen_end}

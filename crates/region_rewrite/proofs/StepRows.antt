@@ -2,10 +2,10 @@
 use Rattle.std.proofs.Common.{◌≡◌, ◌<◌, ◌≤◌, ◌++◌, ℕ, zero, suc, ◌-◌, Bool, true, false, if◌then◌else◌, List, [], ◌∷◌, length, take, drop, get_or, set, Option, Some, None, Result, Ok, refl, ap, sym, ◌∙◌, subst, arith}
 use Rattle.std.proofs.lemmas.List.{length-map}
 use Rattle.control.specs.Graph.{Label, Tree}
-use Rattle.graph_rules.specs.Reduced.{Node, Graph, each_tree, join_graph, inline_graph, close_graph, loops, inlines, lowest, loop_step, inline_step, rule_step, stepped, reduced, shaped, size}
-use Rattle.closing.specs.Closes.{IsClosed, exits_graph, has_exits, exits_step, or_exits, any_step, reduced_by_all, dispatch_graph, dispatch_rest}
+use Rattle.control_laws.specs.graph_rules.Reduced.{Node, Graph, each_tree, join_graph, inline_graph, close_graph, loops, inlines, lowest, loop_step, inline_step, rule_step, stepped, reduced, shaped, size}
+use Rattle.control_laws.specs.closing.Closes.{IsClosed, exits_graph, has_exits, exits_step, or_exits, any_step, reduced_by_all, dispatch_graph, dispatch_rest}
 use Rattle.control.specs.Doing.{is_above}
-use Rattle.closing.proofs.closing.RulesStayClosed.{rule-step-closed, any-step-closed, join-closed, shaped-closed}
+use Rattle.control_laws.proofs.closing_lemmas.closing.RulesStayClosed.{rule-step-closed, any-step-closed, join-closed, shaped-closed}
 use Rattle.branch_tree.specs.declared.graph.Node as code
 use Rattle.branch_tree.specs.Graphs.{seen_nodes, seen_node}
 use Rattle.cob_base.specs.declared.memory.NoMemory.{NoMemory}

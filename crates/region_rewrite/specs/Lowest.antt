@@ -1,7 +1,7 @@
 -- The lowest label at which a rule applies.
 use Rattle.std.specs.Prelude.{ℕ, ◌≡◌, ◌<◌, Bool, true, List, length, Option, Some, None}
 use Rattle.control.specs.Graph.{Label}
-use Rattle.graph_rules.specs.Reduced.{Node, lowest}
+use Rattle.control_laws.specs.graph_rules.Reduced.{Node, lowest}
 use Rattle.tree_rules.specs.Places.{label_at}
 
 -- the place of its node

@@ -6,7 +6,7 @@ use Rattle.cob_tree.specs.declared.fault.SplitFault.{SplitFault}
 use Rattle.cob_tree.specs.declared.fault.SplitFault.TheVariants as fault
 use Rattle.language.specs.Language.{none}
 use Rattle.control.specs.Graph.{Tree, tree, Dead, body_of}
-use Rattle.graph_rules.specs.Reduced.{Node, Graph}
+use Rattle.control_laws.specs.graph_rules.Reduced.{Node, Graph}
 use Rattle.branch_tree.specs.Graphs.{seen_added}
 use Rattle.branch_tree.specs.Trees.{seen_body, seen_end}
 use Rattle.tree_nesting.specs.Nesting.{nesting}

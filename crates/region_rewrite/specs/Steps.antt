@@ -1,7 +1,7 @@
 -- One step of the rules.
 use Rattle.std.specs.Prelude.{◌≡◌, Bool, true, false, Option, Some, None, Result, Ok, Err}
 use Rattle.cob_base.specs.declared.memory.NoMemory.{NoMemory}
-use Rattle.graph_rules.specs.Reduced.{Graph}
+use Rattle.control_laws.specs.graph_rules.Reduced.{Graph}
 
 -- true with the graph after the step, false where no rule applies
 abbrev pub Steps : Result Bool NoMemory → Option Graph → Graph → Graph → Type 0

@@ -1,8 +1,8 @@
 //! The lowest label at which a rule applies.
 
-ghost use Rattle.closing.specs.Closes.{has_exits};
-ghost use Rattle.closing.specs.Dispatches.{Rising};
-ghost use Rattle.graph_rules.specs.Reduced.{loops, inlines};
+ghost use Rattle.control_laws.specs.closing.Closes.{has_exits};
+ghost use Rattle.control_laws.specs.closing.Dispatches.{Rising};
+ghost use Rattle.control_laws.specs.graph_rules.Reduced.{loops, inlines};
 ghost use Rattle.branch_tree.specs.Graphs.{seen_graph, seen_nodes};
 ghost use Rattle.region_rewrite.specs.Lowest.{Lowest};
 

@@ -1,8 +1,8 @@
 //! All rules in their order.
 
 ghost use Rattle.std.specs.Prelude.{◌≡◌, None, OnOk};
-ghost use Rattle.closing.specs.Closes.{IsClosed, or_exits, any_step, reduced_by_all, closed_graph, dispatch_rest};
-ghost use Rattle.graph_rules.specs.Reduced.{rule_step};
+ghost use Rattle.control_laws.specs.closing.Closes.{IsClosed, or_exits, any_step, reduced_by_all, closed_graph, dispatch_rest};
+ghost use Rattle.control_laws.specs.graph_rules.Reduced.{rule_step};
 ghost use Rattle.branch_tree.specs.Graphs.{seen_graph};
 ghost use Rattle.region_rewrite.specs.Steps.{Steps};
 

@@ -1,9 +1,9 @@
 //! The rules, as long as one applies.
 
 ghost use Rattle.std.specs.Prelude.{◌≡◌, ◌*◌, None, IfOk, OnOk};
-ghost use Rattle.closing.specs.Closes.{IsClosed};
-ghost use Rattle.graph_rules.specs.Reduced.{each_tree, join_graph, loop_step, rule_step, reduced, shaped, size};
-ghost use Rattle.graph_rules.specs.Shapes.{joined};
+ghost use Rattle.control_laws.specs.closing.Closes.{IsClosed};
+ghost use Rattle.control_laws.specs.graph_rules.Reduced.{each_tree, join_graph, loop_step, rule_step, reduced, shaped, size};
+ghost use Rattle.control_laws.specs.graph_rules.Shapes.{joined};
 ghost use Rattle.branch_tree.specs.Graphs.{seen_graph, seen_nodes};
 ghost use Rattle.region_rewrite.specs.Steps.{Steps};
 

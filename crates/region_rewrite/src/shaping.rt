@@ -1,8 +1,8 @@
 //! A graph as one body.
 
 ghost use Rattle.std.specs.Prelude.{◌≡◌, length, IfOk};
-ghost use Rattle.closing.specs.Closes.{IsClosed, closed_graph};
-ghost use Rattle.closing.specs.Laws.{PlainEnd};
+ghost use Rattle.control_laws.specs.closing.Closes.{IsClosed, closed_graph};
+ghost use Rattle.control_laws.specs.closing.Laws.{PlainEnd};
 ghost use Rattle.branch_tree.specs.Graphs.{seen_graph};
 ghost use Rattle.branch_tree.specs.Trees.{seen_end};
 ghost use Rattle.region_rewrite.specs.Shape.{Shapes, nesting_passed};

@@ -18,10 +18,10 @@ use Rattle.language.specs.Control.{arith_stmt, arm_before, both_arms, Branch, br
 use Rattle.language.specs.Language as language
 use Rattle.language.proofs.Rows.{seen_arith, seen_evaluate, seen_if, seen_loop, seen_read, seen_when_is}
 use Rattle.control.specs.Graph as graph
-use Rattle.lowering.specs.Told.{Told}
-use Rattle.lowering.specs.Completes.{sizes, size_arms}
-use Rattle.lowering.specs.Lower as lower
-use Rattle.lowering.specs.Lowered.{find, Within}
+use Rattle.control_laws.specs.lowering.Told.{Told}
+use Rattle.control_laws.specs.lowering.Completes.{sizes, size_arms}
+use Rattle.control_laws.specs.lowering.Lower as lower
+use Rattle.control_laws.specs.lowering.Lowered.{find, Within}
 use Rattle.lower_places.proofs.SizeLemmas.{sizes-seen}
 use Rattle.lower_places.specs.declared.layout.Layout.{Layout}
 use Rattle.lower_stmts.specs.Arms.{if_arms, one_arm, phrase_arms, phrase_places, seen_phrase, when_arms}

@@ -7,11 +7,11 @@ use Rattle.cob_tree.specs.declared.stmt.Stmt.{Stmt}
 use Rattle.language.specs.Control.{seen_sentence, seen_stmts}
 use Rattle.language.specs.Language as language
 use Rattle.control.specs.Graph as graph
-use Rattle.lowering.specs.Told.{Told}
-use Rattle.lowering.specs.Completes.{cuts, leave_sentence, sizes}
-use Rattle.lowering.specs.Lower as lower
-use Rattle.lowering.specs.Lowered.{Within}
-use Rattle.lowering.specs.Rests.{Rest, Over, Sent, after_loop, at_loop, leaf_of, leaving_of, rest_from, tree_of}
+use Rattle.control_laws.specs.lowering.Told.{Told}
+use Rattle.control_laws.specs.lowering.Completes.{cuts, leave_sentence, sizes}
+use Rattle.control_laws.specs.lowering.Lower as lower
+use Rattle.control_laws.specs.lowering.Lowered.{Within}
+use Rattle.control_laws.specs.lowering.Rests.{Rest, Over, Sent, after_loop, at_loop, leaf_of, leaving_of, rest_from, tree_of}
 use Rattle.lower_places.proofs.SizeLemmas.{sizes-seen, stmt_above}
 use Rattle.lower_places.specs.declared.layout.Layout.{Layout}
 use Rattle.rest_table.specs.declared.paragraphs.Begin.{Begin}

@@ -4,9 +4,9 @@ use Rattle.cob_tree.specs.declared.stmt.Stmt.{Stmt}
 use Rattle.language.specs.Control.{seen_stmts}
 use Rattle.language.specs.Language as language
 use Rattle.control.specs.Graph as graph
-use Rattle.lowering.specs.Told.{Told}
-use Rattle.lowering.specs.Completes.{size, skips}
-use Rattle.lowering.specs.Lower as lower
+use Rattle.control_laws.specs.lowering.Told.{Told}
+use Rattle.control_laws.specs.lowering.Completes.{size, skips}
+use Rattle.control_laws.specs.lowering.Lower as lower
 use Rattle.cut_lists.specs.Told.{told_of}
 use Rattle.lower_places.specs.Leaf.{seen_leaf}
 use Rattle.lower_places.specs.declared.layout.Layout.{Layout}

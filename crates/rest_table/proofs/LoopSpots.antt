@@ -5,8 +5,8 @@ use Rattle.cob_tree.specs.declared.stmt.Stmt.{Stmt}
 use Rattle.language.specs.Control.{loop_of, seen_stmts}
 use Rattle.language.specs.Language as language
 use Rattle.control.specs.Graph as graph
-use Rattle.lowering.specs.Lower as lower
-use Rattle.lowering.specs.Lowered.{Within}
+use Rattle.control_laws.specs.lowering.Lower as lower
+use Rattle.control_laws.specs.lowering.Lowered.{Within}
 use Rattle.lower_places.specs.Leaf.{seen_leaf}
 use Rattle.lower_places.specs.declared.layout.Layout.{Layout}
 use Rattle.lower_places.specs.declared.leaf.Leaf.{Leaf}

@@ -11,9 +11,9 @@ use Rattle.language.specs.Control.{seen_sentence, seen_stmts}
 use Rattle.language.specs.OwnItems.{sentences_own, stmts_own}
 use Rattle.control.specs.Graph as graph
 use Rattle.cut_lists.specs.Told.{told_of}
-use Rattle.lowering.specs.Completes.{cuts, leave_sentence}
-use Rattle.lowering.specs.Lower as lower
-use Rattle.lowering.specs.Rests.{rest_from, tree_of}
+use Rattle.control_laws.specs.lowering.Completes.{cuts, leave_sentence}
+use Rattle.control_laws.specs.lowering.Lower as lower
+use Rattle.control_laws.specs.lowering.Rests.{rest_from, tree_of}
 use Rattle.lower_places.specs.declared.layout.Layout.{Layout}
 use Rattle.lower_places.specs.Layout.{paragraph_size}
 use Rattle.lower_stmts.specs.declared.telling.Telling.{Telling}

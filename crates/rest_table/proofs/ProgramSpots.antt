@@ -11,11 +11,11 @@ use Rattle.language.specs.Control.{control_of, section_last, seen_paragraph, see
 use Rattle.language.specs.Language as language
 use Rattle.language.specs.OwnItems.{paragraphs_own, sentences_own}
 use Rattle.control.specs.Graph as graph
-use Rattle.lowering.specs.Told.{Told}
-use Rattle.lowering.specs.Completes.{sizes}
-use Rattle.lowering.specs.Lower as lower
-use Rattle.lowering.specs.Lowered.{nodes_from, nodes_left, place_in, total, Within}
-use Rattle.lowering.specs.Rests.{leaf_of, leaving_of, rest_from, tree_of}
+use Rattle.control_laws.specs.lowering.Told.{Told}
+use Rattle.control_laws.specs.lowering.Completes.{sizes}
+use Rattle.control_laws.specs.lowering.Lower as lower
+use Rattle.control_laws.specs.lowering.Lowered.{nodes_from, nodes_left, place_in, total, Within}
+use Rattle.control_laws.specs.lowering.Rests.{leaf_of, leaving_of, rest_from, tree_of}
 use Rattle.lower_places.proofs.SizeLemmas.{sizes-seen}
 use Rattle.lower_places.specs.declared.layout.Layout.{Layout}
 use Rattle.lower_places.specs.Layout.{end_from, IsLayout, paragraph_size, place_at, places_from}

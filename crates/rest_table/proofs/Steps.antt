@@ -8,9 +8,9 @@ use Rattle.cob_tree.specs.declared.stmt.Stmt.{Stmt}
 use Rattle.language.specs.Control.{seen, seen_stmts}
 use Rattle.language.specs.OwnItems.{stmt_own, stmts_own}
 use Rattle.control.specs.Graph as graph
-use Rattle.lowering.specs.Told.{Told}
-use Rattle.lowering.specs.Completes.{size}
-use Rattle.lowering.specs.Lower as lower
+use Rattle.control_laws.specs.lowering.Told.{Told}
+use Rattle.control_laws.specs.lowering.Completes.{size}
+use Rattle.control_laws.specs.lowering.Lower as lower
 use Rattle.lower_places.proofs.SizeLemmas.{size-seen, stmt_above}
 use Rattle.lower_places.specs.declared.layout.Layout.{Layout}
 use Rattle.lower_stmts.proofs.PartRows.{stmt_in_own, stmt_in_places}

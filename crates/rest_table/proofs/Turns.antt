@@ -2,10 +2,10 @@
 use Rattle.std.proofs.Common.{◌≡◌, ℕ, ◌+◌, ◌*◌, ◌≤◌, ◌<◌, Bool, true, false, if◌then◌else◌, [], ◌∷◌, ◌++◌, Some, refl, ap, ◌∙◌, arith}
 use Rattle.language.specs.Language.{Control, Times, Until, Varying, Stmt, Do, Choose, Loop, Perform, Go, GoDepending, NextSentence, ExitParagraph, ExitSection, ExitPerform, StopRun, Stmts, also, Nested, Performed}
 use Rattle.control.specs.Graph.{Label, Tree, End, Jump}
-use Rattle.lowering.specs.Told.{Told}
-use Rattle.lowering.specs.Completes.{size, sizes}
-use Rattle.lowering.specs.Lower.{back, build, head, third, point, leaf, Leaving, loop_nodes, node, nodes, nodes_in, nodes_of_arms, only, within_loop}
-use Rattle.lowering.specs.Lowered.{find}
+use Rattle.control_laws.specs.lowering.Told.{Told}
+use Rattle.control_laws.specs.lowering.Completes.{size, sizes}
+use Rattle.control_laws.specs.lowering.Lower.{back, build, head, third, point, leaf, Leaving, loop_nodes, node, nodes, nodes_in, nodes_of_arms, only, within_loop}
+use Rattle.control_laws.specs.lowering.Lowered.{find}
 use Rattle.lower_trees.specs.Loops.{head_by, has_third, third_by}
 use Rattle.lower_trees.proofs.NodeRows.{nodes_are}
 use Rattle.lower_stmts.specs.Turns.{body_tree, loop_at}

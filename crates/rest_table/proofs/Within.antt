@@ -3,10 +3,10 @@ use Rattle.std.proofs.Common.{◌≡◌, ℕ, ◌+◌, ◌*◌, ◌≤◌, ◌<�
 use Rattle.std.proofs.lemmas.Bool.Decides.{eqb_tells}
 use Rattle.language.specs.Language.{Control, Times, Until, Varying, Stmt, Do, Choose, Loop, Perform, Go, GoDepending, NextSentence, ExitParagraph, ExitSection, ExitPerform, StopRun, Stmts, none, also, Arms, done, given, missing, Nested, Performed}
 use Rattle.control.specs.Graph.{Label, Tree, End, Jump, Dead}
-use Rattle.lowering.specs.Told.{Told}
-use Rattle.lowering.specs.Completes.{size, sizes, size_arms}
-use Rattle.lowering.specs.Lower.{back, build, leaf, Leaving, loop_nodes, Node, nodes, nodes_in, nodes_of_arms, only, within_loop}
-use Rattle.lowering.specs.Lowered.{find, Within}
+use Rattle.control_laws.specs.lowering.Told.{Told}
+use Rattle.control_laws.specs.lowering.Completes.{size, sizes, size_arms}
+use Rattle.control_laws.specs.lowering.Lower.{back, build, leaf, Leaving, loop_nodes, Node, nodes, nodes_in, nodes_of_arms, only, within_loop}
+use Rattle.control_laws.specs.lowering.Lowered.{find, Within}
 use Rattle.rest_table.specs.Spots.{Agrees}
 
 pub within-le : (a b : ℕ) (xs : List Node) → Within a b xs → a ≤ b

@@ -6,7 +6,7 @@ use Rattle.lower_places.specs.Leaf.{IsLeaf, seen_leaf}
 use Rattle.lower_stmts.specs.Turns.{turn_end}
 use Rattle.cob_tree.specs.declared.file.FileEntry.{FileEntry}
 use Rattle.control.specs.Graph as graph
-use Rattle.lowering.specs.Lower as lower
+use Rattle.control_laws.specs.lowering.Lower as lower
 use Rattle.lower_places.specs.Layout.{AreAt}
 use Rattle.lower_places.specs.declared.layout.Layout.{Layout}
 use Rattle.lower_places.specs.declared.leaf.Leaf.{Leaf}

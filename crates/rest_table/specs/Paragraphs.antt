@@ -8,11 +8,11 @@ use Rattle.cob_tree.specs.declared.stmt.Stmt.{Stmt}
 use Rattle.language.specs.Control.{control_of, section_last, seen_paragraph}
 use Rattle.language.specs.Language as language
 use Rattle.control.specs.Graph as graph
-use Rattle.lowering.specs.Told.{Told}
-use Rattle.lowering.specs.Completes.{cuts, leave_sentence, sizes}
-use Rattle.lowering.specs.Lower as lower
-use Rattle.lowering.specs.Lowered.{lowered, place_in}
-use Rattle.lowering.specs.Rests.{Rest, Sent, leaf_of, leaving_of, rest_from, tree_of}
+use Rattle.control_laws.specs.lowering.Told.{Told}
+use Rattle.control_laws.specs.lowering.Completes.{cuts, leave_sentence, sizes}
+use Rattle.control_laws.specs.lowering.Lower as lower
+use Rattle.control_laws.specs.lowering.Lowered.{lowered, place_in}
+use Rattle.control_laws.specs.lowering.Rests.{Rest, Sent, leaf_of, leaving_of, rest_from, tree_of}
 use Rattle.lower_places.specs.declared.layout.Layout.{Layout}
 use Rattle.lower_places.specs.declared.leaf.Leaf.TheVariants as leaf
 use Rattle.lower_places.specs.Layout.{IsLayout, paragraph_size}

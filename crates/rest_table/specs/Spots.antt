@@ -8,10 +8,10 @@ use Rattle.language.specs.Control.{arm_before, branches_before, control_in, loop
 use Rattle.language.specs.Language as language
 use Rattle.language.specs.OwnItems.{stmts_own}
 use Rattle.control.specs.Graph as graph
-use Rattle.lowering.specs.Told.{Told}
-use Rattle.lowering.specs.Completes.{size}
-use Rattle.lowering.specs.Lower as lower
-use Rattle.lowering.specs.Lowered.{find}
+use Rattle.control_laws.specs.lowering.Told.{Told}
+use Rattle.control_laws.specs.lowering.Completes.{size}
+use Rattle.control_laws.specs.lowering.Lower as lower
+use Rattle.control_laws.specs.lowering.Lowered.{find}
 use Rattle.cut_lists.specs.Told.{told_of}
 use Rattle.lower_places.specs.declared.layout.Layout.{Layout}
 use Rattle.lower_stmts.specs.Arms.{seen_phrase}

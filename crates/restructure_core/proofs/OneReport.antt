@@ -6,8 +6,8 @@ use Rattle.out_names.specs.Naming.{paragraph_label}
 use Rattle.flow_numbers.specs.Kinds.{never_first_of}
 use Rattle.pending_returns.specs.declared.facts.RangeFacts.{RangeFacts}
 use Rattle.pending_returns.specs.declared.facts.Summary.{Summary}
-use Rattle.one_summary.proofs.Facts.{summaries-same}
-use Rattle.one_summary.proofs.Numbers.{one-rising}
+use Rattle.procedure_split.proofs.one_summary_lemmas.Facts.{summaries-same}
+use Rattle.procedure_split.proofs.one_summary_lemmas.Numbers.{one-rising}
 use Rattle.flow_report.specs.Report.{IsSummaryOf, AreDroppedOf, AreLabelsOfDropped, IsReportOf}
 use Rattle.flow_report.specs.declared.report.AddedCounts.{AddedCounts}
 use Rattle.flow_report.specs.declared.report.Report.{Report}

@@ -9,15 +9,15 @@ use Rattle.procedure_split.specs.declared.writing.Split.{Split}
 use Rattle.flow_report.specs.Report.{IsReportOf}
 use Rattle.flow_report.specs.declared.report.Report.{Report}
 use Rattle.restructure_core.proofs.OneReport.{one-report}
-use Rattle.one_split.specs.Laws.{IsSplitOnce}
-use Rattle.one_split.proofs.OneSplit.{one-split}
+use Rattle.procedure_split.specs.one_split.Laws.{IsSplitOnce}
+use Rattle.procedure_split.proofs.one_split_lemmas.OneSplit.{one-split}
 use Rattle.restructure_core.specs.declared.pipeline.Done.{Done}
 use Rattle.restructure_core.specs.Flow.{IsFaultless}
 use Rattle.pending_returns.specs.declared.facts.Summary.{Summary}
 use Rattle.restructure_core.specs.Made.{IsClear, IsMadeOf, PassesBefore}
 use Rattle.restructure_core.specs.Limit.{result_limit}
 use Rattle.restructure_core.specs.Answers.{PassesAsResult, PassesLimit, IsResultOf}
-use Rattle.read_headline.proofs.WellMade.{well-made}
+use Rattle.result_laws.proofs.read_headline_lemmas.WellMade.{well-made}
 use Rattle.restructure_core.proofs.ReadWell.{clear-flow}
 
 pub limited-faultless : (program : Program) (limit : Limit) → PassesLimit program limit →

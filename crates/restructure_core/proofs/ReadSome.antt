@@ -4,9 +4,9 @@ use Rattle.cob_tree.specs.declared.program.Paragraph.{Paragraph}
 use Rattle.cob_tree.specs.declared.program.Program.{Program}
 use Rattle.grammar_forms.specs.Form.{Input}
 use Rattle.grammar_forms.specs.Reading.{start}
-use Rattle.stmt_forms.specs.Part.{Parts}
-use Rattle.stmt_forms.specs.Paragraph as paragraphs
-use Rattle.stmt_forms.specs.Paragraph.{at_least_one, with_pending}
+use Rattle.statement_grammar.specs.stmt_forms.Part.{Parts}
+use Rattle.statement_grammar.specs.stmt_forms.Paragraph as paragraphs
+use Rattle.statement_grammar.specs.stmt_forms.Paragraph.{at_least_one, with_pending}
 use Rattle.statement_grammar.specs.Whole.{parts_of}
 use Rattle.cobol_read.specs.declared.program.Declarations.{Declarations}
 use Rattle.cobol_read.specs.declared.program.ProgramDraft.{ProgramDraft}

@@ -3,9 +3,9 @@ use Rattle.std.proofs.Common.{ℕ, List}
 use Rattle.cob_tree.specs.declared.program.Program.{Program}
 use Rattle.pending_returns.specs.declared.facts.Summary.{Summary}
 use Rattle.cobol_read.specs.Reading.{Reads}
-use Rattle.shaped_ranges.specs.Laws.{HasFlow}
-use Rattle.split_behaviour.specs.Alike.{FlowsSo}
-use Rattle.read_headline.proofs.WellMade.{well-made}
+use Rattle.procedure_split.specs.shaped_ranges.Laws.{HasFlow}
+use Rattle.procedure_split.specs.split_behaviour.Alike.{FlowsSo}
+use Rattle.result_laws.proofs.read_headline_lemmas.WellMade.{well-made}
 use Rattle.restructure_core.specs.Made.{IsClear}
 use Rattle.restructure_core.proofs.ReadSome.{read_some}
 

@@ -12,7 +12,7 @@ use Rattle.pending_returns.specs.declared.facts.Summary.{Summary}
 use Rattle.procedure_split.specs.declared.writing.Split.{Split}
 use Rattle.procedure_split.specs.Split.{IsSplit}
 use Rattle.cobol_read.specs.Limit.{token_limit}
-use Rattle.readable_results.specs.Laws.{IsWithinLimits, SplitProgramsReadBack}
+use Rattle.result_laws.specs.readable_results.Laws.{IsWithinLimits, SplitProgramsReadBack}
 use Rattle.restructure_core.specs.Limit.{byte_limit, byte_count, token_count, else_limit, text_limit, part_limit, result_limit}
 use Rattle.restructure_core.specs.Made.{IsMadeOf}
 use Rattle.restructure_core.specs.Results.{ResultsReadBack}

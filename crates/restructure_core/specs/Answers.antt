@@ -3,7 +3,7 @@ use Rattle.std.specs.Prelude.{ℕ, ◌≡◌, ◌≢◌, ◌⊎◌, List, Some, 
 use Rattle.cob_base.specs.declared.limit.Limit.{Limit}
 use Rattle.cob_tree.specs.declared.program.Program.{Program}
 use Rattle.struct_form.specs.Structured.{IsStructured}
-use Rattle.cobol_meaning.specs.Same.{SameBehaviour}
+use Rattle.cobol_laws.specs.cobol_meaning.Same.{SameBehaviour}
 use Rattle.flow_paths.specs.declared.trail.Trail.{Trail}
 use Rattle.pending_returns.specs.Summary.{IsWithin}
 use Rattle.procedure_split.specs.declared.writing.Split.{Split}

@@ -3,7 +3,7 @@
 ghost use Rattle.std.specs.Prelude.{◌⊎◌, ◌≡◌, IsOk, IfOk, IfErr, Err};
 ghost use Rattle.cob_base.specs.declared.limit.Limit as limits;
 ghost use Rattle.cob_tree.specs.declared.program.Program as tree;
-ghost use Rattle.shaped_ranges.specs.Laws.{HasFlow};
+ghost use Rattle.procedure_split.specs.shaped_ranges.Laws.{HasFlow};
 ghost use Rattle.restructure_core.specs.declared.fault.Refused as answers;
 ghost use Rattle.restructure_core.specs.Made.{IsClear};
 ghost use Rattle.restructure_core.specs.Answers.{IsUnread, IsPastRanges, IsFaultySource, IsPastLimit, IsAccepted, IsRestructured, IsReported, IsAnswerTo, HasCause, IsRefusedBy, IsRefusedByTrail};

@@ -21,3 +21,5 @@ pub mod AskLemmas
 pub mod LawLemmas
 -- at most one end of a run is due, and it comes
 pub mod RunLawLemmas
+-- the same over files
+pub mod FilesLawLemmas

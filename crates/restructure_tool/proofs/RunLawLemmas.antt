@@ -10,8 +10,8 @@ use Rattle.cob_tree.specs.declared.ending.FlowFault.TheVariants as flow
 use Rattle.cob_tree.specs.declared.program.Program.{Program}
 use Rattle.runs.specs.Run.{Going, Over}
 use Rattle.control.specs.Outcome as outcome
-use Rattle.cobol_meaning.specs.Acting.{abend_number}
-use Rattle.cobol_meaning.specs.Runs.{Files}
+use Rattle.cobol_laws.specs.cobol_meaning.Acting.{abend_number}
+use Rattle.cobol_laws.specs.cobol_meaning.Runs.{Files}
 use Rattle.cobol_read.specs.Reading.{Reads}
 use Rattle.cobol_read.proofs.OneWay.{one_way}
 use Rattle.cobol_run.specs.Machine.{ending_seen, fault_seen}
@@ -65,14 +65,14 @@ fault-same (flow.Overlap m) (flow.Reentry n) h = absurd (overlap-reentry m n h)
 fault-same (flow.Reentry m) (flow.Overlap n) h = absurd (overlap-reentry n m (sym h))
 fault-same (flow.Reentry m) (flow.Reentry n) h = ap flow.Reentry (reentry-same m n h)
 
-abbrev Seen : Type 0
+abbrev pub Seen : Type 0
 Seen = outcome.Ending Files
 
-abended-same : (one other : ℕ) (files : Files) → ◌≡◌ {A = Seen} (outcome.Stopped (outcome.Abend one) files) (outcome.Stopped (outcome.Abend other) files) → one ≡ other
-abended-same one other files h = cc
+abended-same : (one other : ℕ) (files left : Files) → ◌≡◌ {A = Seen} (outcome.Stopped (outcome.Abend one) files) (outcome.Stopped (outcome.Abend other) left) → one ≡ other
+abended-same one other files left h = cc
 
-abended-never : (kind : ℕ) (files : Files) → ◌≡◌ {A = Seen} (outcome.Stopped outcome.Normally files) (outcome.Stopped (outcome.Abend kind) files) → ⊥
-abended-never kind files h = cc
+abended-never : (kind : ℕ) (files left : Files) → ◌≡◌ {A = Seen} (outcome.Stopped outcome.Normally files) (outcome.Stopped (outcome.Abend kind) left) → ⊥
+abended-never kind files left h = cc
 
 faulted-same : (one other : outcome.FlowFault) → ◌≡◌ {A = Seen} (outcome.Faulted one) (outcome.Faulted other) → one ≡ other
 faulted-same one other h = cc
@@ -80,22 +80,22 @@ faulted-same one other h = cc
 faulted-never : (how : outcome.How) (files : Files) (fault : outcome.FlowFault) → ◌≡◌ {A = Seen} (outcome.Stopped how files) (outcome.Faulted fault) → ⊥
 faulted-never how files fault h = cc
 
-over-same : (one other : Seen) → Over one ≡ Over other → one ≡ other
+pub over-same : (one other : Seen) → Over one ≡ Over other → one ≡ other
 over-same one other h = cc
 
-over-never : (one : Seen) → Over one ≡ Going → ⊥
+pub over-never : (one : Seen) → Over one ≡ Going → ⊥
 over-never one h = cc
 
-module _ (files : Files) where
-  ending-same : (one other : Ending) → ending_seen one files ≡ ending_seen other files → one ≡ other
+module _ (files left : Files) where
+  pub ending-same : (one other : Ending) → ending_seen one files ≡ ending_seen other left → one ≡ other
   ending-same ending.Stopped ending.Stopped h = refl
-  ending-same ending.Stopped (ending.Abended abend) h = absurd (abended-never (abend_number abend) files h)
+  ending-same ending.Stopped (ending.Abended abend) h = absurd (abended-never (abend_number abend) files left h)
   ending-same ending.Stopped (ending.Faulted fault) h = absurd (faulted-never outcome.Normally files (fault_seen fault) h)
-  ending-same (ending.Abended abend) ending.Stopped h = absurd (abended-never (abend_number abend) files (sym h))
-  ending-same (ending.Abended one) (ending.Abended other) h = ap ending.Abended (abend-same one other (abended-same (abend_number one) (abend_number other) files h))
+  ending-same (ending.Abended abend) ending.Stopped h = absurd (abended-never (abend_number abend) left files (sym h))
+  ending-same (ending.Abended one) (ending.Abended other) h = ap ending.Abended (abend-same one other (abended-same (abend_number one) (abend_number other) files left h))
   ending-same (ending.Abended abend) (ending.Faulted fault) h = absurd (faulted-never (outcome.Abend (abend_number abend)) files (fault_seen fault) h)
-  ending-same (ending.Faulted fault) ending.Stopped h = absurd (faulted-never outcome.Normally files (fault_seen fault) (sym h))
-  ending-same (ending.Faulted fault) (ending.Abended abend) h = absurd (faulted-never (outcome.Abend (abend_number abend)) files (fault_seen fault) (sym h))
+  ending-same (ending.Faulted fault) ending.Stopped h = absurd (faulted-never outcome.Normally left (fault_seen fault) (sym h))
+  ending-same (ending.Faulted fault) (ending.Abended abend) h = absurd (faulted-never (outcome.Abend (abend_number abend)) left (fault_seen fault) (sym h))
   ending-same (ending.Faulted one) (ending.Faulted other) h = ap ending.Faulted (fault-same one other (faulted-same (fault_seen one) (fault_seen other) h))
 
 -- what is due, by what the bytes are
@@ -118,7 +118,7 @@ of-due steps bytes (Some refusal.NoMemory) h = absurd h
 
 module _ (steps : ℕ) (bytes : List ℕ) where
   -- bytes that are a program aren't refused
-  never-both : (program : Program) (why : Refused) → Reads bytes program → IsUnread bytes why → ⊥
+  pub never-both : (program : Program) (why : Refused) → Reads bytes program → IsUnread bytes why → ⊥
   never-both program why reads h = one_way.refused bytes program h.why reads h.some h.cause
 
   -- what is due to a program is said of one without statements on files
@@ -131,7 +131,7 @@ module _ (steps : ℕ) (bytes : List ℕ) where
   ends-same one other e f h g =
       let same : one ≡ other = one_way.program bytes one other h.reads g.reads in
       let there : EndsAs bytes steps other e = subst (λ p. EndsAs bytes steps p e) same h in
-      let alike : e ≡ f = ending-same [] e f (over-same (ending_seen e []) (ending_seen f []) (sym (there.stands []) ∙ g.stands [])) in
+      let alike : e ≡ f = ending-same [] [] e f (over-same (ending_seen e []) (ending_seen f []) (sym (there.stands []) ∙ g.stands [])) in
       ap (λ p. refusal_of_ending p e) same ∙ ap (refusal_of_ending other) alike
 
   never-going : (one other : Program) (e : Ending) → EndsAs bytes steps one e → StandsSo bytes steps other (λ files. Going) → ⊥
@@ -140,7 +140,7 @@ module _ (steps : ℕ) (bytes : List ℕ) where
       let there : EndsAs bytes steps other e = subst (λ p. EndsAs bytes steps p e) same h in
       over-never (ending_seen e []) (sym (there.stands []) ∙ g.stands [])
 
-  unread-same : (one other : Refused) → IsUnread bytes one → IsUnread bytes other → one ≡ other
+  pub unread-same : (one other : Refused) → IsUnread bytes one → IsUnread bytes other → one ≡ other
   unread-same one other h g = h.is ∙ ap of_read_refusal (one_way.cause bytes h.why g.why h.some g.some h.cause g.cause) ∙ sym g.is
 
   alike : (one other : Option Refusal) → IsOf steps bytes one → IsOf steps bytes other → one ≡ other
@@ -159,7 +159,7 @@ one-run steps bytes one other h g = alike steps bytes one other (of-due steps by
 
 -- What is due comes.
 
-read-fault-comes : (due : Option Refusal) → IsOneOf (statuses_of_run due) status.ReadFault
+pub read-fault-comes : (due : Option Refusal) → IsOneOf (statuses_of_run due) status.ReadFault
 read-fault-comes None = inr (inr (inl refl))
 read-fault-comes (Some refusal.Usage) = inr (inr (inl refl))
 read-fault-comes (Some (refusal.Refused why)) = inr (inl refl)
@@ -171,7 +171,7 @@ read-fault-comes (Some refusal.ReadFault) = inl refl
 read-fault-comes (Some refusal.WriteFault) = inr (inr (inl refl))
 read-fault-comes (Some refusal.NoMemory) = inr (inr (inl refl))
 
-no-memory-comes : (due : Option Refusal) → IsOneOf (statuses_of_run due) status.NoMemory
+pub no-memory-comes : (due : Option Refusal) → IsOneOf (statuses_of_run due) status.NoMemory
 no-memory-comes None = inr (inr (inr (inl refl)))
 no-memory-comes (Some refusal.Usage) = inr (inr (inr (inl refl)))
 no-memory-comes (Some (refusal.Refused why)) = inr (inr (inl refl))
@@ -196,7 +196,7 @@ write-fault-comes steps bytes program (Some refusal.ReadFault) reads h = absurd 
 write-fault-comes steps bytes program (Some refusal.WriteFault) reads h = absurd h
 write-fault-comes steps bytes program (Some refusal.NoMemory) reads h = absurd h
 
-noted : (r : Refusal) (due : Option Refusal) (notes : SinkCall) (answer : Status) → IsOneOf (statuses_of_run due) (status_of r) → Notes r notes answer → IsOneOf (statuses_of_run due) answer
+pub noted : (r : Refusal) (due : Option Refusal) (notes : SinkCall) (answer : Status) → IsOneOf (statuses_of_run due) (status_of r) → Notes r notes answer → IsOneOf (statuses_of_run due) answer
 noted r due notes answer h (inl g) = subst (IsOneOf (statuses_of_run due)) (sym g.0) h
 noted r due notes answer h (inr g) = subst (IsOneOf (statuses_of_run due)) (sym g.0) (no-memory-comes due)
 
@@ -243,7 +243,7 @@ module _ (steps : ℕ) (bytes : List ℕ) (due : Option Refusal) (is_due : IsRun
       refused-told why notes answer (record { why = why; some = h.1; cause = h.0; is = refl }) g
   came-told came.NoMemory out notes answer h g = noted refusal.NoMemory due notes answer (no-memory-comes due) g
 
-unrun-comes : (due : Option Refusal) (source : SourceCall) (out notes : SinkCall) (answer : Status) → IsUnrun source out notes answer → IsOneOf (statuses_of_run due) answer
+pub unrun-comes : (due : Option Refusal) (source : SourceCall) (out notes : SinkCall) (answer : Status) → IsUnrun source out notes answer → IsOneOf (statuses_of_run due) answer
 unrun-comes due source out notes answer h = elim h.why [
   | inl fault ↦ noted h.refusal due notes answer (subst (λ r. IsOneOf (statuses_of_run due) (status_of r)) (sym fault.0) (read-fault-comes due)) h.noted
   | inr starved ↦ noted h.refusal due notes answer (subst (λ r. IsOneOf (statuses_of_run due) (status_of r)) (sym starved.0) (no-memory-comes due)) h.noted

@@ -9,7 +9,8 @@ use Rattle.cobol_read.specs.declared.refusal.ReadRefusal.TheVariants as rd
 use Rattle.cobol_read.specs.Limit.{source_limit, past_source}
 use Rattle.run_answer.specs.declared.Came.{Came}
 use Rattle.run_answer.specs.declared.Came.TheVariants as came
-use Rattle.run_answer.specs.Answers.{Comes, IsWriteFault, Keeps as Kept}
+use Rattle.file_desk.specs.Seen.{Seen}
+use Rattle.run_answer.specs.Answers.{Comes, ComesOver, IsWriteFault, Keeps as Kept}
 use Rattle.restructure_tool.proofs.LengthLemmas.{short-read, short-either}
 use Rattle.restructure_tool.proofs.EndLemmas.{whole-read, long-read}
 use Rattle.restructure_tool.specs.declared.refusal.Refusal.{Refusal}
@@ -17,7 +18,7 @@ use Rattle.restructure_tool.specs.declared.refusal.Refusal.TheVariants as refusa
 use Rattle.restructure_tool.specs.declared.status.Status.{Status}
 use Rattle.restructure_tool.specs.declared.status.Status.TheVariants as status
 use Rattle.restructure_tool.specs.Reading.{IsRead, IsReadWithin, IsReadFault}
-use Rattle.restructure_tool.specs.Running.{IsRun, EndsOfRun, TellsCame, refusal_of}
+use Rattle.restructure_tool.specs.Running.{IsRun, EndsOfRun, EndsOfRunWithFiles, TellsCame, refusal_of}
 use Rattle.restructure_tool.specs.Writing.{Keeps, Notes}
 
 -- What came of the text that was read came of the bytes of the source.
@@ -41,6 +42,20 @@ module _ (steps : ℕ) (source : SourceCall) (out : SinkCall) (text : List ℕ) 
 
   pub told-run : (c : Came) (notes : SinkCall) (answer : Status) → Comes text steps out c → TellsCame (refusal_of steps c) notes answer → (IsWriteFault c → Rose out.count out.count_now) → EndsOfRun steps source out notes answer
   told-run c notes answer h told fault = inl (record { came = c; run = was-run c h; told = told; fault = fault })
+
+  pub over-run : (c : Came) (notes : SinkCall) (answer : Status) (old new : List Seen) → Comes text steps out c → ComesOver text steps out old new c → TellsCame (refusal_of steps c) notes answer → (IsWriteFault c → Rose out.count out.count_now) → EndsOfRunWithFiles steps source out notes old new answer
+  unfolding run-of
+  over-run (came.Ran program ran) notes answer old new h over told fault =
+      let c : Came = came.Ran program ran in
+      let whole = whole-read read.bytes text read.front (short-read text program h.0) in
+      inl (record {
+        told = record { came = c; run = run-of c (subst (λ b. Comes b steps out c) whole h); told = told; fault = fault };
+        over = subst (λ b. ComesOver b steps out old new c) whole over;
+      })
+  over-run (came.Refused why) notes answer old new h over told fault =
+      inl (record { told = record { came = came.Refused why; run = was-run (came.Refused why) h; told = told; fault = fault }; over = tt })
+  over-run came.NoMemory notes answer old new h over told fault =
+      inl (record { told = record { came = came.NoMemory; run = was-run came.NoMemory h; told = told; fault = fault }; over = tt })
 
 -- a source that failed, or for which memory was wanted, wasn't run
 pub unrun : (steps : ℕ) (source : SourceCall) (out notes : SinkCall) (r : Refusal) (answer : Status) → (r ≡ refusal.ReadFault) ⊎ (r ≡ refusal.NoMemory) → (r ≡ refusal.ReadFault → Rose source.count source.count_now) → IsReadWithin (source_limit + 1) source → Keeps out → Notes r notes answer → EndsOfRun steps source out notes answer

@@ -4,6 +4,9 @@ use Rattle.cob_base.specs.Source.{SourceCall}
 use Rattle.cob_base.specs.Sink.{SinkCall}
 use Rattle.cob_tree.specs.declared.program.Program.{Program}
 use Rattle.flow_paths.specs.declared.trail.Trail.{Trail}
+use Rattle.file_desk.specs.Seen.{Seen}
+use Rattle.cobol_laws.specs.cobol_meaning.Runs.{Files}
+use Rattle.cobol_run.specs.Over.{TellFiles}
 use Rattle.cobol_read.specs.Limit.{source_limit}
 use Rattle.restructure_core.specs.declared.fault.Refused.TheVariants as refused
 use Rattle.restructure_core.specs.Answers.{IsAccepted, IsFaultySource}
@@ -18,8 +21,8 @@ use Rattle.restructure_tool.specs.Reading.{left_after}
 use Rattle.restructure_tool.specs.Status.{IsOneOf}
 use Rattle.restructure_tool.specs.Refusal.{refused_status, status_of}
 use Rattle.restructure_tool.specs.Answer.{Answer, IsDue}
-use Rattle.restructure_tool.specs.Running.{IsRunDue}
-use Rattle.restructure_tool.specs.Tool.{Ends}
+use Rattle.restructure_tool.specs.Running.{IsRunDue, IsRunDueOnFiles}
+use Rattle.restructure_tool.specs.Tool.{Ends, EndsWithFiles}
 
 -- these are the words of the ask
 abbrev pub AreWordsOf : Ask → List (List ℕ) → Type 0
@@ -121,6 +124,25 @@ DueRunComes =
     Ends (Some (Run steps)) source out notes answer →
     (bytes : List ℕ) (due : Option Refusal) → source.told ≡ Some bytes →
     IsRunDue steps bytes due → IsOneOf (statuses_of_run due) answer
+
+-- and over files
+abbrev pub OneRunIsDueOnFiles : Type 0
+OneRunIsDueOnFiles =
+    (steps : ℕ) (bytes : List ℕ) (files : Files) (one other : Option Refusal) →
+    IsRunDueOnFiles steps bytes files one → IsRunDueOnFiles steps bytes files other → one ≡ other
+
+-- the statuses of a call to run, or that a device failed
+abbrev pub statuses_over : Option Refusal → List Status
+statuses_over due = status.DeviceFault ∷ statuses_of_run due
+
+-- where a source tells its bytes and the devices their files, a call to run ends as the run over
+-- these files does, or with a fault of the outside or out of memory
+abbrev pub DueRunComesOnFiles : Type 0
+DueRunComesOnFiles =
+    (steps : ℕ) (source : SourceCall) (out notes : SinkCall) (old new : List Seen)
+    (answer : Status) → EndsWithFiles (Some (Run steps)) source out notes old new answer →
+    (bytes : List ℕ) (files : Files) (due : Option Refusal) → source.told ≡ Some bytes →
+    TellFiles old files → IsRunDueOnFiles steps bytes files due → IsOneOf (statuses_over due) answer
 
 -- without an ask a call ends with USAGE or out of memory
 abbrev pub UsageComes : Type 0

@@ -7,7 +7,7 @@ use Rattle.cob_tree.specs.declared.program.Program.{Program}
 use Rattle.file_desk.specs.Seen.{Seen}
 use Rattle.runs.specs.Run.{Going, Over}
 use Rattle.control.specs.Outcome.{Standing}
-use Rattle.cobol_meaning.specs.Runs.{Files, source_run}
+use Rattle.cobol_laws.specs.cobol_meaning.Runs.{Files, source_run}
 use Rattle.cobol_read.specs.declared.refusal.ReadRefusal.{ReadRefusal}
 use Rattle.cobol_read.specs.Reading.{Reads}
 use Rattle.cobol_read.specs.Limit.{source_limit}
@@ -22,7 +22,7 @@ use Rattle.restructure_core.specs.Answers.{IsUnread}
 use Rattle.restructure_core.specs.Refusals.{of_read_refusal}
 use Rattle.run_answer.specs.declared.Came.{Came}
 use Rattle.run_answer.specs.declared.Came.TheVariants as came
-use Rattle.run_answer.specs.Answers.{Comes, IsWriteFault}
+use Rattle.run_answer.specs.Answers.{Comes, ComesOver, IsWriteFault}
 use Rattle.restructure_tool.specs.declared.refusal.Refusal.{Refusal}
 use Rattle.restructure_tool.specs.declared.refusal.Refusal.TheVariants as refusals
 use Rattle.restructure_tool.specs.declared.status.Status.{Status}
@@ -81,6 +81,31 @@ IsRunDue steps bytes (Some (refusals.Budget most)) = (most ≡ steps) × ((progr
     × StandsSo bytes steps program (λ files. Going))
 IsRunDue steps bytes (Some _) = ⊥
 
+-- the bytes are this program, and over these files its run stands so after so many steps
+pub record StandsOnFiles (bytes : List ℕ) (steps : ℕ) (files : Files) (program : Program)
+    (standing : Standing Files) : Type 0 where
+  pub reads : Reads bytes program
+  pub stands : (source_run program files steps).standing ≡ standing
+
+-- over these files it came to this end within so many steps, and left some files
+abbrev pub EndsOnFiles : List ℕ → ℕ → Files → Program → Ending → Type 0
+EndsOnFiles bytes steps files program ending = (left : Files)
+    × StandsOnFiles bytes steps files program (Over (ending_seen ending left))
+
+-- what is due to bytes that are to be run over these files: their run stops normally, or why it
+-- doesn't
+abbrev pub IsRunDueOnFiles : ℕ → List ℕ → Files → Option Refusal → Type 0
+IsRunDueOnFiles steps bytes files None =
+    (program : Program) × EndsOnFiles bytes steps files program ending.Stopped
+IsRunDueOnFiles steps bytes files (Some (refusals.Refused why)) = IsUnread bytes why
+IsRunDueOnFiles steps bytes files (Some (refusals.Fault program fault)) =
+    EndsOnFiles bytes steps files program (ending.Faulted fault)
+IsRunDueOnFiles steps bytes files (Some (refusals.Abend abend)) =
+    (program : Program) × EndsOnFiles bytes steps files program (ending.Abended abend)
+IsRunDueOnFiles steps bytes files (Some (refusals.Budget most)) = (most ≡ steps)
+    × ((program : Program) × StandsOnFiles bytes steps files program Going)
+IsRunDueOnFiles steps bytes files (Some _) = ⊥
+
 -- the notes tell that the sink of a run failed, where there is room for it; the status does
 abbrev pub TellsWriteFault : SinkCall → Status → Type 0
 TellsWriteFault notes answer =
@@ -120,6 +145,19 @@ pub record IsUnrun (source : SourceCall) (out notes : SinkCall) (answer : Status
 abbrev pub EndsOfRun : ℕ → SourceCall → SinkCall → SinkCall → Status → Type 0
 EndsOfRun steps source out notes answer =
     IsRunTold steps source out notes answer ⊎ IsUnrun source out notes answer
+
+-- the same, and over whatever files the devices of the bench tell, the run does what its program
+-- does there and leaves the files that it leaves; first the devices before, then those after
+pub record IsRunWithFiles (steps : ℕ) (source : SourceCall) (out notes : SinkCall)
+    (old new : List Seen) (answer : Status) : Type 0 where
+  pub told : IsRunTold steps source out notes answer
+  pub over : ComesOver told.run.bytes steps out old new told.came
+
+-- how such a call ends over devices that tell their files
+abbrev pub EndsOfRunWithFiles : ℕ → SourceCall → SinkCall → SinkCall → (old new : List Seen) → Status →
+    Type 0
+EndsOfRunWithFiles steps source out notes old new answer =
+    IsRunWithFiles steps source out notes old new answer ⊎ IsUnrun source out notes answer
 
 -- a device failed and is gone from the bench, and its name was noted
 pub record IsDeviceTold (notes : SinkCall) (left left_now : ℕ) (old new : List Seen) : Type 0 where

@@ -1,7 +1,8 @@
 -- How a call of the top call ends: the answer that is due was given, or why it wasn't.
-use Rattle.std.specs.Prelude.{◌≡◌, Option, Some, None, Ok, Err}
+use Rattle.std.specs.Prelude.{◌≡◌, List, Option, Some, None, Ok, Err}
 use Rattle.cob_base.specs.Source.{SourceCall}
 use Rattle.cob_base.specs.Sink.{SinkCall}
+use Rattle.file_desk.specs.Seen.{Seen}
 use Rattle.restructure_tool.specs.declared.ask.Ask.{Ask}
 use Rattle.restructure_tool.specs.declared.ask.Ask.TheVariants.{Restructure, Report, Check, Run, Generate, Trial}
 use Rattle.restructure_tool.specs.declared.texts.Texts.{Texts}
@@ -12,7 +13,7 @@ use Rattle.restructure_tool.specs.declared.status.Status.TheVariants as status
 use Rattle.restructure_tool.specs.Ask.{reads}
 use Rattle.restructure_tool.specs.Answer.{IsAnswered}
 use Rattle.restructure_tool.specs.Reading.{IsReadWithin, IsReadFault}
-use Rattle.restructure_tool.specs.Running.{EndsOfRun}
+use Rattle.restructure_tool.specs.Running.{EndsOfRun, EndsOfRunWithFiles}
 use Rattle.restructure_tool.specs.Refusal.{line_of, status_of}
 use Rattle.restructure_tool.specs.Writing.{Gains, GainsReport, Takes, Keeps, NotesNoMemory, IsWriteFault}
 
@@ -77,6 +78,13 @@ Ends (Some (Generate n)) source out notes answer =
     EndsOfText (Some (Generate n)) source out notes answer
 Ends (Some (Trial n)) source out notes answer =
     EndsOfText (Some (Trial n)) source out notes answer
+
+-- how a call ends over the devices of a bench, before and after, by its ask: only a run asks them
+abbrev pub EndsWithFiles : Option Ask → SourceCall → SinkCall → SinkCall → (old new : List Seen) →
+    Status → Type 0
+EndsWithFiles (Some (Run steps)) source out notes old new answer =
+    EndsOfRunWithFiles steps source out notes old new answer
+EndsWithFiles _ source out notes old new answer = Unit {0}
 
 -- how a call ends that leaves the source as it was, whatever the source
 abbrev pub EndsUnread : Option Ask → SinkCall → SinkCall → Status → Type 0

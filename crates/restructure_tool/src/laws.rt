@@ -1,6 +1,6 @@
 //! What follows of how a call ends.
 
-ghost use Rattle.restructure_tool.specs.Laws.{WordsAreOfTheirAsk, OneAnswerIsDue, DueAnswerComes, AcceptedSourceIsDone, FaultySourceIsRefused, RefusedForFlowIsFaulty, OneRunIsDue, DueRunComes, UsageComes, GeneratedComes, WithinLimitAllIsRead};
+ghost use Rattle.restructure_tool.specs.Laws.{WordsAreOfTheirAsk, OneAnswerIsDue, DueAnswerComes, AcceptedSourceIsDone, FaultySourceIsRefused, RefusedForFlowIsFaulty, OneRunIsDue, DueRunComes, OneRunIsDueOnFiles, DueRunComesOnFiles, UsageComes, GeneratedComes, WithinLimitAllIsRead};
 
 /// The words of an ask are exactly its own.
 pub fn words_are_of_one_ask()
@@ -31,4 +31,6 @@ pub fn due_answer_comes()
 pub fn due_run_comes()
     ensures one { OneRunIsDue }
     ensures due { DueRunComes }
+    ensures one_on_files { OneRunIsDueOnFiles }
+    ensures due_on_files { DueRunComesOnFiles }
 {}

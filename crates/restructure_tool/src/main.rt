@@ -4,16 +4,16 @@
 //! is the promise of the whole tool (`specs/Tool.antt` is the place to begin). `main` hands it
 //! standard input, output and error, and a bench with the current folder under the name DISK and a
 //! device NULL. That an answer comes exactly where it is due is the law `due_answer_comes`. Only
-//! tested: that calls succeed where memory is ample, what programs with files do, and the help's
+//! tested: that calls succeed where memory is ample, what programs do with files of a folder, and the help's
 //! text.
 #![tactic(auto)]
 
-ghost use Rattle.std.specs.Prelude.{◌≡◌, false, map, string_bytes};
+ghost use Rattle.std.specs.Prelude.{◌≡◌, false, map, string_bytes, take};
 ghost use Rattle.cob_base.specs.Source.{source_call};
 ghost use Rattle.cob_base.specs.Sink.{sink_call};
 ghost use Rattle.restructure_tool.specs.Ask.{ask_of as asked, is_run, reads};
 ghost use Rattle.restructure_tool.specs.Running.{IsDeviceTold};
-ghost use Rattle.restructure_tool.specs.Tool.{Ends};
+ghost use Rattle.restructure_tool.specs.Tool.{Ends, EndsWithFiles};
 
 mod answer;
 mod ask;
@@ -68,6 +68,16 @@ pub fn tool<S: Source, K: Sink, N: Sink>(
         (source_call S.left S.faults source.old source.new)
         (sink_call K.held K.faults out.old out.new)
         (sink_call N.held N.faults notes.old notes.new) result }
+
+    // over devices that tell their files, a run does there what its program does
+    ensures over { EndsWithFiles (asked (map string_bytes words.now))
+        (source_call S.left S.faults source.old source.new)
+        (sink_call K.held K.faults out.old out.new)
+        (sink_call N.held N.faults notes.old notes.new)
+        (take bench.old.left
+        (map ⟦<Box<dyn Device> as Watched>⟧.seen bench.old.devices.items))
+        (take bench.new.left
+        (map ⟦<Box<dyn Device> as Watched>⟧.seen bench.new.devices.items)) result }
 
     // a device that is told as failed did fail, and is gone from the bench
     ensures devices { result ≡ Status.DeviceFault → IsDeviceTold

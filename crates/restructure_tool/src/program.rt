@@ -1,13 +1,13 @@
 //! The command line: what the program answers itself, and its exit status.
 
-ghost use Rattle.std.specs.Prelude.{◌≡◌, map, string_bytes, true, false, None, is_some, IfOk, OnErr};
+ghost use Rattle.std.specs.Prelude.{◌≡◌, map, string_bytes, take, true, false, None, is_some, IfOk, OnErr};
 ghost use Rattle.std.specs.Process.{exit_status};
 ghost use Rattle.cob_base.specs.Source.{source_call};
 ghost use Rattle.cob_base.specs.Sink.{sink_call};
 ghost use Rattle.restructure_tool.specs.Ask.{ask_of};
 ghost use Rattle.restructure_tool.specs.Status.{status_number};
 ghost use Rattle.restructure_tool.specs.Running.{IsDeviceTold};
-ghost use Rattle.restructure_tool.specs.Tool.{Ends};
+ghost use Rattle.restructure_tool.specs.Tool.{Ends, EndsWithFiles};
 ghost use Rattle.restructure_tool.specs.Program.{is_page, is_page_word, ShowsPage};
 
 use crate::refusal::Refusal;
@@ -55,7 +55,7 @@ Exit statuses: 0 done, 1 USAGE, 2 NOT SUBSET, 3 FLOW, 4 LIMIT, 5 READ FAULT,
 ";
 
 const VERSION: &str = "restructure_tool 0.1.0
-proved with rattle-kit-13f logic dac8208d650f15bf
+proved with rattle-kit-13b logic dac8208d650f15bf
 ";
 
 /// Does what the command line asks, over any source, sinks and bench: `--help` and `--version` show a
@@ -77,6 +77,15 @@ pub fn program<S: Source, K: Sink, N: Sink>(
         (source_call S.left S.faults source.old source.new)
         (sink_call K.held K.faults out.old out.new)
         (sink_call N.held N.faults notes.old notes.new) result) }
+    ensures over { IfOk words (λ words. is_page (map string_bytes words.items) ≡ false →
+        EndsWithFiles (ask_of (map string_bytes words.items))
+        (source_call S.left S.faults source.old source.new)
+        (sink_call K.held K.faults out.old out.new)
+        (sink_call N.held N.faults notes.old notes.new)
+        (take bench.old.left
+        (map ⟦<Box<dyn Device> as Watched>⟧.seen bench.old.devices.items))
+        (take bench.new.left
+        (map ⟦<Box<dyn Device> as Watched>⟧.seen bench.new.devices.items)) result) }
     ensures devices { result ≡ Status.DeviceFault → IsDeviceTold
         (sink_call N.held N.faults notes.old notes.new) bench.old.left bench.new.left
         (map ⟦<Box<dyn Device> as Watched>⟧.seen bench.old.devices.items)
@@ -112,6 +121,15 @@ fn serve<S: Source, K: Sink, N: Sink>(
         (source_call S.left S.faults source.old source.new)
         (sink_call K.held K.faults out.old out.new)
         (sink_call N.held N.faults notes.old notes.new) result }
+    ensures over { is_page (map string_bytes words.now) ≡ false →
+        EndsWithFiles (ask_of (map string_bytes words.now))
+        (source_call S.left S.faults source.old source.new)
+        (sink_call K.held K.faults out.old out.new)
+        (sink_call N.held N.faults notes.old notes.new)
+        (take bench.old.left
+        (map ⟦<Box<dyn Device> as Watched>⟧.seen bench.old.devices.items))
+        (take bench.new.left
+        (map ⟦<Box<dyn Device> as Watched>⟧.seen bench.new.devices.items)) result }
     ensures devices { result ≡ Status.DeviceFault → IsDeviceTold
         (sink_call N.held N.faults notes.old notes.new) bench.old.left bench.new.left
         (map ⟦<Box<dyn Device> as Watched>⟧.seen bench.old.devices.items)

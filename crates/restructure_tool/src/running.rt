@@ -1,11 +1,11 @@
 //! The ask to run a source.
 
-ghost use Rattle.std.specs.Prelude.{◌≡◌, map};
+ghost use Rattle.std.specs.Prelude.{◌≡◌, map, take};
 ghost use Rattle.cob_base.specs.Faults.{Rose};
 ghost use Rattle.cob_base.specs.Source.{source_call};
 ghost use Rattle.cob_base.specs.Sink.{sink_call};
 ghost use Rattle.run_answer.specs.Answers.{IsWriteFault};
-ghost use Rattle.restructure_tool.specs.Running.{EndsOfRun, IsDeviceTold, TellsCame, refusal_of};
+ghost use Rattle.restructure_tool.specs.Running.{EndsOfRun, EndsOfRunWithFiles, IsDeviceTold, TellsCame, refusal_of};
 ghost use Rattle.restructure_tool.specs.Running as runs;
 
 use crate::reading::read_source;
@@ -36,6 +36,14 @@ pub fn answer_run<S: Source, K: Sink, N: Sink>(
         (source_call S.left S.faults source.old source.new)
         (sink_call K.held K.faults out.old out.new)
         (sink_call N.held N.faults notes.old notes.new) result }
+    ensures over { EndsOfRunWithFiles steps
+        (source_call S.left S.faults source.old source.new)
+        (sink_call K.held K.faults out.old out.new)
+        (sink_call N.held N.faults notes.old notes.new)
+        (take bench.old.left
+        (map ⟦<Box<dyn Device> as Watched>⟧.seen bench.old.devices.items))
+        (take bench.new.left
+        (map ⟦<Box<dyn Device> as Watched>⟧.seen bench.new.devices.items)) result }
     ensures devices { result ≡ Status.DeviceFault → IsDeviceTold
         (sink_call N.held N.faults notes.old notes.new) bench.old.left bench.new.left
         (map ⟦<Box<dyn Device> as Watched>⟧.seen bench.old.devices.items)

@@ -4,11 +4,13 @@ use Rattle.cob_base.specs.Sink.{SinkCall}
 use Rattle.cob_tree.specs.declared.program.Program.{Program}
 use Rattle.file_desk.specs.Seen.{Seen}
 use Rattle.file_desk.specs.Falling.{SameBench}
-use Rattle.cobol_meaning.specs.Runs.{Files}
+use Rattle.cobol_laws.specs.cobol_meaning.Runs.{Files}
 use Rattle.cobol_read.specs.declared.refusal.ReadRefusal.TheVariants as refusals
 use Rattle.cobol_read.specs.Reading.{HasCause, Reads}
 use Rattle.cobol_run.specs.declared.running.Ran.TheVariants as ran
 use Rattle.cobol_run.specs.Falling.{RunFalls}
+use Rattle.cobol_run.specs.Over.{RunsOver, TellFiles}
+use Rattle.cobol_run.specs.Own.{IsOwn}
 use Rattle.cobol_run.specs.PlainTests.{is_plain}
 use Rattle.cobol_run.specs.Running.{RunsAs}
 use Rattle.run_answer.specs.declared.Came.{Came}
@@ -35,6 +37,22 @@ Comes bytes steps sink (came.Ran program ran) =
 Comes bytes steps sink (came.Refused refusal) =
     HasCause bytes refusal × (refusal ≢ refusals.NoMemory) × Keeps sink
 Comes bytes steps sink came.NoMemory = Keeps sink
+
+-- the same over devices that tell their files, where no word on an added item stands in the
+-- program; first the devices before, then those after
+abbrev pub CameOver : Program → ℕ → SinkCall → (old new : List Seen) → Came → Type 0
+CameOver program steps sink old new (came.Ran other ran) =
+    (other ≡ program)
+    × (IsOwn program → (files : Files) → TellFiles old files →
+    RunsOver program files steps sink new ran)
+CameOver program steps sink old new _ = Unit {0}
+
+-- the program that the bytes are ran so, over whatever files the devices tell
+abbrev pub ComesOver : List ℕ → ℕ → SinkCall → (old new : List Seen) → Came → Type 0
+ComesOver bytes steps sink old new (came.Ran program ran) =
+    Reads bytes program
+    × ((files : Files) → TellFiles old files → RunsOver program files steps sink new ran)
+ComesOver bytes steps sink old new _ = Unit {0}
 
 -- the sink failed while the program displayed
 abbrev pub IsWriteFault : Came → Type 0

@@ -1,19 +1,17 @@
 //! A source to what comes of its run.
 //!
 //! `run_source` reads a source and runs its program over a bench for at most so many steps. Hold
-//! `Comes` in specs/Answers.antt against what it answers, a clause an answer: `Reads` and `HasCause`
-//! of `cobol_read` say which program the source is, or why it is none, and where the program has no
-//! statement on files (`is_plain`) `RunsAs` of `cobol_run` says what its run comes to (ISO
-//! 1989:1985).
+//! `Comes` in specs/Answers.antt against what it answers, a clause an answer: `Reads` and
+//! `HasCause` of `cobol_read` say which program the source is, or why it is none, and where the
+//! program has no statement on files (`is_plain`) `RunsAs` of `cobol_run` says what its run comes
+//! to (ISO 1989:1985). Over devices that tell their files `ComesOver` says what the run of each
+//! program comes to.
 #![tactic(auto)]
 
-#[cfg(test)]
-mod tests;
-
-ghost use Rattle.std.specs.Prelude.{◌≤◌, map, vec_len};
+ghost use Rattle.std.specs.Prelude.{◌≤◌, map, take, vec_len};
 ghost use Rattle.cob_base.specs.Faults.{Rose};
 ghost use Rattle.cob_base.specs.Sink.{sink_call};
-ghost use Rattle.run_answer.specs.Answers.{CameFalls, CameOf, Comes, IsWriteFault};
+ghost use Rattle.run_answer.specs.Answers.{CameFalls, CameOf, CameOver, Comes, ComesOver, IsWriteFault};
 
 use cob_base::Sink;
 use cob_tree::Program;
@@ -36,7 +34,7 @@ pub enum Came {
 
 /// Reads a source and runs its program over a bench for at most so many steps. What it displays
 /// goes to `out`, which is made ready before each display. Both stay as they are where nothing ran.
-#[tactic(auto, using(crate::proofs::AnswerLemmas::comes_of, file_desk::proofs::FallLemmas::same_bench))]
+#[tactic(auto, using(crate::proofs::AnswerLemmas::comes_of, crate::proofs::AnswerLemmas::comes_over, file_desk::proofs::FallLemmas::same_bench))]
 pub fn run_source<K: Sink>(
     alloc: Global,
     bytes: &[u8],
@@ -46,6 +44,11 @@ pub fn run_source<K: Sink>(
 ) -> Came
     requires within { bench.old.left ≤ vec_len bench.old.devices }
     ensures came { Comes bytes.now steps (sink_call K.held K.faults out.old out.new) result }
+    ensures over { ComesOver bytes.now steps (sink_call K.held K.faults out.old out.new)
+        (take bench.old.left
+        (map ⟦<Box<dyn Device> as Watched>⟧.seen bench.old.devices.items))
+        (take bench.new.left
+        (map ⟦<Box<dyn Device> as Watched>⟧.seen bench.new.devices.items)) result }
     ensures cause { IsWriteFault result → Rose (K.faults out.old) (K.faults out.new) }
     ensures falls { CameFalls result bench.old.left bench.new.left
         (map ⟦<Box<dyn Device> as Watched>⟧.seen bench.old.devices.items)
@@ -66,6 +69,11 @@ fn run_program<K: Sink>(
     steps: u64,
 ) -> Came
     ensures came { CameOf program steps (sink_call K.held K.faults out.old out.new) result }
+    ensures over { CameOver program steps (sink_call K.held K.faults out.old out.new)
+        (take bench.old.left
+        (map ⟦<Box<dyn Device> as Watched>⟧.seen bench.old.devices.items))
+        (take bench.new.left
+        (map ⟦<Box<dyn Device> as Watched>⟧.seen bench.new.devices.items)) result }
     ensures cause { IsWriteFault result → Rose (K.faults out.old) (K.faults out.new) }
     ensures falls { CameFalls result bench.old.left bench.new.left
         (map ⟦<Box<dyn Device> as Watched>⟧.seen bench.old.devices.items)

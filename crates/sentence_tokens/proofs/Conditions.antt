@@ -9,29 +9,29 @@ use Rattle.grammar_forms.specs.declared.note.Position.{Position}
 use Rattle.grammar_forms.specs.Form.{Form}
 use Rattle.sentence_tokens.proofs.Makers.{pure, refuse, note, one, key, mark, maybe, chosen, where_next, loop, too_deep, ◌>>=◌, ◌>>◌, ◌<$>◌}
 use Rattle.data_names.specs.Names.{Names}
-use Rattle.expr_forms.specs.declared.side.Shape.{Shape}
-use Rattle.expr_forms.specs.declared.side.Shape.TheVariants as shapes
-use Rattle.expr_forms.specs.declared.side.Side.{Side}
-use Rattle.expr_forms.specs.declared.side.What.{What}
-use Rattle.expr_forms.specs.declared.side.What.TheVariants as whats
-use Rattle.expr_forms.specs.Fault as faults
-use Rattle.expr_forms.specs.Limit as limits
-use Rattle.expr_forms.specs.Limit.{Inner}
+use Rattle.statement_grammar.specs.declared.expr_forms.side.Shape.{Shape}
+use Rattle.statement_grammar.specs.declared.expr_forms.side.Shape.TheVariants as shapes
+use Rattle.statement_grammar.specs.declared.expr_forms.side.Side.{Side}
+use Rattle.statement_grammar.specs.declared.expr_forms.side.What.{What}
+use Rattle.statement_grammar.specs.declared.expr_forms.side.What.TheVariants as whats
+use Rattle.statement_grammar.specs.expr_forms.Fault as faults
+use Rattle.statement_grammar.specs.expr_forms.Limit as limits
+use Rattle.statement_grammar.specs.expr_forms.Limit.{Inner}
 use Rattle.sentence_tokens.proofs.Expressions as law
 use Rattle.sentence_tokens.proofs.Expressions.{InnerPlain, tally}
-use Rattle.cond_forms.specs.declared.part.Joined.{Joined}
-use Rattle.cond_forms.specs.declared.part.Part.{Part}
-use Rattle.cond_forms.specs.declared.test.Primary.{Primary}
-use Rattle.cond_forms.specs.declared.test.Primary.TheVariants as prims
-use Rattle.cond_forms.specs.declared.test.Read.{Read}
-use Rattle.cond_forms.specs.declared.test.Setting.{Setting}
-use Rattle.cond_forms.specs.Token as tokens
-use Rattle.cond_forms.specs.Relation as relations
-use Rattle.cond_forms.specs.Test as tests
-use Rattle.cond_forms.specs.Primary as primaries
-use Rattle.cond_forms.specs.Alone as alones
-use Rattle.cond_forms.specs.Neg as negs
-use Rattle.cond_forms.specs.Condition as conditions
+use Rattle.statement_grammar.specs.declared.cond_forms.part.Joined.{Joined}
+use Rattle.statement_grammar.specs.declared.cond_forms.part.Part.{Part}
+use Rattle.statement_grammar.specs.declared.cond_forms.test.Primary.{Primary}
+use Rattle.statement_grammar.specs.declared.cond_forms.test.Primary.TheVariants as prims
+use Rattle.statement_grammar.specs.declared.cond_forms.test.Read.{Read}
+use Rattle.statement_grammar.specs.declared.cond_forms.test.Setting.{Setting}
+use Rattle.statement_grammar.specs.cond_forms.Token as tokens
+use Rattle.statement_grammar.specs.cond_forms.Relation as relations
+use Rattle.statement_grammar.specs.cond_forms.Test as tests
+use Rattle.statement_grammar.specs.cond_forms.Primary as primaries
+use Rattle.statement_grammar.specs.cond_forms.Alone as alones
+use Rattle.statement_grammar.specs.cond_forms.Neg as negs
+use Rattle.statement_grammar.specs.cond_forms.Condition as conditions
 use Rattle.sentence_tokens.specs.Plain.{Plain}
 
 -- ---- rel

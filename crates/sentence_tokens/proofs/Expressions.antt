@@ -10,23 +10,23 @@ use Rattle.sentence_tokens.proofs.Makers.{pure, refuse, note, one, key, mark, di
 use Rattle.sentence_tokens.proofs.Words.{name, literal}
 use Rattle.data_names.specs.declared.name.Found.{Found}
 use Rattle.data_names.specs.Names.{Names}
-use Rattle.expr_forms.specs.declared.chain.Chain.{Chain}
-use Rattle.expr_forms.specs.declared.either.Either.{Either}
-use Rattle.expr_forms.specs.declared.front.Front.{Front}
-use Rattle.expr_forms.specs.declared.front.Front.TheVariants as fronts
-use Rattle.expr_forms.specs.declared.side.Side.{Side}
-use Rattle.expr_forms.specs.declared.reference.Suffix.{Suffix}
-use Rattle.expr_forms.specs.declared.reference.Suffix.TheVariants as suffixes
-use Rattle.expr_forms.specs.Limit as limits
-use Rattle.expr_forms.specs.Limit.{Inner}
-use Rattle.expr_forms.specs.Reference as references
-use Rattle.expr_forms.specs.Operand as operands
-use Rattle.expr_forms.specs.Expression as expressions
-use Rattle.expr_forms.specs.Window as windows
-use Rattle.expr_forms.specs.Subscript as subscripts
-use Rattle.expr_forms.specs.Front as front_forms
-use Rattle.expr_forms.specs.Levels as knots
-use Rattle.expr_forms.specs.Token as tokens
+use Rattle.statement_grammar.specs.declared.expr_forms.chain.Chain.{Chain}
+use Rattle.statement_grammar.specs.declared.expr_forms.either.Either.{Either}
+use Rattle.statement_grammar.specs.declared.expr_forms.front.Front.{Front}
+use Rattle.statement_grammar.specs.declared.expr_forms.front.Front.TheVariants as fronts
+use Rattle.statement_grammar.specs.declared.expr_forms.side.Side.{Side}
+use Rattle.statement_grammar.specs.declared.expr_forms.reference.Suffix.{Suffix}
+use Rattle.statement_grammar.specs.declared.expr_forms.reference.Suffix.TheVariants as suffixes
+use Rattle.statement_grammar.specs.expr_forms.Limit as limits
+use Rattle.statement_grammar.specs.expr_forms.Limit.{Inner}
+use Rattle.statement_grammar.specs.expr_forms.Reference as references
+use Rattle.statement_grammar.specs.expr_forms.Operand as operands
+use Rattle.statement_grammar.specs.expr_forms.Expression as expressions
+use Rattle.statement_grammar.specs.expr_forms.Window as windows
+use Rattle.statement_grammar.specs.expr_forms.Subscript as subscripts
+use Rattle.statement_grammar.specs.expr_forms.Front as front_forms
+use Rattle.statement_grammar.specs.expr_forms.Levels as knots
+use Rattle.statement_grammar.specs.expr_forms.Token as tokens
 use Rattle.sentence_tokens.specs.Plain.{Plain}
 
 pub record InnerPlain (inner : Inner) : Type 0 where

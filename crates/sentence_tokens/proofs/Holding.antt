@@ -9,23 +9,23 @@ use Rattle.grammar_forms.specs.declared.note.Position.{Position}
 use Rattle.sentence_tokens.proofs.Makers.{pure, refuse, note, key, word, digits, chosen, where_next, loop, added, maybe, ◌>>=◌, ◌>>◌}
 use Rattle.cob_tree.specs.declared.choice.Test.{Test}
 use Rattle.grammar_forms.specs.Form.{Form}
-use Rattle.stmt_forms.specs.declared.head.NotPhrase.{NotPhrase}
-use Rattle.stmt_forms.specs.declared.head.NotPhrase.TheVariants as nots
-use Rattle.stmt_forms.specs.declared.head.PerformHead.{PerformHead}
-use Rattle.stmt_forms.specs.declared.head.PerformHead.TheVariants as heads
-use Rattle.stmt_forms.specs.declared.head.ReadHead.{ReadHead}
-use Rattle.stmt_forms.specs.declared.head.ReadHead.TheVariants as reads
-use Rattle.stmt_forms.specs.declared.phrase.Phrase.{Phrase}
-use Rattle.stmt_forms.specs.declared.phrase.Phrase.TheVariants as phrases
-use Rattle.stmt_forms.specs.declared.scope.Scope.{Scope}
-use Rattle.stmt_forms.specs.declared.whens.Whens.{Whens}
-use Rattle.stmt_forms.specs.Part.{Parts}
+use Rattle.statement_grammar.specs.declared.stmt_forms.head.NotPhrase.{NotPhrase}
+use Rattle.statement_grammar.specs.declared.stmt_forms.head.NotPhrase.TheVariants as nots
+use Rattle.statement_grammar.specs.declared.stmt_forms.head.PerformHead.{PerformHead}
+use Rattle.statement_grammar.specs.declared.stmt_forms.head.PerformHead.TheVariants as heads
+use Rattle.statement_grammar.specs.declared.stmt_forms.head.ReadHead.{ReadHead}
+use Rattle.statement_grammar.specs.declared.stmt_forms.head.ReadHead.TheVariants as reads
+use Rattle.statement_grammar.specs.declared.stmt_forms.phrase.Phrase.{Phrase}
+use Rattle.statement_grammar.specs.declared.stmt_forms.phrase.Phrase.TheVariants as phrases
+use Rattle.statement_grammar.specs.declared.stmt_forms.scope.Scope.{Scope}
+use Rattle.statement_grammar.specs.declared.stmt_forms.whens.Whens.{Whens}
+use Rattle.statement_grammar.specs.stmt_forms.Part.{Parts}
 use Rattle.sentence_tokens.proofs.Parts.{PartsArePlain}
-use Rattle.stmt_forms.specs.Arms.{Level, Found, Arm}
-use Rattle.stmt_forms.specs.Arms as arms
-use Rattle.stmt_forms.specs.Choice as choice
-use Rattle.stmt_forms.specs.Loop as loops
-use Rattle.stmt_forms.specs.Stmt as all
+use Rattle.statement_grammar.specs.stmt_forms.Arms.{Level, Found, Arm}
+use Rattle.statement_grammar.specs.stmt_forms.Arms as arms
+use Rattle.statement_grammar.specs.stmt_forms.Choice as choice
+use Rattle.statement_grammar.specs.stmt_forms.Loop as loops
+use Rattle.statement_grammar.specs.stmt_forms.Stmt as all
 use Rattle.sentence_tokens.proofs.Simple as simple
 use Rattle.sentence_tokens.specs.Plain.{Plain}
 

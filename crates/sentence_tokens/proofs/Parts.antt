@@ -1,7 +1,7 @@
 -- What the forms on which statements stand must take.
 use Rattle.std.specs.Prelude.{ℕ, List}
 use Rattle.grammar_forms.specs.declared.note.Position.{Position}
-use Rattle.stmt_forms.specs.Part.{Parts}
+use Rattle.statement_grammar.specs.stmt_forms.Part.{Parts}
 use Rattle.sentence_tokens.specs.Plain.{Plain}
 
 pub record PartsArePlain {Side Known : Type 0} (parts : Parts Side Known) : Type 0 where

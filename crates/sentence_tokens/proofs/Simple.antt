@@ -8,14 +8,14 @@ use Rattle.cob_tree.specs.declared.place.Operand.{Operand}
 use Rattle.cob_tree.specs.declared.stmt.Stmt.{Stmt}
 use Rattle.grammar_forms.specs.declared.note.Position.{Position}
 use Rattle.sentence_tokens.proofs.Makers.{pure, refuse, note, one, key, mark, word, digits, where_next, loop, some, added, maybe, ◌>>=◌, ◌>>◌}
-use Rattle.stmt_forms.specs.declared.scope.Scope.{Scope}
-use Rattle.stmt_forms.specs.Part.{Parts}
+use Rattle.statement_grammar.specs.declared.stmt_forms.scope.Scope.{Scope}
+use Rattle.statement_grammar.specs.stmt_forms.Part.{Parts}
 use Rattle.sentence_tokens.proofs.Parts.{PartsArePlain}
-use Rattle.stmt_forms.specs.Move as move
-use Rattle.stmt_forms.specs.Arithmetic as arithmetic
-use Rattle.stmt_forms.specs.File as file
-use Rattle.stmt_forms.specs.Jump as jump
-use Rattle.stmt_forms.specs.Stmt as all
+use Rattle.statement_grammar.specs.stmt_forms.Move as move
+use Rattle.statement_grammar.specs.stmt_forms.Arithmetic as arithmetic
+use Rattle.statement_grammar.specs.stmt_forms.File as file
+use Rattle.statement_grammar.specs.stmt_forms.Jump as jump
+use Rattle.statement_grammar.specs.stmt_forms.Stmt as all
 use Rattle.sentence_tokens.specs.Plain.{Plain}
 
 -- ---- without parts

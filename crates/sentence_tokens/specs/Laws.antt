@@ -3,8 +3,8 @@ use Rattle.std.specs.Prelude.{ℕ, List}
 use Rattle.cob_tree.specs.declared.entry.Entry.{Entry}
 use Rattle.data_names.specs.Names.{Names}
 use Rattle.procedure_names.specs.declared.table.ProcedureTable.{ProcedureTable}
-use Rattle.stmt_forms.specs.declared.scope.Scope.{Scope}
-use Rattle.stmt_forms.specs.Stmt.{stmts}
+use Rattle.statement_grammar.specs.declared.stmt_forms.scope.Scope.{Scope}
+use Rattle.statement_grammar.specs.stmt_forms.Stmt.{stmts}
 use Rattle.statement_grammar.specs.Whole.{parts_of}
 use Rattle.sentence_tokens.specs.Plain.{Plain}
 

@@ -3,9 +3,9 @@ use Rattle.std.proofs.Common.{◌≡◌, ℕ, Bool, false, List, [], ◌∷◌, 
 use Rattle.std.proofs.lemmas.List.{reverse-append, map-append}
 use Rattle.language.specs.Language.{Picker, ByCell, Choose, Set, Is, Until, Do, Loop, Nested, none, also, given}
 use Rattle.control.specs.Graph.{tree}
-use Rattle.graph_rules.specs.Shapes.{alone}
-use Rattle.closing.specs.Closes.{none_left_out}
-use Rattle.closing.specs.Dispatches.{stated_tree, stated_arms, state_jump, set_to, node_arms, dispatched, labels_of, number_in, return_if, some_returns}
+use Rattle.control_laws.specs.graph_rules.Shapes.{alone}
+use Rattle.control_laws.specs.closing.Closes.{none_left_out}
+use Rattle.control_laws.specs.closing.Dispatches.{stated_tree, stated_arms, state_jump, set_to, node_arms, dispatched, labels_of, number_in, return_if, some_returns}
 use Rattle.branch_tree.specs.declared.graph.Node as code
 use Rattle.branch_tree.specs.declared.tree.Tree as code_tree
 use Rattle.branch_tree.specs.Graphs.{seen_nodes}

@@ -3,8 +3,8 @@
 ghost use Rattle.std.specs.Prelude.{◌≡◌, ◌<◌, ◌≤◌, ◌^◌, [], suc, false, length, map, OnOk, OnErr};
 ghost use Rattle.std.specs.Vec.{vec_len, vec_capacity};
 ghost use Rattle.control.specs.Graph as graph;
-ghost use Rattle.closing.specs.Closes.{dispatch_graph};
-ghost use Rattle.closing.specs.Dispatches.{return_if};
+ghost use Rattle.control_laws.specs.closing.Closes.{dispatch_graph};
+ghost use Rattle.control_laws.specs.closing.Dispatches.{return_if};
 ghost use Rattle.branch_tree.specs.Graphs.{seen_graph};
 ghost use Rattle.branch_tree.specs.Trees.{seen_tree, seen_trees, seen_end, seen_body};
 ghost use Rattle.loop_rules.specs.Forms.{looped_by};

@@ -2,7 +2,7 @@
 
 ghost use Rattle.std.specs.Prelude.{◌≡◌, ◌<◌, ◌≤◌, ◌^◌, suc, length};
 ghost use Rattle.cob_base.specs.Answers.{Makes};
-ghost use Rattle.closing.specs.Dispatches.{labels_of, number_in, one_further};
+ghost use Rattle.control_laws.specs.closing.Dispatches.{labels_of, number_in, one_further};
 ghost use Rattle.branch_tree.specs.Graphs.{seen_nodes};
 
 use branch_tree::{Label, Node};

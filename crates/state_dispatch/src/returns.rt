@@ -1,7 +1,7 @@
 //! Whether some leaf returns.
 
 ghost use Rattle.std.specs.Prelude.{◌≡◌};
-ghost use Rattle.closing.specs.Dispatches.{tree_returns, trees_return, some_returns};
+ghost use Rattle.control_laws.specs.closing.Dispatches.{tree_returns, trees_return, some_returns};
 ghost use Rattle.branch_tree.specs.Graphs.{seen_nodes};
 ghost use Rattle.branch_tree.specs.Trees.{seen_tree, seen_trees};
 

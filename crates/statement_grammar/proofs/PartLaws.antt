@@ -4,11 +4,11 @@ use Rattle.cob_tree.specs.declared.entry.Entry.{Entry}
 use Rattle.grammar_forms.proofs.MakerLaws.{Law, pure, note, valued, ◌>>=◌, ◌>>◌}
 use Rattle.data_names.specs.Names.{Names}
 use Rattle.word_forms.proofs.WordLaws.{name}
-use Rattle.expr_forms.proofs.ExpressionLaws as operands
-use Rattle.cond_forms.proofs.ConditionLaws.{whole_cond}
+use Rattle.statement_grammar.proofs.expr_forms_lemmas.ExpressionLaws as operands
+use Rattle.statement_grammar.proofs.cond_forms_lemmas.ConditionLaws.{whole_cond}
 use Rattle.procedure_names.specs.declared.table.ProcedureTable.{ProcedureTable}
 use Rattle.procedure_names.specs.Procedures as procedures
-use Rattle.stmt_forms.specs.Laws.{PartsAreLawful}
+use Rattle.statement_grammar.specs.stmt_forms.Laws.{PartsAreLawful}
 use Rattle.statement_grammar.specs.Name as words
 use Rattle.statement_grammar.specs.Whole.{parts_of}
 

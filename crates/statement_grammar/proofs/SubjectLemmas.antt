@@ -1,11 +1,11 @@
 -- A subject is compared as a side of a relation is.
 use Rattle.std.proofs.Common.{◌≡◌, ◌∙◌, refl, sym}
-use Rattle.expr_forms.specs.declared.side.Make.{Make}
-use Rattle.expr_forms.specs.declared.side.Make.TheVariants as makes
-use Rattle.expr_forms.specs.declared.side.Side.{Side}
-use Rattle.expr_forms.specs.declared.side.ValueKind.{ValueKind}
-use Rattle.expr_forms.specs.declared.side.ValueKind.TheVariants as kinds
-use Rattle.expr_forms.specs.Fault as faults
+use Rattle.statement_grammar.specs.declared.expr_forms.side.Make.{Make}
+use Rattle.statement_grammar.specs.declared.expr_forms.side.Make.TheVariants as makes
+use Rattle.statement_grammar.specs.declared.expr_forms.side.Side.{Side}
+use Rattle.statement_grammar.specs.declared.expr_forms.side.ValueKind.{ValueKind}
+use Rattle.statement_grammar.specs.declared.expr_forms.side.ValueKind.TheVariants as kinds
+use Rattle.statement_grammar.specs.expr_forms.Fault as faults
 use Rattle.statement_grammar.specs.Use as uses
 
 kinds_alike : (a b : ValueKind) (left right : Side) →

@@ -4,12 +4,12 @@ use Rattle.cob_tree.specs.declared.entry.Entry.{Entry}
 use Rattle.cobol_lex.specs.declared.token.Token.{Token}
 use Rattle.grammar_forms.specs.Reading.{IsReader}
 use Rattle.data_names.specs.Names.{Names}
-use Rattle.expr_forms.specs.declared.side.Make.TheVariants as makes
-use Rattle.expr_forms.specs.declared.side.Side.{Side}
-use Rattle.expr_forms.specs.Fault.{relation_fault}
+use Rattle.statement_grammar.specs.declared.expr_forms.side.Make.TheVariants as makes
+use Rattle.statement_grammar.specs.declared.expr_forms.side.Side.{Side}
+use Rattle.statement_grammar.specs.expr_forms.Fault.{relation_fault}
 use Rattle.procedure_names.specs.declared.table.ProcedureTable.{ProcedureTable}
-use Rattle.stmt_forms.specs.declared.scope.Scope.{Scope}
-use Rattle.stmt_forms.specs.Stmt.{stmts}
+use Rattle.statement_grammar.specs.declared.stmt_forms.scope.Scope.{Scope}
+use Rattle.statement_grammar.specs.stmt_forms.Stmt.{stmts}
 use Rattle.statement_grammar.specs.Use.{known_of, subject_fault}
 use Rattle.statement_grammar.specs.Whole.{parts_of, division}
 

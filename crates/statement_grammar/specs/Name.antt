@@ -17,9 +17,9 @@ use Rattle.data_names.specs.declared.name.Found.TheVariants as found
 use Rattle.data_names.specs.Look.{look, look_file}
 use Rattle.data_names.specs.Names.{Names}
 use Rattle.word_forms.specs.Word.{name}
-use Rattle.expr_forms.specs.declared.side.Side.{Side}
-use Rattle.expr_forms.specs.Fault.{fault_at, usage}
-use Rattle.expr_forms.specs.Side.{ref_side}
+use Rattle.statement_grammar.specs.declared.expr_forms.side.Side.{Side}
+use Rattle.statement_grammar.specs.expr_forms.Fault.{fault_at, usage}
+use Rattle.statement_grammar.specs.expr_forms.Side.{ref_side}
 use Rattle.procedure_names.specs.declared.table.ProcedureTable.{ProcedureTable}
 use Rattle.procedure_names.specs.Procedures as procedures
 

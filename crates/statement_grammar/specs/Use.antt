@@ -9,14 +9,14 @@ use Rattle.cob_tree.specs.declared.place.Place.{Place, out-Place, roll-Place}
 use Rattle.grammar_forms.specs.declared.note.Note.{Note}
 use Rattle.grammar_forms.specs.declared.note.Position.{Position}
 use Rattle.data_names.specs.Names.{kind_of}
-use Rattle.expr_forms.specs.declared.side.Make.{Make}
-use Rattle.expr_forms.specs.declared.side.Make.TheVariants as makes
-use Rattle.expr_forms.specs.declared.side.Side.{Side}
-use Rattle.expr_forms.specs.declared.side.ValueKind.{ValueKind}
-use Rattle.expr_forms.specs.declared.side.ValueKind.TheVariants as kinds
-use Rattle.expr_forms.specs.declared.side.What.{What}
-use Rattle.expr_forms.specs.declared.side.What.TheVariants as whats
-use Rattle.expr_forms.specs.Fault.{usage, inexact_fault, compared_as, item_kind}
+use Rattle.statement_grammar.specs.declared.expr_forms.side.Make.{Make}
+use Rattle.statement_grammar.specs.declared.expr_forms.side.Make.TheVariants as makes
+use Rattle.statement_grammar.specs.declared.expr_forms.side.Side.{Side}
+use Rattle.statement_grammar.specs.declared.expr_forms.side.ValueKind.{ValueKind}
+use Rattle.statement_grammar.specs.declared.expr_forms.side.ValueKind.TheVariants as kinds
+use Rattle.statement_grammar.specs.declared.expr_forms.side.What.{What}
+use Rattle.statement_grammar.specs.declared.expr_forms.side.What.TheVariants as whats
+use Rattle.statement_grammar.specs.expr_forms.Fault.{usage, inexact_fault, compared_as, item_kind}
 use Rattle.statement_grammar.specs.declared.known.Known.{Known}
 
 -- ---- what stands in the tree

@@ -6,16 +6,16 @@ use Rattle.cobol_lex.specs.declared.token.Token.{Token}
 use Rattle.grammar_forms.specs.Form.{Form}
 use Rattle.data_names.specs.Names.{Names}
 use Rattle.word_forms.specs.Word.{is_name, is_user_word}
-use Rattle.expr_forms.specs.declared.side.Side.{Side}
-use Rattle.expr_forms.specs.Token.{begins_operand}
-use Rattle.expr_forms.specs.Fault as faults
-use Rattle.expr_forms.specs.Side as sides
-use Rattle.expr_forms.specs.Levels as operands
-use Rattle.cond_forms.specs.Condition.{whole_cond}
+use Rattle.statement_grammar.specs.declared.expr_forms.side.Side.{Side}
+use Rattle.statement_grammar.specs.expr_forms.Token.{begins_operand}
+use Rattle.statement_grammar.specs.expr_forms.Fault as faults
+use Rattle.statement_grammar.specs.expr_forms.Side as sides
+use Rattle.statement_grammar.specs.expr_forms.Levels as operands
+use Rattle.statement_grammar.specs.cond_forms.Condition.{whole_cond}
 use Rattle.procedure_names.specs.declared.table.ProcedureTable.{ProcedureTable}
 use Rattle.procedure_names.specs.Procedures as procedures
-use Rattle.stmt_forms.specs.Part.{Parts}
-use Rattle.stmt_forms.specs.Paragraph as paragraphs
+use Rattle.statement_grammar.specs.stmt_forms.Part.{Parts}
+use Rattle.statement_grammar.specs.stmt_forms.Paragraph as paragraphs
 use Rattle.statement_grammar.specs.declared.known.Known.{Known}
 use Rattle.statement_grammar.specs.Use as uses
 use Rattle.statement_grammar.specs.Name as words

@@ -1,6 +1,6 @@
 //! What is kept of a subject of EVALUATE.
 
-use expr_forms::{Make, ValueKind};
+use crate::expr_forms::{Make, ValueKind};
 use grammar_forms::Position;
 
 /// What is known of a subject of EVALUATE, to hold others against it.

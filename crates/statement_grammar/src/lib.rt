@@ -8,8 +8,13 @@
 //! code that reads.
 #![tactic(auto)]
 
+pub mod cond_forms;
+pub mod data_forms;
+pub mod expr_forms;
 mod known;
 mod laws;
+pub mod stmt_forms;
+pub mod stmt_levels;
 
 pub use known::Known;
 pub use laws::{grammar_is_read, subjects_are_compared};

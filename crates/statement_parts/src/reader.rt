@@ -8,7 +8,6 @@ use cob_base::{Text, Word};
 use cob_tree::{Cond, Expr, Operand, Place};
 use cond_parse::whole_cond;
 use data_names::NameTable;
-use expr_forms::Side;
 use expr_parse::{data_operand, data_reference, data_reference_behind, whole_expr};
 use expr_sides::{
     at_operand, condition_fault, digits_side, expr_of, number_fault, value_fault, whole_fault,
@@ -17,6 +16,7 @@ use grammar_forms::{Cursor, Note, Position, Unread};
 use part_readers::Parts;
 use procedure_names::ProcedureTable;
 use statement_grammar::Known;
+use statement_grammar::expr_forms::Side;
 use statement_uses as uses;
 use statement_uses::Records;
 use std::alloc::Global;

@@ -2,11 +2,11 @@
 
 ghost use Rattle.std.specs.Prelude.{◌≡◌};
 ghost use Rattle.data_names.specs.Names as names;
-ghost use Rattle.expr_forms.specs.Fault as faults;
+ghost use Rattle.statement_grammar.specs.expr_forms.Fault as faults;
 
 use cob_tree::{Entry, Picture};
 use data_names::{Kind, is_group};
-use expr_forms::ValueKind;
+use statement_grammar::expr_forms::ValueKind;
 
 fn picture_kind(picture: Option<Picture>) -> Kind
     ensures { result ≡ names.picture_kind picture }

@@ -4,7 +4,7 @@ ghost use Rattle.std.specs.Prelude.{◌≡◌, []};
 ghost use Rattle.grammar_forms.specs.Form as form;
 ghost use Rattle.grammar_forms.specs.Reading.{Reads};
 ghost use Rattle.word_forms.specs.Word as spelled;
-ghost use Rattle.expr_forms.specs.Fault as faults;
+ghost use Rattle.statement_grammar.specs.expr_forms.Fault as faults;
 ghost use Rattle.data_names.specs.Look.{look};
 ghost use Rattle.statement_grammar.specs.Name as words;
 
@@ -13,10 +13,10 @@ use cob_tree::Entry;
 use cob_words::{left_out, reserved};
 use cobol_lex::TokenKind;
 use data_names::{Found, NameTable};
-use expr_forms::Side;
 use expr_sides::ref_side;
 use grammar_forms::{Cursor, NameKind, Note, Position, Unread, Why};
 use procedure_names::header_name as name_of;
+use statement_grammar::expr_forms::Side;
 use std::alloc::Global;
 use word_forms::name;
 

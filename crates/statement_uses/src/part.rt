@@ -1,16 +1,16 @@
 //! What is wrong with how operands are used in statements, and what is made of them in the tree.
 
 ghost use Rattle.std.specs.Prelude.{◌≡◌};
-ghost use Rattle.expr_forms.specs.Fault as faults;
+ghost use Rattle.statement_grammar.specs.expr_forms.Fault as faults;
 ghost use Rattle.statement_grammar.specs.Use as uses;
 
 use crate::record::Records;
 use cob_base::Items;
 use cob_tree::{Figure, Operand, Place};
-use expr_forms::{Make, Side, ValueKind, What};
 use expr_sides::whole_fault_at;
 use grammar_forms::{NameKind, Note, Position};
 use statement_grammar::Known;
+use statement_grammar::expr_forms::{Make, Side, ValueKind, What};
 use std::alloc::Global;
 
 fn bare_place(alloc: Global) -> Place

@@ -3,14 +3,14 @@
 ghost use Rattle.std.specs.Prelude.{◌≡◌, ◌<◌, ℕ, Some, get_or, length, slice_get, IfOk, if◌then◌else◌};
 ghost use Rattle.cob_base.specs.Answers.{Makes};
 ghost use Rattle.data_names.specs.Names.{kind_of};
-ghost use Rattle.expr_forms.specs.Fault.{item_kind};
-ghost use Rattle.expr_forms.specs.declared.side.ValueKind.{ValueKind};
+ghost use Rattle.statement_grammar.specs.expr_forms.Fault.{item_kind};
+ghost use Rattle.statement_grammar.specs.declared.expr_forms.side.ValueKind.{ValueKind};
 ghost use Rattle.statement_grammar.specs.Use as uses;
 
 use crate::kind::{item_kind, kind_of};
 use cob_base::{Items, NoMemory};
 use cob_tree::Entry;
-use expr_forms::ValueKind;
+use statement_grammar::expr_forms::ValueKind;
 use std::alloc::Global;
 use std::marker::Model;
 

@@ -12,7 +12,7 @@ use Rattle.cob_store.specs.declared.area.Form.{Form}
 use Rattle.cob_store.specs.declared.spot.Spot.{Spot}
 use Rattle.cob_store.specs.Answer.{Answer, and_then}
 use Rattle.cob_store.specs.declared.area.Areas.{Areas}
-use Rattle.cob_store.specs.Store.{Roots, spot_bytes, put_at}
+use Rattle.cob_store.specs.Store.{Roots, fitted, spot_bytes, put_at}
 use Rattle.cob_store.specs.Place.{memory_of, reached, reach_of}
 use Rattle.file_model.specs.World.{World, Event, Verb, Filed, Open, Read, Write, Rewrite, Close}
 use Rattle.file_model.specs.Attempts.{Address, address_of, Attempt, opened_at, closed_at, read_at, written_at, rewritten_at, padded_to}
@@ -110,9 +110,11 @@ status_spot declared store None = Ok None
 status_spot declared store (Some place) =
     and_then (reach_of (memory_of declared.areas.items store) place) (λ spot. Ok (Some spot))
 
+-- the item takes it as text: cut, or padded with spaces
 abbrev pub with_status : Roots → Option Spot → ℕ → Roots
 with_status store None status = store
-with_status store (Some spot) status = put_at store spot (status_bytes status)
+with_status store (Some spot) status =
+    put_at store spot (fitted spot.length (status_bytes status))
 
 -- a status other than 00 that nothing takes care of ends the run
 abbrev pub end_by : Bool → ℕ → Ended

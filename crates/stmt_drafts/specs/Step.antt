@@ -2,16 +2,16 @@
 use Rattle.std.specs.Prelude.{ℕ, Bool, false, List}
 use Rattle.cob_tree.specs.declared.stmt.Stmt.{Stmt}
 use Rattle.grammar_forms.specs.Form.{Form, pure, ◌>>=◌, ◌>>◌}
-use Rattle.stmt_forms.specs.declared.head.ArithmeticVerb.{ArithmeticVerb}
-use Rattle.stmt_forms.specs.declared.head.PerformHead.{PerformHead}
-use Rattle.stmt_forms.specs.declared.head.PerformHead.TheVariants as heads
+use Rattle.statement_grammar.specs.declared.stmt_forms.head.ArithmeticVerb.{ArithmeticVerb}
+use Rattle.statement_grammar.specs.declared.stmt_forms.head.PerformHead.{PerformHead}
+use Rattle.statement_grammar.specs.declared.stmt_forms.head.PerformHead.TheVariants as heads
 use Rattle.stmt_drafts.specs.declared.made.Begun.{Begun}
 use Rattle.stmt_drafts.specs.declared.made.Begun.TheVariants as ways
-use Rattle.stmt_forms.specs.declared.scope.Scope.{Scope}
-use Rattle.stmt_forms.specs.Arms.{Level, Found, FoundOne, end_word, end_work}
-use Rattle.stmt_forms.specs.Loop.{perform_head, loop_body}
-use Rattle.stmt_forms.specs.Part.{Parts}
-use Rattle.stmt_forms.specs.Stmt.{simple_stmts}
+use Rattle.statement_grammar.specs.declared.stmt_forms.scope.Scope.{Scope}
+use Rattle.statement_grammar.specs.stmt_forms.Arms.{Level, Found, FoundOne, end_word, end_work}
+use Rattle.statement_grammar.specs.stmt_forms.Loop.{perform_head, loop_body}
+use Rattle.statement_grammar.specs.stmt_forms.Part.{Parts}
+use Rattle.statement_grammar.specs.stmt_forms.Stmt.{simple_stmts}
 
 -- the word that ends a statement, unless NOT was read
 abbrev pub ended : {A : Type 0} → List ℕ → A → Bool → Form (A × Bool)

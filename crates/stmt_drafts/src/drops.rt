@@ -5,7 +5,7 @@ use cob_base::{Boxed, Items};
 use cob_tree::{
     Calc, Cond, Control, Paragraph, Place, Sentence, Stmt, Subject, Target, Test, When,
 };
-use stmt_forms::Outline;
+use statement_grammar::stmt_forms::Outline;
 
 /// Lets statements go.
 pub fn drop_stmts(_stmts: Items<Stmt>) {}

@@ -10,7 +10,7 @@ use cob_base::Items;
 use cob_tree::Stmt;
 use grammar_forms::{Cursor, Unread};
 use head_parse::{end_word, end_work};
-use stmt_forms::ArithmeticVerb;
+use statement_grammar::stmt_forms::ArithmeticVerb;
 
 fn ended<T: Drop>(
     cursor: &mut Cursor<'_>,

@@ -1,5 +1,5 @@
-//! What a statement that holds others is made of, in boxes, and what is read of it before and behind
-//! what it holds, over any readers of operands, references, conditions and names (`Parts`).
+//! What a statement that holds others is made of, in boxes, and what is read of it before and
+//! behind what it holds, over any readers of operands, references, conditions and names (`Parts`).
 //!
 //! Each function reads exactly by the form that its contract names, of `stmt_forms` (ISO 1989:1985,
 //! PROCEDURE DIVISION) or of `specs/Step`. Contracts see a `Draft` as the statement that it is of.

@@ -7,10 +7,10 @@ ghost use Rattle.std.specs.Prelude.{◌≡◌, [], ◌∷◌, ◌++◌};
 ghost use Rattle.cob_base.specs.Answers.{Makes};
 ghost use Rattle.cob_tree.specs.declared.stmt.Stmt.TheVariants as stmts;
 ghost use Rattle.grammar_forms.specs.Reading.{Reads};
-ghost use Rattle.stmt_forms.specs.Arms as arms;
-ghost use Rattle.stmt_forms.specs.Choice as choice;
-ghost use Rattle.stmt_forms.specs.Loop as loops;
-ghost use Rattle.stmt_forms.specs.Stmt as all;
+ghost use Rattle.statement_grammar.specs.stmt_forms.Arms as arms;
+ghost use Rattle.statement_grammar.specs.stmt_forms.Choice as choice;
+ghost use Rattle.statement_grammar.specs.stmt_forms.Loop as loops;
+ghost use Rattle.statement_grammar.specs.stmt_forms.Stmt as all;
 ghost use Rattle.stmt_drafts.specs.Step as steps;
 
 use act_parse::simple_stmts;
@@ -18,11 +18,12 @@ use calc_parse::arithmetic_work;
 use cob_base::{Boxed, Items, NoMemory};
 use cob_tree::{Arms, Calc, Cond, Control, Place, Stmt, Subject, Target, When};
 use grammar_forms::{Cursor, Unread};
-use head_parse::{evaluate_head, if_head, perform_head};
+use head_parse::{evaluate_head, if_head};
+use loop_parse::perform_head;
 use part_readers::{Parts, pushed};
+use statement_grammar::stmt_forms::{ArithmeticVerb, PerformHead, Scope};
 use std::alloc::Global;
 use std::marker::Model;
-use stmt_forms::{ArithmeticVerb, PerformHead, Scope};
 
 /// A statement of arithmetic up to its arms.
 pub type BoxedWork = (ArithmeticVerb, (Boxed<Calc>, Items<Target>));
@@ -283,7 +284,7 @@ pub fn begin_perform<P: Parts>(
 }
 
 /// The end of an inline PERFORM.
-#[tactic(auto, unfolding(stmt_forms::specs::Loop::loop_closed))]
+#[tactic(auto, unfolding(statement_grammar::specs::stmt_forms::Loop::loop_closed))]
 pub fn loop_closed(
     cursor: &mut Cursor<'_>,
     control: Boxed<Control>,

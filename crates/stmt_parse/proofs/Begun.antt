@@ -2,15 +2,15 @@
 use Rattle.std.proofs.Common.{◌≡◌, Bool, false, refl, ap, ◌∙◌}
 use Rattle.grammar_forms.specs.Form.{Input, Outcome, Got, Stop}
 use Rattle.grammar_forms.specs.Form.{chosen, is_next, then_read, where_next}
-use Rattle.stmt_forms.specs.declared.head.PerformHead.{PerformHead}
-use Rattle.stmt_forms.specs.declared.head.PerformHead.TheVariants as heads
-use Rattle.stmt_forms.specs.declared.scope.Scope.{Scope}
-use Rattle.stmt_forms.specs.Arms.{Level, FoundOne, arithmetic_stmt}
-use Rattle.stmt_forms.specs.Choice.{choice_stmt}
-use Rattle.stmt_forms.specs.Loop.{perform_head, perform_by, perform_stmt}
-use Rattle.stmt_forms.specs.Part.{Parts}
-use Rattle.stmt_forms.specs.Stmt.{holding_stmt}
-use Rattle.stmt_forms.specs.Verb.{begins_arithmetic, begins_choice}
+use Rattle.statement_grammar.specs.declared.stmt_forms.head.PerformHead.{PerformHead}
+use Rattle.statement_grammar.specs.declared.stmt_forms.head.PerformHead.TheVariants as heads
+use Rattle.statement_grammar.specs.declared.stmt_forms.scope.Scope.{Scope}
+use Rattle.statement_grammar.specs.stmt_forms.Arms.{Level, FoundOne, arithmetic_stmt}
+use Rattle.statement_grammar.specs.stmt_forms.Choice.{choice_stmt}
+use Rattle.statement_grammar.specs.stmt_forms.Loop.{perform_head, perform_by, perform_stmt}
+use Rattle.statement_grammar.specs.stmt_forms.Part.{Parts}
+use Rattle.statement_grammar.specs.stmt_forms.Stmt.{holding_stmt}
+use Rattle.statement_grammar.specs.stmt_forms.Verb.{begins_arithmetic, begins_choice}
 use Rattle.stmt_drafts.specs.declared.made.Begun.{Begun}
 use Rattle.stmt_drafts.specs.Step.{begun, perform_begun, perform_from}
 

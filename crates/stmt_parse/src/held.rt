@@ -1,10 +1,10 @@
 //! Statements that hold others, and lists of statements.
 
 ghost use Rattle.grammar_forms.specs.Reading.{Reads};
-ghost use Rattle.stmt_forms.specs.Arms as arms;
-ghost use Rattle.stmt_forms.specs.Choice as choice;
-ghost use Rattle.stmt_forms.specs.Loop as loops;
-ghost use Rattle.stmt_forms.specs.Stmt as all;
+ghost use Rattle.statement_grammar.specs.stmt_forms.Arms as arms;
+ghost use Rattle.statement_grammar.specs.stmt_forms.Choice as choice;
+ghost use Rattle.statement_grammar.specs.stmt_forms.Loop as loops;
+ghost use Rattle.statement_grammar.specs.stmt_forms.Stmt as all;
 ghost use Rattle.stmt_drafts.specs.Step as steps;
 
 use cob_base::{Boxed, Items};
@@ -12,6 +12,7 @@ use cob_tree::{Arms, Cond, Control, Place, Stmt, Subject, Test, When};
 use grammar_forms::{Cursor, Unread, Why};
 use head_parse::{first_phrase, first_tests, not_phrase, read_head, when_head};
 use part_readers::{Parts, at_arithmetic, at_choice, at_simple, at_stmt};
+use statement_grammar::stmt_forms::{NotPhrase, Phrase, ReadHead, Scope, Whens};
 use std::alloc::Global;
 use stmt_drafts::{
     Begun, Draft, added, begin_arithmetic, begin_evaluate, begin_if, begin_perform, boxed_place,
@@ -19,7 +20,6 @@ use stmt_drafts::{
     drop_tests, drop_whens, drop_work, loop_closed, read_and_next, simple, stmts_ended, when_added,
     work_ended,
 };
-use stmt_forms::{NotPhrase, Phrase, ReadHead, Scope, Whens};
 
 /// The statements that a statement holds.
 #[cycle(stmt)]
@@ -40,7 +40,7 @@ fn held<P: Parts>(
 }
 
 #[cycle(stmt)]
-#[tactic(auto, unfolding(stmt_forms::specs::Arms::held_arm))]
+#[tactic(auto, unfolding(statement_grammar::specs::stmt_forms::Arms::held_arm))]
 fn held_arm<P: Parts>(
     parts: &P,
     alloc: Global,
@@ -56,7 +56,7 @@ fn held_arm<P: Parts>(
 }
 
 #[cycle(stmt)]
-#[tactic(auto, unfolding(stmt_forms::specs::Arms::first_arm))]
+#[tactic(auto, unfolding(statement_grammar::specs::stmt_forms::Arms::first_arm))]
 fn first_arm<P: Parts>(
     parts: &P,
     alloc: Global,
@@ -77,7 +77,7 @@ fn first_arm<P: Parts>(
 }
 
 #[cycle(stmt)]
-#[tactic(auto, unfolding(stmt_forms::specs::Arms::second_arm))]
+#[tactic(auto, unfolding(statement_grammar::specs::stmt_forms::Arms::second_arm))]
 fn second_arm<P: Parts>(
     parts: &P,
     alloc: Global,
@@ -98,7 +98,7 @@ fn second_arm<P: Parts>(
 }
 
 #[cycle(stmt)]
-#[tactic(auto, unfolding(stmt_forms::specs::Arms::second_behind))]
+#[tactic(auto, unfolding(statement_grammar::specs::stmt_forms::Arms::second_behind))]
 fn second_behind<P: Parts>(
     parts: &P,
     alloc: Global,
@@ -130,7 +130,7 @@ fn second_behind<P: Parts>(
 }
 
 #[cycle(stmt)]
-#[tactic(auto, unfolding(stmt_forms::specs::Arms::arms))]
+#[tactic(auto, unfolding(statement_grammar::specs::stmt_forms::Arms::arms))]
 fn arms<P: Parts>(
     parts: &P,
     alloc: Global,
@@ -149,7 +149,7 @@ fn arms<P: Parts>(
 }
 
 #[cycle(stmt)]
-#[tactic(auto, unfolding(stmt_forms::specs::Arms::arithmetic_stmt))]
+#[tactic(auto, unfolding(statement_grammar::specs::stmt_forms::Arms::arithmetic_stmt))]
 fn arithmetic_stmt<P: Parts>(
     parts: &P,
     alloc: Global,
@@ -175,7 +175,7 @@ fn arithmetic_stmt<P: Parts>(
 }
 
 #[cycle(stmt)]
-#[tactic(auto, unfolding(stmt_forms::specs::Arms::read_arms))]
+#[tactic(auto, unfolding(statement_grammar::specs::stmt_forms::Arms::read_arms))]
 fn read_arms<P: Parts>(
     parts: &P,
     alloc: Global,
@@ -205,7 +205,7 @@ fn read_arms<P: Parts>(
 }
 
 #[cycle(stmt)]
-#[tactic(auto, unfolding(stmt_forms::specs::Arms::read_by))]
+#[tactic(auto, unfolding(statement_grammar::specs::stmt_forms::Arms::read_by))]
 fn read_by<P: Parts>(
     parts: &P,
     alloc: Global,
@@ -235,7 +235,7 @@ fn read_by<P: Parts>(
 }
 
 #[cycle(stmt)]
-#[tactic(auto, unfolding(stmt_forms::specs::Arms::read_stmt))]
+#[tactic(auto, unfolding(statement_grammar::specs::stmt_forms::Arms::read_stmt))]
 fn read_stmt<P: Parts>(
     parts: &P,
     alloc: Global,
@@ -259,7 +259,7 @@ fn read_stmt<P: Parts>(
 }
 
 #[cycle(stmt)]
-#[tactic(auto, unfolding(stmt_forms::specs::Choice::else_part))]
+#[tactic(auto, unfolding(statement_grammar::specs::stmt_forms::Choice::else_part))]
 fn else_part<P: Parts>(
     parts: &P,
     alloc: Global,
@@ -280,7 +280,7 @@ fn else_part<P: Parts>(
 }
 
 #[cycle(stmt)]
-#[tactic(auto, unfolding(stmt_forms::specs::Choice::if_ended))]
+#[tactic(auto, unfolding(statement_grammar::specs::stmt_forms::Choice::if_ended))]
 fn if_ended<P: Parts>(
     parts: &P,
     alloc: Global,
@@ -308,7 +308,7 @@ fn if_ended<P: Parts>(
 }
 
 #[cycle(stmt)]
-#[tactic(auto, unfolding(stmt_forms::specs::Choice::if_behind))]
+#[tactic(auto, unfolding(statement_grammar::specs::stmt_forms::Choice::if_behind))]
 fn if_behind<P: Parts>(
     parts: &P,
     alloc: Global,
@@ -333,7 +333,7 @@ fn if_behind<P: Parts>(
 }
 
 #[cycle(stmt)]
-#[tactic(auto, unfolding(stmt_forms::specs::Choice::if_stmt))]
+#[tactic(auto, unfolding(statement_grammar::specs::stmt_forms::Choice::if_stmt))]
 fn if_stmt<P: Parts>(
     parts: &P,
     alloc: Global,
@@ -357,7 +357,7 @@ fn if_stmt<P: Parts>(
 }
 
 #[cycle(stmt)]
-#[tactic(auto, unfolding(stmt_forms::specs::Choice::when_held))]
+#[tactic(auto, unfolding(statement_grammar::specs::stmt_forms::Choice::when_held))]
 fn when_held<P: Parts>(
     parts: &P,
     alloc: Global,
@@ -387,7 +387,7 @@ fn when_held<P: Parts>(
 }
 
 #[cycle(stmt)]
-#[tactic(auto, unfolding(stmt_forms::specs::Choice::whens_by))]
+#[tactic(auto, unfolding(statement_grammar::specs::stmt_forms::Choice::whens_by))]
 fn whens_by<P: Parts>(
     parts: &P,
     alloc: Global,
@@ -412,7 +412,7 @@ fn whens_by<P: Parts>(
 }
 
 #[cycle(stmt)]
-#[tactic(auto, unfolding(stmt_forms::specs::Choice::when_next))]
+#[tactic(auto, unfolding(statement_grammar::specs::stmt_forms::Choice::when_next))]
 fn when_next<P: Parts>(
     parts: &P,
     alloc: Global,
@@ -437,7 +437,7 @@ fn when_next<P: Parts>(
 }
 
 #[cycle(stmt)]
-#[tactic(auto, unfolding(stmt_forms::specs::Choice::whens_turn))]
+#[tactic(auto, unfolding(statement_grammar::specs::stmt_forms::Choice::whens_turn))]
 fn whens_turn<P: Parts>(
     parts: &P,
     alloc: Global,
@@ -487,7 +487,7 @@ fn whens_from<P: Parts>(
 }
 
 #[cycle(stmt)]
-#[tactic(auto, unfolding(stmt_forms::specs::Choice::whens))]
+#[tactic(auto, unfolding(statement_grammar::specs::stmt_forms::Choice::whens))]
 fn whens<P: Parts>(
     parts: &P,
     alloc: Global,
@@ -515,7 +515,7 @@ fn whens<P: Parts>(
 }
 
 #[cycle(stmt)]
-#[tactic(auto, unfolding(stmt_forms::specs::Choice::other_part))]
+#[tactic(auto, unfolding(statement_grammar::specs::stmt_forms::Choice::other_part))]
 fn other_part<P: Parts>(
     parts: &P,
     alloc: Global,
@@ -537,7 +537,7 @@ fn other_part<P: Parts>(
 }
 
 #[cycle(stmt)]
-#[tactic(auto, unfolding(stmt_forms::specs::Choice::evaluated))]
+#[tactic(auto, unfolding(statement_grammar::specs::stmt_forms::Choice::evaluated))]
 fn evaluated<P: Parts>(
     parts: &P,
     alloc: Global,
@@ -568,7 +568,7 @@ fn evaluated<P: Parts>(
 }
 
 #[cycle(stmt)]
-#[tactic(auto, unfolding(stmt_forms::specs::Choice::evaluate_stmt))]
+#[tactic(auto, unfolding(statement_grammar::specs::stmt_forms::Choice::evaluate_stmt))]
 fn evaluate_stmt<P: Parts>(
     parts: &P,
     alloc: Global,
@@ -596,7 +596,7 @@ fn evaluate_stmt<P: Parts>(
 }
 
 #[cycle(stmt)]
-#[tactic(auto, unfolding(stmt_forms::specs::Choice::choice_stmt))]
+#[tactic(auto, unfolding(statement_grammar::specs::stmt_forms::Choice::choice_stmt))]
 fn choice_stmt<P: Parts>(
     parts: &P,
     alloc: Global,
@@ -617,7 +617,7 @@ fn choice_stmt<P: Parts>(
 }
 
 #[cycle(stmt)]
-#[tactic(auto, unfolding(stmt_forms::specs::Loop::loop_body, stmt_forms::specs::Loop::loop_end))]
+#[tactic(auto, unfolding(statement_grammar::specs::stmt_forms::Loop::loop_body, statement_grammar::specs::stmt_forms::Loop::loop_end))]
 fn loop_body<P: Parts>(
     parts: &P,
     alloc: Global,
@@ -673,7 +673,7 @@ fn perform_from<P: Parts>(
 // PERFORM is read by two calls here, without one between: Rattle's own compiler builds the first
 // calls of a function into it, up to a size, and the frame of a head would be held with them.
 #[cycle(stmt)]
-#[tactic(auto, using(crate::proofs::Begun::holding_read), unfolding(stmt_forms::specs::Stmt::holding_stmt))]
+#[tactic(auto, using(crate::proofs::Begun::holding_read), unfolding(statement_grammar::specs::stmt_forms::Stmt::holding_stmt))]
 fn holding_stmt<P: Parts>(
     parts: &P,
     alloc: Global,
@@ -697,7 +697,7 @@ fn holding_stmt<P: Parts>(
 }
 
 #[cycle(stmt)]
-#[tactic(auto, unfolding(stmt_forms::specs::Stmt::held_stmts))]
+#[tactic(auto, unfolding(statement_grammar::specs::stmt_forms::Stmt::held_stmts))]
 fn held_stmts<P: Parts>(
     parts: &P,
     alloc: Global,
@@ -725,7 +725,7 @@ fn held_stmts<P: Parts>(
 }
 
 #[cycle(stmt)]
-#[tactic(auto, unfolding(stmt_forms::specs::Stmt::stmt, stmt_forms::specs::Stmt::stmts_turn))]
+#[tactic(auto, unfolding(statement_grammar::specs::stmt_forms::Stmt::stmt, statement_grammar::specs::stmt_forms::Stmt::stmts_turn))]
 fn stmts_turn<P: Parts>(
     parts: &P,
     alloc: Global,
@@ -773,7 +773,7 @@ pub fn stmts_from<P: Parts>(
 
 /// Statements, one or more.
 #[cycle(stmt)]
-#[tactic(auto, unfolding(stmt_forms::specs::Stmt::stmt, stmt_forms::specs::Stmt::stmts_with))]
+#[tactic(auto, unfolding(statement_grammar::specs::stmt_forms::Stmt::stmt, statement_grammar::specs::stmt_forms::Stmt::stmts_with))]
 pub fn stmts_with<P: Parts>(
     parts: &P,
     alloc: Global,

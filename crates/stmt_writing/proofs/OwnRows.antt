@@ -12,11 +12,11 @@ use Rattle.language.specs.Language as language
 use Rattle.language.specs.Control.{always, test_of, arm_before, else_of, stmts_of, arith_stmt, control_in, loop_of, perform_of, Both, both_arms, seen, seen_stmts}
 use Rattle.language.specs.Own.{OwnAct, OwnTest, OwnControl}
 use Rattle.language.proofs.Rows.{seen_if_any, seen_if, seen_loop, seen_perform, seen_arith, seen_read, seen_both_is}
-use Rattle.rendering.specs.Rendering.{Empty, Continues, Goes, standing, arm_stands, written_act, written_test, written_control, written_arms, written_arm}
+use Rattle.control_laws.specs.rendering.Rendering.{Empty, Continues, Goes, standing, arm_stands, written_act, written_test, written_control, written_arms, written_arm}
 use Rattle.choice_writing.specs.Empties.{if_had, put_arm, stands_so}
 use Rattle.choice_writing.specs.Choices.{IsIf, IsRead, IsArith}
 use Rattle.choice_writing.specs.Owning.{OwnTurns}
-use Rattle.cell_serving.specs.Naming.{first_stands}
+use Rattle.cobol_laws.specs.cell_serving.Naming.{first_stands}
 use Rattle.choice_writing.specs.Written.{Way, naming_in, written, all_written, or_nothing, written_if_any}
 use Rattle.choice_writing.proofs.ChoiceRows.{continues_is, stays_is}
 

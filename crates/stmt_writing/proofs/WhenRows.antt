@@ -9,8 +9,8 @@ use Rattle.cob_tree.specs.declared.stmt.When.{When}
 use Rattle.language.specs.Language as language
 use Rattle.language.specs.Control.{arm_before, stmts_of, evaluate_of, tests_of, Branch, branches_before, cell_chosen, count_from, picker_by, seen, seen_when, seen_stmts}
 use Rattle.language.proofs.Rows.{seen_if_any, seen_evaluate}
-use Rattle.rendering.specs.Rendering.{Empty, Continues, standing, arm_stands, written_arm}
-use Rattle.cell_serving.specs.Naming.{last_stands}
+use Rattle.control_laws.specs.rendering.Rendering.{Empty, Continues, standing, arm_stands, written_arm}
+use Rattle.cobol_laws.specs.cell_serving.Naming.{last_stands}
 use Rattle.choice_writing.specs.Empties.{if_had, of_whens, put_arm, stands_so}
 use Rattle.choice_writing.specs.Choices.{IsEvaluate}
 use Rattle.choice_writing.specs.Written.{Way, written, all_written, or_nothing, written_if_any, written_branch}

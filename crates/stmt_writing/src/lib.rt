@@ -2,8 +2,8 @@
 //! names its procedure, and empty arms are written by `choice_writing`.
 //!
 //! The definition that the contracts hold statements against is the theory's `written_stmt`, in
-//! `rendering/specs/Rendering.antt`. A statement that moves to, tests or chooses by an added item
-//! is none of the program's own: it is answered as if there were no memory for it.
+//! `control_laws/specs/rendering/Rendering.antt`. A statement that moves to, tests or chooses by an
+//! added item is none of the program's own: it is answered as if there were no memory for it.
 #![tactic(auto)]
 
 mod writing;

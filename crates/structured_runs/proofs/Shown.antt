@@ -4,20 +4,22 @@ use Rattle.cob_base.specs.Sink.{SinkCall}
 use Rattle.cob_tree.specs.declared.program.Program.{Program}
 use Rattle.language.specs.Control.{control_of}
 use Rattle.language.specs.Structured.{IsStructured}
+use Rattle.file_desk.specs.Seen.{Seen}
 use Rattle.runs.specs.Run.{Over}
 use Rattle.control.specs.Outcome.{How, Stopped, Normally, Trace}
 use Rattle.control.specs.Outcome as outcome
-use Rattle.agreement.specs.Same.{IsMatchedBy}
-use Rattle.cobol_meaning.specs.Acting.{abend_number}
-use Rattle.cobol_meaning.specs.Laws.{StructuredBehavesAsItself, StructuredMeetsNoFault}
-use Rattle.cobol_meaning.specs.Runs.{Files, source_run, structural_run}
+use Rattle.control_laws.specs.agreement.Same.{IsMatchedBy}
+use Rattle.cobol_laws.specs.cobol_meaning.Acting.{abend_number}
+use Rattle.cobol_laws.specs.cobol_meaning.Laws.{StructuredBehavesAsItself, StructuredMeetsNoFault}
+use Rattle.cobol_laws.specs.cobol_meaning.Runs.{Files, source_run, structural_run}
 use Rattle.sink_giving.specs.Giving.{Gains}
 use Rattle.cobol_run.specs.declared.machine.Ending.TheVariants as ending
 use Rattle.cobol_run.specs.declared.running.Ran.{Ran}
 use Rattle.cobol_run.specs.declared.running.Ran.TheVariants as ran
 use Rattle.cobol_run.specs.Machine.{fault_seen}
-use Rattle.cobol_run.specs.Running.{shown_by, displayed, RunsAs}
-use Rattle.structured_runs.specs.Shown.{BeginsNested, ShowsNested, RunsShowNestedStatements}
+use Rattle.cobol_run.specs.Over.{RunsOver, TellFiles}
+use Rattle.cobol_run.specs.Running.{shown_by, displayed, RunsAs, Stands}
+use Rattle.structured_runs.specs.Shown.{BeginsNested, ShowsNested, ShowsNestedOver, RunsOverFilesShowNestedStatements, RunsShowNestedStatements}
 
 -- ---- lists
 
@@ -51,14 +53,14 @@ module _ (same : StructuredBehavesAsItself) (faultless : StructuredMeetsNoFault)
       IsMatchedBy (source_run program files steps) (structural_run program files (units_for steps))
   matched steps = (same program structured).there files steps
 
-  -- its nested statements stop in the same way
-  stopped : (steps : ℕ) (how : How) →
-      (source_run program files steps).standing ≡ Over (Stopped how files) →
+  -- its nested statements stop in the same way, and leave the same
+  stopped : (steps : ℕ) (how : How) (left : Files) →
+      (source_run program files steps).standing ≡ Over (Stopped how left) →
       Gains (displayed (source_run program files steps).trace) sink →
-      (units : ℕ) × ((structural_run program files units).standing ≡ Over (Stopped how files))
+      (units : ℕ) × ((structural_run program files units).standing ≡ Over (Stopped how left))
       × Gains (displayed (structural_run program files units).trace) sink
-  stopped steps how over gains =
-      let there = (matched steps).stopped how files over in (
+  stopped steps how left over gains =
+      let there = (matched steps).stopped how left over in (
         units_for steps,
         there.0,
         subst (λ trace. Gains (displayed trace) sink) (sym there.1) gains,
@@ -100,15 +102,43 @@ module _ (same : StructuredBehavesAsItself) (faultless : StructuredMeetsNoFault)
 
   shows : (steps : ℕ) (came : Ran) → RunsAs program files steps sink came →
       ShowsNested program files sink came
-  shows steps (ran.Ended ending.Stopped) h = stopped steps Normally h.0 h.1
+  shows steps (ran.Ended ending.Stopped) h = stopped steps Normally files h.0 h.1
   shows steps (ran.Ended (ending.Abended abend)) h =
-      stopped steps (outcome.Abend (abend_number abend)) h.0 h.1
+      stopped steps (outcome.Abend (abend_number abend)) files h.0 h.1
   shows steps (ran.Ended (ending.Faulted fault)) h =
       faultless program structured files steps (fault_seen fault) h.0
   shows steps ran.Budget h = all-shown steps h.1
   shows steps (ran.DeviceFault name) h = absurd h
   shows steps ran.WriteFault h = within-shown h.0 h.2 h.3 h.4 h.5
   shows steps ran.NoMemory h = all-shown h.0 h.2
+
+  -- over devices
+  ends-over : (steps : ℕ) (how : How) (devices : List Seen) (left : Files) →
+      Stands program files steps (Over (Stopped how left)) sink → TellFiles devices left →
+      (units : ℕ) × (there : Files)
+      × ((structural_run program files units).standing ≡ Over (Stopped how there))
+      × Gains (displayed (structural_run program files units).trace) sink × TellFiles devices there
+  ends-over steps how devices left stands tells =
+      let there = stopped steps how left stands.0 stands.1 in
+      (there.0, left, there.1, there.2, tells)
+
+  shows-over : (steps : ℕ) (devices : List Seen) (came : Ran) →
+      RunsOver program files steps sink devices came →
+      ShowsNestedOver program files sink devices came
+  shows-over steps devices (ran.Ended ending.Stopped) h = ends-over steps Normally devices h.0 h.1 h.2
+  shows-over steps devices (ran.Ended (ending.Abended abend)) h =
+      ends-over steps (outcome.Abend (abend_number abend)) devices h.0 h.1 h.2
+  shows-over steps devices (ran.Ended (ending.Faulted fault)) h =
+      faultless program structured files steps (fault_seen fault) h.1.0
+  shows-over steps devices ran.Budget h = all-shown steps h.0.1
+  shows-over steps devices (ran.DeviceFault name) h = all-shown h.0 h.2
+  shows-over steps devices ran.WriteFault h = within-shown h.0 h.2 h.3 h.4 h.5
+  shows-over steps devices ran.NoMemory h = all-shown h.0 h.2
+
+pub nested-shown-over :
+    StructuredBehavesAsItself → StructuredMeetsNoFault → RunsOverFilesShowNestedStatements
+nested-shown-over same faultless program structured files steps sink devices came h =
+    shows-over same faultless program structured files sink steps devices came h
 
 pub nested-shown : StructuredBehavesAsItself → StructuredMeetsNoFault → RunsShowNestedStatements
 nested-shown same faultless program structured files steps sink came h =

@@ -4,14 +4,16 @@ use Rattle.cob_base.specs.Sink.{SinkCall}
 use Rattle.cob_tree.specs.declared.program.Program.{Program}
 use Rattle.language.specs.Control.{control_of}
 use Rattle.language.specs.Structured.{IsStructured}
+use Rattle.file_desk.specs.Seen.{Seen}
 use Rattle.runs.specs.Run.{Over}
-use Rattle.cobol_meaning.specs.Runs.{Files, structural_run}
+use Rattle.cobol_laws.specs.cobol_meaning.Runs.{Files, structural_run}
 use Rattle.sink_giving.specs.Giving.{Gains}
 use Rattle.cobol_run.specs.declared.machine.Ending.{Ending}
 use Rattle.cobol_run.specs.declared.machine.Ending.TheVariants as ending
 use Rattle.cobol_run.specs.declared.running.Ran.{Ran}
 use Rattle.cobol_run.specs.declared.running.Ran.TheVariants as ran
 use Rattle.cobol_run.specs.Machine.{ending_seen}
+use Rattle.cobol_run.specs.Over.{RunsOver, TellFiles}
 use Rattle.cobol_run.specs.Running.{displayed, RunsAs}
 
 -- its nested statements end so within some units, and the sink gained what they display
@@ -38,3 +40,25 @@ RunsShowNestedStatements =
     (program : Program) → IsStructured (control_of program) → (files : Files) (steps : ℕ)
     (sink : SinkCall) (came : Ran) → RunsAs program files steps sink came →
     ShowsNested program files sink came
+
+-- ---- over devices that tell their files
+
+-- its nested statements end so and leave the files that the devices tell
+abbrev pub EndsNestedOver : Program → Files → SinkCall → List Seen → Ending → Type 0
+EndsNestedOver program files sink devices (ending.Faulted fault) = ⊥
+EndsNestedOver program files sink devices how =
+    (units : ℕ) × (left : Files)
+    × ((structural_run program files units).standing ≡ Over (ending_seen how left))
+    × Gains (displayed (structural_run program files units).trace) sink × TellFiles devices left
+
+abbrev pub ShowsNestedOver : Program → Files → SinkCall → List Seen → Ran → Type 0
+ShowsNestedOver program files sink devices (ran.Ended how) =
+    EndsNestedOver program files sink devices how
+ShowsNestedOver program files sink devices _ = BeginsNested program files sink
+
+abbrev pub RunsOverFilesShowNestedStatements : Type 0
+RunsOverFilesShowNestedStatements =
+    (program : Program) → IsStructured (control_of program) → (files : Files) (steps : ℕ)
+    (sink : SinkCall) (devices : List Seen) (came : Ran) →
+    RunsOver program files steps sink devices came →
+    ShowsNestedOver program files sink devices came

@@ -2,7 +2,7 @@
 use Rattle.std.proofs.Common.{◌≡◌, ◌<◌, ◌≤◌, ℕ, zero, suc, ◌-◌, ◌^◌, min, max, Bool, true, false, if◌then◌else◌, ◌==◌, ◌&&◌, List, [], ◌∷◌, length, drop, get_or, refl, ap, sym, ◌∙◌, arith}
 use Rattle.language.specs.Language.{Picker, Stmts, none, also}
 use Rattle.control.specs.Graph.{Label, End, Pick, Jump, Return, Stop, Dead}
-use Rattle.graph_rules.specs.Shapes.{followed, arm_stmts, arms_stmts, last_stmts}
+use Rattle.control_laws.specs.graph_rules.Shapes.{followed, arm_stmts, arms_stmts, last_stmts}
 use Rattle.branch_tree.specs.declared.tree.Leaves.{Leaves}
 use Rattle.branch_tree.specs.declared.tree.Leaves.TheVariants as leaves
 use Rattle.branch_tree.specs.declared.tree.Tree as code
@@ -12,7 +12,7 @@ use Rattle.branch_tree.proofs.TreeRows.{seen_tree_is, seen_own}
 use Rattle.cob_tree.specs.declared.stmt.Stmt.{Stmt}
 use Rattle.tree_nesting.specs.Own.{own_nesting}
 use Rattle.tree_nesting.proofs.OwnAgrees.{stmt-agrees}
-use Rattle.closing.specs.Dispatches.{set_to, number_in}
+use Rattle.control_laws.specs.closing.Dispatches.{set_to, number_in}
 use Rattle.branch_tree.specs.declared.tree.Piece.{Piece}
 use Rattle.tree_nesting.specs.Nesting.{leaves_out, is_nothing, arm_level, nesting, stmt_nesting, arms_nesting}
 use Rattle.tree_nesting.specs.Within.{end_within, arms_within}

@@ -2,7 +2,7 @@
 
 ghost use Rattle.std.specs.Prelude.{◌≡◌, ◌-◌, ◌^◌, ◌&&◌, min, true};
 ghost use Rattle.language.specs.Language.{By};
-ghost use Rattle.graph_rules.specs.Shapes.{arms_stmts, arm_stmts, last_stmts};
+ghost use Rattle.control_laws.specs.graph_rules.Shapes.{arms_stmts, arm_stmts, last_stmts};
 ghost use Rattle.branch_tree.specs.Choosers.{seen_picker, seen_chooser};
 ghost use Rattle.branch_tree.specs.Trees.{seen_piece, seen_body, seen_end, seen_tree, seen_trees, jump_within, return_within, stated};
 ghost use Rattle.tree_nesting.specs.Nesting.{nesting, stmt_nesting, arms_nesting, arm_level, leaves_out, is_nothing};

@@ -5,10 +5,10 @@ use Rattle.std.proofs.lemmas.List.{map-set, length-map}
 use Rattle.std.proofs.Math.Seq.{map-set_same}
 use Rattle.control.specs.Doing.{is_above}
 use Rattle.control.specs.Graph.{Label}
-use Rattle.graph_rules.specs.Families.{Added}
-use Rattle.graph_rules.specs.Shapes.{inlined, leaves_to}
-use Rattle.graph_rules.specs.Reduced.{Node, Graph, tree_in, each_tree, without, all_leaves_to, inlines}
-use Rattle.closing.specs.Dispatches.{Rising}
+use Rattle.control_laws.specs.graph_rules.Families.{Added}
+use Rattle.control_laws.specs.graph_rules.Shapes.{inlined, leaves_to}
+use Rattle.control_laws.specs.graph_rules.Reduced.{Node, Graph, tree_in, each_tree, without, all_leaves_to, inlines}
+use Rattle.control_laws.specs.closing.Dispatches.{Rising}
 use Rattle.branch_tree.specs.declared.graph.Node as code
 use Rattle.branch_tree.specs.declared.tree.Tree as code_tree
 use Rattle.branch_tree.specs.Graphs.{seen_node, seen_nodes}

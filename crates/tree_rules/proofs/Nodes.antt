@@ -6,10 +6,10 @@ use Rattle.std.proofs.lemmas.Bool.Decides.{eqb_tells}
 use Rattle.control.specs.Doing.{is_above}
 use Rattle.language.specs.Language.{none}
 use Rattle.control.specs.Graph.{Label, Tree, tree, Dead}
-use Rattle.graph_rules.specs.Shapes.{inlined, leaves_to}
-use Rattle.graph_rules.specs.Reduced.{Node, Graph, tree_in, each_tree, without, with_tree, all_leaves_to, inlines, has_node}
-use Rattle.closing.specs.Dispatches.{Rising}
-use Rattle.closing.proofs.closing.Closes.{AllAbove, rising-above}
+use Rattle.control_laws.specs.graph_rules.Shapes.{inlined, leaves_to}
+use Rattle.control_laws.specs.graph_rules.Reduced.{Node, Graph, tree_in, each_tree, without, with_tree, all_leaves_to, inlines, has_node}
+use Rattle.control_laws.specs.closing.Dispatches.{Rising}
+use Rattle.control_laws.proofs.closing_lemmas.closing.Closes.{AllAbove, rising-above}
 use Rattle.branch_tree.specs.Graphs.{seen_node, seen_nodes}
 use Rattle.branch_tree.specs.Trees.{seen_tree}
 use Rattle.branch_tree.specs.declared.graph.Node as code

@@ -3,7 +3,7 @@ use Rattle.std.proofs.Common.{◌≡◌, ◌<◌, ◌≤◌, ℕ, zero, suc, ◌
 use Rattle.language.specs.Language.{Stmts}
 use Rattle.control.specs.Doing.{is_above}
 use Rattle.control.specs.Graph.{Label, Tree, tree, End, Pick, Jump, Return, Stop, Dead, Trees, no_more, more}
-use Rattle.graph_rules.specs.Shapes.{inlined, inline_end, inlined_arms, leaves_to, end_leaves_to, arms_leaves_to}
+use Rattle.control_laws.specs.graph_rules.Shapes.{inlined, inline_end, inlined_arms, leaves_to, end_leaves_to, arms_leaves_to}
 use Rattle.branch_tree.specs.Changes.{gone_on}
 use Rattle.branch_tree.specs.declared.tree.Tree as code
 use Rattle.branch_tree.specs.Trees.{seen_tree, seen_trees, trees_of}

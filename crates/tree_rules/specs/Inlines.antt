@@ -3,8 +3,8 @@ use Rattle.std.specs.Prelude.{ℕ, ◌≡◌, ◌<◌, Bool, true, false, if◌t
 use Rattle.cob_base.specs.declared.memory.NoMemory.{NoMemory}
 use Rattle.control.specs.Doing.{is_above}
 use Rattle.control.specs.Graph.{Label}
-use Rattle.graph_rules.specs.Shapes.{leaves_to}
-use Rattle.graph_rules.specs.Reduced.{Node, Graph, has_node, inlines, inline_graph, all_leaves_to}
+use Rattle.control_laws.specs.graph_rules.Shapes.{leaves_to}
+use Rattle.control_laws.specs.graph_rules.Reduced.{Node, Graph, has_node, inlines, inline_graph, all_leaves_to}
 use Rattle.tree_rules.specs.Places.{label_at, tree_at}
 
 -- the label is that of a node, and exactly one leaf jumps to it, from another node

@@ -1,7 +1,7 @@
 -- A choice as a statement behind a body.
 use Rattle.language.specs.Language.{Stmts, Picker, Choose}
 use Rattle.control.specs.Graph.{Tree, tree, End, Trees}
-use Rattle.graph_rules.specs.Shapes.{followed, alone, arms_stmts}
+use Rattle.control_laws.specs.graph_rules.Shapes.{followed, alone, arms_stmts}
 
 -- and then this end
 abbrev pub choice_then : Stmts → Picker → Trees → End → Tree

@@ -2,7 +2,7 @@
 use Rattle.std.specs.Prelude.{ℕ, zero, suc, List, [], ◌∷◌}
 use Rattle.language.specs.Language.{none}
 use Rattle.control.specs.Graph.{Label, Tree, tree, Dead}
-use Rattle.graph_rules.specs.Reduced.{Node}
+use Rattle.control_laws.specs.graph_rules.Reduced.{Node}
 
 abbrev pub label_at : List Node → ℕ → Label
 label_at [] at = 0

@@ -1,7 +1,7 @@
 -- What becomes of a tree that is put in the place of a jump.
 use Rattle.std.specs.Prelude.{◌≡◌, Option, Some, None}
 use Rattle.control.specs.Graph.{Label, Tree, Trees}
-use Rattle.graph_rules.specs.Shapes.{inlined, inlined_arms}
+use Rattle.control_laws.specs.graph_rules.Shapes.{inlined, inlined_arms}
 use Rattle.branch_tree.specs.Trees.{seen_tree}
 use Rattle.branch_tree.specs.declared.tree.Tree as code
 

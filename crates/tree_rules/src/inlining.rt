@@ -1,8 +1,8 @@
 //! Inline: a node in the place of the one jump to it.
 
 ghost use Rattle.std.specs.Prelude.{◌≡◌, ◌<◌, true, length, OnOk, OnErr};
-ghost use Rattle.closing.specs.Dispatches.{Rising};
-ghost use Rattle.graph_rules.specs.Reduced.{inlines, inline_graph};
+ghost use Rattle.control_laws.specs.closing.Dispatches.{Rising};
+ghost use Rattle.control_laws.specs.graph_rules.Reduced.{inlines, inline_graph};
 ghost use Rattle.branch_tree.specs.Graphs.{seen_graph, seen_nodes};
 ghost use Rattle.tree_rules.specs.Inlines.{Inlines, JumpsAt, PlaceOf};
 ghost use Rattle.tree_rules.specs.Places.{label_at};

@@ -2,7 +2,7 @@
 
 ghost use Rattle.std.specs.Prelude.{◌≡◌, ◌<◌, OnOk};
 ghost use Rattle.std.specs.Vec.{vec_len, vec_capacity};
-ghost use Rattle.graph_rules.specs.Shapes.{join_by, joined, joined_arms, arms_targets};
+ghost use Rattle.control_laws.specs.graph_rules.Shapes.{join_by, joined, joined_arms, arms_targets};
 ghost use Rattle.tree_rules.specs.Joins.{choice_then};
 ghost use Rattle.branch_tree.specs.Choosers.{seen_picker};
 ghost use Rattle.branch_tree.specs.Trees.{seen_tree, seen_body, seen_end, seen_trees};

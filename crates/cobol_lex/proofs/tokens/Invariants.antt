@@ -7,7 +7,7 @@ use Rattle.cobol_lex.proofs.tokens.Given as goal
 abbrev pub invariant-loop-at : goal.invariant-loop-at
 invariant-loop-at l = record {
   within : l.at ≤ length l.text;
-  placed : l.bytes.items ≡ bytes_of l.text;
+  placed : l.bytes ≡ bytes_of l.text;
   tokens : tokens_behind l.tokens (tokens_from 0 l.awaits l.before (drop l.at l.text)) ≡ tokens_of l.text;
 }
 

@@ -5,10 +5,10 @@ use Rattle.grammar_forms.specs.declared.why.Why.TheVariants.{Parens}
 use Rattle.grammar_forms.specs.Part.{is_mark}
 use Rattle.grammar_forms.specs.Reading.{Reads}
 use Rattle.grammar_forms.proofs.Loops.{goes_on, ends_err, is_done, shrinks, too_deep_err}
-use Rattle.expr_forms.proofs.ExpressionLaws as laws
-use Rattle.cond_forms.specs.Condition as conditions
-use Rattle.cond_forms.specs.Token as tokens
-use Rattle.cond_forms.proofs.ConditionLaws as claws
+use Rattle.statement_grammar.proofs.expr_forms_lemmas.ExpressionLaws as laws
+use Rattle.statement_grammar.specs.cond_forms.Condition as conditions
+use Rattle.statement_grammar.specs.cond_forms.Token as tokens
+use Rattle.statement_grammar.proofs.cond_forms_lemmas.ConditionLaws as claws
 use Rattle.cond_parse.proofs.+conds.Goals as goal
 
 pub condition::content-returns-then-levels-eq0 : goal.condition::content-returns-then-levels-eq0

@@ -5,9 +5,9 @@ use Rattle.grammar_forms.specs.declared.why.Why.TheVariants.{Parens}
 use Rattle.grammar_forms.specs.Part.{is_mark}
 use Rattle.grammar_forms.specs.Reading.{Reads}
 use Rattle.grammar_forms.proofs.Loops.{goes_on, ends_err, is_done, shrinks, too_deep_err}
-use Rattle.expr_forms.specs.Levels.{inner}
-use Rattle.expr_forms.specs.Token as tokens
-use Rattle.expr_forms.proofs.ExpressionLaws as laws
+use Rattle.statement_grammar.specs.expr_forms.Levels.{inner}
+use Rattle.statement_grammar.specs.expr_forms.Token as tokens
+use Rattle.statement_grammar.proofs.expr_forms_lemmas.ExpressionLaws as laws
 use Rattle.expr_parse.proofs.NameFront.{same_front}
 use Rattle.expr_parse.proofs.+exprs.Goals as goal
 

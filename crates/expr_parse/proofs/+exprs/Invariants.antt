@@ -1,7 +1,7 @@
 use Rattle.std.proofs.Common.{◌≡◌, ◌+◌, ◌*◌, length}
-use Rattle.expr_forms.specs.Expression as expressions
-use Rattle.expr_forms.specs.Front as fronts
-use Rattle.expr_forms.specs.Levels.{inner}
+use Rattle.statement_grammar.specs.expr_forms.Expression as expressions
+use Rattle.statement_grammar.specs.expr_forms.Front as fronts
+use Rattle.statement_grammar.specs.expr_forms.Levels.{inner}
 use Rattle.expr_parse.proofs.+exprs.Given as goal
 
 abbrev pub decreases-levels::nested : goal.decreases-levels::nested
@@ -112,14 +112,20 @@ decreases-front::front_turns l = 32 * l.levels + 15
 abbrev pub decreases-window::window_behind : goal.decreases-window::window_behind
 decreases-window::window_behind l = 32 * l.levels + 15
 
+abbrev pub decreases-front::window_end : goal.decreases-front::window_end
+decreases-front::window_end l = 32 * l.levels + 16
+
+abbrev pub decreases-front::colon_end : goal.decreases-front::colon_end
+decreases-front::colon_end l = 32 * l.levels + 17
+
 abbrev pub decreases-front::front_end : goal.decreases-front::front_end
-decreases-front::front_end l = 32 * l.levels + 16
+decreases-front::front_end l = 32 * l.levels + 18
 
 abbrev pub decreases-window::in_window : goal.decreases-window::in_window
 decreases-window::in_window l = 32 * l.levels + 16
 
 abbrev pub decreases-front::in_suffix : goal.decreases-front::in_suffix
-decreases-front::in_suffix l = 32 * l.levels + 17
+decreases-front::in_suffix l = 32 * l.levels + 19
 
 abbrev pub invariant-expression::turns-terms : goal.invariant-expression::turns-terms
 invariant-expression::turns-terms l =

@@ -1,9 +1,10 @@
-use Rattle.std.proofs.Common.{◌≡◌, ◌∙◌, true, false, Some, ap, refl, subst}
+use Rattle.std.proofs.Common.{◌≡◌, ◌∙◌, map, take, true, false, Some, ap, refl, subst}
 use Rattle.cob_base.specs.Source.{source_call}
 use Rattle.cob_base.specs.Sink.{sink_call}
+use Rattle.file_desk.specs.contracts.watched.BoxDynDeviceWatched.TheImpl.{seen-value}
 use Rattle.restructure_tool.specs.declared.ask.Ask.TheVariants.{Run, Generate, Trial}
 use Rattle.restructure_tool.specs.Ask.{is_run}
-use Rattle.restructure_tool.specs.Tool.{Ends}
+use Rattle.restructure_tool.specs.Tool.{Ends, EndsWithFiles}
 use Rattle.restructure_tool.specs.declared.refusal.Refusal.TheVariants as refusal
 use Rattle.restructure_tool.proofs.DeviceLemmas.{noted_never, text_never}
 use Rattle.restructure_tool.proofs.EndLemmas.{usage-ends}
@@ -43,6 +44,17 @@ returns-in-Some-Trial-clause-ends g c =
     let same : Trial c.in-Some-Trial.n ≡ c.in-Some-Trial.field-0 = (let a = c.in-Some-Trial.field-0-is in let b = c.in-Some-Trial.n-is in cc) in
     subst (λ a. Ends a source out notes c.answer_trial.result) c.in-Some-Trial.ensures.asked
     (subst (λ x. Ends (Some x) source out notes c.answer_trial.result) same (c.answer_trial.ensures source refl))
+
+pub returns-in-Some-Run-clause-over : goal.returns-in-Some-Run-clause-over
+returns-in-Some-Run-clause-over g c =
+    let source = source_call g.S.Source.left g.S.Source.faults c.args.source.now c.answer_run.new.source in
+    let out = sink_call g.K.Sink.held g.K.Sink.faults c.args.out.now c.answer_run.new.out in
+    let notes = sink_call g.N.Sink.held g.N.Sink.faults c.args.notes.now c.answer_run.new.notes in
+    let old = take c.args.bench.now.left (map (seen-value g.dyn-1).it c.args.bench.now.devices.items) in
+    let new = take c.answer_run.new.bench.left (map (seen-value g.dyn-1).it c.answer_run.new.bench.devices.items) in
+    let same : Run c.in-Some-Run.steps ≡ c.in-Some-Run.field-0 = (let a = c.in-Some-Run.field-0-is in let b = c.in-Some-Run.steps-is in cc) in
+    subst (λ a. EndsWithFiles a source out notes old new c.answer_run.result) c.in-Some-Run.ensures.asked
+    (subst (λ x. EndsWithFiles (Some x) source out notes old new c.answer_run.result) same c.answer_run.ensures.over)
 
 -- an ask to run is one to run
 pub returns-in-Some-Run-clause-unrun : goal.returns-in-Some-Run-clause-unrun

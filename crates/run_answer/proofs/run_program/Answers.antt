@@ -5,3 +5,6 @@ use Rattle.run_answer.proofs.run_program.Goals as goal
 pub returns-clause-came : goal.returns-clause-came
 returns-clause-came g c =
     (refl, λ plain files. c.run-ran.ensures.run files (passes_plain c.args.program plain))
+
+pub returns-clause-over : goal.returns-clause-over
+returns-clause-over g c = (refl, λ own files. c.run-ran.ensures.over files own)

@@ -1,5 +1,5 @@
 use Rattle.std.proofs.lemmas.Result.{err_from_is_err_and}
-use Rattle.stmt_forms.proofs.SimpleLaws as laws
+use Rattle.statement_grammar.proofs.stmt_forms_lemmas.SimpleLaws as laws
 use Rattle.grammar_forms.proofs.Loops.{item_goes_on, item_ends_err, item_is_done, shrinks}
 use Rattle.act_parse.proofs.file.file_names.Goals as goal
 

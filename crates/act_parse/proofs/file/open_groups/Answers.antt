@@ -1,6 +1,6 @@
 use Rattle.std.proofs.lemmas.Result.{err_from_is_err_and}
-use Rattle.stmt_forms.specs.File as forms
-use Rattle.stmt_forms.proofs.SimpleLaws as laws
+use Rattle.statement_grammar.specs.stmt_forms.File as forms
+use Rattle.statement_grammar.proofs.stmt_forms_lemmas.SimpleLaws as laws
 use Rattle.grammar_forms.proofs.Loops.{goes_on, ends_err, is_done, shrinks}
 use Rattle.act_parse.proofs.file.open_groups.Goals as goal
 

@@ -1,6 +1,6 @@
 use Rattle.std.proofs.Common.{◌≡◌, length}
 use Rattle.grammar_forms.specs.Form.{loop}
-use Rattle.stmt_forms.specs.File as forms
+use Rattle.statement_grammar.specs.stmt_forms.File as forms
 use Rattle.act_parse.proofs.file.open_groups.Given as goal
 
 abbrev pub invariant-groups : goal.invariant-groups

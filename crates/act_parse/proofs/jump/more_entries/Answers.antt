@@ -1,6 +1,6 @@
 use Rattle.std.proofs.lemmas.Result.{err_from_is_err_and}
-use Rattle.stmt_forms.specs.Jump as jump
-use Rattle.stmt_forms.proofs.SimpleLaws as laws
+use Rattle.statement_grammar.specs.stmt_forms.Jump as jump
+use Rattle.statement_grammar.proofs.stmt_forms_lemmas.SimpleLaws as laws
 use Rattle.grammar_forms.proofs.Loops.{item_goes_on, item_ends_err, item_is_done, shrinks}
 use Rattle.act_parse.proofs.jump.more_entries.Goals as goal
 

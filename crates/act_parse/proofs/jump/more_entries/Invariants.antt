@@ -1,6 +1,6 @@
 use Rattle.std.proofs.Common.{◌≡◌, length}
 use Rattle.grammar_forms.specs.Form.{loop, added}
-use Rattle.stmt_forms.specs.Jump as forms
+use Rattle.statement_grammar.specs.stmt_forms.Jump as forms
 use Rattle.act_parse.proofs.jump.more_entries.Given as goal
 
 abbrev pub invariant-items : goal.invariant-items

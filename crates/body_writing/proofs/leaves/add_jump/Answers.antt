@@ -1,5 +1,5 @@
 use Rattle.std.proofs.Common.{◌==◌, ap, sym, ◌∙◌}
-use Rattle.closing.specs.Dispatches.{set_to, number_in}
+use Rattle.control_laws.specs.closing.Dispatches.{set_to, number_in}
 use Rattle.branch_tree.specs.Trees.{jump_within}
 use Rattle.body_writing.proofs.BodyRows.{adds_nothing}
 use Rattle.body_writing.proofs.LeafRows.{jumps_on}

@@ -1,5 +1,5 @@
 use Rattle.std.proofs.Common.{ap, ◌∙◌}
-use Rattle.graph_rules.specs.Shapes.{last_stmts}
+use Rattle.control_laws.specs.graph_rules.Shapes.{last_stmts}
 use Rattle.branch_tree.specs.Trees.{seen_end}
 use Rattle.branch_tree.proofs.TreeRows.{seen_pick, seen_jump, seen_return, seen_dead}
 use Rattle.body_writing.proofs.BodyRows.{none_added}

@@ -1,5 +1,5 @@
 use Rattle.std.proofs.Common.{◌≡◌, ◌≤◌, drop, length}
-use Rattle.closing.specs.Dispatches.{number_in}
+use Rattle.control_laws.specs.closing.Dispatches.{number_in}
 use Rattle.body_writing.proofs.leaves.number_in.Given as goal
 
 abbrev pub invariant-loop-at : goal.invariant-loop-at

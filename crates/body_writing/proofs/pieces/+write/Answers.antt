@@ -1,7 +1,7 @@
 use Rattle.std.proofs.Common.{sym, ap, ◌∙◌, arith}
 use Rattle.std.proofs.lemmas.Result.{IfOk-weaker, on_ok_weaker}
 use Rattle.language.specs.Control.{seen_stmts}
-use Rattle.graph_rules.specs.Shapes.{alone, followed}
+use Rattle.control_laws.specs.graph_rules.Shapes.{alone, followed}
 use Rattle.branch_tree.specs.Trees.{seen_body}
 use Rattle.choice_writing.specs.Written.{all_written}
 use Rattle.body_writing.specs.Bodies.{end_stmts, stated_choice}

@@ -1,6 +1,6 @@
 use Rattle.std.proofs.Common.{◌≡◌, ◌++◌, ◌+◌, ◌*◌, drop, map}
 use Rattle.language.specs.Control.{seen_stmts}
-use Rattle.graph_rules.specs.Shapes.{followed}
+use Rattle.control_laws.specs.graph_rules.Shapes.{followed}
 use Rattle.branch_tree.specs.Trees.{seen_body}
 use Rattle.choice_writing.specs.Written.{all_written}
 use Rattle.body_writing.specs.Bodies.{Each, within_arm, within_loop}

@@ -1,7 +1,7 @@
 use Rattle.std.proofs.Common.{if◌then◌else◌, refl, ap, sym, ◌∙◌}
 use Rattle.std.proofs.lemmas.Result.{on_ok_weaker}
 use Rattle.language.specs.Language.{StopRun, none, Stmts}
-use Rattle.graph_rules.specs.Shapes.{alone}
+use Rattle.control_laws.specs.graph_rules.Shapes.{alone}
 use Rattle.body_writing.proofs.BodyRows.{none_added}
 use Rattle.body_writing.proofs.ProcedureRows.{closed_row}
 use Rattle.body_writing.proofs.procedure.add_closed.Goals as goal

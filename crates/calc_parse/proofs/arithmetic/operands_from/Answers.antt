@@ -1,5 +1,5 @@
 use Rattle.std.proofs.lemmas.Result.{err_from_is_err_and}
-use Rattle.stmt_forms.proofs.SimpleLaws as laws
+use Rattle.statement_grammar.proofs.stmt_forms_lemmas.SimpleLaws as laws
 use Rattle.grammar_forms.proofs.Loops.{goes_on, ends_err, is_done, shrinks}
 use Rattle.grammar_forms.proofs.MakerLaws.{added}
 use Rattle.calc_parse.proofs.arithmetic.operands_from.Goals as goal

@@ -1,6 +1,6 @@
 use Rattle.std.proofs.Common.{◌≡◌, length}
 use Rattle.grammar_forms.specs.Form.{loop, added}
-use Rattle.stmt_forms.specs.Arithmetic as forms
+use Rattle.statement_grammar.specs.stmt_forms.Arithmetic as forms
 use Rattle.calc_parse.proofs.arithmetic.targets_from.Given as goal
 
 abbrev pub invariant-items : goal.invariant-items

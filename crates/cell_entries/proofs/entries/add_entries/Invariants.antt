@@ -1,5 +1,5 @@
 use Rattle.std.proofs.Common.{◌≡◌, ◌++◌, drop, map}
-use Rattle.cell_serving.specs.Entries.{entries_of}
+use Rattle.cobol_laws.specs.cell_serving.Entries.{entries_of}
 use Rattle.cell_table.specs.Names.{seen_item}
 use Rattle.cell_entries.proofs.entries.add_entries.Given as goal
 

@@ -1,5 +1,5 @@
 use Rattle.std.proofs.Common.{◌++◌, ap, ap₂, sym, ◌∙◌}
-use Rattle.graph_rules.specs.Shapes.{arms_stmts}
+use Rattle.control_laws.specs.graph_rules.Shapes.{arms_stmts}
 use Rattle.branch_tree.specs.Choosers.{seen_picker, seen_test}
 use Rattle.branch_tree.specs.Trees.{seen_piece, seen_body, seen_end, seen_tree, seen_trees, stated}
 use Rattle.cell_mentions.specs.Mentions.{mentions, stmt_mentions, arms_mentions, picker_mentions, test_mentions}

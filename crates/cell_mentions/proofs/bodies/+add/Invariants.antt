@@ -1,5 +1,5 @@
 use Rattle.std.proofs.Common.{◌≡◌, ◌++◌, drop}
-use Rattle.graph_rules.specs.Shapes.{arms_stmts}
+use Rattle.control_laws.specs.graph_rules.Shapes.{arms_stmts}
 use Rattle.branch_tree.specs.Trees.{seen_body, seen_trees}
 use Rattle.cell_mentions.specs.Mentions.{mentions, arms_mentions}
 use Rattle.cell_mentions.specs.Within.{trees_within}

@@ -1,6 +1,6 @@
 use Rattle.std.proofs.Common.{◌≡◌, ℕ, take, length, Some}
 use Rattle.std.specs.Prelude.{slice_get, List}
-use Rattle.headline.specs.Chain.{stmts_arms}
+use Rattle.control_laws.specs.headline.Chain.{stmts_arms}
 use Rattle.cell_table.specs.CellItems.{AreAsked}
 use Rattle.cell_table.specs.Numbering.{number_at}
 use Rattle.cell_table.specs.Row.{CellRange, kinds_of_row}

@@ -1,6 +1,6 @@
 use Rattle.std.proofs.Common.{ap, ◌∙◌}
 use Rattle.std.proofs.lemmas.Result.{IfOk-weaker}
-use Rattle.cell_serving.specs.Naming.{move_to}
+use Rattle.cobol_laws.specs.cell_serving.Naming.{move_to}
 use Rattle.cell_words.proofs.WordRows.{take_row}
 use Rattle.cell_words.proofs.cells.take_cell.Goals as goal
 

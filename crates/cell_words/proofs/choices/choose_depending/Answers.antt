@@ -1,7 +1,7 @@
 use Rattle.std.proofs.Common.{map, subst, ap, ◌∙◌}
 use Rattle.std.proofs.lemmas.Result.{IfOk-weaker}
 use Rattle.language.specs.Control.{seen_stmts}
-use Rattle.cell_serving.specs.Choosing.{place_expr}
+use Rattle.cobol_laws.specs.cell_serving.Choosing.{place_expr}
 use Rattle.cell_words.specs.Lists.{IsNumberedAll}
 use Rattle.cell_words.proofs.ChoiceRows.{depending_row}
 use Rattle.cell_words.proofs.choices.choose_depending.Goals as goal

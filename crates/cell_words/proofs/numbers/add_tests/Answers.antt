@@ -1,7 +1,7 @@
 use Rattle.std.proofs.Common.{◌+◌, ◌++◌, [], ◌∷◌, map, ap, sym, ◌∙◌, append_assoc}
-use Rattle.cell_items.specs.Laws.{number_tests}
-use Rattle.cell_serving.specs.Entries.{whole_literal}
-use Rattle.cell_serving.specs.Naming.{numbers_from}
+use Rattle.cobol_laws.specs.cell_items.Laws.{number_tests}
+use Rattle.cobol_laws.specs.cell_serving.Entries.{whole_literal}
+use Rattle.cobol_laws.specs.cell_serving.Naming.{numbers_from}
 use Rattle.cell_words.proofs.NumberRows.{numbers_next}
 use Rattle.cell_words.proofs.numbers.add_tests.Goals as goal
 

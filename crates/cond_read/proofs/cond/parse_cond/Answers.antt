@@ -1,8 +1,8 @@
 use Rattle.std.proofs.Common.{◌≡◌, ◌-◌, ap, inr, refl, ◌∙◌}
 use Rattle.grammar_forms.specs.Reading.{start_at}
 use Rattle.grammar_forms.proofs.Reader.{spelled, the_only, stops, none}
-use Rattle.cond_forms.specs.Condition as conditions
-use Rattle.cond_forms.proofs.ConditionLaws as laws
+use Rattle.statement_grammar.specs.cond_forms.Condition as conditions
+use Rattle.statement_grammar.proofs.cond_forms_lemmas.ConditionLaws as laws
 use Rattle.read_faults.specs.Fault.{stop_fault}
 use Rattle.cond_read.specs.Answer.{noted_fault, unread}
 use Rattle.cond_read.proofs.cond.parse_cond.Goals as goal

@@ -1,9 +1,9 @@
 use Rattle.std.proofs.Common.{ap, inr, ◌∙◌}
 use Rattle.grammar_forms.specs.Reading.{start_at}
 use Rattle.grammar_forms.proofs.Reader.{spelled, the_only, stops, none}
-use Rattle.expr_forms.specs.Side.{expr_of}
-use Rattle.expr_forms.specs.Levels as expressions
-use Rattle.expr_forms.proofs.ExpressionLaws as laws
+use Rattle.statement_grammar.specs.expr_forms.Side.{expr_of}
+use Rattle.statement_grammar.specs.expr_forms.Levels as expressions
+use Rattle.statement_grammar.proofs.expr_forms_lemmas.ExpressionLaws as laws
 use Rattle.read_faults.specs.Fault.{stop_fault}
 use Rattle.cond_read.specs.Answer.{noted_fault}
 use Rattle.cond_read.proofs.expr.parse_expr.Goals as goal

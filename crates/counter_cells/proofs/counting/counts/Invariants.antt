@@ -1,5 +1,5 @@
 use Rattle.std.proofs.Common.{◌≡◌, ◌++◌, drop, map}
-use Rattle.headline.specs.Numbering.{counts}
+use Rattle.control_laws.specs.headline.Numbering.{counts}
 use Rattle.branch_tree.specs.Graphs.{seen_added}
 use Rattle.counter_cells.proofs.counting.counts.Given as goal
 

@@ -1,7 +1,7 @@
 use Rattle.std.proofs.Common.{ap, sym, ◌∙◌}
 use Rattle.language.specs.Control.{test_of}
-use Rattle.lowering.specs.Renamed.{test_anew}
-use Rattle.headline.specs.Numbering.{place_among}
+use Rattle.control_laws.specs.lowering.Renamed.{test_anew}
+use Rattle.control_laws.specs.headline.Numbering.{place_among}
 use Rattle.branch_tree.specs.Choosers.{seen_test}
 use Rattle.counter_cells.proofs.AnewRows.{own-test}
 use Rattle.counter_cells.proofs.parts.number_test.Goals as goal

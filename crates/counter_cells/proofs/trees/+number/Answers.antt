@@ -2,9 +2,9 @@ use Rattle.std.proofs.Common.{◌≡◌, ◌≤◌, length, map, ap, sym, ◌∙
 use Rattle.std.proofs.lemmas.Grind.{common_steps}
 use Rattle.std.proofs.lemmas.Result.{on_ok_weaker}
 use Rattle.language.specs.Control.{stmts_of}
-use Rattle.lowering.specs.Renamed.{picker_anew, stmt_anew, test_anew, tree_anew, trees_anew}
+use Rattle.control_laws.specs.lowering.Renamed.{picker_anew, stmt_anew, test_anew, tree_anew, trees_anew}
 use Rattle.branch_tree.specs.Choosers.{seen_picker, seen_test}
-use Rattle.headline.specs.Numbering.{place_among}
+use Rattle.control_laws.specs.headline.Numbering.{place_among}
 use Rattle.branch_tree.specs.Trees.{seen_piece, seen_tree, seen_trees, trees_of}
 use Rattle.branch_tree.specs.declared.tree.Piece.{out-Piece}
 use Rattle.branch_tree.specs.declared.tree.Piece.TheVariants as piece

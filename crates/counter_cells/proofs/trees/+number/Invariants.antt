@@ -1,6 +1,6 @@
 use Rattle.std.proofs.Common.{◌≡◌, map}
-use Rattle.lowering.specs.Renamed.{stmt_anew, tree_anew}
-use Rattle.headline.specs.Numbering.{place_among}
+use Rattle.control_laws.specs.lowering.Renamed.{stmt_anew, tree_anew}
+use Rattle.control_laws.specs.headline.Numbering.{place_among}
 use Rattle.branch_tree.specs.Trees.{seen_piece, seen_tree}
 use Rattle.counter_cells.proofs.Each.{changed}
 use Rattle.counter_cells.proofs.trees.+number.Given as goal

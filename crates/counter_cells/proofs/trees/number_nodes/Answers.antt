@@ -1,6 +1,6 @@
 use Rattle.std.proofs.Common.{◌≤◌, length, map, ◌∙◌, arith}
 use Rattle.std.proofs.lemmas.Grind.{common_steps}
-use Rattle.headline.specs.Numbering.{place_among}
+use Rattle.control_laws.specs.headline.Numbering.{place_among}
 use Rattle.branch_tree.specs.Graphs.{seen_node}
 use Rattle.counter_cells.specs.Anew.{node_anew}
 use Rattle.counter_cells.proofs.AnewRows.{nodes-anew}

@@ -1,5 +1,5 @@
 use Rattle.std.proofs.Common.{◌≡◌, map}
-use Rattle.headline.specs.Numbering.{place_among}
+use Rattle.control_laws.specs.headline.Numbering.{place_among}
 use Rattle.branch_tree.specs.Graphs.{seen_node}
 use Rattle.counter_cells.specs.Anew.{node_anew}
 use Rattle.counter_cells.proofs.Each.{changed}

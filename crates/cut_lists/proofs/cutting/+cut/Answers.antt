@@ -6,7 +6,7 @@ use Rattle.cob_tree.specs.declared.stmt.Arms.{out-Arms}
 use Rattle.cob_tree.specs.declared.stmt.When.{roll-When}
 use Rattle.cob_tree.specs.declared.stmt.Stmt.TheVariants.{Arith, Read, If, Evaluate, Loop}
 use Rattle.language.specs.Control.{seen, seen_stmts, seen_when}
-use Rattle.lowering.specs.Completes.{completes, cut, cuts}
+use Rattle.control_laws.specs.lowering.Completes.{completes, cut, cuts}
 use Rattle.cut_lists.specs.Told.{told_of}
 use Rattle.cut_lists.specs.declared.facts.Facts.{Facts}
 use Rattle.cut_lists.specs.Cutting.{cut_branch}

@@ -1,6 +1,6 @@
 use Rattle.std.proofs.Common.{◌≡◌, ℕ, ◌++◌, drop, map}
 use Rattle.language.specs.Control.{seen_stmts, seen_when}
-use Rattle.lowering.specs.Completes.{cuts}
+use Rattle.control_laws.specs.lowering.Completes.{cuts}
 use Rattle.cut_lists.specs.Told.{told_of}
 use Rattle.cut_lists.specs.Cutting.{cut_branch}
 use Rattle.cut_lists.proofs.CutLemmas.{joined}

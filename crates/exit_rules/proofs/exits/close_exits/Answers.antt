@@ -1,6 +1,6 @@
 use Rattle.std.proofs.Common.{◌≡◌, true, false, if◌then◌else◌, ap, sym, ◌∙◌, subst, Some}
-use Rattle.graph_rules.specs.Reduced.{has_node}
-use Rattle.closing.specs.Closes.{has_exits, exits_graph}
+use Rattle.control_laws.specs.graph_rules.Reduced.{has_node}
+use Rattle.control_laws.specs.closing.Closes.{has_exits, exits_graph}
 use Rattle.branch_tree.specs.Graphs.{seen_graph, seen_nodes}
 use Rattle.tree_rules.specs.Inlines.{PlaceOf}
 use Rattle.tree_rules.proofs.Nodes.{has_at}

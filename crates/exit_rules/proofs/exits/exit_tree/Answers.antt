@@ -1,5 +1,5 @@
 use Rattle.std.proofs.Common.{◌++◌, ◌∷◌, [], ap, ◌∙◌, refl}
-use Rattle.closing.specs.Dispatches.{bare}
+use Rattle.control_laws.specs.closing.Dispatches.{bare}
 use Rattle.branch_tree.specs.declared.chooser.Picker.TheVariants as picker
 use Rattle.branch_tree.specs.declared.tree.End.TheVariants as end
 use Rattle.branch_tree.specs.declared.tree.Piece.TheVariants as piece

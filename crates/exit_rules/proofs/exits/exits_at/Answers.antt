@@ -1,8 +1,8 @@
 use Rattle.std.proofs.Common.{◌≡◌, ◌<◌, length, false, if◌then◌else◌, ap, sym, ◌∙◌, arith}
 use Rattle.std.proofs.lemmas.List.{length-map}
 use Rattle.control.specs.Doing.{is_above}
-use Rattle.graph_rules.specs.Shapes.{leaves_to, other_targets}
-use Rattle.closing.specs.Closes.{are_several}
+use Rattle.control_laws.specs.graph_rules.Shapes.{leaves_to, other_targets}
+use Rattle.control_laws.specs.closing.Closes.{are_several}
 use Rattle.branch_tree.specs.Graphs.{seen_graph, seen_node}
 use Rattle.branch_tree.specs.Trees.{seen_tree}
 use Rattle.tree_rules.specs.Places.{label_at, tree_at}

@@ -1,5 +1,5 @@
 use Rattle.std.proofs.Common.{◌≡◌, drop}
-use Rattle.closing.specs.Targets.{trees_targets}
+use Rattle.control_laws.specs.closing.Targets.{trees_targets}
 use Rattle.branch_tree.specs.Trees.{seen_trees}
 use Rattle.exit_rules.proofs.targets.+targets.Given as goal
 

@@ -1,8 +1,20 @@
-use Rattle.std.proofs.Common.{◌<◌, length, refl}
+use Rattle.std.proofs.Common.{◌<◌, false, length, refl}
+use Rattle.file_model.specs.Attempts.{Address, opened_at}
+use Rattle.file_desk.specs.Calls.{addresses_of}
 use Rattle.file_desk.proofs.FallLemmas.{falls}
+use Rattle.file_acts.proofs.DeskLemmas.{beyond, past_opened, tried_over}
 use Rattle.file_acts.proofs.desk.open.Goals as goal
 
-pub returns : goal.returns
-returns g c =
+pub returns-clause-bench : goal.returns-clause-bench
+returns-clause-bench g c =
     let within : c.args.opening.file < length c.args.files.now = c.if-not-has_row.ensures.file refl in
-    record { bench = c.status_of.ensures _ _ _ _ (falls c.open-tried.result c.args.files.now c.args.opening.file _ _ _ _ within c.open-tried.ensures.bench) }
+    c.status_of.ensures.bench _ _ _ _ (falls c.open-tried.result c.args.files.now c.args.opening.file _ _ _ _ within c.open-tried.ensures.bench)
+
+pub returns-clause-does : goal.returns-clause-does
+returns-clause-does g c = λ world.
+    tried_over c.args.files.now c.args.opening.file c.status_of.result c.open-tried.result _ _ _ _ c.args.table.now.rows c.open-tried.new.table.rows world (λ (address : Address). opened_at world (addresses_of c.args.files.now) c.args.opening.file address c.args.opening.how) (c.if-not-has_row.ensures.file refl) c.status_of.ensures.answer c.open-tried.ensures.rows c.open-tried.ensures.bench
+    (c.open-tried.ensures.world world)
+
+pub returns-then-not-has_row-clause-does : goal.returns-then-not-has_row-clause-does
+returns-then-not-has_row-clause-does g c = λ world over.
+    past_opened c.args.files.now _ c.args.table.now.rows world c.args.opening.file c.args.opening.how (beyond false (length c.args.table.now.rows) (length c.args.files.now) c.args.opening.file c.if-not-has_row.ensures.has refl over.rows over.few) over

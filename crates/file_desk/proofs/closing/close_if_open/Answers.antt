@@ -3,6 +3,7 @@ use Rattle.file_desk.specs.declared.tried.Tried.TheVariants as tried
 use Rattle.file_desk.specs.Calls.{addresses_of}
 use Rattle.file_desk.proofs.FallLemmas.{Named, falls, named_at}
 use Rattle.file_desk.proofs.ShutLemmas.{shut_done, shut_gone}
+use Rattle.file_desk.proofs.TellLemmas.{leaves_told}
 use Rattle.file_desk.proofs.closing.close_if_open.Goals as goal
 
 pub returns-in-Failed-clause-world : goal.returns-in-Failed-clause-world
@@ -22,3 +23,13 @@ returns-in-Failed-clause-bench g c = falls tried.Failed c.args.files.now c.args.
 
 pub returns-in-Status-clause-bench : goal.returns-in-Status-clause-bench
 returns-in-Status-clause-bench g c = falls (tried.Status c.in-Status.field-0) c.args.files.now c.args.file _ _ _ _ c.requires.file c.in-Status.ensures.bench
+
+pub returns-in-Failed-clause-telling : goal.returns-in-Failed-clause-telling
+returns-in-Failed-clause-telling g c =
+    let n : Named c.args.files.now c.args.file = named_at c.args.files.now c.args.file c.requires.file in
+    leaves_told tried.Failed n.address.device _ _ _ _ (c.in-Failed.ensures.bench n.address n.here)
+
+pub returns-in-Status-clause-telling : goal.returns-in-Status-clause-telling
+returns-in-Status-clause-telling g c =
+    let n : Named c.args.files.now c.args.file = named_at c.args.files.now c.args.file c.requires.file in
+    leaves_told (tried.Status c.in-Status.field-0) n.address.device _ _ _ _ (c.in-Status.ensures.bench n.address n.here)

@@ -1,7 +1,7 @@
 use Rattle.std.proofs.Common.{◌≡◌, ◌∙◌, ◌||◌, Bool, ap, sym}
 use Rattle.file_desk.specs.Calls.{addresses_of}
 use Rattle.file_desk.proofs.FallLemmas.{falls_next}
-use Rattle.file_desk.proofs.ShutLemmas.{or_false, or_true, shut_next}
+use Rattle.file_desk.proofs.ShutLemmas.{on_shelves, or_false, or_true, shut_next}
 use Rattle.file_desk.proofs.closing.close_open.Goals.{then-close_if_open, else-close_if_open}
 use Rattle.file_desk.proofs.closing.close_open.Goals as goal
 
@@ -16,4 +16,8 @@ loop-file-preserved g c =
       falls_next c.if-close_if_open.failed c.loop-file.failed c.close_if_open.result c.args.bench.now.left c.loop-file.bench.left c.close_if_open.new.bench.left _ _ _ is c.loop-file.invariant.1 c.close_if_open.ensures.bench,
       λ world stands. shut_next (addresses_of c.args.files.now) _ _ c.loop-file.table.rows c.close_if_open.new.table.rows world c.loop-file.file c.loop-file.failed c.close_if_open.result c.if-close_if_open.failed is
           (c.loop-file.invariant.2 world stands) c.close_if_open.ensures.world,
+      λ all. c.close_if_open.ensures.telling (c.loop-file.invariant.3 all),
     )
+
+pub returns-clause-shelves : goal.returns-clause-shelves
+returns-clause-shelves g c = λ none world stands. on_shelves (addresses_of c.args.files.now) _ c.loop-file.table.rows c.loop-file.file c.loop-file.failed world none (c.loop-file.invariant.2 world stands)

@@ -3,7 +3,7 @@ use Rattle.file_model.specs.World.{World}
 use Rattle.file_desk.specs.Calls.{addresses_of}
 use Rattle.file_desk.specs.Falling.{FallsIf}
 use Rattle.file_desk.specs.Shutting.{ShutsAll}
-use Rattle.file_desk.specs.Standing.{Stands}
+use Rattle.file_desk.specs.Standing.{Stands, TellAll}
 use Rattle.file_desk.specs.contracts.watched.BoxDynDeviceWatched.TheImpl.{seen-value}
 use Rattle.file_desk.proofs.closing.close_open.Given as goal
 
@@ -12,4 +12,5 @@ invariant-loop-file g l =
     (length l.table.rows ≡ length l.initial.table.rows) ×
     FallsIf l.failed l.initial.bench.left l.bench.left (map (seen-value g.dyn-1).it l.initial.bench.devices.items) (map (seen-value g.dyn-1).it l.bench.devices.items) × ((world : World) →
     Stands (addresses_of l.files) (take l.initial.bench.left (map (seen-value g.dyn-1).it l.initial.bench.devices.items)) l.initial.table.rows world →
-    ShutsAll (addresses_of l.files) (take l.bench.left (map (seen-value g.dyn-1).it l.bench.devices.items)) l.table.rows l.file l.failed world)
+    ShutsAll (addresses_of l.files) (take l.bench.left (map (seen-value g.dyn-1).it l.bench.devices.items)) l.table.rows l.file l.failed world) × (TellAll (take l.initial.bench.left (map (seen-value g.dyn-1).it l.initial.bench.devices.items)) →
+    TellAll (take l.bench.left (map (seen-value g.dyn-1).it l.bench.devices.items)))

@@ -1,7 +1,7 @@
-use Rattle.std.proofs.Common.{◌*◌, sym, subst, ◌∙◌, arith}
-use Rattle.std.specs.List.Sorted.{IsPermutation, IsSorted}
-use Rattle.std.specs.Ordering.{nat_cmp}
-use Rattle.flow_graph.proofs.GraphRows.{begins, is_lowered, labels_below}
+use Rattle.std.proofs.Common.{◌*◌, map, arith, rules}
+use Rattle.std.proofs.lemmas.List.Sorted.{IsNonDecreasingBy-from_sort, answers_always}
+use Rattle.flow_graph.proofs.GraphRows.{begins, is_lowered}
+use Rattle.flow_graph.proofs.MadeRows.{are_nodes, label_of, labels_up, made_moved, made_sorted}
 use Rattle.flow_graph.proofs.Reached.{entry_below}
 use Rattle.flow_graph.proofs.nodes.lower.Goals as goal
 
@@ -18,20 +18,19 @@ overflow_mul-place c =
 pub reach_from-requires-clause-entry : goal.reach_from-requires-clause-entry
 reach_from-requires-clause-entry c = begins c.args.telling.now c.args.spots.now c.args.range c.place_of-place.result c.first_of.result c.first_of.ensures c.place_of-place.ensures
 
-pub nodes_at-requires-clause-below : goal.nodes_at-requires-clause-below
-nodes_at-requires-clause-below c =
-    let places = c.reach_from.new.reach.places.items in
-    let sorted = c.sort_unstable.new.self.items in
-    let moved = subst (λ labels. IsPermutation labels sorted) (c.in_ok-labels.ensures.items ∙ c.as_slice.ensures.value) c.sort_unstable.ensures.permutation in
-    labels_below c.args.telling.now c.args.spots.now c.args.range places c.as_slice-2.result.now c.reach_from.new.reach.marks.items c.reach_from.ensures.marked
-    (subst (IsPermutation places) (sym c.as_slice-2.ensures.value) moved) c.in_ok-reach_from.ensures.reach c.requires.whole c.requires.range
-
 pub returns-clause-graph : goal.returns-clause-graph
 returns-clause-graph c =
+    let telling = c.args.telling.now in
+    let spots = c.args.spots.now in
+    let range = c.args.range in
     let places = c.reach_from.new.reach.places.items in
-    let sorted = c.sort_unstable.new.self.items in
-    let moved = subst (λ labels. IsPermutation labels sorted) (c.in_ok-labels.ensures.items ∙ c.as_slice.ensures.value) c.sort_unstable.ensures.permutation in
-    let shown = sym c.as_slice-2.ensures.value in
-    is_lowered c.args.telling.now c.args.spots.now c.args.range places c.as_slice-2.result.now c.reach_from.new.reach.marks.items c.reach_from.ensures.marked
-    (subst (IsPermutation places) shown moved) c.in_ok-reach_from.ensures.reach (subst (IsSorted nat_cmp) shown c.sort_unstable.ensures.sorted)
-    (record { entry = c.point.result; nodes = c.in_ok-nodes.nodes; added = c.new.result }) c.place_of-place.result c.first_of.result c.first_of.ensures c.place_of-place.ensures c.point.ensures c.in_ok-nodes.ensures c.new.ensures.items
+    let marks = c.reach_from.new.reach.marks.items in
+    let nodes = c.reach_from.new.nodes.items in
+    let sorted = c.sort_unstable_by_key.new.self.items in
+    let made = c.in-Ok.ensures.made in
+    let moved = c.sort_unstable_by_key.ensures.permutation in
+    let up = labels_up sorted (IsNonDecreasingBy-from_sort label_of sorted (c.sort_unstable_by_key.ensures.sorted label_of (answers_always _ _ _ (λ f a r g h. search rules)))) in
+    is_lowered telling spots range places (map label_of sorted) marks c.reach_from.ensures.marked
+    (made_moved telling spots range places nodes sorted moved made) c.in-Ok.ensures.reach up
+    (record { entry = c.point.result; nodes = c.sort_unstable_by_key.new.self; added = c.new.result }) c.place_of-place.result c.first_of.result c.first_of.ensures c.place_of-place.ensures c.point.ensures
+    (are_nodes telling spots range sorted (made_sorted telling spots range places nodes sorted moved made)) c.new.ensures.items

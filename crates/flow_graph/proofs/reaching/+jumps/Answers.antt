@@ -1,6 +1,6 @@
 use Rattle.std.proofs.Common.{length, ap, sym, ◌∙◌, subst, arith, rules}
 use Rattle.control.specs.Graph as graph
-use Rattle.lowering.specs.Reached.{JumpsTo}
+use Rattle.control_laws.specs.lowering.Reached.{JumpsTo}
 use Rattle.branch_tree.specs.Choosers.{seen_picker}
 use Rattle.branch_tree.specs.Trees.{seen_end, seen_tree, seen_trees}
 use Rattle.branch_tree.proofs.TreeRows.{seen_dead, seen_jump, seen_pick, seen_return, seen_stop}

@@ -1,6 +1,7 @@
 use Rattle.std.proofs.Common.{◌<◌, ◌≤◌, length, true, refl, sym, ◌∙◌, arith}
 use Rattle.std.proofs.lemmas.Option.{slice_get_within, slice_get_read}
 use Rattle.flow_levels.proofs.Searching.{few}
+use Rattle.flow_graph.proofs.MadeRows.{made_all, made_more, made_none}
 use Rattle.flow_graph.proofs.Reached.{entry_below, jumps_below, reach_all, reach_begin, reach_more}
 use Rattle.flow_graph.proofs.reaching.reach_from.Goals as goal
 
@@ -11,43 +12,68 @@ visit-requires-clause-room c =
     omega (arith, lt, c.requires.size, c.clear.ensures.size)
 
 pub loop-at-init : goal.loop-at-init
-loop-at-init c =
-    reach_begin c.args.telling.now c.args.spots.now c.args.range c.clear.new.self.places.items c.visit.new.self.places.items c.visit.new.self.marks.items c.args.entry c.requires.entry c.clear.ensures.none
-    c.in_ok-visit.ensures.marked (c.in_ok-visit.ensures.size ∙ c.clear.ensures.size ∙ c.requires.size) c.in_ok-visit.ensures.adds
+loop-at-init c = record {
+  reach = reach_begin c.args.telling.now c.args.spots.now c.args.range c.clear.new.self.places.items c.visit.new.self.places.items c.visit.new.self.marks.items c.args.entry c.requires.entry c.clear.ensures.none
+      c.in_ok-visit.ensures.marked (c.in_ok-visit.ensures.size ∙ c.clear.ensures.size ∙ c.requires.size) c.in_ok-visit.ensures.adds;
+  made = made_none c.args.telling.now c.args.spots.now c.args.range c.visit.new.self.places.items c.args.nodes.now.items c.requires.none;
+}
 
 pub returns-then-at-len : goal.returns-then-at-len
-returns-then-at-len c = record {
-  reach = reach_all c.args.telling.now c.args.spots.now c.args.range c.args.entry c.loop-at.reach.places.items c.loop-at.reach.marks.items c.loop-at.at c.requires.entry c.loop-at.invariant (omega (arith, c.if-at-len.true));
-  marked = c.loop-at.invariant.marked;
-  size = c.loop-at.invariant.size ∙ sym c.requires.size;
-}
+returns-then-at-len c =
+    let telling = c.args.telling.now in
+    let spots = c.args.spots.now in
+    let places = c.loop-at.reach.places.items in
+    let over : length places ≤ c.loop-at.at = omega (arith, c.if-at-len.true) in
+    record {
+      reach = reach_all telling spots c.args.range c.args.entry places c.loop-at.reach.marks.items c.loop-at.at c.requires.entry c.loop-at.invariant.reach over;
+      made = made_all telling spots c.args.range places c.loop-at.at c.loop-at.nodes.items over c.loop-at.invariant.made;
+      marked = c.loop-at.invariant.reach.marked;
+      size = c.loop-at.invariant.reach.size ∙ sym c.requires.size;
+    }
 
 pub returns : goal.returns
 returns c =
-    let up : length c.loop-at.reach.places.items ≤ length c.loop-at.reach.marks.items = few c.loop-at.reach.places.items c.loop-at.reach.marks.items c.loop-at.invariant.marked in
+    let telling = c.args.telling.now in
+    let spots = c.args.spots.now in
+    let places = c.loop-at.reach.places.items in
+    let up : length places ≤ length c.loop-at.reach.marks.items = few places c.loop-at.reach.marks.items c.loop-at.invariant.reach.marked in
+    let over : length places ≤ c.loop-at.at = omega (arith, up, c.loop-at.invariant.reach.size, c.in_ok-visit.ensures.size, c.clear.ensures.size, c.requires.size, c.len-at-end.ensures, c.loop-at-test.false) in
     record {
-      reach = reach_all c.args.telling.now c.args.spots.now c.args.range c.args.entry c.loop-at.reach.places.items c.loop-at.reach.marks.items c.loop-at.at c.requires.entry c.loop-at.invariant
-          (omega (arith, up, c.loop-at.invariant.size, c.in_ok-visit.ensures.size, c.clear.ensures.size, c.requires.size, c.len-at-end.ensures, c.loop-at-test.false));
-      marked = c.loop-at.invariant.marked;
-      size = c.loop-at.invariant.size ∙ sym c.requires.size;
+      reach = reach_all telling spots c.args.range c.args.entry places c.loop-at.reach.marks.items c.loop-at.at c.requires.entry c.loop-at.invariant.reach over;
+      made = made_all telling spots c.args.range places c.loop-at.at c.loop-at.nodes.items over c.loop-at.invariant.made;
+      marked = c.loop-at.invariant.reach.marked;
+      size = c.loop-at.invariant.reach.size ∙ sym c.requires.size;
     }
 
 pub visit_node-requires-clause-there : goal.visit_node-requires-clause-there
 visit_node-requires-clause-there c =
     let is = slice_get_read c.loop-at.reach.places.items (length c.loop-at.reach.places.items) c.loop-at.at c.index-label.result.now refl (omega (arith, c.if-at-len.false)) c.index-label.ensures in
-    let lt : c.index-label.result.now < length c.loop-at.reach.marks.items = slice_get_within c.loop-at.reach.marks.items c.index-label.result.now true (c.loop-at.invariant.marked.marked c.index-label.result.now (c.loop-at.at, is)) in
-    omega (arith, lt, c.loop-at.invariant.size)
+    let lt : c.index-label.result.now < length c.loop-at.reach.marks.items = slice_get_within c.loop-at.reach.marks.items c.index-label.result.now true (c.loop-at.invariant.reach.marked.marked c.index-label.result.now (c.loop-at.at, is)) in
+    omega (arith, lt, c.loop-at.invariant.reach.size)
 
 pub visit_node-requires-clause-below : goal.visit_node-requires-clause-below
 visit_node-requires-clause-below c =
     let is = slice_get_read c.loop-at.reach.places.items (length c.loop-at.reach.places.items) c.loop-at.at c.index-label.result.now refl (omega (arith, c.if-at-len.false)) c.index-label.ensures in
-    jumps_below c.args.telling.now c.args.spots.now c.args.range c.args.entry c.loop-at.reach.places.items c.loop-at.reach.marks.items c.loop-at.at c.index-label.result.now c.loop-at.invariant c.requires.whole c.requires.range (c.loop-at.at, is)
+    jumps_below c.args.telling.now c.args.spots.now c.args.range c.args.entry c.loop-at.reach.places.items c.loop-at.reach.marks.items c.loop-at.at c.index-label.result.now c.loop-at.invariant.reach c.requires.whole c.requires.range (c.loop-at.at, is)
 
 pub visit_node-requires-clause-small : goal.visit_node-requires-clause-small
-visit_node-requires-clause-small c = omega (arith, c.loop-at.invariant.size, c.requires.whole.count, c.requires.whole.small)
+visit_node-requires-clause-small c = omega (arith, c.loop-at.invariant.reach.size, c.requires.whole.count, c.requires.whole.small)
 
 pub loop-at-preserved : goal.loop-at-preserved
 loop-at-preserved c =
-    let is = slice_get_read c.loop-at.reach.places.items (length c.loop-at.reach.places.items) c.loop-at.at c.index-label.result.now refl (omega (arith, c.if-at-len.false)) c.index-label.ensures in
-    reach_more c.args.telling.now c.args.spots.now c.args.range c.args.entry c.loop-at.reach.places.items c.visit_node.new.reach.places.items c.loop-at.reach.marks.items c.visit_node.new.reach.marks.items c.loop-at.at c.index-label.result.now
-    c.loop-at.invariant (omega (arith, c.if-at-len.false)) is c.in_ok-visit_node.ensures.adds c.in_ok-visit_node.ensures.marked c.in_ok-visit_node.ensures.size c.requires.range
+    let telling = c.args.telling.now in
+    let spots = c.args.spots.now in
+    let range = c.args.range in
+    let places = c.loop-at.reach.places.items in
+    let later = c.visit_node.new.reach.places.items in
+    let at = c.loop-at.at in
+    let here = c.index-label.result.now in
+    let is = slice_get_read places (length places) at here refl (omega (arith, c.if-at-len.false)) c.index-label.ensures in
+    let some = c.requires.range in
+    let adds = c.in_ok-visit_node.ensures.adds in
+    record {
+      reach = reach_more telling spots range c.args.entry places later c.loop-at.reach.marks.items c.visit_node.new.reach.marks.items at here
+          c.loop-at.invariant.reach (omega (arith, c.if-at-len.false)) is adds c.in_ok-visit_node.ensures.marked c.in_ok-visit_node.ensures.size some;
+      made = made_more telling spots range places later (adds some.0 some.1.table).kept at here (omega (arith, c.if-at-len.false)) is
+          c.loop-at.nodes.items c.visit_node.new.nodes.items c.in_ok-visit_node.ensures.node c.loop-at.invariant.made;
+    }

@@ -1,5 +1,10 @@
+use Rattle.std.proofs.Common.{take}
+use Rattle.flow_graph.specs.Lowered.{AreMade}
 use Rattle.flow_graph.proofs.Reached.{ReachSoFar}
 use Rattle.flow_graph.proofs.reaching.reach_from.Given as goal
 
 abbrev pub invariant-loop-at : goal.invariant-loop-at
-invariant-loop-at l = ReachSoFar l.telling l.spots l.range l.entry l.reach.places.items l.reach.marks.items l.at
+invariant-loop-at l = record {
+  reach : ReachSoFar l.telling l.spots l.range l.entry l.reach.places.items l.reach.marks.items l.at;
+  made : AreMade l.telling l.spots l.range (take l.at l.reach.places.items) l.nodes.items;
+}

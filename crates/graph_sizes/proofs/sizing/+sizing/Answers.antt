@@ -1,5 +1,5 @@
 use Rattle.std.proofs.Common.{◌≡◌, ◌+◌, ◌-◌, ◌^◌, min, sum_by, ap, sym, ◌∙◌, arith}
-use Rattle.lowering.specs.Completes.{sizes}
+use Rattle.control_laws.specs.lowering.Completes.{sizes}
 use Rattle.branch_tree.specs.Trees.{seen_end}
 use Rattle.tree_nesting.specs.Within.{end_within}
 use Rattle.graph_sizes.specs.Parts.{arm_size, piece_size, within_size}

@@ -1,6 +1,6 @@
 use Rattle.std.proofs.Common.{◌≡◌, suc, ◌-◌, ap, sym, subst, arith}
 use Rattle.grammar_forms.specs.Form.{Got}
-use Rattle.stmt_forms.specs.Stmt.{enter}
+use Rattle.statement_grammar.specs.stmt_forms.Stmt.{enter}
 use Rattle.head_parse.proofs.arms.enter.Goals as goal
 
 pub returns-then-levels-eq0 : goal.returns-then-levels-eq0

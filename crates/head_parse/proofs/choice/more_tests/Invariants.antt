@@ -2,7 +2,7 @@ use Rattle.std.specs.Prelude.{codes}
 use Rattle.grammar_forms.specs.Part.{is_key}
 use Rattle.std.proofs.Common.{◌≡◌, length}
 use Rattle.grammar_forms.specs.Form.{loop, added}
-use Rattle.stmt_forms.specs.Choice as forms
+use Rattle.statement_grammar.specs.stmt_forms.Choice as forms
 use Rattle.head_parse.proofs.choice.more_tests.Given as goal
 
 abbrev pub invariant-items : goal.invariant-items

@@ -1,5 +1,5 @@
 use Rattle.std.proofs.Common.{◌≡◌, true, false, if◌then◌else◌, ap, sym, ◌∙◌, subst, Some}
-use Rattle.graph_rules.specs.Reduced.{has_node, loops, close_graph}
+use Rattle.control_laws.specs.graph_rules.Reduced.{has_node, loops, close_graph}
 use Rattle.branch_tree.specs.Graphs.{seen_graph, seen_nodes}
 use Rattle.tree_rules.specs.Inlines.{PlaceOf}
 use Rattle.tree_rules.proofs.Nodes.{has_at}

@@ -1,7 +1,7 @@
 use Rattle.std.proofs.Common.{ap, sym, ◌∙◌}
 use Rattle.std.proofs.lemmas.Bool.{ne_eqb}
 use Rattle.language.specs.Control.{control_of}
-use Rattle.lowering.specs.Lower as lower
+use Rattle.control_laws.specs.lowering.Lower as lower
 use Rattle.lower_places.specs.Fall.{range_by}
 use Rattle.lower_places.specs.Leaf.{seen_leaf}
 use Rattle.lower_places.proofs.FallLemmas.{end_of-main, end_of-other}

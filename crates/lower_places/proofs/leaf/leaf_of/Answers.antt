@@ -1,6 +1,6 @@
 use Rattle.std.proofs.Common.{◌≤◌, length, ap, ◌∙◌, arith}
 use Rattle.control.specs.Graph as graph
-use Rattle.lowering.specs.Lower as lower
+use Rattle.control_laws.specs.lowering.Lower as lower
 use Rattle.cut_lists.specs.Told.{told_of}
 use Rattle.lower_places.specs.declared.leaf.Going.TheVariants as going
 use Rattle.lower_places.specs.Leaf.{seen_leaf}

@@ -1,7 +1,7 @@
 use Rattle.std.proofs.Common.{◌≡◌, ◌+◌, ℕ, List, drop}
 use Rattle.cob_tree.specs.declared.file.FileEntry.{FileEntry}
 use Rattle.language.specs.Control.{seen_stmts}
-use Rattle.lowering.specs.Lower as lower
+use Rattle.control_laws.specs.lowering.Lower as lower
 use Rattle.cut_lists.specs.Told.{told_of}
 use Rattle.lower_places.specs.Layout.{AreAt}
 use Rattle.lower_places.specs.Leaf.{seen_leaf}

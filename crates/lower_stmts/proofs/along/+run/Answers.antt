@@ -5,8 +5,8 @@ use Rattle.std.specs.Prelude.{is_some}
 use Rattle.language.specs.Control.{control_in, seen, seen_stmts, test_of, always}
 use Rattle.language.specs.Language as language
 use Rattle.control.specs.Graph as graph
-use Rattle.lowering.specs.Completes.{cut, whole}
-use Rattle.lowering.specs.Lower as lower
+use Rattle.control_laws.specs.lowering.Completes.{cut, whole}
+use Rattle.control_laws.specs.lowering.Lower as lower
 use Rattle.branch_tree.specs.Trees.{seen_body, seen_tree}
 use Rattle.branch_tree.proofs.TreeRows.{seen_jump}
 use Rattle.lower_places.specs.Leaf.{seen_leaf}

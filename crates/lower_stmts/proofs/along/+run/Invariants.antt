@@ -3,7 +3,7 @@ use Rattle.cob_tree.specs.Places.{arms_places, stmt_places, when_places}
 use Rattle.language.specs.All.{all}
 use Rattle.language.specs.OwnItems.{stmts_own, when_own}
 use Rattle.control.specs.Graph as graph
-use Rattle.lowering.specs.Lower as lower
+use Rattle.control_laws.specs.lowering.Lower as lower
 use Rattle.branch_tree.specs.Trees.{seen_body, seen_tree}
 use Rattle.lower_places.specs.Leaf.{seen_leaf}
 use Rattle.lower_trees.specs.Loops.{before}

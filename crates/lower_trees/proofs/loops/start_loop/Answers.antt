@@ -1,7 +1,7 @@
 use Rattle.std.proofs.Common.{◌++◌, [], ◌∷◌, ap, sym, ◌∙◌}
 use Rattle.language.specs.Control.{control_in}
 use Rattle.language.specs.Language.{Do, Take}
-use Rattle.graph_rules.specs.Shapes.{followed}
+use Rattle.control_laws.specs.graph_rules.Shapes.{followed}
 use Rattle.branch_tree.specs.Trees.{seen_body}
 use Rattle.branch_tree.specs.declared.tree.Piece.TheVariants as piece
 use Rattle.lower_trees.specs.Loops.{start_by}

@@ -1,4 +1,4 @@
-use Rattle.stmt_spelling.proofs.Paragraphs as paragraphs
+use Rattle.part_spelling.proofs.stmt_spelling_lemmas.Paragraphs as paragraphs
 use Rattle.part_spelling.proofs.Told.{parts_are_told}
 use Rattle.part_spelling.proofs.laws.printed_procedures_are_spelled.Goals as goal
 

@@ -7,8 +7,8 @@ use Rattle.grammar_forms.specs.declared.why.Why.TheVariants as whys
 use Rattle.grammar_forms.specs.Form.{Form}
 use Rattle.grammar_forms.specs.Reading.{start_at}
 use Rattle.grammar_forms.proofs.Reader.{spelled, the_only, stops, none}
-use Rattle.stmt_forms.specs.Paragraph as forms
-use Rattle.stmt_forms.proofs.ParagraphLaws as laws
+use Rattle.statement_grammar.specs.stmt_forms.Paragraph as forms
+use Rattle.statement_grammar.proofs.stmt_forms_lemmas.ParagraphLaws as laws
 use Rattle.read_faults.specs.Fault.{stop_fault}
 use Rattle.procedure_parse.specs.Answer.{first_fault, IsStop, IsFault}
 use Rattle.procedure_parse.proofs.DivisionEnds.{division_ends}

@@ -1,6 +1,6 @@
-use Rattle.stmt_forms.specs.Verb.{begins_stmt}
+use Rattle.statement_grammar.specs.stmt_forms.Verb.{begins_stmt}
 use Rattle.std.proofs.lemmas.Result.{err_from_is_err_and}
-use Rattle.stmt_forms.proofs.ParagraphLaws as laws
+use Rattle.statement_grammar.proofs.stmt_forms_lemmas.ParagraphLaws as laws
 use Rattle.grammar_forms.proofs.Loops.{goes_on, ends_err, is_done, shrinks}
 use Rattle.grammar_forms.proofs.MakerLaws.{added}
 use Rattle.procedure_parse.proofs.paragraph.sentences_from.Goals as goal

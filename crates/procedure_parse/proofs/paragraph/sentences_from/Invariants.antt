@@ -1,7 +1,7 @@
-use Rattle.stmt_forms.specs.Verb.{begins_stmt}
+use Rattle.statement_grammar.specs.stmt_forms.Verb.{begins_stmt}
 use Rattle.std.proofs.Common.{◌≡◌, length}
 use Rattle.grammar_forms.specs.Form.{loop, added}
-use Rattle.stmt_forms.specs.Paragraph as forms
+use Rattle.statement_grammar.specs.stmt_forms.Paragraph as forms
 use Rattle.procedure_parse.proofs.paragraph.sentences_from.Given as goal
 
 abbrev pub invariant-items : goal.invariant-items

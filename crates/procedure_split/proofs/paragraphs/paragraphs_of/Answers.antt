@@ -4,7 +4,7 @@ use Rattle.cob_tree.specs.declared.program.Range.{Range}
 use Rattle.branch_tree.specs.Trees.{seen_tree}
 use Rattle.lower_places.specs.Fall.{seen_range}
 use Rattle.body_writing.specs.Procedures.{is_main}
-use Rattle.made_procedures.specs.Made.{IsParagraphOf}
+use Rattle.procedure_split.specs.made_procedures.Made.{IsParagraphOf}
 use Rattle.procedure_split.proofs.ParagraphRows.{done-more}
 use Rattle.procedure_split.proofs.paragraphs.paragraphs_of.Goals as goal
 

@@ -5,7 +5,7 @@ use Rattle.cell_table.specs.Items.{item_kinds}
 use Rattle.cell_table.specs.Names.{item_kind, seen_item}
 use Rattle.cell_table.specs.Seen.{seen_ranges}
 use Rattle.out_names.specs.Words.{program_words, table_of}
-use Rattle.made_procedures.specs.Made.{ArePlacesIn}
+use Rattle.procedure_split.specs.made_procedures.Made.{ArePlacesIn}
 use Rattle.procedure_split.specs.Counted.{counts_of}
 use Rattle.procedure_split.specs.Written.{IsWrittenWith}
 use Rattle.procedure_split.proofs.RowLemmas.{rows-length}

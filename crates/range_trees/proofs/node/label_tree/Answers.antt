@@ -1,5 +1,5 @@
 use Rattle.std.proofs.Common.{◌≡◌, ◌/◌, ◌<◌, length, true, false, ap, sym, ◌∙◌, arith, subst}
-use Rattle.lowering.specs.Lower as lower
+use Rattle.control_laws.specs.lowering.Lower as lower
 use Rattle.lower_places.specs.Fall.{seen_range}
 use Rattle.rest_table.specs.Spots.{Fits, IsRest}
 use Rattle.range_trees.specs.Nodes.{node_in}

@@ -1,6 +1,6 @@
 use Rattle.std.proofs.Common.{ap, sym, ◌∙◌}
 use Rattle.language.specs.Control.{control_of}
-use Rattle.lowering.specs.Lowered.{place_in}
+use Rattle.control_laws.specs.lowering.Lowered.{place_in}
 use Rattle.rest_table.specs.Onward.{ended}
 use Rattle.range_trees.proofs.node.leaving_of.Goals as goal
 

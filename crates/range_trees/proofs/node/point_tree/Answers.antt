@@ -1,6 +1,6 @@
 use Rattle.std.proofs.Common.{◌+◌, Some, refl, ap, sym, ◌∙◌, arith, subst}
 use Rattle.control.specs.Graph as graph
-use Rattle.lowering.specs.Lower as lower
+use Rattle.control_laws.specs.lowering.Lower as lower
 use Rattle.branch_tree.specs.Trees.{seen_body}
 use Rattle.lower_places.specs.Fall.{seen_range}
 use Rattle.lower_stmts.proofs.Bodies.{before_nothing}

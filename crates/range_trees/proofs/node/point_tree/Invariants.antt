@@ -1,6 +1,6 @@
 use Rattle.std.proofs.Common.{◌≡◌, ◌+◌, ◌≤◌, ◌<◌, length}
 use Rattle.cob_tree.specs.declared.program.Program.{Program}
-use Rattle.lowering.specs.Lower as lower
+use Rattle.control_laws.specs.lowering.Lower as lower
 use Rattle.branch_tree.specs.Trees.{seen_body}
 use Rattle.lower_trees.specs.Loops.{before}
 use Rattle.range_trees.specs.Nodes.{IsTableOf, node_in}

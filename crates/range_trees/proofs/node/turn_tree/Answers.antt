@@ -3,9 +3,9 @@ use Rattle.cob_tree.specs.Places.{stmt_places}
 use Rattle.cob_tree.specs.declared.stmt.Stmt.TheVariants.{Loop}
 use Rattle.language.specs.Control.{control_in, control_of, seen, seen_stmts}
 use Rattle.language.specs.OwnItems.{stmt_own}
-use Rattle.lowering.specs.Completes.{size}
-use Rattle.lowering.specs.Lower as lower
-use Rattle.lowering.specs.Lowered.{place_in}
+use Rattle.control_laws.specs.lowering.Completes.{size}
+use Rattle.control_laws.specs.lowering.Lower as lower
+use Rattle.control_laws.specs.lowering.Lowered.{place_in}
 use Rattle.branch_tree.proofs.TreeRows.{seen_dead}
 use Rattle.lower_places.proofs.SizeLemmas.{size-seen}
 use Rattle.lower_places.specs.Leaf.{seen_leaf}

@@ -4,13 +4,13 @@ use Rattle.std.proofs.lemmas.List.{take_rest}
 use Rattle.ref_format.proofs.LineLemmas.{lines-first, lines-last}
 use Rattle.ref_format.proofs.line.first_line.Goals as goal
 
-pub returns-then-byte-eq10-clause-first : goal.returns-then-byte-eq10-clause-first
-returns-then-byte-eq10-clause-first c =
-    let bytes = c.args.bytes.now in
-    let at = c.loop-at.at in
-    lines-first bytes at c.loop-at.invariant c.loop-at-test.true c.if-byte-eq10.true
-    ∙ ap (λ line. line ∷ lines (drop (at + 1) bytes)) (sym c.without_return.ensures)
-    ∙ ap (λ rest. c.without_return.result.now ∷ lines rest) (sym (take_rest bytes (at + 1)))
+pub returns-then-end-bytes-clause-first : goal.returns-then-end-bytes-clause-first
+returns-then-end-bytes-clause-first c = lines-last c.args.bytes.now _ c.line_end-end.ensures.before c.requires c.if-end-bytes.true
 
-pub returns-clause-first : goal.returns-clause-first
-returns-clause-first c = lines-last c.args.bytes.now c.loop-at.at c.loop-at.invariant c.requires (omega arith)
+pub returns-else-end-bytes-clause-first : goal.returns-else-end-bytes-clause-first
+returns-else-end-bytes-clause-first c =
+    let bytes = c.args.bytes.now in
+    let end = c.line_end-end.result in
+    lines-first bytes end c.line_end-end.ensures.before (omega arith) (c.line_end-end.ensures.found (omega arith))
+    ∙ ap (λ line. line ∷ lines (drop (end + 1) bytes)) (sym c.without_return.ensures)
+    ∙ ap (λ rest. c.without_return.result.now ∷ lines rest) (sym (take_rest bytes (end + 1)))

@@ -1,6 +1,6 @@
 use Rattle.std.proofs.Common.{◌≡◌, drop}
-use Rattle.graph_rules.specs.Reduced.{lowest}
-use Rattle.closing.specs.Closes.{has_exits}
+use Rattle.control_laws.specs.graph_rules.Reduced.{lowest}
+use Rattle.control_laws.specs.closing.Closes.{has_exits}
 use Rattle.branch_tree.specs.Graphs.{seen_graph, seen_nodes}
 use Rattle.region_rewrite.proofs.lowest.lowest_exits.Given as goal
 

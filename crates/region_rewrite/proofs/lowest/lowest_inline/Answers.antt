@@ -1,7 +1,7 @@
 use Rattle.std.proofs.Common.{◌<◌, ◌≤◌, length, sym, ◌∙◌, arith}
 use Rattle.std.proofs.lemmas.Grind.{common_steps}
 use Rattle.std.proofs.lemmas.List.{length-map}
-use Rattle.graph_rules.specs.Reduced.{inlines}
+use Rattle.control_laws.specs.graph_rules.Reduced.{inlines}
 use Rattle.branch_tree.specs.Graphs.{seen_graph, seen_node}
 use Rattle.region_rewrite.proofs.LowestRows.{lowest_hit, lowest_next, lowest_none}
 use Rattle.region_rewrite.proofs.lowest.lowest_inline.Goals as goal

@@ -1,5 +1,5 @@
 use Rattle.std.proofs.Common.{◌≡◌, drop}
-use Rattle.graph_rules.specs.Reduced.{lowest, inlines}
+use Rattle.control_laws.specs.graph_rules.Reduced.{lowest, inlines}
 use Rattle.branch_tree.specs.Graphs.{seen_graph, seen_nodes}
 use Rattle.region_rewrite.proofs.lowest.lowest_inline.Given as goal
 

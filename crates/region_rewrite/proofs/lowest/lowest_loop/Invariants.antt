@@ -1,5 +1,5 @@
 use Rattle.std.proofs.Common.{◌≡◌, drop}
-use Rattle.graph_rules.specs.Reduced.{lowest, loops}
+use Rattle.control_laws.specs.graph_rules.Reduced.{lowest, loops}
 use Rattle.branch_tree.specs.Graphs.{seen_graph, seen_nodes}
 use Rattle.region_rewrite.proofs.lowest.lowest_loop.Given as goal
 

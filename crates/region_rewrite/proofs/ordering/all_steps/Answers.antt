@@ -1,5 +1,5 @@
 use Rattle.std.proofs.Common.{◌≡◌, Some, ap, sym, ◌∙◌, arith}
-use Rattle.closing.specs.Closes.{any_step, reduced_by_all}
+use Rattle.control_laws.specs.closing.Closes.{any_step, reduced_by_all}
 use Rattle.branch_tree.specs.Graphs.{seen_graph}
 use Rattle.region_rewrite.proofs.StepRows.{took, kept, all_reduced_next, any_next, stays_all}
 use Rattle.region_rewrite.proofs.ordering.all_steps.Goals as goal

@@ -1,6 +1,6 @@
 use Rattle.std.proofs.Common.{◌≡◌}
-use Rattle.closing.specs.Closes.{reduced_by_all}
-use Rattle.closing.specs.Closes.{IsClosed}
+use Rattle.control_laws.specs.closing.Closes.{reduced_by_all}
+use Rattle.control_laws.specs.closing.Closes.{IsClosed}
 use Rattle.branch_tree.specs.Graphs.{seen_graph}
 use Rattle.region_rewrite.proofs.ordering.all_steps.Given as goal
 

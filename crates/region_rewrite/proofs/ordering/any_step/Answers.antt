@@ -1,4 +1,4 @@
-use Rattle.graph_rules.specs.Reduced.{rule_step}
+use Rattle.control_laws.specs.graph_rules.Reduced.{rule_step}
 use Rattle.branch_tree.specs.Graphs.{seen_graph}
 use Rattle.region_rewrite.proofs.StepRows.{took, kept, any_rule, exits_else, same_closed}
 use Rattle.region_rewrite.proofs.ordering.any_step.Goals as goal

@@ -1,7 +1,7 @@
 use Rattle.std.proofs.Common.{◌*◌, ap, ◌∙◌}
 use Rattle.std.proofs.lemmas.Result.{on_ok_weaker}
-use Rattle.graph_rules.specs.Reduced.{size}
-use Rattle.closing.specs.Closes.{reduced_by_all, dispatch_rest}
+use Rattle.control_laws.specs.graph_rules.Reduced.{size}
+use Rattle.control_laws.specs.closing.Closes.{reduced_by_all, dispatch_rest}
 use Rattle.branch_tree.specs.Graphs.{seen_graph}
 use Rattle.region_rewrite.proofs.StepRows.{shaped_closed}
 use Rattle.region_rewrite.proofs.ordering.close.Goals as goal

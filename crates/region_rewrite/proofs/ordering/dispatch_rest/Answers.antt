@@ -1,6 +1,6 @@
 use Rattle.std.proofs.Common.{◌<◌, ◌≤◌, sym, ◌∙◌, arith}
 use Rattle.std.proofs.lemmas.Result.{on_ok_weaker}
-use Rattle.graph_rules.specs.Reduced.{size}
+use Rattle.control_laws.specs.graph_rules.Reduced.{size}
 use Rattle.branch_tree.specs.Graphs.{seen_graph}
 use Rattle.region_rewrite.proofs.StepRows.{size_is, dispatches, no_dispatch}
 use Rattle.region_rewrite.proofs.ordering.dispatch_rest.Goals as goal

@@ -1,5 +1,5 @@
 use Rattle.std.proofs.Common.{ap, sym, ◌∙◌, refl, Some, arith}
-use Rattle.graph_rules.specs.Reduced.{join_graph}
+use Rattle.control_laws.specs.graph_rules.Reduced.{join_graph}
 use Rattle.tree_rules.specs.Places.{label_at}
 use Rattle.branch_tree.specs.Graphs.{seen_graph}
 use Rattle.region_rewrite.proofs.StepRows.{exits_row, no_exits, at_node}

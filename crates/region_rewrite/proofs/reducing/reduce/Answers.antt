@@ -1,6 +1,6 @@
 use Rattle.std.proofs.Common.{◌*◌, ap, ◌∙◌}
 use Rattle.std.proofs.lemmas.Result.{on_ok_weaker}
-use Rattle.graph_rules.specs.Reduced.{reduced, size}
+use Rattle.control_laws.specs.graph_rules.Reduced.{reduced, size}
 use Rattle.branch_tree.specs.Graphs.{seen_graph}
 use Rattle.region_rewrite.proofs.StepRows.{joined_closed}
 use Rattle.region_rewrite.proofs.reducing.reduce.Goals as goal

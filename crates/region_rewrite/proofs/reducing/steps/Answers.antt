@@ -1,5 +1,5 @@
 use Rattle.std.proofs.Common.{◌≡◌, Some, ap, sym, ◌∙◌, arith}
-use Rattle.graph_rules.specs.Reduced.{rule_step, reduced}
+use Rattle.control_laws.specs.graph_rules.Reduced.{rule_step, reduced}
 use Rattle.branch_tree.specs.Graphs.{seen_graph}
 use Rattle.region_rewrite.proofs.StepRows.{took, kept, reduced_next, closed_next, stays}
 use Rattle.region_rewrite.proofs.reducing.steps.Goals as goal

@@ -1,6 +1,6 @@
 use Rattle.std.proofs.Common.{◌≡◌}
-use Rattle.graph_rules.specs.Reduced.{reduced}
-use Rattle.closing.specs.Closes.{IsClosed}
+use Rattle.control_laws.specs.graph_rules.Reduced.{reduced}
+use Rattle.control_laws.specs.closing.Closes.{IsClosed}
 use Rattle.branch_tree.specs.Graphs.{seen_graph}
 use Rattle.region_rewrite.proofs.reducing.steps.Given as goal
 

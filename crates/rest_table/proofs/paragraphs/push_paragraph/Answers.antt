@@ -2,7 +2,7 @@ use Rattle.std.proofs.Common.{◌≡◌, ◌+◌, ◌<◌, get_or, length, ap, s
 use Rattle.cob_tree.specs.Places.{stmt_places}
 use Rattle.language.specs.Control.{seen_stmts}
 use Rattle.language.specs.OwnItems.{stmts_own}
-use Rattle.lowering.specs.Completes.{cuts, leave_sentence}
+use Rattle.control_laws.specs.lowering.Completes.{cuts, leave_sentence}
 use Rattle.cut_lists.specs.declared.facts.Facts.{Facts}
 use Rattle.lower_stmts.specs.Along.{told_by}
 use Rattle.rest_table.specs.declared.spot.Onward.{Onward}

@@ -1,9 +1,10 @@
-use Rattle.std.proofs.Common.{◌≡◌, map, string_bytes, false, Result, Ok, sym, subst}
+use Rattle.std.proofs.Common.{◌≡◌, map, take, string_bytes, false, Result, Ok, sym, subst}
 use Rattle.std.specs.Prelude.{IfOk}
 use Rattle.cob_base.specs.Source.{source_call}
 use Rattle.cob_base.specs.Sink.{sink_call}
+use Rattle.file_desk.specs.contracts.watched.BoxDynDeviceWatched.TheImpl.{seen-value}
 use Rattle.restructure_tool.specs.Ask.{ask_of}
-use Rattle.restructure_tool.specs.Tool.{Ends}
+use Rattle.restructure_tool.specs.Tool.{Ends, EndsWithFiles}
 use Rattle.restructure_tool.specs.Program.{is_page}
 use Rattle.restructure_tool.proofs.program.program.Goals as goal
 
@@ -17,3 +18,13 @@ returns-in-Ok-clause-ask g c =
     let notes = sink_call g.N.Sink.held g.N.Sink.faults c.args.notes.now c.serve.new.notes in
     if-ok c.args.words c.in-Ok.words _ c.in-Ok.is
     (subst (λ ws. is_page (map string_bytes ws) ≡ false → Ends (ask_of (map string_bytes ws)) source out notes c.serve.result) c.as_slice.ensures.value c.serve.ensures.ask)
+
+pub returns-in-Ok-clause-over : goal.returns-in-Ok-clause-over
+returns-in-Ok-clause-over g c =
+    let source = source_call g.S.Source.left g.S.Source.faults c.args.source.now c.serve.new.source in
+    let out = sink_call g.K.Sink.held g.K.Sink.faults c.args.out.now c.serve.new.out in
+    let notes = sink_call g.N.Sink.held g.N.Sink.faults c.args.notes.now c.serve.new.notes in
+    let old = take c.args.bench.now.left (map (seen-value g.dyn-1).it c.args.bench.now.devices.items) in
+    let new = take c.serve.new.bench.left (map (seen-value g.dyn-1).it c.serve.new.bench.devices.items) in
+    if-ok c.args.words c.in-Ok.words _ c.in-Ok.is
+    (subst (λ ws. is_page (map string_bytes ws) ≡ false → EndsWithFiles (ask_of (map string_bytes ws)) source out notes old new c.serve.result) c.as_slice.ensures.value c.serve.ensures.over)

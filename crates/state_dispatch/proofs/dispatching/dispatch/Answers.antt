@@ -1,8 +1,8 @@
 use Rattle.std.proofs.Common.{◌≡◌, ◌++◌, ◌∷◌, [], map, length, ap, sym, ◌∙◌, refl, arith, rules}
 use Rattle.std.proofs.lemmas.List.{map-append}
-use Rattle.graph_rules.specs.Reduced.{count}
-use Rattle.closing.specs.Closes.{none_left_out}
-use Rattle.closing.specs.Dispatches.{labels_of, number_in, some_returns, dispatched}
+use Rattle.control_laws.specs.graph_rules.Reduced.{count}
+use Rattle.control_laws.specs.closing.Closes.{none_left_out}
+use Rattle.control_laws.specs.closing.Dispatches.{labels_of, number_in, some_returns, dispatched}
 use Rattle.branch_tree.specs.declared.graph.Added.TheVariants as added
 use Rattle.branch_tree.specs.declared.tree.Piece.TheVariants as piece
 use Rattle.branch_tree.specs.Graphs.{seen_nodes, seen_added}

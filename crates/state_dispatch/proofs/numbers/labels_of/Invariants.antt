@@ -1,5 +1,5 @@
 use Rattle.std.proofs.Common.{◌≡◌, ◌++◌, drop}
-use Rattle.closing.specs.Dispatches.{labels_of}
+use Rattle.control_laws.specs.closing.Dispatches.{labels_of}
 use Rattle.branch_tree.specs.Graphs.{seen_nodes}
 use Rattle.state_dispatch.proofs.numbers.labels_of.Given as goal
 

@@ -1,5 +1,5 @@
 use Rattle.std.proofs.Common.{◌≡◌, drop}
-use Rattle.closing.specs.Dispatches.{some_returns}
+use Rattle.control_laws.specs.closing.Dispatches.{some_returns}
 use Rattle.branch_tree.specs.Graphs.{seen_nodes}
 use Rattle.state_dispatch.proofs.returns.some_returns.Given as goal
 

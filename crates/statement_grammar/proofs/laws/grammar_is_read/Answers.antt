@@ -1,8 +1,8 @@
 use Rattle.std.specs.Prelude.{drop}
 use Rattle.grammar_forms.proofs.Reader.{reader}
 use Rattle.procedure_names.specs.Procedures.{procedures_of}
-use Rattle.stmt_forms.proofs.HoldingLaws as holding
-use Rattle.stmt_forms.proofs.ParagraphLaws as paragraphs
+use Rattle.statement_grammar.proofs.stmt_forms_lemmas.HoldingLaws as holding
+use Rattle.statement_grammar.proofs.stmt_forms_lemmas.ParagraphLaws as paragraphs
 use Rattle.statement_grammar.proofs.PartLaws.{parts}
 use Rattle.statement_grammar.proofs.laws.grammar_is_read.Goals as goal
 

@@ -1,5 +1,5 @@
 use Rattle.std.proofs.Common.{◌≡◌, ◌<◌, ◌≤◌, ℕ, drop, get_or, length}
-use Rattle.expr_forms.specs.declared.side.ValueKind.{ValueKind}
+use Rattle.statement_grammar.specs.declared.expr_forms.side.ValueKind.{ValueKind}
 use Rattle.statement_grammar.specs.Use.{record_kind}
 use Rattle.statement_uses.proofs.record.kinds_of.Given as goal
 

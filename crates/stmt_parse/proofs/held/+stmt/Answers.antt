@@ -6,12 +6,12 @@ use Rattle.grammar_forms.specs.Form.{Input, refuse, chosen, is_next}
 use Rattle.grammar_forms.specs.Part.{is_key}
 use Rattle.grammar_forms.specs.Reading.{Reads}
 use Rattle.grammar_forms.proofs.Loops.{goes_on, ends_err, is_done, shrinks}
-use Rattle.stmt_forms.specs.declared.scope.Scope.{Scope}
-use Rattle.stmt_forms.specs.Arms.{Level, Found}
-use Rattle.stmt_forms.specs.Part.{Parts}
-use Rattle.stmt_forms.specs.Stmt as all
-use Rattle.stmt_forms.specs.Verb.{begins_simple, begins_stmt}
-use Rattle.stmt_forms.proofs.HoldingLaws as laws
+use Rattle.statement_grammar.specs.declared.stmt_forms.scope.Scope.{Scope}
+use Rattle.statement_grammar.specs.stmt_forms.Arms.{Level, Found}
+use Rattle.statement_grammar.specs.stmt_forms.Part.{Parts}
+use Rattle.statement_grammar.specs.stmt_forms.Stmt as all
+use Rattle.statement_grammar.specs.stmt_forms.Verb.{begins_simple, begins_stmt}
+use Rattle.statement_grammar.proofs.stmt_forms_lemmas.HoldingLaws as laws
 use Rattle.stmt_drafts.specs.Step as steps
 use Rattle.stmt_parse.proofs.held.+stmt.Goals as goal
 

@@ -2,9 +2,9 @@ use Rattle.std.proofs.Common.{◌≡◌, ◌+◌, ◌*◌, length}
 use Rattle.std.specs.Prelude.{codes}
 use Rattle.grammar_forms.specs.Form.{loop}
 use Rattle.grammar_forms.specs.Part.{is_key}
-use Rattle.stmt_forms.specs.Choice as choice
-use Rattle.stmt_forms.specs.Stmt as all
-use Rattle.stmt_forms.specs.Verb.{begins_stmt}
+use Rattle.statement_grammar.specs.stmt_forms.Choice as choice
+use Rattle.statement_grammar.specs.stmt_forms.Stmt as all
+use Rattle.statement_grammar.specs.stmt_forms.Verb.{begins_stmt}
 use Rattle.stmt_parse.proofs.held.+stmt.Given as goal
 
 abbrev pub decreases-held : goal.decreases-held

@@ -1,5 +1,5 @@
 use Rattle.std.proofs.Common.{◌≡◌, ◌≤◌, ◌-◌, ◌^◌, ◌==◌, min, max, drop, length}
-use Rattle.graph_rules.specs.Shapes.{arms_stmts}
+use Rattle.control_laws.specs.graph_rules.Shapes.{arms_stmts}
 use Rattle.branch_tree.specs.Choosers.{seen_picker}
 use Rattle.branch_tree.specs.Trees.{seen_body, seen_trees}
 use Rattle.tree_nesting.specs.Nesting.{nesting, arms_nesting}

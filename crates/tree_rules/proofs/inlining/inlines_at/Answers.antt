@@ -1,8 +1,8 @@
 use Rattle.std.proofs.Common.{◌≡◌, ◌<◌, ◌==◌, ◌-◌, ◌^◌, min, length, ap, sym, ◌∙◌, arith}
 use Rattle.std.proofs.lemmas.List.{length-map}
 use Rattle.control.specs.Doing.{is_above}
-use Rattle.graph_rules.specs.Shapes.{leaves_to}
-use Rattle.graph_rules.specs.Reduced.{all_leaves_to}
+use Rattle.control_laws.specs.graph_rules.Shapes.{leaves_to}
+use Rattle.control_laws.specs.graph_rules.Reduced.{all_leaves_to}
 use Rattle.branch_tree.specs.Graphs.{seen_graph, seen_node}
 use Rattle.branch_tree.specs.Trees.{seen_tree}
 use Rattle.tree_rules.specs.Places.{label_at, tree_at}

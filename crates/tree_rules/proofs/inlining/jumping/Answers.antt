@@ -1,7 +1,7 @@
 use Rattle.std.proofs.Common.{ap, sym, ◌∙◌, arith}
 use Rattle.std.proofs.lemmas.List.{length-map}
 use Rattle.control.specs.Doing.{is_above}
-use Rattle.graph_rules.specs.Shapes.{leaves_to}
+use Rattle.control_laws.specs.graph_rules.Shapes.{leaves_to}
 use Rattle.branch_tree.specs.Graphs.{seen_node}
 use Rattle.tree_rules.proofs.Nodes.{tree_seen}
 use Rattle.tree_rules.proofs.inlining.jumping.Goals as goal

@@ -1,5 +1,5 @@
 use Rattle.std.proofs.Common.{◌≡◌, drop}
-use Rattle.graph_rules.specs.Reduced.{all_leaves_to}
+use Rattle.control_laws.specs.graph_rules.Reduced.{all_leaves_to}
 use Rattle.branch_tree.specs.Graphs.{seen_nodes}
 use Rattle.tree_rules.proofs.inlining.jumping.Given as goal
 

@@ -1,5 +1,5 @@
 use Rattle.std.proofs.Common.{◌≡◌, drop}
-use Rattle.graph_rules.specs.Reduced.{has_node}
+use Rattle.control_laws.specs.graph_rules.Reduced.{has_node}
 use Rattle.branch_tree.specs.Graphs.{seen_nodes}
 use Rattle.tree_rules.proofs.inlining.place_of.Given as goal
 

@@ -3,7 +3,7 @@ use Rattle.std.proofs.lemmas.Grind.{common_steps}
 use Rattle.std.proofs.lemmas.List.{map-set, length-map}
 use Rattle.branch_tree.specs.Trees.{seen_tree, trees_of}
 use Rattle.control.specs.Graph as graph
-use Rattle.graph_rules.specs.Shapes.{joined}
+use Rattle.control_laws.specs.graph_rules.Shapes.{joined}
 use Rattle.tree_rules.proofs.Arms.{changed_next, changed_all, joined_each, seen_at}
 use Rattle.tree_rules.proofs.joining.+join.Goals as goal
 

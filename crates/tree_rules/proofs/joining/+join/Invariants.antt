@@ -1,5 +1,5 @@
 use Rattle.std.proofs.Common.{◌≡◌, ◌+◌, ◌*◌, ◌++◌, map, take, drop}
-use Rattle.graph_rules.specs.Shapes.{joined}
+use Rattle.control_laws.specs.graph_rules.Shapes.{joined}
 use Rattle.branch_tree.specs.Trees.{seen_tree}
 use Rattle.tree_rules.proofs.joining.+join.Given as goal
 

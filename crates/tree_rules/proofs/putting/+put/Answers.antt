@@ -3,7 +3,7 @@ use Rattle.std.proofs.lemmas.List.{length-map}
 use denote.Param.Weighed.{at_most}
 use Rattle.control.specs.Doing.{is_above}
 use Rattle.control.specs.Graph as graph
-use Rattle.graph_rules.specs.Shapes.{leaves_to}
+use Rattle.control_laws.specs.graph_rules.Shapes.{leaves_to}
 use Rattle.branch_tree.proofs.tree.Tree.TheLaws.{the_size}
 use Rattle.branch_tree.specs.Trees.{seen_tree}
 use Rattle.tree_rules.specs.Puts.{Puts}

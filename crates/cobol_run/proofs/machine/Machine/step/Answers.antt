@@ -1,48 +1,38 @@
-use Rattle.std.proofs.Common.{◌∙◌, ap, sym}
-use Rattle.cobol_run.specs.Frames.{body_seen, heads, last_of, rest_of, turning_seen}
-use Rattle.cobol_run.specs.Plan.{declared_by, memory_in}
-use Rattle.language.specs.Control.{seen}
-use Rattle.language.specs.Items.{Do, Turn}
+use Rattle.std.proofs.Common.{◌∙◌, ap}
+use Rattle.cobol_run.specs.Frames.{heads, last_of, rest_of}
 use Rattle.cobol_run.proofs.FilingLemmas.{next_none, steps_none}
-use Rattle.cobol_run.proofs.MachineLemmas.{steps_ending, steps_going}
-use Rattle.cobol_run.proofs.StatementLemmas.{turn_led}
+use Rattle.cobol_run.proofs.MachineLemmas.{files_step, own_step, plain_step}
 use Rattle.cobol_run.proofs.machine.Machine.step.Goals as goal
 
-pub returns-in-Nothing-clause-step : goal.returns-in-Nothing-clause-step
-returns-in-Nothing-clause-step g c =
+pub returns-in-None-clause-step : goal.returns-in-None-clause-step
+returns-in-None-clause-step g c =
     let last = last_of c.args.self.now.plan.program.now c.args.self.now.paragraph in
-    steps_ending c.args.self.now c.next.new.frames c.clear.new.shown c.end.new.self c.end.result
-    (c.in_ok-next.ensures.rest last ∙ ap (λ head. heads last head (rest_of last c.next.new.frames)) c.in-Nothing.is)
-    (c.in_ok-next.ensures.pending c.args.self.now.plan.program.now) c.end.ensures.step
+    plain_step c.args.self.now c.next.new.frames c.clear.new.shown c.head_step.new.self c.in_ok-head.head
+    (c.in_ok-head.ensures.rest last) (c.in_ok-head.ensures.pending c.args.self.now.plan.program.now)
+    c.head_step.result (c.filing_of.ensures.none c.in-None.is) c.head_step.ensures.step
 
-pub returns-in_ok-way-in-Stmt-clause-step : goal.returns-in_ok-way-in-Stmt-clause-step
-returns-in_ok-way-in-Stmt-clause-step g c =
+pub returns-in-None-clause-over : goal.returns-in-None-clause-over
+returns-in-None-clause-over g c =
     let last = last_of c.args.self.now.plan.program.now c.args.self.now.paragraph in
-    steps_going c.args.self.now c.stmt_way.new.frames c.stmt_way.new.held c.go.new.self c.go.result (Do (seen last c.in-Stmt.stmt.now)) (rest_of last c.next.new.frames) c.in_ok-way-in-Stmt.way
-    (c.in_ok-next.ensures.rest last ∙ ap (λ head. heads last head (rest_of last c.next.new.frames)) c.in-Stmt.is)
-    (c.in_ok-way-in-Stmt.ensures.pending c.args.self.now.plan.program.now ∙ c.in_ok-next.ensures.pending c.args.self.now.plan.program.now)
-    (λ world plain. c.in_ok-way-in-Stmt.ensures.way world last (plain, sym c.performed_once.ensures.of ∙ c.in_default.is))
-    c.go.ensures.step
+    own_step c.args.self.now c.next.new.frames c.clear.new.shown c.head_step.new.self c.in_ok-head.head
+    (c.in_ok-head.ensures.rest last) (c.in_ok-head.ensures.pending c.args.self.now.plan.program.now) _
+    c.head_step.result (c.filing_of.ensures.none c.in-None.is) c.head_step.ensures.step c.head_step.ensures.plan c.head_step.ensures.table
 
-pub returns-in_ok-way-in-Turn-clause-step : goal.returns-in_ok-way-in-Turn-clause-step
-returns-in_ok-way-in-Turn-clause-step g c =
+pub returns-in-Some-clause-step : goal.returns-in-Some-clause-step
+returns-in-Some-clause-step g c =
     let last = last_of c.args.self.now.plan.program.now c.args.self.now.paragraph in
-    steps_going c.args.self.now c.turning_way.new.frames c.turning_way.new.held c.go-in-Turn.new.self c.go-in-Turn.result (Turn (turning_seen c.in-Turn.turning) (body_seen last c.in-Turn.body)) (rest_of last c.next.new.frames) c.in_ok-way-in-Turn.way
-    (c.in_ok-next.ensures.rest last ∙ ap (λ head. heads last head (rest_of last c.next.new.frames)) c.in-Turn.is)
-    (c.in_ok-way-in-Turn.ensures.pending c.args.self.now.plan.program.now ∙ c.in_ok-next.ensures.pending c.args.self.now.plan.program.now)
-    (λ world plain. c.in_ok-way-in-Turn.ensures.way world last ∙ turn_led (declared_by c.args.self.now.plan) last c.in-Turn.turning (body_seen last c.in-Turn.body) (rest_of last c.next.new.frames) (memory_in c.args.self.now.held.store world) plain.0)
-    c.go-in-Turn.ensures.step
+    steps_none c.args.self.now c.file_step.new.self c.in-Some.stmt.now (rest_of last c.next.new.frames) c.file_step.result
+    (c.in_ok-head.ensures.rest last ∙ ap (λ head. heads last head (rest_of last c.next.new.frames)) c.in-Some.ensures.here.0) c.in-Some.ensures.here.2
 
-pub returns-then-is_filing-clause-step : goal.returns-then-is_filing-clause-step
-returns-then-is_filing-clause-step g c =
+pub returns-in-Some-clause-over : goal.returns-in-Some-clause-over
+returns-in-Some-clause-over g c =
     let last = last_of c.args.self.now.plan.program.now c.args.self.now.paragraph in
-    steps_none c.args.self.now c.file_step.new.self c.in-Stmt.stmt.now (rest_of last c.next.new.frames) c.file_step.result
-    (c.in_ok-next.ensures.rest last ∙ ap (λ head. heads last head (rest_of last c.next.new.frames)) c.in-Stmt.is)
-    (c.is_filing.ensures c.if-is_filing.true)
+    files_step c.args.self.now c.next.new.frames c.clear.new.shown c.file_step.new.self c.in_ok-head.head
+    (c.in_ok-head.ensures.rest last) (c.in_ok-head.ensures.pending c.args.self.now.plan.program.now)
+    c.in-Some.stmt.now _ _ c.file_step.result (λ rest. ap (λ head. heads last head rest) c.in-Some.ensures.here.0) c.in-Some.ensures.here.1 c.file_step.ensures.over
 
-pub returns-then-is_filing-clause-kept : goal.returns-then-is_filing-clause-kept
-returns-then-is_filing-clause-kept g c = λ world trace plain.
+pub returns-in-Some-clause-kept : goal.returns-in-Some-clause-kept
+returns-in-Some-clause-kept g c = λ world trace plain.
     let last = last_of c.args.self.now.plan.program.now c.args.self.now.paragraph in
-    absurd (next_none c.args.self.now c.in-Stmt.stmt.now (rest_of last c.next.new.frames) world trace
-    (c.in_ok-next.ensures.rest last ∙ ap (λ head. heads last head (rest_of last c.next.new.frames)) c.in-Stmt.is)
-    (c.is_filing.ensures c.if-is_filing.true) plain)
+    absurd (next_none c.args.self.now c.in-Some.stmt.now (rest_of last c.next.new.frames) world trace
+    (c.in_ok-head.ensures.rest last ∙ ap (λ head. heads last head (rest_of last c.next.new.frames)) c.in-Some.ensures.here.0) c.in-Some.ensures.here.2 plain)

@@ -4,9 +4,9 @@ use Rattle.ref_format.proofs.joining.Joining.trim.Given as goal
 
 abbrev pub invariant-loop-last : goal.invariant-loop-last
 invariant-loop-last l = record {
-  text : unspaced_end l.self.text ≡ unspaced_end l.initial.self.text;
+  text : unspaced_end l.self.text.items ≡ unspaced_end l.initial.self.text.items;
   literal : l.self.literal ≡ l.initial.self.literal;
 }
 
 abbrev pub decreases-loop-last : goal.decreases-loop-last
-decreases-loop-last l = length l.self.text
+decreases-loop-last l = length l.self.text.items

@@ -1,6 +1,0 @@
-use Rattle.cell_items.proofs.Lowers.{lowered}
-use Rattle.cell_items.proofs.laws.held_numbers_are_lowered.Goals as goal
-
-pub returns : goal.returns
-returns c areas item root digits store value number worth cell fits holding is =
-    lowered areas item root digits cell store value fits holding number worth is

@@ -1,8 +1,0 @@
-use Rattle.cell_items.proofs.Choices.{chosen-among, chosen-behind}
-use Rattle.cell_items.proofs.laws.held_numbers_choose.Goals as goal
-
-pub returns : goal.returns
-returns c areas item root digits signed store held numbers entries cell fits holding are = (
-  λ from to. chosen-among areas item root digits signed cell store held fits holding entries numbers are from to,
-  λ more. chosen-behind areas item root digits signed cell store held fits holding entries numbers are more,
-)

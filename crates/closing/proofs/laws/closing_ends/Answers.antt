@@ -1,8 +1,0 @@
-use Rattle.closing.proofs.closing.ClosedEnding.{closed-ends, rules-end}
-use Rattle.closing.proofs.laws.closing_ends.Goals as goal
-
-pub returns-clause-one : goal.returns-clause-one
-returns-clause-one c = closed-ends
-
-pub returns-clause-none : goal.returns-clause-none
-returns-clause-none c = rules-end

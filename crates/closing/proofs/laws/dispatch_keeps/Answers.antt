@@ -1,8 +1,0 @@
-use Rattle.closing.proofs.gathering.Kept.{dispatch-keeps, dispatch-graph-keeps}
-use Rattle.closing.proofs.laws.dispatch_keeps.Goals as goal
-
-pub returns-clause-nodes : goal.returns-clause-nodes
-returns-clause-nodes g c = dispatch-keeps
-
-pub returns-clause-graph : goal.returns-clause-graph
-returns-clause-graph g c = dispatch-graph-keeps

@@ -1,0 +1,18 @@
+-- What a program's parts do isn't changed by items that stand behind the program's own.
+pub mod added_items_lemmas
+-- Items that restructuring adds: flags, counters and states, each a number item of level 01.
+pub mod cell_items_lemmas
+-- What a number item stores is read back from its bytes (ISO 1989:1985, SIGN clause).
+pub mod stored_numbers_lemmas
+-- The items that a written program has for cells do what the words on these say.
+pub mod cell_serving_lemmas
+-- Named programs name items of their own alone.
+pub mod named_items_lemmas
+-- The parts of COBOL programs meet what the theory of control asks of parts.
+pub mod cobol_parts_lemmas
+-- The headline for COBOL programs: what a program is written as behaves as it did.
+pub mod cobol_headline_lemmas
+-- Named programs name paragraphs of their own alone.
+pub mod own_paragraphs_lemmas
+-- Each part of a proper program that counts by whole numbers may be written.
+pub mod served_programs_lemmas

@@ -1,0 +1,96 @@
+-- What a statement on files does is what control says of it.
+use Rattle.std.proofs.Common.{◌≡◌, ℕ, List, Option, Result, Ok, Err, refl, ap, sym, ◌∙◌, subst, append-nil}
+use Rattle.cob_act.specs.declared.acting.Done.{Done}
+use Rattle.cob_act.specs.declared.acting.Done.TheVariants as done
+use Rattle.cob_store.specs.Store.{Roots}
+use Rattle.cob_tree.specs.declared.file.FileEntry.{FileEntry}
+use Rattle.cob_tree.specs.declared.file.Opening.{Opening}
+use Rattle.cob_tree.specs.declared.place.Operand.{Operand}
+use Rattle.cob_tree.specs.declared.stmt.Stmt.{Stmt, out-Stmt, out-roll-Stmt}
+use Rattle.cob_tree.specs.declared.stmt.Stmt.TheOpen.{Stmt-F}
+use Rattle.cob_tree.specs.declared.stmt.Stmt.TheVariants as stmts
+use Rattle.file_model.specs.declared.table.FileRow.{FileRow}
+use Rattle.file_model.specs.World.{World}
+use Rattle.file_desk.specs.Seen.{Seen}
+use Rattle.file_acts.specs.declared.fault.Fault.{Fault}
+use Rattle.file_acts.specs.Ends.{ended_as}
+use Rattle.file_acts.specs.Over.{Did}
+use Rattle.statements.specs.Does.{does}
+use Rattle.statements.specs.Filing.{Declared, Effect, each_file, last_world, opened, rewritten, shut, written}
+use Rattle.control.specs.Doing.{Doing}
+use Rattle.control.specs.Items.{Way, item_way, tried}
+use Rattle.control.specs.Items as ways
+use Rattle.control.specs.Outcome.{Trace}
+use Rattle.language.specs.Control.{seen}
+use Rattle.language.specs.Items.{Item, before_arm}
+use Rattle.language.specs.Items as items
+use Rattle.language.specs.Language as language
+use Rattle.language.proofs.Rows.{seen_closes, seen_opens, seen_rewrite, seen_write}
+use Rattle.cobol_laws.specs.cobol_meaning.Acting.{Memory, acted, acted_by, events_of}
+use Rattle.cobol_laws.specs.cobol_meaning.Runs.{doing_in}
+use Rattle.cobol_run.specs.declared.frame.Frame.{Frame}
+use Rattle.cobol_run.specs.Frames.{rest_of}
+use Rattle.cobol_run.specs.Over.{FiledOver, filed_way}
+use Rattle.cobol_run.specs.Plan.{memory_in}
+use Rattle.cobol_run.specs.Ways.{on}
+use Rattle.cobol_run.proofs.DisplayLemmas.{IsSilent, closes_silent, opens_silent, rewritten_silent, written_silent}
+
+-- ---- statements that act
+
+-- a statement goes on, or ends the run
+acted-way : (made : Done) (events : Trace) (memory : Memory) (rest : List Item) →
+    filed_way made events memory rest ≡ tried (acted_by (ended_as made) events memory) (λ u. on rest)
+acted-way done.Went events memory rest = ap (λ trace. ways.On trace memory rest) (sym (append-nil events))
+acted-way done.Shown events memory rest = ap (λ trace. ways.On trace memory rest) (sym (append-nil events))
+acted-way (done.Chose arm) events memory rest = ap (λ trace. ways.On trace memory rest) (sym (append-nil events))
+acted-way (done.Abended abend) events memory rest = refl
+
+module _ (declared : Declared) where
+  abbrev doing : Doing Memory
+  doing = doing_in declared
+
+  acts-over : (stmt : Stmt) → ((last : ℕ) → seen last stmt ≡ language.Do (language.Own stmt)) → (store : Roots) (world : World) (effect : Effect) → does declared stmt store world ≡ effect → IsSilent effect →
+      (files : List FileEntry) (result : Result Done Fault) (now : Roots) (devices : List Seen) (table : List FileRow) (frames : List Frame) → Did files result world effect now devices table →
+      FiledOver result files devices table now frames (λ last. item_way doing (items.Do (seen last stmt)) (rest_of last frames) (memory_in store world))
+  acts-over stmt there store world effect is silent files (Err fault) now devices table frames did = did
+  acts-over stmt there store world effect is silent files (Ok made) now devices table frames did =
+      let later : World = last_world world effect.operations in
+      let events : Trace = events_of effect.operations in (
+        later,
+        events,
+        silent,
+        λ last. acted-way made events (memory_in now later) (rest_of last frames)
+            ∙ ap (λ end. tried (acted_by end events (memory_in now later)) (λ u. on (rest_of last frames))) did.0
+            ∙ ap (λ roots. tried (acted_by effect.end events (memory_in roots later)) (λ u. on (rest_of last frames))) did.1
+            ∙ ap (λ made. tried (acted (memory_in store world) made) (λ u. on (rest_of last frames))) (sym is)
+            ∙ ap (λ s. item_way doing (items.Do s) (rest_of last frames) (memory_in store world)) (sym (there last)),
+        did.2,
+      )
+
+  module _ (stmt : Stmt) (store : Roots) (world : World) (files : List FileEntry) (result : Result Done Fault) (now : Roots) (devices : List Seen) (table : List FileRow) (frames : List Frame) where
+    abbrev Over : Stmt → Type 0
+    Over s = FiledOver result files devices table now frames (λ last. item_way doing (items.Do (seen last s)) (rest_of last frames) (memory_in store world))
+
+    pub opens_over : (openings given : List Opening) → given ≡ openings → stmt ≡ stmts.Opens openings → Did files result world (each_file (opened declared) store world given) now devices table → Over stmt
+    opens_over openings given same is did =
+        subst Over (sym is) (acts-over (stmts.Opens openings) (λ last. seen_opens last openings) store world _
+        (rw (ap out-Stmt (sym (stmts.rolls-Opens openings)) ∙ out-roll-Stmt (Stmt-F.Opens openings), does) refl) (opens_silent declared store world openings) files result now devices table frames
+        (subst (λ list. Did files result world (each_file (opened declared) store world list) now devices table) same did))
+
+    pub closes_over : (numbers given : List ℕ) → given ≡ numbers → stmt ≡ stmts.Closes numbers → Did files result world (each_file (shut declared) store world given) now devices table → Over stmt
+    closes_over numbers given same is did =
+        subst Over (sym is) (acts-over (stmts.Closes numbers) (λ last. seen_closes last numbers) store world _
+        (rw (ap out-Stmt (sym (stmts.rolls-Closes numbers)) ∙ out-roll-Stmt (Stmt-F.Closes numbers), does) refl) (closes_silent declared store world numbers) files result now devices table frames
+        (subst (λ list. Did files result world (each_file (shut declared) store world list) now devices table) same did))
+
+    pub written_over : (entry : ℕ) (from given : Option Operand) → given ≡ from → stmt ≡ stmts.Write entry from → Did files result world (written declared store world entry given) now devices table → Over stmt
+    written_over entry from given same is did =
+        subst Over (sym is) (acts-over (stmts.Write entry from) (λ last. seen_write last entry from) store world _
+        (rw (ap out-Stmt (sym (stmts.rolls-Write entry from)) ∙ out-roll-Stmt (Stmt-F.Write entry from), does) refl) (written_silent declared store world entry from) files result now devices table frames
+        (subst (λ o. Did files result world (written declared store world entry o) now devices table) same did))
+
+    pub rewritten_over : (entry : ℕ) (from given : Option Operand) → given ≡ from → stmt ≡ stmts.Rewrite entry from → Did files result world (rewritten declared store world entry given) now devices table → Over stmt
+    rewritten_over entry from given same is did =
+        subst Over (sym is) (acts-over (stmts.Rewrite entry from) (λ last. seen_rewrite last entry from) store world _
+        (rw (ap out-Stmt (sym (stmts.rolls-Rewrite entry from)) ∙ out-roll-Stmt (Stmt-F.Rewrite entry from), does) refl) (rewritten_silent declared store world entry from) files result now devices table frames
+        (subst (λ o. Did files result world (rewritten declared store world entry o) now devices table) same did))

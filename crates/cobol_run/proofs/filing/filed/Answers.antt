@@ -1,0 +1,24 @@
+use Rattle.cobol_run.specs.Plan.{declared_by}
+use Rattle.cobol_run.proofs.FiledLemmas.{closes_over, opens_over, rewritten_over, written_over}
+use Rattle.cobol_run.proofs.ReadLemmas.{read_over}
+use Rattle.cobol_run.proofs.filing.filed.Goals as goal
+
+pub returns-in-Opens-clause-over : goal.returns-in-Opens-clause-over
+returns-in-Opens-clause-over g c = λ world outer over.
+    opens_over (declared_by c.args.plan.now) c.args.stmt.now c.args.held.now.store world _ c.all_opened.result c.all_opened.new.store _ _ c.args.frames.now _ _ c.as_slice.ensures c.in-Opens.is (c.all_opened.ensures.does world over)
+
+pub returns-in-Closes-clause-over : goal.returns-in-Closes-clause-over
+returns-in-Closes-clause-over g c = λ world outer over.
+    closes_over (declared_by c.args.plan.now) c.args.stmt.now c.args.held.now.store world _ c.all_shut.result c.all_shut.new.store _ _ c.args.frames.now _ _ c.as_slice-in-Closes.ensures c.in-Closes.is (c.all_shut.ensures.does world over)
+
+pub returns-in-Write-clause-over : goal.returns-in-Write-clause-over
+returns-in-Write-clause-over g c = λ world outer over.
+    written_over (declared_by c.args.plan.now) c.args.stmt.now c.args.held.now.store world _ c.written.result c.written.new.store _ _ c.args.frames.now _ _ _ c.as_ref-from.ensures.value c.in-Write.is (c.written.ensures.does world over)
+
+pub returns-in-Rewrite-clause-over : goal.returns-in-Rewrite-clause-over
+returns-in-Rewrite-clause-over g c = λ world outer over.
+    rewritten_over (declared_by c.args.plan.now) c.args.stmt.now c.args.held.now.store world _ c.rewritten.result c.rewritten.new.store _ _ c.args.frames.now _ _ _ c.as_ref-from-in-Rewrite.ensures.value c.in-Rewrite.is (c.rewritten.ensures.does world over)
+
+pub returns-in_ok-done-in-Read-clause-over : goal.returns-in_ok-done-in-Read-clause-over
+returns-in_ok-done-in-Read-clause-over g c = λ world outer over.
+    read_over (declared_by c.args.plan.now) _ _ _ c.args.held.now.store world c.args.stmt.now c.in-Read.is c.in_ok-done-in-Read.done c.push_arm.result c.read_one.new.store _ _ _ c.args.frames.now c.push_arm.new.frames _ _ _ c.place_of.ensures c.is_some.ensures c.has_arms.ensures (c.in_ok-done-in-Read.ensures.does world over) c.push_arm.ensures.same c.push_arm.ensures.rest

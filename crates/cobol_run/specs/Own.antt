@@ -1,0 +1,48 @@
+-- Programs in which no word on an added item stands, as in each that is read.
+use Rattle.std.specs.Prelude.{◌≡◌, ℕ, true, None}
+use Rattle.cob_tree.specs.declared.program.Program.{Program}
+use Rattle.cob_tree.specs.declared.stmt.Stmt.{Stmt}
+use Rattle.cob_act.specs.Acting.{is_inner}
+use Rattle.language.specs.Control.{control_of, seen}
+use Rattle.language.specs.Language as language
+use Rattle.language.specs.Own.{OwnAct, OwnParagraphs, OwnPicker, OwnTest}
+use Rattle.cobol_laws.specs.cobol_meaning.Runs.{State}
+use Rattle.cobol_run.specs.declared.frames.Head.{Head}
+use Rattle.cobol_run.specs.declared.frames.Head.TheVariants as head
+use Rattle.cobol_run.specs.Frames.{turning_seen}
+use Rattle.cobol_run.specs.Plain.{once_of}
+use Rattle.cobol_run.specs.Standing as standing
+
+abbrev pub IsOwn : Program → Type 0
+IsOwn program = OwnParagraphs (control_of program).paragraphs
+
+abbrev pub OwnState : State → Type 0
+OwnState = standing.StateHas OwnAct OwnTest OwnPicker
+
+-- a statement's own act or choice, whatever else it holds
+abbrev pub HeadOwn : language.Stmt → Type 0
+HeadOwn (language.Do act) = OwnAct act
+HeadOwn (language.Choose picker arms) = OwnPicker picker
+HeadOwn _ = Unit {0}
+
+-- ---- what is done without a device
+
+-- a statement is own at its head, and isn't one on files
+abbrev pub ActsInside : Stmt → ℕ → Type 0
+ActsInside stmt last = HeadOwn (seen last stmt) × (is_inner stmt ≡ true)
+
+-- nor a PERFORM once
+abbrev pub ActsAlone : Stmt → ℕ → Type 0
+ActsAlone stmt last = ActsInside stmt last × (once_of stmt ≡ None)
+
+-- what is next is so, in a section whose last paragraph is this one
+abbrev pub StandsAlone : ℕ → Head → Type 0
+StandsAlone last (head.Stmt stmt) = ActsInside stmt.now last
+StandsAlone last (head.Turn turning body) =
+    standing.TurningHas OwnAct OwnTest OwnPicker (turning_seen turning)
+StandsAlone last _ = Unit {0}
+
+-- what is next isn't a statement on files
+abbrev pub NoFiling : Head → Type 0
+NoFiling (head.Stmt stmt) = is_inner stmt.now ≡ true
+NoFiling _ = Unit {0}

@@ -1,0 +1,22 @@
+use Rattle.std.proofs.lemmas.Result.{err_from_is_err_and}
+use Rattle.grammar_forms.proofs.Loops.{goes_on, ends_err, is_done, shrinks}
+use Rattle.grammar_forms.proofs.MakerLaws.{added}
+use Rattle.std.specs.Prelude.{codes}
+use Rattle.grammar_forms.specs.Part.{is_key}
+use Rattle.statement_grammar.specs.data_forms.Data as datas
+use Rattle.statement_grammar.proofs.data_forms_lemmas.DivisionLaws as laws
+use Rattle.data_parse.proofs.fd.fds_from.Goals as goal
+
+pub returns-in_err-found : goal.returns-in_err-found
+returns-in_err-found c =
+    let p = err_from_is_err_and c.from_residual.result c.from_residual.ensures.1 in
+    rw (p.1, p.2) (ends_err (is_key (codes "FD")) (λ front. added front laws.fd) c.items.found c.in_err-found.field-0.0 c.items.cursor c.fd_behind.new.cursor _ c.items-test.ensures c.in_err-found.ensures c.items.invariant)
+
+pub items-smaller : goal.items-smaller
+items-smaller c = shrinks (added c.items.found laws.fd) _ _ _ c.in_ok-found.ensures
+
+pub items-preserved : goal.items-preserved
+items-preserved c = goes_on (is_key (codes "FD")) (λ front. added front laws.fd) c.items.found _ c.items.cursor _ _ c.items-test.ensures c.in_ok-found.ensures c.items.invariant
+
+pub returns : goal.returns
+returns c = is_done (is_key (codes "FD")) (λ front. added front laws.fd) c.items.found c.items.cursor _ c.items-test.ensures c.items.invariant

@@ -1,0 +1,14 @@
+//! Reads data description entries (ISO 1989:1985) to drafts, and words that may be one or another.
+//!
+//! Each function mirrors the form of its name in `data_forms`, which is what to hold against the
+//! standard, and is exact by it: it reads what the form reads, and stops where the form stops.
+#![tactic(auto)]
+
+mod choice;
+mod clause;
+mod description;
+mod lists;
+
+pub use choice::{either, headed, header, maybe_either, sees_either};
+pub use description::entry;
+pub use lists::pushed;

@@ -1,8 +1,0 @@
-use Rattle.lowering.proofs.graphs.Pruned.{same-walks, kept-nodes-found}
-use Rattle.lowering.proofs.laws.unreached_nodes_make_no_difference.Goals as goal
-
-pub returns-clause-walks : goal.returns-clause-walks
-returns-clause-walks g c = λ acting left family keep reached range memory n. same-walks acting left family keep reached range memory n
-
-pub returns-clause-nodes : goal.returns-clause-nodes
-returns-clause-nodes g c = kept-nodes-found

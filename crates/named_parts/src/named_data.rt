@@ -1,0 +1,22 @@
+//! What the divisions before the PROCEDURE DIVISION give, over an open form of status items: where
+//! no fault of a name is noted, each status item is named, and each value of an entry is a literal.
+//!
+//! The crate has no code.
+
+ghost use Rattle.grammar_forms.specs.Form.{Form};
+ghost use Rattle.std.specs.Prelude.{◌≡◌, true};
+ghost use Rattle.statement_grammar.specs.data_forms.Divisions.{divisions};
+ghost use Rattle.named_forms.specs.Giving.{Gives};
+ghost use Rattle.named_forms.specs.Numbered.{IsNumbered};
+ghost use Rattle.named_programs.specs.Part.{Counts, place_named};
+ghost use Rattle.named_parts.specs.named_data.Drafts.{DivisionsNamed};
+
+use statement_grammar::data_forms::Refers;
+
+/// Where status items are named, so are those of the divisions, and the values of their entries are
+/// literals.
+pub fn divisions_give<R: Refers>()
+    ensures { (counts : Counts) →
+        Gives IsNumbered R.status (λ place. place_named counts place ≡ true) →
+        Gives IsNumbered (divisions R.status) (DivisionsNamed counts) }
+{}

@@ -1,0 +1,5 @@
+use Rattle.procedure_split.proofs.kept_arms_lemmas.Graphs.{closed-has}
+use Rattle.procedure_split.proofs.kept_arms.rules_keep_arms.Goals as goal
+
+pub returns : goal.returns
+returns c graph h = closed-has graph h

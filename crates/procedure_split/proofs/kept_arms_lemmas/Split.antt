@@ -1,0 +1,34 @@
+-- What a program is split into nests within the limit, where the choices of its graphs have arms.
+use Rattle.std.proofs.Common.{◌≡◌, ◌≤◌, ℕ, List, [], ◌∷◌, subst}
+use Rattle.cob_tree.specs.Depth.{program_depth}
+use Rattle.cob_tree.specs.declared.program.Program.{Program}
+use Rattle.control.specs.Graph.{tree, Dead}
+use Rattle.language.specs.Language.{none}
+use Rattle.control_laws.specs.graph_rules.Reduced.{Node}
+use Rattle.control_laws.specs.closing.Closes.{closed_graph}
+use Rattle.pending_returns.specs.declared.facts.Summary.{Summary}
+use Rattle.branch_tree.specs.Graphs.{seen_graph}
+use Rattle.branch_tree.specs.Trees.{seen_tree}
+use Rattle.region_rewrite.specs.Shape.{first_tree, max_nesting}
+use Rattle.procedure_split.specs.shaped_ranges.Laws.{HasFlow}
+use Rattle.procedure_split.proofs.made_procedures_lemmas.Rows.{shaped-at}
+use Rattle.procedure_split.specs.Split.{IsSplit}
+use Rattle.procedure_split.proofs.split_depth_lemmas.Split.{split-within}
+use Rattle.procedure_split.specs.kept_arms.Trees.{TreeHasArms, NodesHaveArms, GraphsHaveArms}
+use Rattle.procedure_split.proofs.kept_arms_lemmas.Rules.{body-has}
+use Rattle.procedure_split.proofs.kept_arms_lemmas.Graphs.{closed-has}
+
+first-has : (nodes : List Node) → NodesHaveArms nodes → TreeHasArms (first_tree nodes)
+first-has [] h = (tt, tt)
+first-has (node ∷ nodes) h = h.0
+
+pub graphs-within : (program made : Program) (summary : Summary) → HasFlow program summary →
+    (split : IsSplit program summary made) → GraphsHaveArms split.graphs →
+    program_depth made ≤ max_nesting
+graphs-within program made summary flow split have =
+    split-within program made summary flow split (λ at one is.
+    let shaped = shaped-at split.graphs split.closed split.shaped at one is in
+    let closed = closed_graph (seen_graph shaped.0) in
+    let first = first-has closed.nodes
+    (closed-has (seen_graph shaped.0) (have at shaped.0 shaped.1)) in
+    body-has (seen_tree one.tree) (subst TreeHasArms shaped.2.tree first))

@@ -1,0 +1,25 @@
+-- What is stated of the counters of graphs.
+use Rattle.std.specs.Prelude.{ℕ, ◌≡◌, List, Some}
+use Rattle.language.specs.Language.{Range}
+use Rattle.statements.specs.Filing.{Declared}
+use Rattle.cobol_laws.specs.added_items.Widened.{AddedItems}
+use Rattle.control_laws.specs.graph_rules.Families.{Added}
+use Rattle.control_laws.specs.graph_rules.Reduced.{Graph, Graphs, kind_at}
+use Rattle.control_laws.specs.closing.Closes.{closed_graph}
+use Rattle.cobol_laws.specs.cell_serving.Tested.{kinds_of}
+use Rattle.control_laws.specs.served_graphs.Laws.{CountersAreServed}
+use Rattle.cell_table.specs.Laws.{closed_ranges}
+use Rattle.cell_table.specs.Tables.{table_of_cells}
+
+-- a cell of a graph is a cell of the closed graph, of the same kind
+abbrev pub ClosedGraphsKeepCells : Type 0
+ClosedGraphsKeepCells =
+    (graph : Graph) (cell : ℕ) (kind : Added) →
+    kind_at graph.added cell ≡ Some kind → kind_at (closed_graph graph).added cell ≡ Some kind
+
+-- with the table of the cells of the closed graphs, the counters of graphs may be written
+abbrev pub ClosedCountersAreServed : Type 0
+ClosedCountersAreServed =
+    (declared : Declared) (added : AddedItems) (order : List Range) (graphs : Graphs) →
+    CountersAreServed (kinds_of declared added (table_of_cells (closed_ranges order graphs))) order
+    graphs

@@ -1,0 +1,45 @@
+-- What is made of the shaped ranges of a plan is its closed graphs, written.
+use Rattle.std.specs.Prelude.{ℕ, ◌≡◌, List}
+use Rattle.cob_tree.specs.declared.program.Program.{Program}
+use Rattle.cob_tree.specs.declared.program.Range.{Range}
+use Rattle.language.specs.Control.{control_of}
+use Rattle.control_laws.specs.rendering.Rendering.{rendered}
+use Rattle.control_laws.specs.headline.Headline.{procedures_by}
+use Rattle.pending_returns.specs.declared.facts.Summary.{Summary}
+use Rattle.range_plan.specs.Planned.{IsPlanOf}
+use Rattle.branch_tree.specs.declared.graph.Graph.{Graph}
+use Rattle.choice_writing.specs.Empties.{empties}
+use Rattle.choice_writing.specs.declared.placing.Placed.{Placed}
+use Rattle.cell_words.specs.declared.cells.CellItem.{CellItem}
+use Rattle.cobol_laws.specs.cobol_headline.Alike.{Writing, naming_of}
+use Rattle.procedure_split.specs.shaped_ranges.Laws.{HasFlow, IsPlannedWith}
+use Rattle.procedure_split.specs.shaped_ranges.Shaped.{AllShaped}
+use Rattle.procedure_split.specs.declared.shaped_ranges.shaping.Closed.{Closed}
+use Rattle.procedure_split.specs.made_procedures.Made.{AreAsMany, ArePlacesIn, AreParagraphsOf, HaveItems}
+
+-- a program's plan, its graphs and what they are shaped to; items for the cells, names and places;
+-- and the paragraphs that are made of these
+pub record AreMade (program result : Program) (writing : Writing) : Type 0 where
+  pub summary : Summary
+  pub flow : HasFlow program summary
+  pub order : List Range
+  pub by : IsPlanOf summary.ranges writing.returning order
+  pub graphs : List Graph
+  pub planned : IsPlannedWith program writing.returning order graphs writing.plan
+  pub closed : List Closed
+  pub shaped : AllShaped graphs closed
+  pub empty : writing.empty ≡ empties writing.table
+  pub cells : List (List CellItem)
+  pub items : HaveItems program writing order cells
+  pub places : List Placed
+  pub placed : ArePlacesIn order places
+  pub names : List (List ℕ)
+  pub many : AreAsMany order closed cells names
+  pub paragraphs : AreParagraphsOf order closed cells places names result.paragraphs
+
+-- then the result's control is what is written of the closed graphs
+abbrev pub MadeProceduresAreWritten : Type 0
+MadeProceduresAreWritten = (program result : Program) (writing : Writing) →
+    AreMade program result writing →
+    control_of result
+    ≡ rendered (naming_of program writing) (procedures_by writing.plan (control_of program))

@@ -1,0 +1,69 @@
+-- What is made of the shaped ranges of a program, in the order of its plan.
+use Rattle.std.specs.Prelude.{ℕ, ◌≡◌, Bool, List, [], ◌∷◌, length, Some, None, slice_get}
+use Rattle.cob_tree.specs.declared.program.Paragraph.{Paragraph}
+use Rattle.cob_tree.specs.declared.program.Program.{Program}
+use Rattle.cob_tree.specs.declared.program.Range.{Range}
+use Rattle.cob_tree.specs.declared.program.Sentence.{Sentence}
+use Rattle.language.specs.Control.{control_of}
+use Rattle.control.specs.Graph.{Tree}
+use Rattle.control_laws.specs.rendering.Rendering.{place_of}
+use Rattle.control_laws.specs.headline.Headline.{procedures_by}
+use Rattle.statements.specs.Does.{declared_in}
+use Rattle.cobol_laws.specs.added_items.Own.{items}
+use Rattle.branch_tree.specs.Trees.{seen_tree}
+use Rattle.lower_places.specs.Fall.{seen_range}
+use Rattle.choice_writing.specs.Written.{Way}
+use Rattle.choice_writing.specs.declared.placing.Placed.{Placed}
+use Rattle.cell_words.specs.Words.{AreItems}
+use Rattle.cell_words.specs.declared.cells.CellItem.{CellItem}
+use Rattle.body_writing.specs.Procedures.{IsProcedure, is_main}
+use Rattle.cobol_laws.specs.cobol_headline.Alike.{Writing}
+use Rattle.procedure_split.specs.declared.shaped_ranges.shaping.Closed.{Closed}
+
+-- a paragraph of this name, in no section, that holds one sentence, a procedure
+pub record IsParagraphOf (cells : List CellItem) (places : List Placed) (main : Bool)
+    (whole : Tree) (name : List ℕ) (made : Paragraph) : Type 0 where
+  pub named : made.name ≡ Some name
+  pub bare : made.section ≡ None
+  pub sentence : Sentence
+  pub alone : made.sentences ≡ sentence ∷ []
+  pub is : IsProcedure cells places main whole sentence
+
+-- one for each range, with its name and the items of its cells
+pub record AreParagraphsOf (order : List Range) (closed : List Closed)
+    (cells : List (List CellItem)) (places : List Placed) (names : List (List ℕ))
+    (paragraphs : List Paragraph) : Type 0 where
+  pub count : length paragraphs ≡ length order
+  pub each : (at : ℕ) (range : Range) (one : Closed) (own : List CellItem) (name : List ℕ)
+      (made : Paragraph) → slice_get order at ≡ Some range → slice_get closed at ≡ Some one →
+      slice_get cells at ≡ Some own → slice_get names at ≡ Some name →
+      slice_get paragraphs at ≡ Some made →
+      IsParagraphOf own places (is_main (seen_range range)) (seen_tree one.tree) name made
+
+-- as many of each as there are ranges
+pub record AreAsMany (order : List Range) (closed : List Closed) (cells : List (List CellItem))
+    (names : List (List ℕ)) : Type 0 where
+  pub trees : length closed ≡ length order
+  pub items : length cells ≡ length order
+  pub words : length names ≡ length order
+
+-- each place in the list is that of a range in the order
+abbrev pub ArePlacesIn : List Range → List Placed → Type 0
+ArePlacesIn order places = (at : ℕ) (placed : Placed) → slice_get places at ≡ Some placed →
+    slice_get order placed.place
+    ≡ Some (record { entry = placed.entry; exit = Some placed.exit })
+
+-- how a range of the program is written
+abbrev pub way_of : Program → Writing → Range → Way
+way_of program writing range = record {
+  first = items (declared_in program);
+  table = writing.table;
+  place = place_of (procedures_by writing.plan (control_of program));
+  range = seen_range range;
+}
+
+-- each range has these items for its cells
+abbrev pub HaveItems : Program → Writing → List Range → List (List CellItem) → Type 0
+HaveItems program writing order cells =
+    (at : ℕ) (range : Range) (own : List CellItem) → slice_get order at ≡ Some range →
+    slice_get cells at ≡ Some own → AreItems (way_of program writing range) own

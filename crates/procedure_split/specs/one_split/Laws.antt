@@ -1,0 +1,22 @@
+-- What holds of split programs.
+use Rattle.std.specs.Prelude.{◌≡◌}
+use Rattle.cob_base.specs.declared.limit.Limit.{Limit}
+use Rattle.cob_tree.specs.declared.fault.SplitFault.TheVariants as fault
+use Rattle.cob_tree.specs.declared.program.Program.{Program}
+use Rattle.pending_returns.specs.declared.facts.Summary.{Summary}
+use Rattle.procedure_split.specs.declared.writing.Split.{Split}
+use Rattle.procedure_split.specs.Split.{IsSplit, IsSplitFault, IsSplitWith}
+use Rattle.procedure_split.specs.split_behaviour.Alike.{IsWellMade, FlowsSo}
+
+-- by two summaries of one flow: one structured program, one limit, or a program and no limit
+pub record IsSplitOnce (program : Program) (one other : Summary) : Type 0 where
+  pub made : (first second : Split) → IsSplitWith program one first →
+      IsSplitWith program other second → first ≡ second
+  pub limit : (first second : Limit) → IsSplitFault program one (fault.Limit first) →
+      IsSplitFault program other (fault.Limit second) → first ≡ second
+  pub within : (made : Program) (limit : Limit) → IsSplit program one made →
+      IsSplitFault program other (fault.Limit limit) → ⊥
+
+abbrev pub SplitsAreOne : Type 0
+SplitsAreOne = (program : Program) (one other : Summary) → IsWellMade program →
+    FlowsSo program one → FlowsSo program other → IsSplitOnce program one other

@@ -1,0 +1,40 @@
+-- The graphs of a program's ranges, as the rules begin with them.
+use Rattle.std.specs.Prelude.{ℕ, ◌≡◌, Bool, List, [], ◌∷◌, sum_by}
+use Rattle.cob_tree.specs.declared.program.Range as code
+use Rattle.language.specs.Language.{Program, Range}
+use Rattle.control.specs.Graph.{Label}
+use Rattle.control_laws.specs.lowering.Told.{Told}
+use Rattle.control_laws.specs.lowering.WellFormed.{AreJustReached}
+use Rattle.control_laws.specs.graph_rules.Reduced as reduced
+use Rattle.control_laws.specs.headline.Chain.{lowered_graphs}
+use Rattle.control_laws.specs.headline.Numbering.{numbers_by, added_by}
+use Rattle.branch_tree.specs.Graphs.{seen_graph}
+use Rattle.branch_tree.specs.declared.graph.Graph.{Graph}
+use Rattle.lower_places.specs.Fall.{seen_range}
+use Rattle.graph_sizes.specs.Sizes.{graph_size}
+
+-- the nodes that this keeps, and counters numbered from 0
+abbrev pub graph_by : Told → Program → (Label → Bool) → Range → reduced.Graph
+graph_by told program keep range =
+    let all : Range → Label → Bool = λ other. keep in
+    lowered_graphs told program all (numbers_by all program) (added_by all program) range
+
+-- it has exactly the nodes that are reached
+pub record IsGraphOf (told : Told) (program : Program) (range : Range) (graph : reduced.Graph)
+    : Type 0 where
+  pub keep : Label → Bool
+  pub just : AreJustReached told program range keep
+  pub is : graph ≡ graph_by told program keep range
+
+-- one for each range
+abbrev pub AreGraphsOf : Told → Program → List code.Range → List Graph → Type 0
+AreGraphsOf told program [] [] = Unit {0}
+AreGraphsOf told program [] (graph ∷ graphs) = ⊥
+AreGraphsOf told program (range ∷ ranges) [] = ⊥
+AreGraphsOf told program (range ∷ ranges) (graph ∷ graphs) =
+    IsGraphOf told program (seen_range range) (seen_graph graph)
+    × AreGraphsOf told program ranges graphs
+
+-- the labels and statements of all
+abbrev pub node_count : List Graph → ℕ
+node_count = sum_by (λ graph. graph_size (seen_graph graph))

@@ -1,0 +1,51 @@
+-- With these graphs a COBOL program that isn't faulty is planned as the headline asks.
+use Rattle.std.specs.Prelude.{ℕ, ◌≡◌, ◌<◌, List, ◌∷◌, length, Some, slice_get}
+use Rattle.cob_tree.specs.declared.program.Program as cobol
+use Rattle.cob_tree.specs.declared.program.Range as code
+use Rattle.language.specs.Control.{control_of}
+use Rattle.language.specs.Language.{Main}
+use Rattle.language.specs.OwnItems.{NamesOwnItems}
+use Rattle.control_laws.specs.lowering.flow.Paths as theory
+use Rattle.cut_lists.specs.Told.{told_of}
+use Rattle.cobol_laws.specs.cobol_parts.Named.{NamesOwnParagraphs}
+use Rattle.control_laws.specs.headline.Chain.{IsPlan}
+use Rattle.control_laws.specs.headline.CallsReached.{CalledByPaths}
+use Rattle.control_laws.specs.headline.Headline.{Plan, graphs_by}
+use Rattle.flow_paths.specs.Flow.{IsFaulty}
+use Rattle.flow_numbers.specs.Kinds.{never_first_of}
+use Rattle.pending_returns.specs.declared.facts.Summary.{Summary}
+use Rattle.pending_returns.specs.Summary.{IsSummary}
+use Rattle.range_plan.specs.Planned.{IsPlanOf}
+use Rattle.range_plan.specs.Laws.{others_of}
+use Rattle.branch_tree.specs.Graphs.{seen_graph}
+use Rattle.branch_tree.specs.declared.graph.Graph.{Graph}
+use Rattle.lower_places.specs.Fall.{seen_range}
+use Rattle.procedure_split.specs.shaped_ranges.Graphs.{AreGraphsOf}
+
+-- a program whose flow has this summary, without a fault
+pub record HasFlow (program : cobol.Program) (summary : Summary) : Type 0 where
+  pub items : NamesOwnItems program
+  pub paragraphs : NamesOwnParagraphs program
+  pub some : 0 < length program.paragraphs
+  pub fair : IsFaulty (never_first_of program.files) (control_of program) → ⊥
+  pub is : IsSummary (never_first_of program.files) (control_of program) summary
+
+-- a plan whose graphs these are
+pub record IsPlannedWith (program : cobol.Program) (returning : List (List ℕ))
+    (order : List code.Range) (graphs : List Graph) (plan : Plan) : Type 0 where
+  pub told : plan.told ≡ told_of program.files returning
+  pub others : plan.others ≡ others_of order
+  pub fair : theory.IsFaulty plan.told (control_of program) → ⊥
+  pub planned : IsPlan plan.told (control_of program) plan.keep plan.others
+  pub called : CalledByPaths plan.told (control_of program) (Main ∷ plan.others)
+  pub each : (at : ℕ) (range : code.Range) (graph : Graph) →
+      slice_get order at ≡ Some range → slice_get graphs at ≡ Some graph →
+      seen_graph graph ≡ graphs_by plan (control_of program) (seen_range range)
+
+abbrev pub RangesArePlanned : Type 0
+RangesArePlanned =
+    (program : cobol.Program) (summary : Summary) (returning : List (List ℕ))
+    (order : List code.Range) (graphs : List Graph) → HasFlow program summary →
+    IsPlanOf summary.ranges returning order →
+    AreGraphsOf (told_of program.files returning) (control_of program) order graphs →
+    (plan : Plan) × IsPlannedWith program returning order graphs plan

@@ -1,0 +1,37 @@
+-- The limit on the labels and statements of all lowered ranges.
+use Rattle.std.specs.Prelude.{ℕ, ◌≡◌, ◌<◌, ◌≤◌, false, List}
+use Rattle.cob_base.specs.declared.limit.Limit.{Limit}
+use Rattle.cob_base.specs.declared.limit.LimitKind.TheVariants.{Nodes}
+use Rattle.cob_tree.specs.declared.fault.SplitFault.{SplitFault}
+use Rattle.cob_tree.specs.declared.fault.SplitFault.TheVariants as fault
+use Rattle.cob_tree.specs.declared.program.Range.{Range}
+use Rattle.language.specs.Language.{Program}
+use Rattle.control_laws.specs.lowering.Told.{Told}
+use Rattle.branch_tree.specs.declared.graph.Graph.{Graph}
+use Rattle.procedure_split.specs.shaped_ranges.Graphs.{AreGraphsOf, node_count}
+
+abbrev pub node_limit : ℕ
+node_limit = 500000
+
+abbrev pub nodes_passed : ℕ → Limit
+nodes_passed counted =
+    record { kind = Nodes; of_result = false; counted = counted; limit = node_limit }
+
+-- the graphs of the ranges, where they aren't past the limit
+pub record AreLowered (told : Told) (program : Program) (ranges : List Range) (graphs : List Graph)
+    : Type 0 where
+  pub are : AreGraphsOf told program ranges graphs
+  pub within : node_count graphs ≤ node_limit
+
+-- they are past it
+pub record ArePast (told : Told) (program : Program) (ranges : List Range) (limit : Limit)
+    : Type 0 where
+  pub graphs : List Graph
+  pub are : AreGraphsOf told program ranges graphs
+  pub past : node_limit < node_count graphs
+  pub is : limit ≡ nodes_passed (node_count graphs)
+
+-- why they aren't lowered: they are past the limit; want of memory may come at any place
+abbrev pub IsLoweringFault : Told → Program → List Range → SplitFault → Type 0
+IsLoweringFault told program ranges (fault.Limit limit) = ArePast told program ranges limit
+IsLoweringFault told program ranges fault.NoMemory = Unit {0}

@@ -1,0 +1,43 @@
+-- What a program is split into behaves as it did.
+use Rattle.std.specs.Prelude.{◌≡◌, true, All, IsSome, None}
+use Rattle.cob_tree.specs.declared.program.Paragraph.{Paragraph}
+use Rattle.cob_tree.specs.declared.program.Program.{Program}
+use Rattle.language.specs.Control.{control_of}
+use Rattle.language.specs.Structured.{IsStructured}
+use Rattle.whole_counts.specs.Whole.{counts_whole}
+use Rattle.cobol_laws.specs.fit_programs.Fit.{IsFit}
+use Rattle.flow_paths.specs.Flow.{IsFaulty}
+use Rattle.flow_numbers.specs.Kinds.{never_first_of}
+use Rattle.pending_returns.specs.declared.facts.Summary.{Summary}
+use Rattle.pending_returns.specs.Summary.{IsSummary}
+use Rattle.cobol_laws.specs.cobol_meaning.Same.{SameBehaviour}
+use Rattle.cobol_laws.specs.cobol_headline.Alike.{IsProper}
+use Rattle.procedure_split.specs.Split.{IsSplit}
+
+-- a program as it is read
+pub record IsWellMade (program : Program) : Type 0 where
+  pub proper : IsProper program
+  pub whole : counts_whole program ≡ true
+  pub fit : IsFit program
+
+-- its flow has this summary, without a fault
+pub record FlowsSo (program : Program) (summary : Summary) : Type 0 where
+  pub fair : IsFaulty (never_first_of program.files) (control_of program) → ⊥
+  pub is : IsSummary (never_first_of program.files) (control_of program) summary
+
+-- then what it is split into is structured, and behaves as it did over all files
+abbrev pub SplitProgramsBehaveAlike : Type 0
+SplitProgramsBehaveAlike =
+    (program made : Program) (summary : Summary) →
+    IsWellMade program → FlowsSo program summary → IsSplit program summary made →
+    IsStructured (control_of made) × SameBehaviour program made
+
+-- it has a name, and stands in no section
+abbrev pub StandsAlone : Paragraph → Type 0
+StandsAlone paragraph = IsSome paragraph.name × (paragraph.section ≡ None)
+
+-- and so does each of its paragraphs
+abbrev pub SplitProgramsHaveNames : Type 0
+SplitProgramsHaveNames =
+    (program made : Program) (summary : Summary) → IsSplit program summary made →
+    All StandsAlone made.paragraphs

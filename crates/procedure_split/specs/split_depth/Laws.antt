@@ -1,0 +1,33 @@
+-- What holds of how deep a program nests that is split.
+use Rattle.std.specs.Prelude.{ℕ, ◌≡◌, ◌≤◌, true, List}
+use Rattle.cob_tree.specs.Depth.{program_depth}
+use Rattle.cob_tree.specs.declared.program.Program.{Program}
+use Rattle.cob_tree.specs.declared.stmt.Stmt.{Stmt}
+use Rattle.language.specs.Control.{seen_stmts}
+use Rattle.language.specs.Language.{Stmts}
+use Rattle.pending_returns.specs.declared.facts.Summary.{Summary}
+use Rattle.named_programs.specs.Part.{Counts}
+use Rattle.named_programs.specs.Named.{stmts_named}
+use Rattle.tree_nesting.specs.Nesting.{nesting}
+use Rattle.choice_writing.specs.Written.{Way, all_written}
+use Rattle.region_rewrite.specs.Shape.{max_nesting}
+use Rattle.procedure_split.specs.shaped_ranges.Laws.{HasFlow}
+use Rattle.procedure_split.specs.Split.{IsSplit}
+use Rattle.procedure_split.specs.written_depth.Levels.{levels}
+use Rattle.procedure_split.specs.split_depth.Arms.{StmtsHaveArms, ClosedHaveArms}
+
+-- what is written of a body whose choices have arms nests just as deep as is judged of it
+abbrev pub WrittenStmtsNestAsJudged : Type 0
+WrittenStmtsNestAsJudged = (way : Way) (stmts : Stmts) → StmtsHaveArms stmts →
+    levels (all_written way stmts) ≡ nesting stmts
+
+-- so have those of statements that are as they are read
+abbrev pub NamedStatementsHaveArms : Type 0
+NamedStatementsHaveArms = (counts : Counts) (last : ℕ) (list : List Stmt) →
+    stmts_named counts list ≡ true → StmtsHaveArms (seen_stmts last list)
+
+-- what a program is split into nests within the limit
+abbrev pub SplitProgramsNestWithin : Type 0
+SplitProgramsNestWithin = (program made : Program) (summary : Summary) →
+    HasFlow program summary → (split : IsSplit program summary made) →
+    ClosedHaveArms split.closed → program_depth made ≤ max_nesting

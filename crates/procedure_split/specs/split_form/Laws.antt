@@ -1,0 +1,14 @@
+-- What a program is split into is structured.
+use Rattle.std.specs.Prelude.{◌≡◌, true}
+use Rattle.cob_tree.specs.declared.program.Program.{Program}
+use Rattle.struct_form.specs.Structured.{IsStructured}
+use Rattle.few_stmts.specs.lone_exits.Alone.{exits_alone}
+use Rattle.pending_returns.specs.declared.facts.Summary.{Summary}
+use Rattle.procedure_split.specs.Split.{IsSplit}
+use Rattle.procedure_split.specs.split_behaviour.Alike.{IsWellMade, FlowsSo}
+
+abbrev pub SplitProgramsAreStructured : Type 0
+SplitProgramsAreStructured =
+    (program made : Program) (summary : Summary) →
+    IsWellMade program → exits_alone program ≡ true → FlowsSo program summary →
+    IsSplit program summary made → IsStructured made

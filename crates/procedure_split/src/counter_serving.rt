@@ -1,0 +1,16 @@
+//! The counters of graphs have items that serve: a cell of a graph is a cell of the closed graph,
+//! of the same kind, and the table of the cells of closed graphs has for each counter an item that
+//! holds the turns that are left of a loop by TIMES. Nothing here runs.
+
+ghost use Rattle.procedure_split.specs.counter_serving.Laws.{ClosedCountersAreServed, ClosedGraphsKeepCells};
+
+/// Closing a graph adds cells behind its own, and changes none of these.
+pub fn closed_graphs_keep_cells()
+    ensures { ClosedGraphsKeepCells }
+{}
+
+/// What lowering writes of the counters of graphs may be written with the table of the cells of the
+/// closed graphs.
+pub fn closed_counters_are_served()
+    ensures { ClosedCountersAreServed }
+{}

@@ -1,0 +1,185 @@
+//! The graphs of the ranges of a plan.
+
+ghost use Rattle.std.specs.Prelude.{◌≡◌, ◌≤◌, ◌*◌, length, IfOk, OnOk, MatchResult};
+ghost use Rattle.cob_tree.specs.declared.program.Program.{Program};
+ghost use Rattle.language.specs.Control.{control_of};
+ghost use Rattle.language.specs.OwnItems.{NamesOwnItems};
+ghost use Rattle.control_laws.specs.closing.Closes.{IsClosed};
+ghost use Rattle.branch_tree.specs.Graphs.{seen_graph};
+ghost use Rattle.cut_lists.specs.Told.{told_of};
+ghost use Rattle.cobol_laws.specs.cobol_parts.Named.{NamesOwnParagraphs};
+ghost use Rattle.flow_levels.specs.Reaching.{IsMarked};
+ghost use Rattle.range_trees.specs.Nodes.{IsWhole};
+ghost use Rattle.flow_graph.specs.Reaching.{IsRangeIn};
+ghost use Rattle.procedure_split.specs.shaped_ranges.Limit.{AreLowered, IsLoweringFault, node_limit, nodes_passed};
+ghost use Rattle.procedure_split.specs.shaped_ranges.Shaped.{AllClosed};
+ghost use Rattle.procedure_split.specs.shaped_ranges.Steps.{AreLoweredIn, AreRangesIn, AreRangesOf, IsGraphIn, IsLoweringFaultIn, IsPastBy, kept_within};
+
+use branch_tree::Graph;
+use cob_base::{Limit, LimitKind, NoMemory};
+use cob_tree::{Program, Range, SplitFault};
+use counter_cells::number_counters;
+use flow_graph::lower;
+use flow_levels::Reach;
+use graph_sizes::graph_size;
+use lower_places::layout_of;
+use lower_stmts::Telling;
+use range_plan::RangePlan;
+use rest_table::{Spot, spots_of};
+use std::alloc::Global;
+
+/// The most labels and statements of all lowered ranges.
+const NODE_LIMIT: u64 = 500_000;
+
+/// Labels have numbers below three times this.
+const PLACES: u64 = 1 << 30;
+
+fn nodes_passed(counted: u64) -> Limit
+    ensures { result ≡ nodes_passed counted }
+{
+    Limit {
+        kind: LimitKind::Nodes,
+        of_result: false,
+        counted,
+        limit: NODE_LIMIT,
+    }
+}
+
+/// The graph of a range, its counters numbered.
+fn graph_of(
+    alloc: Global,
+    reach: &mut Reach,
+    spots: &[Spot<'_>],
+    range: Range,
+    telling: &Telling<'_>,
+) -> Result<Graph, NoMemory>
+    requires marked { IsMarked reach.old.places.items reach.old.marks.items }
+    requires whole { IsWhole telling.now spots.now }
+    requires size { length reach.old.marks.items ≡ 3 * length spots.now }
+    requires range { (program : Program) × IsRangeIn telling.now spots.now range program }
+    ensures graph { IfOk result (IsGraphIn telling.now spots.now range) }
+    ensures closed { IfOk result (λ graph. IsClosed (seen_graph graph)) }
+    ensures marked { IsMarked reach.new.places.items reach.new.marks.items }
+    ensures size { length reach.new.marks.items ≡ length reach.old.marks.items }
+{
+    let mut graph = lower(alloc, reach, spots, range, telling)?;
+    match number_counters(alloc, &mut graph) {
+        Ok(()) => Ok(graph),
+        Err(fault) => {
+            drop(graph);
+            Err(fault)
+        }
+    }
+}
+
+/// Adds a graph, where there is room in the limit.
+fn keep_graph(graphs: &mut Vec<Graph>, graph: Graph, count: u64) -> Result<(), NoMemory>
+    ensures { OnOk result (graphs.new.items ≡ kept_within count graphs.old.items graph) }
+{
+    if count > NODE_LIMIT {
+        drop(graph);
+        return Ok(());
+    }
+    match graphs.push(graph) {
+        Ok(()) => Ok(()),
+        Err(left) => {
+            drop(left);
+            Err(NoMemory)
+        }
+    }
+}
+
+/// The graphs, or the limit that so many labels and statements pass.
+fn within_limit(graphs: Vec<Graph>, count: u64) -> Result<Vec<Graph>, SplitFault>
+    ensures { MatchResult result (λ kept. (kept ≡ graphs) × (count ≤ node_limit))
+        (λ fault. IsPastBy count fault) }
+{
+    if count <= NODE_LIMIT {
+        return Ok(graphs);
+    }
+    drop(graphs);
+    if count == u64::MAX {
+        return Err(SplitFault::NoMemory);
+    }
+    Err(SplitFault::Limit(nodes_passed(count)))
+}
+
+/// The graphs of these ranges.
+fn graphs_of(
+    alloc: Global,
+    reach: &mut Reach,
+    spots: &[Spot<'_>],
+    ranges: &[Range],
+    telling: &Telling<'_>,
+) -> Result<Vec<Graph>, SplitFault>
+    requires marked { IsMarked reach.old.places.items reach.old.marks.items }
+    requires whole { IsWhole telling.now spots.now }
+    requires size { length reach.old.marks.items ≡ 3 * length spots.now }
+    requires ranges { (program : Program) × AreRangesIn telling.now spots.now program ranges.now }
+    ensures lowered { MatchResult result
+        (λ graphs. AreLoweredIn telling.now spots.now ranges.now graphs.items)
+        (λ fault. IsLoweringFaultIn telling.now spots.now ranges.now fault) }
+    ensures closed { IfOk result (λ graphs. AllClosed graphs.items) }
+{
+    let mut graphs = Vec::new(alloc);
+    let mut count = 0u64;
+    for range in ranges {
+        match graph_of(alloc, reach, spots, *range, telling) {
+            Err(_) => {
+                drop(graphs);
+                return Err(SplitFault::NoMemory);
+            }
+            Ok(graph) => {
+                count = count.saturating_add(graph_size(&graph));
+                match keep_graph(&mut graphs, graph, count) {
+                    Ok(()) => {}
+                    Err(_) => {
+                        drop(graphs);
+                        return Err(SplitFault::NoMemory);
+                    }
+                }
+            }
+        }
+    }
+    within_limit(graphs, count)
+}
+
+/// The graphs of the ranges of a plan, in its order. Limit exactly where they have more than
+/// 500,000 labels and statements. A program of 2^30 places or more is out of memory.
+pub fn lower_ranges(
+    alloc: Global,
+    program: &Program,
+    plan: &RangePlan,
+) -> Result<Vec<Graph>, SplitFault>
+    requires items { NamesOwnItems program.now }
+    requires paragraphs { NamesOwnParagraphs program.now }
+    requires ranges { AreRangesOf (control_of program.now) plan.now.order }
+    ensures lowered { MatchResult result
+        (λ graphs. AreLowered (told_of program.now.files plan.now.returning)
+        (control_of program.now) plan.now.order graphs.items)
+        (λ fault. IsLoweringFault (told_of program.now.files plan.now.returning)
+        (control_of program.now) plan.now.order fault) }
+    ensures closed { IfOk result (λ graphs. AllClosed graphs.items) }
+{
+    if program.places() >= PLACES {
+        return Err(SplitFault::NoMemory);
+    }
+    let layout = layout_of(alloc, program)?;
+    if layout.end as u64 >= PLACES {
+        return Err(SplitFault::NoMemory);
+    }
+    let telling = Telling {
+        files: program.files.as_slice(),
+        returning: plan.returning.as_slice(),
+        layout: &layout,
+    };
+    let spots = spots_of(alloc, program, &telling)?;
+    let mut reach = Reach::new(alloc, spots.len() * 3)?;
+    graphs_of(
+        alloc,
+        &mut reach,
+        spots.as_slice(),
+        plan.order.as_slice(),
+        &telling,
+    )
+}

@@ -1,8 +1,0 @@
-use Rattle.rendering.proofs.Chained.{follows-sound, alike-sound}
-use Rattle.rendering.proofs.laws.followers_are_sound.Goals as goal
-
-pub returns-clause-follows : goal.returns-clause-follows
-returns-clause-follows g c = follows-sound
-
-pub returns-clause-alike : goal.returns-clause-alike
-returns-clause-alike g c = alike-sound

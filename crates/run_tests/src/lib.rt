@@ -1,0 +1,14 @@
+//! Tests of what runs: files at a desk, the folder's device, plain programs, and whole sources.
+//!
+//! They stand here, over the crates as these are, since a crate with tests of its own is proved
+//! twice. A module names the part that it tests.
+#![tactic(auto)]
+
+#[cfg(test)]
+mod desk;
+#[cfg(test)]
+mod folder;
+#[cfg(test)]
+mod plain;
+#[cfg(test)]
+mod sources;
