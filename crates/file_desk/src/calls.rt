@@ -1,7 +1,8 @@
 //! Calls of a device on the bench.
 
 ghost use Rattle.std.specs.Prelude.{◌≡◌, ◌≢◌, ◌<◌, length, map};
-ghost use Rattle.file_model.specs.Told.{Changes, Counts, GivesAtMost, Opens, Reads, appended, open_fails, put_fails, read_fails, replaced, shut};
+ghost use Rattle.file_model.specs.Told.{Changes, Counts, GivesAtMost, Opens, Reads};
+ghost use Rattle.file_model.specs.Told.{appended, open_fails, put_fails, read_fails, replaced, shut};
 ghost use Rattle.file_desk.specs.Calls.{Called};
 
 use crate::watched::Watched;
@@ -18,7 +19,8 @@ pub fn device_name(device: &Box<dyn Device>) -> &[u8]
 fn open_one(device: &mut Box<dyn Device>, name: &[u8], how: How) -> Opened
     ensures name { (⟦<Box<dyn Device> as Watched>⟧.seen device.new).name
         ≡ (⟦<Box<dyn Device> as Watched>⟧.seen device.old).name }
-    ensures told { Opens (⟦<Box<dyn Device> as Watched>⟧.seen device.old).files name.now how result (⟦<Box<dyn Device> as Watched>⟧.seen device.new).files }
+    ensures told { Opens (⟦<Box<dyn Device> as Watched>⟧.seen device.old).files name.now how result
+        (⟦<Box<dyn Device> as Watched>⟧.seen device.new).files }
     ensures cause { Counts (open_fails result)
         (⟦<Box<dyn Device> as Watched>⟧.seen device.old).faults
         (⟦<Box<dyn Device> as Watched>⟧.seen device.new).faults }
@@ -30,7 +32,8 @@ fn close_one(device: &mut Box<dyn Device>, name: &[u8]) -> Put
     ensures name { (⟦<Box<dyn Device> as Watched>⟧.seen device.new).name
         ≡ (⟦<Box<dyn Device> as Watched>⟧.seen device.old).name }
     ensures memory { result ≢ Put.NoMemory }
-    ensures told { Changes (⟦<Box<dyn Device> as Watched>⟧.seen device.old).files name.now shut result (⟦<Box<dyn Device> as Watched>⟧.seen device.new).files }
+    ensures told { Changes (⟦<Box<dyn Device> as Watched>⟧.seen device.old).files name.now shut result
+        (⟦<Box<dyn Device> as Watched>⟧.seen device.new).files }
     ensures cause { Counts (put_fails result)
         (⟦<Box<dyn Device> as Watched>⟧.seen device.old).faults
         (⟦<Box<dyn Device> as Watched>⟧.seen device.new).faults }
@@ -42,7 +45,9 @@ fn read_one(device: &mut Box<dyn Device>, name: &[u8], into: &mut [u8]) -> Got
     ensures name { (⟦<Box<dyn Device> as Watched>⟧.seen device.new).name
         ≡ (⟦<Box<dyn Device> as Watched>⟧.seen device.old).name }
     ensures bound { GivesAtMost (length into.old) result }
-    ensures told { Reads (⟦<Box<dyn Device> as Watched>⟧.seen device.old).files name.now result into.old into.new (⟦<Box<dyn Device> as Watched>⟧.seen device.new).files }
+    ensures told { Reads (⟦<Box<dyn Device> as Watched>⟧.seen device.old).files name.now result
+        into.old into.new
+        (⟦<Box<dyn Device> as Watched>⟧.seen device.new).files }
     ensures cause { Counts (read_fails result)
         (⟦<Box<dyn Device> as Watched>⟧.seen device.old).faults
         (⟦<Box<dyn Device> as Watched>⟧.seen device.new).faults }
@@ -53,7 +58,9 @@ fn read_one(device: &mut Box<dyn Device>, name: &[u8], into: &mut [u8]) -> Got
 fn write_one(device: &mut Box<dyn Device>, name: &[u8], bytes: &[u8]) -> Put
     ensures name { (⟦<Box<dyn Device> as Watched>⟧.seen device.new).name
         ≡ (⟦<Box<dyn Device> as Watched>⟧.seen device.old).name }
-    ensures told { Changes (⟦<Box<dyn Device> as Watched>⟧.seen device.old).files name.now (appended bytes.now) result (⟦<Box<dyn Device> as Watched>⟧.seen device.new).files }
+    ensures told { Changes (⟦<Box<dyn Device> as Watched>⟧.seen device.old).files name.now
+        (appended bytes.now) result
+        (⟦<Box<dyn Device> as Watched>⟧.seen device.new).files }
     ensures cause { Counts (put_fails result)
         (⟦<Box<dyn Device> as Watched>⟧.seen device.old).faults
         (⟦<Box<dyn Device> as Watched>⟧.seen device.new).faults }
@@ -64,7 +71,9 @@ fn write_one(device: &mut Box<dyn Device>, name: &[u8], bytes: &[u8]) -> Put
 fn rewrite_one(device: &mut Box<dyn Device>, name: &[u8], bytes: &[u8]) -> Put
     ensures name { (⟦<Box<dyn Device> as Watched>⟧.seen device.new).name
         ≡ (⟦<Box<dyn Device> as Watched>⟧.seen device.old).name }
-    ensures told { Changes (⟦<Box<dyn Device> as Watched>⟧.seen device.old).files name.now (replaced bytes.now) result (⟦<Box<dyn Device> as Watched>⟧.seen device.new).files }
+    ensures told { Changes (⟦<Box<dyn Device> as Watched>⟧.seen device.old).files name.now
+        (replaced bytes.now) result
+        (⟦<Box<dyn Device> as Watched>⟧.seen device.new).files }
     ensures cause { Counts (put_fails result)
         (⟦<Box<dyn Device> as Watched>⟧.seen device.old).faults
         (⟦<Box<dyn Device> as Watched>⟧.seen device.new).faults }
