@@ -5,7 +5,7 @@ use Rattle.cob_tree.specs.declared.place.Operand.{Operand}
 use Rattle.cob_tree.specs.declared.stmt.Stmt.{Stmt}
 use Rattle.cob_tree.specs.declared.stmt.Stmt.TheVariants.{Continue}
 use Rattle.language.specs.Language as language
-use Rattle.language.specs.Language.{Stmts, none, also}
+use Rattle.language.specs.Language.{Stmts, none}
 use Rattle.language.specs.Control.{seen, seen_stmts}
 use Rattle.control.specs.Graph as graph
 use Rattle.control_laws.specs.graph_rules.Loops.{turned_test}
@@ -34,19 +34,19 @@ use Rattle.body_writing.proofs.BodyRows.{followed_none, followed_assoc, adds_one
 
 -- What is left of a list.
 
-left : {X : Type 0} (xs : List X) (at : ℕ) (x : X) → at < length xs → get_or xs at x ≡ x → drop at xs ≡ x ∷ drop (at + 1) xs
-left xs at x lt e = drop-cons xs at x lt ∙ ap (λ y. y ∷ drop (suc at) xs) e ∙ ap (λ n. x ∷ drop n xs) (sym (add-one at))
+left : {X : Type 0} (xs : List X) (at : ℕ) (d x : X) → at < length xs → get_or xs at d ≡ x → drop at xs ≡ x ∷ drop (at + 1) xs
+left xs at d x lt e = drop-cons xs at d lt ∙ ap (λ y. y ∷ drop (suc at) xs) e ∙ ap (λ n. x ∷ drop n xs) (sym (add-one at))
 
 module _ (way : Way) where
   -- one piece more
-  pub pieces_next : (all : List Piece) (at : ℕ) (piece : Piece) (old new : List Stmt) (made : Stmt) (goal : Stmts) → at < length all → get_or all at piece ≡ piece → new ≡ old ++ made ∷ [] →
+  pub pieces_next : (all : List Piece) (at : ℕ) (d piece : Piece) (old new : List Stmt) (made : Stmt) (goal : Stmts) → at < length all → get_or all at d ≡ piece → new ≡ old ++ made ∷ [] →
       seen 0 made ≡ written way (seen_piece piece) → followed (seen_stmts 0 old) (all_written way (seen_body (drop at all))) ≡ goal →
       followed (seen_stmts 0 new) (all_written way (seen_body (drop (at + 1) all))) ≡ goal
-  pieces_next all at piece old new made goal lt same e m h =
+  pieces_next all at d piece old new made goal lt same e m h =
       let rest = all_written way (seen_body (drop (at + 1) all)) in
       ap (λ s. followed s rest) (adds_one way old new made (seen_piece piece) e m)
       ∙ followed_assoc (seen_stmts 0 old) (all_written way (alone (seen_piece piece))) rest
-      ∙ ap (λ ps. followed (seen_stmts 0 old) (all_written way (seen_body ps))) (sym (left all at piece lt same))
+      ∙ ap (λ ps. followed (seen_stmts 0 old) (all_written way (seen_body ps))) (sym (left all at d piece lt same))
       ∙ h
 
   pub pieces_end : (all : List Piece) (at : ℕ) (made goal : Stmts) → length all ≤ at → followed made (all_written way (seen_body (drop at all))) ≡ goal → made ≡ goal
@@ -58,16 +58,16 @@ module _ (way : Way) where
   seen_lists (stmts ∷ old) made = ap (λ l. seen_stmts 0 stmts ∷ l) (seen_lists old made)
 
   -- one arm more
-  pub arms_next : (within : Tree → Stmts) (all : List Tree) (at : ℕ) (arm : Tree) (old new : List (List Stmt)) (made : List Stmt) (goal : List Stmts) → at < length all → get_or all at arm ≡ arm →
+  pub arms_next : (within : Tree → Stmts) (all : List Tree) (at : ℕ) (d arm : Tree) (old new : List (List Stmt)) (made : List Stmt) (goal : List Stmts) → at < length all → get_or all at d ≡ arm →
       new ≡ old ++ made ∷ [] → seen_stmts 0 made ≡ all_written way (within arm) → map (seen_stmts 0) old ++ map (all_written way) (map within (drop at all)) ≡ goal →
       map (seen_stmts 0) new ++ map (all_written way) (map within (drop (at + 1) all)) ≡ goal
-  arms_next within all at arm old new made goal lt same e m h =
+  arms_next within all at d arm old new made goal lt same e m h =
       let rest = map (all_written way) (map within (drop (at + 1) all)) in
       ap (λ l. map (seen_stmts 0) l ++ rest) e
       ∙ ap (λ l. l ++ rest) (seen_lists old made)
       ∙ append_assoc (map (seen_stmts 0) old) (seen_stmts 0 made ∷ []) rest
       ∙ ap (λ s. map (seen_stmts 0) old ++ s ∷ rest) m
-      ∙ ap (λ ts. map (seen_stmts 0) old ++ map (all_written way) (map within ts)) (sym (left all at arm lt same))
+      ∙ ap (λ ts. map (seen_stmts 0) old ++ map (all_written way) (map within ts)) (sym (left all at d arm lt same))
       ∙ h
 
   pub arms_end : (within : Tree → Stmts) (all : List Tree) (at : ℕ) (made goal : List Stmts) → length all ≤ at → made ++ map (all_written way) (map within (drop at all)) ≡ goal → made ≡ goal

@@ -3,7 +3,7 @@
 //! A body has no jump: it is a tree of pieces, choices, loops and what their leaves leave behind.
 //! The definition that the contracts hold the statements against is the theory's `written_stmts`
 //! and `written_paragraph`, in `control_laws/specs/rendering/Rendering.antt`, with the names of
-//! `choice_writing/specs/Written.antt`. Trees are only read, so that none is dropped here.
+//! `choice_writing/specs/Written.antt`. Statements are moved out of the trees, so none is copied.
 #![tactic(auto)]
 
 mod leaves;

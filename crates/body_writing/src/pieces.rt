@@ -5,51 +5,48 @@ ghost use Rattle.language.specs.Language.{Choose};
 ghost use Rattle.control_laws.specs.graph_rules.Shapes.{alone, arms_stmts};
 ghost use Rattle.branch_tree.specs.Choosers.{seen_picker};
 ghost use Rattle.branch_tree.specs.Trees.{seen_piece, seen_body, seen_trees};
-ghost use Rattle.choice_writing.specs.Written.{IsWritten};
 ghost use Rattle.body_writing.specs.Bodies.{IsMade, AreMade, AddsStmts, AddsLists, within_arm, within_loop, end_stmts, stated_choice};
 
 use crate::leaves::{add_jump, add_last, add_return, add_stop};
-use branch_tree::{End, Leaves, Picker, Piece, Tree};
+use branch_tree::{End, Leaves, Picker, Piece, Tree, drop_pieces, drop_trees};
 use cell_words::{
     CellItem, choose, drop_lists, drop_stmts, loop_until, lower_cell, set_cell, take_cell,
 };
 use choice_writing::Placed;
-use cob_base::{Copied, Items, NoMemory};
+use cob_base::{Items, NoMemory};
 use cob_tree::Stmt;
 use std::alloc::Global;
+use std::mem;
 use stmt_writing::write_stmt;
 
-fn write_own(alloc: Global, stmt: &Stmt, places: &[Placed]) -> Result<Stmt, NoMemory>
-    ensures { IfOk result (λ made. IsWritten places.now stmt.now made) }
-{
-    let stmt = stmt.copy(alloc)?;
-    write_stmt(alloc, stmt, places)
-}
-
+/// Takes the piece out of its place.
 #[cycle(write)]
 fn write_piece(
     alloc: Global,
-    piece: &Piece,
+    piece: &mut Piece,
     cells: &[CellItem],
     places: &[Placed],
 ) -> Result<Stmt, NoMemory>
-    ensures { IfOk result (λ made. IsMade cells.now places.now (seen_piece piece.now) made) }
+    ensures { IfOk result (λ made. IsMade cells.now places.now (seen_piece piece.old) made) }
 {
-    match piece {
-        Piece::Own(stmt) => write_own(alloc, stmt, places),
-        Piece::Set { cell, value } => set_cell(alloc, *cell, *value, cells),
-        Piece::Take { cell, amount } => take_cell(alloc, *cell, amount, cells),
-        Piece::Lower { cell } => lower_cell(alloc, *cell, cells),
-        Piece::Choose { by, arms } => write_choice(alloc, by, arms.as_slice(), cells, places),
+    match mem::replace(piece, Piece::Lower { cell: 0 }) {
+        Piece::Own(stmt) => write_stmt(alloc, stmt, places),
+        Piece::Set { cell, value } => set_cell(alloc, cell, value, cells),
+        Piece::Take { cell, amount } => take_cell(alloc, cell, amount, cells),
+        Piece::Lower { cell } => lower_cell(alloc, cell, cells),
+        Piece::Choose { by, arms } => write_choice(alloc, by, arms, cells, places),
         Piece::Loop {
             after,
             turned,
             test,
             leaves,
             body,
-        } => match write_stated(alloc, body, leaves, cells, places) {
-            Ok(body) => loop_until(alloc, test, *turned, *after, body, cells),
-            Err(fault) => Err(fault),
+        } => match write_turns(alloc, body, leaves, cells, places) {
+            Ok(body) => loop_until(alloc, test, turned, after, body, cells),
+            Err(fault) => {
+                drop(test);
+                Err(fault)
+            }
         },
     }
 }
@@ -57,16 +54,16 @@ fn write_piece(
 #[cycle(write)]
 fn add_pieces(
     alloc: Global,
-    pieces: &[Piece],
+    pieces: &mut [Piece],
     made: &mut Items<Stmt>,
     cells: &[CellItem],
     places: &[Placed],
 ) -> Result<(), NoMemory>
     ensures { OnOk result
-        (AddsStmts cells.now places.now (seen_body pieces.now) made.old made.new) }
+        (AddsStmts cells.now places.now (seen_body pieces.old) made.old made.new) }
 {
-    for piece in pieces {
-        let stmt = write_piece(alloc, piece, cells, places)?;
+    for at in 0..pieces.len() {
+        let stmt = write_piece(alloc, &mut pieces[at], cells, places)?;
         made.push(stmt)?;
     }
     Ok(())
@@ -76,14 +73,14 @@ fn add_pieces(
 #[cycle(write)]
 fn add_arm(
     alloc: Global,
-    arm: &Tree,
+    arm: &mut Tree,
     made: &mut Items<Stmt>,
     cells: &[CellItem],
     places: &[Placed],
 ) -> Result<(), NoMemory>
-    ensures { OnOk result (AddsStmts cells.now places.now (within_arm arm.now) made.old made.new) }
+    ensures { OnOk result (AddsStmts cells.now places.now (within_arm arm.old) made.old made.new) }
 {
-    add_pieces(alloc, arm.body.as_slice(), made, cells, places)?;
+    add_pieces(alloc, arm.body.as_mut_slice(), made, cells, places)?;
     add_last(made, &arm.end)
 }
 
@@ -91,11 +88,11 @@ fn add_arm(
 #[cycle(write)]
 fn write_arm(
     alloc: Global,
-    arm: &Tree,
+    arm: &mut Tree,
     cells: &[CellItem],
     places: &[Placed],
 ) -> Result<Items<Stmt>, NoMemory>
-    ensures { IfOk result (λ made. AreMade cells.now places.now (within_arm arm.now) made) }
+    ensures { IfOk result (λ made. AreMade cells.now places.now (within_arm arm.old) made) }
 {
     let mut made = Items::new(alloc);
     match add_arm(alloc, arm, &mut made, cells, places) {
@@ -111,15 +108,15 @@ fn write_arm(
 fn add_arms(
     alloc: Global,
     lists: &mut Items<Items<Stmt>>,
-    arms: &[Tree],
+    arms: &mut [Tree],
     cells: &[CellItem],
     places: &[Placed],
 ) -> Result<(), NoMemory>
     ensures { OnOk result
-        (AddsLists cells.now places.now within_arm arms.now lists.old lists.new) }
+        (AddsLists cells.now places.now within_arm arms.old lists.old lists.new) }
 {
-    for arm in arms {
-        let made = write_arm(alloc, arm, cells, places)?;
+    for at in 0..arms.len() {
+        let made = write_arm(alloc, &mut arms[at], cells, places)?;
         lists.push(made)?;
     }
     Ok(())
@@ -129,18 +126,24 @@ fn add_arms(
 #[cycle(write)]
 fn write_choice(
     alloc: Global,
-    by: &Picker,
-    arms: &[Tree],
+    by: Picker,
+    arms: Items<Tree>,
     cells: &[CellItem],
     places: &[Placed],
 ) -> Result<Stmt, NoMemory>
     ensures { IfOk result (λ made. IsMade cells.now places.now
-        (Choose (seen_picker by.now) (arms_stmts (seen_trees arms.now))) made) }
+        (Choose (seen_picker by) (arms_stmts (seen_trees arms))) made) }
 {
+    let mut arms = arms.into_vec();
     let mut lists = Items::new(alloc);
-    match add_arms(alloc, &mut lists, arms, cells, places) {
-        Ok(()) => choose(alloc, by, lists, cells),
+    match add_arms(alloc, &mut lists, arms.as_mut_slice(), cells, places) {
+        Ok(()) => {
+            drop_trees(Items::from_vec(arms));
+            choose(alloc, by, lists, cells)
+        }
         Err(fault) => {
+            drop_trees(Items::from_vec(arms));
+            drop(by);
             drop_lists(lists);
             Err(fault)
         }
@@ -151,29 +154,29 @@ fn write_choice(
 #[cycle(write)]
 fn add_stated(
     alloc: Global,
-    tree: &Tree,
+    tree: &mut Tree,
     made: &mut Items<Stmt>,
     leaves: &Leaves,
     cells: &[CellItem],
     places: &[Placed],
 ) -> Result<(), NoMemory>
     ensures { OnOk result
-        (AddsStmts cells.now places.now (within_loop leaves.now tree.now) made.old made.new) }
+        (AddsStmts cells.now places.now (within_loop leaves.now tree.old) made.old made.new) }
 {
-    add_pieces(alloc, tree.body.as_slice(), made, cells, places)?;
-    add_end(alloc, &tree.end, made, leaves, cells, places)
+    add_pieces(alloc, tree.body.as_mut_slice(), made, cells, places)?;
+    add_end(alloc, &mut tree.end, made, leaves, cells, places)
 }
 
 #[cycle(write)]
 fn write_stated(
     alloc: Global,
-    tree: &Tree,
+    tree: &mut Tree,
     leaves: &Leaves,
     cells: &[CellItem],
     places: &[Placed],
 ) -> Result<Items<Stmt>, NoMemory>
     ensures { IfOk result
-        (λ made. AreMade cells.now places.now (within_loop leaves.now tree.now) made) }
+        (λ made. AreMade cells.now places.now (within_loop leaves.now tree.old) made) }
 {
     let mut made = Items::new(alloc);
     match add_stated(alloc, tree, &mut made, leaves, cells, places) {
@@ -185,23 +188,40 @@ fn write_stated(
     }
 }
 
+/// The statements of a loop's tree.
+#[cycle(write)]
+fn write_turns(
+    alloc: Global,
+    tree: Tree,
+    leaves: Leaves,
+    cells: &[CellItem],
+    places: &[Placed],
+) -> Result<Items<Stmt>, NoMemory>
+    ensures { IfOk result (λ made. AreMade cells.now places.now (within_loop leaves tree) made) }
+{
+    let mut tree = tree;
+    let made = write_stated(alloc, &mut tree, &leaves, cells, places);
+    drop_tree(tree);
+    drop(leaves);
+    made
+}
+
+/// Takes the end out of its place.
 #[cycle(write)]
 fn add_end(
     alloc: Global,
-    end: &End,
+    end: &mut End,
     made: &mut Items<Stmt>,
     leaves: &Leaves,
     cells: &[CellItem],
     places: &[Placed],
 ) -> Result<(), NoMemory>
     ensures { OnOk result
-        (AddsStmts cells.now places.now (end_stmts leaves.now end.now) made.old made.new) }
+        (AddsStmts cells.now places.now (end_stmts leaves.now end.old) made.old made.new) }
 {
-    match end {
-        End::Pick { by, arms } => {
-            add_choice(alloc, by, arms.as_slice(), made, leaves, cells, places)
-        }
-        End::Jump(to) => add_jump(alloc, made, leaves, *to, cells),
+    match mem::replace(end, End::Dead) {
+        End::Pick { by, arms } => add_choice(alloc, by, arms, made, leaves, cells, places),
+        End::Jump(to) => add_jump(alloc, made, leaves, to, cells),
         End::Return => add_return(alloc, made, leaves, cells),
         End::Stop => add_stop(made),
         End::Dead => Ok(()),
@@ -212,15 +232,15 @@ fn add_end(
 #[cycle(write)]
 fn add_choice(
     alloc: Global,
-    by: &Picker,
-    arms: &[Tree],
+    by: Picker,
+    arms: Items<Tree>,
     made: &mut Items<Stmt>,
     leaves: &Leaves,
     cells: &[CellItem],
     places: &[Placed],
 ) -> Result<(), NoMemory>
     ensures { OnOk result (AddsStmts cells.now places.now
-        (alone (stated_choice leaves.now by.now arms.now)) made.old made.new) }
+        (alone (stated_choice leaves.now by arms)) made.old made.new) }
 {
     let stmt = write_stated_choice(alloc, by, arms, leaves, cells, places)?;
     made.push(stmt)
@@ -229,19 +249,32 @@ fn add_choice(
 #[cycle(write)]
 fn write_stated_choice(
     alloc: Global,
-    by: &Picker,
-    arms: &[Tree],
+    by: Picker,
+    arms: Items<Tree>,
     leaves: &Leaves,
     cells: &[CellItem],
     places: &[Placed],
 ) -> Result<Stmt, NoMemory>
     ensures { IfOk result
-        (λ made. IsMade cells.now places.now (stated_choice leaves.now by.now arms.now) made) }
+        (λ made. IsMade cells.now places.now (stated_choice leaves.now by arms) made) }
 {
+    let mut arms = arms.into_vec();
     let mut lists = Items::new(alloc);
-    match add_stated_arms(alloc, &mut lists, arms, leaves, cells, places) {
-        Ok(()) => choose(alloc, by, lists, cells),
+    match add_stated_arms(
+        alloc,
+        &mut lists,
+        arms.as_mut_slice(),
+        leaves,
+        cells,
+        places,
+    ) {
+        Ok(()) => {
+            drop_trees(Items::from_vec(arms));
+            choose(alloc, by, lists, cells)
+        }
         Err(fault) => {
+            drop_trees(Items::from_vec(arms));
+            drop(by);
             drop_lists(lists);
             Err(fault)
         }
@@ -252,31 +285,34 @@ fn write_stated_choice(
 fn add_stated_arms(
     alloc: Global,
     lists: &mut Items<Items<Stmt>>,
-    arms: &[Tree],
+    arms: &mut [Tree],
     leaves: &Leaves,
     cells: &[CellItem],
     places: &[Placed],
 ) -> Result<(), NoMemory>
     ensures { OnOk result
-        (AddsLists cells.now places.now (within_loop leaves.now) arms.now lists.old lists.new) }
+        (AddsLists cells.now places.now (within_loop leaves.now) arms.old lists.old lists.new) }
 {
-    for arm in arms {
-        let made = write_stated(alloc, arm, leaves, cells, places)?;
+    for at in 0..arms.len() {
+        let made = write_stated(alloc, &mut arms[at], leaves, cells, places)?;
         lists.push(made)?;
     }
     Ok(())
 }
 
+/// Lets a tree go.
+pub fn drop_tree(_tree: Tree) {}
+
 /// The statements of a body, added behind others.
 pub fn add_body(
     alloc: Global,
     made: &mut Items<Stmt>,
-    pieces: &[Piece],
+    pieces: &mut [Piece],
     cells: &[CellItem],
     places: &[Placed],
 ) -> Result<(), NoMemory>
     ensures { OnOk result
-        (AddsStmts cells.now places.now (seen_body pieces.now) made.old made.new) }
+        (AddsStmts cells.now places.now (seen_body pieces.old) made.old made.new) }
 {
     add_pieces(alloc, pieces, made, cells, places)
 }
@@ -285,16 +321,21 @@ pub fn add_body(
 /// place or a cell no item, and where a number or a choice doesn't fit its item.
 pub fn write_body(
     alloc: Global,
-    pieces: &[Piece],
+    pieces: Vec<Piece>,
     cells: &[CellItem],
     places: &[Placed],
 ) -> Result<Items<Stmt>, NoMemory>
-    ensures { IfOk result (λ made. AreMade cells.now places.now (seen_body pieces.now) made) }
+    ensures { IfOk result (λ made. AreMade cells.now places.now (seen_body pieces.items) made) }
 {
+    let mut pieces = pieces;
     let mut made = Items::new(alloc);
-    match add_body(alloc, &mut made, pieces, cells, places) {
-        Ok(()) => Ok(made),
+    match add_body(alloc, &mut made, pieces.as_mut_slice(), cells, places) {
+        Ok(()) => {
+            drop_pieces(pieces);
+            Ok(made)
+        }
         Err(fault) => {
+            drop_pieces(pieces);
             drop_stmts(made);
             Err(fault)
         }

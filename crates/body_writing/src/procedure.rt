@@ -7,7 +7,7 @@ ghost use Rattle.body_writing.specs.Bodies.{AddsStmts};
 ghost use Rattle.body_writing.specs.Procedures.{stops, IsSentence, IsProcedure, closed_stmts};
 
 use crate::leaves::add_stop;
-use crate::pieces::add_body;
+use crate::pieces::{add_body, drop_tree};
 use branch_tree::{End, Tree};
 use cell_words::{CellItem, drop_stmts};
 use choice_writing::{Placed, or_continue};
@@ -37,15 +37,15 @@ fn ends_run(is_main: bool, end: &End) -> bool
 fn add_closed(
     alloc: Global,
     made: &mut Items<Stmt>,
-    tree: &Tree,
+    tree: &mut Tree,
     is_main: bool,
     cells: &[CellItem],
     places: &[Placed],
 ) -> Result<(), NoMemory>
-    ensures { OnOk result (AddsStmts cells.now places.now (closed_stmts is_main (seen_tree tree.now))
+    ensures { OnOk result (AddsStmts cells.now places.now (closed_stmts is_main (seen_tree tree.old))
         made.old made.new) }
 {
-    add_body(alloc, made, tree.body.as_slice(), cells, places)?;
+    add_body(alloc, made, tree.body.as_mut_slice(), cells, places)?;
     if ends_run(is_main, &tree.end) {
         add_stop(made)
     } else {
@@ -66,18 +66,23 @@ fn sentence_of(stmts: Items<Stmt>) -> Result<Sentence, NoMemory>
 /// end is Stop. Err where `write_body` has it.
 pub fn write_procedure(
     alloc: Global,
-    tree: &Tree,
+    tree: Tree,
     is_main: bool,
     cells: &[CellItem],
     places: &[Placed],
 ) -> Result<Sentence, NoMemory>
-    ensures { IfOk result (λ made. IsProcedure cells.now places.now is_main (seen_tree tree.now)
+    ensures { IfOk result (λ made. IsProcedure cells.now places.now is_main (seen_tree tree)
         made) }
 {
+    let mut tree = tree;
     let mut made = Items::new(alloc);
-    match add_closed(alloc, &mut made, tree, is_main, cells, places) {
-        Ok(()) => sentence_of(made),
+    match add_closed(alloc, &mut made, &mut tree, is_main, cells, places) {
+        Ok(()) => {
+            drop_tree(tree);
+            sentence_of(made)
+        }
         Err(fault) => {
+            drop_tree(tree);
             drop_stmts(made);
             Err(fault)
         }

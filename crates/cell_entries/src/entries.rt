@@ -10,7 +10,7 @@ ghost use Rattle.cell_table.specs.Names.{digits_of, is_signed, seen_item};
 use branch_tree::Added;
 use cell_table::AddedItem;
 use cob_base::{Items, NoMemory};
-use cob_tree::{Entry, Number, Operand, Picture, Sign};
+use cob_tree::{Digits, Entry, Number, Operand, Picture, Sign};
 use numbered_words::numbered_text;
 use std::alloc::Global;
 
@@ -44,7 +44,7 @@ fn zero(alloc: Global) -> Result<Operand, NoMemory>
     let digits = numbered_text(alloc, &[], 0)?;
     Ok(Operand::Number(Number {
         negative: false,
-        digits,
+        digits: Digits::new(digits),
         scale: 0,
     }))
 }

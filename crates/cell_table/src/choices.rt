@@ -1,7 +1,6 @@
 //! How many arms the first choice by each cell has.
 
-ghost use Rattle.std.specs.Prelude.{ℕ, ◌≡◌, ◌<◌, length, None, slice_index_or, IfOk};
-ghost use Rattle.cell_mentions.specs.Mentions.{first_arms};
+ghost use Rattle.std.specs.Prelude.{◌≡◌, ◌<◌, length, None, IfOk};
 ghost use Rattle.cell_table.specs.Choices.{AreFirst, IsPut};
 
 use cell_mentions::Mention;

@@ -1,9 +1,9 @@
 //! Which cells have items of their own.
 
-ghost use Rattle.std.specs.Prelude.{◌≡◌, ◌<◌, ◌≤◌, ◌^◌, [], length, map, IfOk, OnOk};
+ghost use Rattle.std.specs.Prelude.{◌≡◌, ◌<◌, ◌≤◌, [], length, map, IfOk, OnOk};
 ghost use Rattle.branch_tree.specs.Graphs.{seen_added};
 ghost use Rattle.cell_table.specs.Holding.{AreHeld, AreWithin};
-ghost use Rattle.cell_table.specs.Items.{is_never, kind_in, first_never, holder, place_in, with_number, each_once};
+ghost use Rattle.cell_table.specs.Items.{is_never, kind_in, first_never, holder, with_number, each_once};
 
 use branch_tree::Added;
 use cob_base::{Items, NoMemory};

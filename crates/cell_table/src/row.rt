@@ -2,7 +2,6 @@
 
 ghost use Rattle.std.specs.Prelude.{◌≡◌, ◌++◌, ◌+◌, ◌<◌, ◌^◌, length, map, IfOk, OnOk};
 ghost use Rattle.cob_base.specs.Answers.{Makes};
-ghost use Rattle.cell_mentions.specs.declared.mention.Mention.{Mention as MentionOf};
 ghost use Rattle.branch_tree.specs.Graphs.{seen_added};
 ghost use Rattle.cell_table.specs.Items.{counted_on};
 ghost use Rattle.cell_table.specs.Row.{kinds_of_row, in_row, named_behind};

@@ -1,18 +1,17 @@
 -- Choices of a tree, row by row.
-use Rattle.std.proofs.Common.{◌≡◌, ℕ, zero, suc, ◌+◌, ◌<◌, Bool, true, false, List, [], ◌∷◌, ◌++◌, length, map, Option, refl, ap, sym, ◌∙◌, subst, arith}
+use Rattle.std.proofs.Common.{◌≡◌, ℕ, zero, suc, ◌+◌, Bool, true, false, List, [], ◌∷◌, ◌++◌, length, map, Option, refl, ap, sym, ◌∙◌, arith}
 use Rattle.cob_tree.specs.declared.calc.Calc.{Calc}
 use Rattle.cob_tree.specs.declared.calc.Target.{Target}
 use Rattle.cob_tree.specs.declared.choice.Subject.{Subject}
 use Rattle.cob_tree.specs.declared.choice.Subject.TheVariants as subjects
 use Rattle.cob_tree.specs.declared.choice.Test as choice
 use Rattle.cob_tree.specs.declared.cond.Cond.{Cond}
-use Rattle.cob_tree.specs.declared.number.Number.{Number}
 use Rattle.cob_tree.specs.declared.place.Place.{Place}
 use Rattle.cob_tree.specs.declared.stmt.Stmt.{Stmt}
 use Rattle.language.specs.Language as language
 use Rattle.language.specs.Language.{Stmts, none, Arms, done}
-use Rattle.language.specs.Control.{test_of, seen, seen_stmts}
-use Rattle.control_laws.specs.rendering.Rendering.{Continues, Goes, whole_arms, written_test}
+use Rattle.language.specs.Control.{seen, seen_stmts}
+use Rattle.control_laws.specs.rendering.Rendering.{Continues, Goes}
 use Rattle.branch_tree.specs.Choosers.{seen_test}
 use Rattle.branch_tree.specs.declared.chooser.Test.{Test}
 use Rattle.branch_tree.specs.declared.chooser.Chooser.TheVariants as choosers
@@ -21,12 +20,11 @@ use Rattle.cobol_laws.specs.cell_items.Cell.{cell_operand, operand_expr}
 use Rattle.cobol_laws.specs.cell_items.Laws.{number_tests}
 use Rattle.cobol_laws.specs.cell_serving.Choosing.{place_expr}
 use Rattle.cobol_laws.specs.cell_serving.Entries.{whole_literal}
-use Rattle.cobol_laws.specs.cell_serving.Naming.{numbers_from, whens_of, other_stands, last_stands}
+use Rattle.cobol_laws.specs.cell_serving.Naming.{numbers_from, whens_of, last_stands}
 use Rattle.choice_writing.specs.Choices.{IsIf, IsRead, IsArith}
-use Rattle.choice_writing.specs.Empties.{if_had, of_whens, of_cell, put_arm, stands_so}
-use Rattle.choice_writing.specs.Written.{Way, naming_in}
+use Rattle.choice_writing.specs.Empties.{if_had, of_whens, of_cell, put_arm}
 use Rattle.choice_writing.proofs.ChoiceRows.{stays_is}
-use Rattle.cell_words.specs.Words.{AreItems, IsItemOf, IsTest}
+use Rattle.cell_words.specs.Words.{IsItemOf, IsTest}
 use Rattle.cell_words.specs.Lists.{put_arms, stand_so, continued, chosen, IsChosen, IsOwnChoice, item_chosen, IsItemChoice, IsAmongAll, numbered, IsNumbered, IsNumberedAll}
 use Rattle.cell_words.specs.declared.cells.CellItem.{CellItem}
 use Rattle.cell_words.proofs.ListRows.{all_row, missing_row, given_stands, within, past, cell_within, cell_past, stand_many, whens_many}

@@ -1,5 +1,5 @@
 -- Choices over lists, row by row.
-use Rattle.std.proofs.Common.{◌≡◌, ℕ, zero, suc, ◌+◌, ◌-◌, ◌<◌, ◌≤◌, Bool, true, false, not, if◌then◌else◌, ◌==◌, ◌&&◌, List, [], ◌∷◌, ◌++◌, length, map, take, Option, Some, None, is_some, get_or, refl, ap, sym, ◌∙◌, subst, arith, append_assoc, add-one}
+use Rattle.std.proofs.Common.{◌≡◌, ℕ, zero, suc, ◌+◌, ◌-◌, ◌<◌, ◌≤◌, Bool, true, false, if◌then◌else◌, ◌==◌, List, [], ◌∷◌, ◌++◌, length, map, take, Option, Some, None, is_some, get_or, refl, ap, sym, ◌∙◌, arith, append_assoc, add-one}
 use Rattle.std.proofs.lemmas.List.{length-map}
 use Rattle.std.proofs.Math.ListN.{get_or-map}
 use Rattle.std.specs.Prelude.{nat_lt}
@@ -10,9 +10,9 @@ use Rattle.cob_tree.specs.declared.stmt.Stmt.{Stmt}
 use Rattle.cob_tree.specs.declared.stmt.Stmt.TheVariants.{Continue}
 use Rattle.cob_tree.specs.declared.stmt.When.{When}
 use Rattle.language.specs.Language as language
-use Rattle.language.specs.Language.{Stmts, none, also, Arms, done, given, missing}
+use Rattle.language.specs.Language.{Stmts, none, also, Arms, done, given}
 use Rattle.language.specs.Control.{Branch, tests_of, branches_before, evaluate_of, picker_by, cell_chosen, count_from, seen, seen_stmts, seen_when}
-use Rattle.control_laws.specs.rendering.Rendering.{Empty, Continues, Goes, arm_stands, required, written_arm, and_missing}
+use Rattle.control_laws.specs.rendering.Rendering.{Empty, Continues, Goes, arm_stands, required, and_missing}
 use Rattle.choice_writing.specs.Empties.{if_had, of_whens, of_cell, put_arm, stands_so}
 use Rattle.choice_writing.specs.Choices.{IsEvaluate}
 use Rattle.choice_writing.proofs.ChoiceRows.{continues_is}

@@ -1,5 +1,5 @@
 -- Numbers one after the other.
-use Rattle.std.proofs.Common.{◌≡◌, ℕ, zero, suc, ◌+◌, List, [], ◌∷◌, ◌++◌, map, refl, ap, sym, ◌∙◌, arith, append_assoc, add-one}
+use Rattle.std.proofs.Common.{◌≡◌, ℕ, zero, suc, ◌+◌, [], ◌∷◌, ◌++◌, map, ap, ◌∙◌, arith, add-one}
 use Rattle.cobol_laws.specs.cell_items.Laws.{number_tests}
 use Rattle.cobol_laws.specs.cell_serving.Entries.{whole_literal}
 use Rattle.cobol_laws.specs.cell_serving.Naming.{numbers_from}

@@ -1,5 +1,5 @@
 -- Words on cells, row by row.
-use Rattle.std.proofs.Common.{◌≡◌, ℕ, ◌+◌, ◌-◌, ◌^◌, ◌<◌, ◌≤◌, Bool, true, false, if◌then◌else◌, List, [], ◌∷◌, Option, Some, None, refl, ap, sym, ◌∙◌, subst, arith, leb-true}
+use Rattle.std.proofs.Common.{◌≡◌, ℕ, ◌+◌, ◌-◌, ◌^◌, ◌<◌, ◌≤◌, Bool, true, false, if◌then◌else◌, List, [], ◌∷◌, Option, Some, None, refl, ap, sym, ◌∙◌, arith, leb-true}
 use Rattle.std.specs.Prelude.{nat_le}
 use Rattle.cob_tree.specs.declared.calc.Calc.TheVariants as calcs
 use Rattle.cob_tree.specs.declared.cond.Cond.{Cond, fold-roll-Cond}
@@ -20,7 +20,7 @@ use Rattle.cob_tree.specs.declared.control.Control.TheVariants.{Until}
 use Rattle.cob_tree.specs.declared.stmt.Stmt.TheVariants.{Continue, Loop}
 use Rattle.language.specs.Language as language
 use Rattle.language.specs.Control as control
-use Rattle.language.specs.Control.{Tested, tested_step, test_of, relation_of, cell_of, cell_named, cell_in, number_in, is_number, number_written, lowered_cell, move_of, arith_act, arith_of, arith_stmt, arith_alone, Both, bare, seen, seen_both, seen_stmts}
+use Rattle.language.specs.Control.{Tested, tested_step, test_of, relation_of, cell_of, cell_named, cell_in, number_in, is_number, number_written, move_of, arith_act, arith_stmt, bare, seen, seen_both, seen_stmts}
 use Rattle.language.specs.Own.{OwnTest}
 use Rattle.language.proofs.Rows.{seen_if_any, seen_loop, seen_move, seen_arith, seen_both_is}
 use Rattle.control_laws.specs.rendering.Rendering.{required, written_test}

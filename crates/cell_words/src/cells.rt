@@ -1,6 +1,6 @@
 //! Statements on the items that stand for cells.
 
-ghost use Rattle.std.specs.Prelude.{◌≡◌, [], ◌∷◌, IfOk};
+ghost use Rattle.std.specs.Prelude.{IfOk};
 ghost use Rattle.cob_base.specs.Answers.{Makes};
 ghost use Rattle.language.specs.Language.{Set, Take, Lower};
 ghost use Rattle.cobol_laws.specs.cell_serving.Entries.{whole_literal};
@@ -8,7 +8,7 @@ ghost use Rattle.cobol_laws.specs.cell_serving.Naming.{move_to, subtract_from};
 ghost use Rattle.cell_words.specs.Words.{IsItemOf, IsAct, subtract};
 
 use crate::numbers::{item_place, number_operand, only};
-use cob_base::{Copied, Items, NoMemory};
+use cob_base::{Items, NoMemory};
 use cob_tree::{Arms, Calc, Operand, Stmt, Target};
 use std::alloc::Global;
 
@@ -99,14 +99,18 @@ pub fn set_cell(alloc: Global, cell: u32, value: u32, cells: &[CellItem]) -> Res
 pub fn take_cell(
     alloc: Global,
     cell: u32,
-    amount: &Operand,
+    amount: Operand,
     cells: &[CellItem],
 ) -> Result<Stmt, NoMemory>
-    ensures { IfOk result (λ made. IsAct cells.now (Take cell amount.now) made) }
+    ensures { IfOk result (λ made. IsAct cells.now (Take cell amount) made) }
 {
-    let found = item_of(cells, cell)?;
-    let amount = amount.copy(alloc)?;
-    move_to(alloc, found.item, amount)
+    match item_of(cells, cell) {
+        Ok(found) => move_to(alloc, found.item, amount),
+        Err(fault) => {
+            drop(amount);
+            Err(fault)
+        }
+    }
 }
 
 /// SUBTRACT 1 FROM the item.

@@ -12,7 +12,7 @@ use crate::tests::written_test;
 use crate::whens::among;
 use branch_tree::{Chooser, Picker, Test};
 use choice_writing::{arith_stmt, if_stmt, read_stmt};
-use cob_base::{Copied, Items, NoMemory};
+use cob_base::{Items, NoMemory};
 use cob_tree::{Calc, Expr, Place, Stmt, Subject, Target, Test as WhenTest};
 use std::alloc::Global;
 
@@ -58,11 +58,11 @@ fn two_arms(arms: Vec<Items<Stmt>>) -> Result<Two, NoMemory>
 
 fn choose_if(
     alloc: Global,
-    test: &Test,
+    test: Test,
     arms: Vec<Items<Stmt>>,
     cells: &[CellItem],
 ) -> Result<Stmt, NoMemory>
-    ensures { IfOk result (λ made. IsChosen cells.now (pickers.If test.now) arms.items made) }
+    ensures { IfOk result (λ made. IsChosen cells.now (pickers.If test) arms.items made) }
 {
     match written_test(alloc, test, false, cells) {
         Ok(cond) => match two_arms(arms) {
@@ -80,31 +80,24 @@ fn choose_if(
 }
 
 fn choose_read(
-    alloc: Global,
     file: u32,
-    into: &Option<Place>,
+    into: Option<Place>,
     has_end: bool,
     arms: Vec<Items<Stmt>>,
 ) -> Result<Stmt, NoMemory>
     ensures { IfOk result
-        (λ made. IsOwnChoice (choosers.Read file into.now has_end) arms.items made) }
+        (λ made. IsOwnChoice (choosers.Read file into has_end) arms.items made) }
 {
-    match into.copy(alloc) {
-        Ok(into) => match two_arms(arms) {
-            Ok(Two { first, second }) => read_stmt(file, into, first, second, has_end),
-            Err(fault) => {
-                drop(into);
-                Err(fault)
-            }
-        },
+    match two_arms(arms) {
+        Ok(Two { first, second }) => read_stmt(file, into, first, second, has_end),
         Err(fault) => {
-            drop(arms);
+            drop(into);
             Err(fault)
         }
     }
 }
 
-fn arith_over(calc: Calc, into: Items<Target>, arms: Vec<Items<Stmt>>) -> Result<Stmt, NoMemory>
+fn choose_arith(calc: Calc, into: Items<Target>, arms: Vec<Items<Stmt>>) -> Result<Stmt, NoMemory>
     ensures { IfOk result (λ made. IsOwnChoice (choosers.Arith calc into) arms.items made) }
 {
     match two_arms(arms) {
@@ -112,31 +105,6 @@ fn arith_over(calc: Calc, into: Items<Target>, arms: Vec<Items<Stmt>>) -> Result
         Err(fault) => {
             drop(calc);
             drop(into);
-            Err(fault)
-        }
-    }
-}
-
-fn choose_arith(
-    alloc: Global,
-    calc: &Calc,
-    into: &Items<Target>,
-    arms: Vec<Items<Stmt>>,
-) -> Result<Stmt, NoMemory>
-    ensures { IfOk result
-        (λ made. IsOwnChoice (choosers.Arith calc.now into.now) arms.items made) }
-{
-    match calc.copy(alloc) {
-        Ok(calc) => match into.copy(alloc) {
-            Ok(into) => arith_over(calc, into, arms),
-            Err(fault) => {
-                drop(calc);
-                drop(arms);
-                Err(fault)
-            }
-        },
-        Err(fault) => {
-            drop(arms);
             Err(fault)
         }
     }
@@ -166,21 +134,17 @@ fn among_all(
 
 fn choose_evaluate(
     alloc: Global,
-    subject: &Subject,
-    tests: &Items<Items<WhenTest>>,
+    subject: Subject,
+    tests: Items<Items<WhenTest>>,
     has_other: bool,
     arms: Vec<Items<Stmt>>,
 ) -> Result<Stmt, NoMemory>
     ensures { IfOk result
-        (λ made. IsOwnChoice (choosers.Evaluate subject.now tests.now has_other) arms.items made) }
+        (λ made. IsOwnChoice (choosers.Evaluate subject tests has_other) arms.items made) }
 {
-    match subject.copy(alloc) {
-        Ok(subject) => among_all(alloc, subject, tests.as_slice(), arms, has_other),
-        Err(fault) => {
-            drop(arms);
-            Err(fault)
-        }
-    }
+    let made = among_all(alloc, subject, tests.as_slice(), arms, has_other);
+    drop(tests);
+    made
 }
 
 /// EVALUATE beside the numbers from 1, with a WHEN OTHER that no source has.
@@ -208,37 +172,31 @@ fn choose_numbered(
 
 fn choose_depending(
     alloc: Global,
-    on: &Place,
+    on: Place,
     names: u32,
     arms: Vec<Items<Stmt>>,
 ) -> Result<Stmt, NoMemory>
-    ensures { IfOk result (λ made. IsOwnChoice (choosers.Depending on.now names) arms.items made) }
+    ensures { IfOk result (λ made. IsOwnChoice (choosers.Depending on names) arms.items made) }
 {
-    match on.copy(alloc) {
-        Ok(on) => choose_numbered(alloc, place_side(on), names, arms),
-        Err(fault) => {
-            drop(arms);
-            Err(fault)
-        }
-    }
+    choose_numbered(alloc, place_side(on), names, arms)
 }
 
-fn choose_by(alloc: Global, chooser: &Chooser, arms: Vec<Items<Stmt>>) -> Result<Stmt, NoMemory>
-    ensures { IfOk result (λ made. IsOwnChoice chooser.now arms.items made) }
+fn choose_by(alloc: Global, chooser: Chooser, arms: Vec<Items<Stmt>>) -> Result<Stmt, NoMemory>
+    ensures { IfOk result (λ made. IsOwnChoice chooser arms.items made) }
 {
     match chooser {
         Chooser::Evaluate {
             subject,
             tests,
             has_other,
-        } => choose_evaluate(alloc, subject, tests, *has_other, arms),
+        } => choose_evaluate(alloc, subject, tests, has_other, arms),
         Chooser::Read {
             file,
             into,
             has_end,
-        } => choose_read(alloc, *file, into, *has_end, arms),
-        Chooser::Arith { calc, into } => choose_arith(alloc, calc, into, arms),
-        Chooser::Depending { on, names } => choose_depending(alloc, on, *names, arms),
+        } => choose_read(file, into, has_end, arms),
+        Chooser::Arith { calc, into } => choose_arith(calc, into, arms),
+        Chooser::Depending { on, names } => choose_depending(alloc, on, names, arms),
     }
 }
 
@@ -305,17 +263,17 @@ fn choose_cell(
 /// such a choice, and where a word of the program's own is on an added item.
 pub fn choose(
     alloc: Global,
-    by: &Picker,
+    by: Picker,
     arms: Items<Items<Stmt>>,
     cells: &[CellItem],
 ) -> Result<Stmt, NoMemory>
-    ensures { IfOk result (λ made. IsChosen cells.now by.now arms made) }
+    ensures { IfOk result (λ made. IsChosen cells.now by arms made) }
 {
     let arms = arms.into_vec();
     match by {
         Picker::If(test) => choose_if(alloc, test, arms, cells),
         Picker::By(chooser) => choose_by(alloc, chooser, arms),
-        Picker::ByCell { cell } => choose_cell(alloc, *cell, arms, cells),
+        Picker::ByCell { cell } => choose_cell(alloc, cell, arms, cells),
     }
 }
 

@@ -9,16 +9,17 @@ use crate::cells::{CellItem, item_of};
 use crate::numbers::relation;
 use branch_tree::Test;
 use choice_writing::{is_own_test, or_continue};
-use cob_base::{Boxed, Copied, Items, NoMemory};
+use cob_base::{Boxed, Items, NoMemory};
 use cob_tree::{Cond, Control, Rel, Stmt};
 use std::alloc::Global;
 
-fn own_cond(alloc: Global, cond: &Cond) -> Result<Cond, NoMemory>
-    ensures { IfOk result (λ made. (made ≡ cond.now) × OwnTest (test_of cond.now)) }
+fn own_cond(cond: Cond) -> Result<Cond, NoMemory>
+    ensures { IfOk result (λ made. (made ≡ cond) × OwnTest (test_of cond)) }
 {
-    if is_own_test(cond) {
-        cond.copy(alloc)
+    if is_own_test(&cond) {
+        Ok(cond)
     } else {
+        drop(cond);
         Err(NoMemory)
     }
 }
@@ -36,24 +37,24 @@ fn cell_test(
     relation(alloc, found.item, rel, value)
 }
 
-fn bare_test(alloc: Global, test: &Test, cells: &[CellItem]) -> Result<Cond, NoMemory>
-    ensures { IfOk result (λ made. IsTest cells.now false test.now made) }
+fn bare_test(alloc: Global, test: Test, cells: &[CellItem]) -> Result<Cond, NoMemory>
+    ensures { IfOk result (λ made. IsTest cells.now false test made) }
 {
     match test {
-        Test::Holds(cond) => own_cond(alloc, cond),
-        Test::Is { cell, value } => cell_test(alloc, *cell, Rel::Equal, *value, cells),
-        Test::Above { cell } => cell_test(alloc, *cell, Rel::Greater, 0, cells),
+        Test::Holds(cond) => own_cond(cond),
+        Test::Is { cell, value } => cell_test(alloc, cell, Rel::Equal, value, cells),
+        Test::Above { cell } => cell_test(alloc, cell, Rel::Greater, 0, cells),
     }
 }
 
 /// The test as a condition, or the negation of it where it is turned.
 pub fn written_test(
     alloc: Global,
-    test: &Test,
+    test: Test,
     turned: bool,
     cells: &[CellItem],
 ) -> Result<Cond, NoMemory>
-    ensures { IfOk result (λ made. IsTest cells.now turned test.now made) }
+    ensures { IfOk result (λ made. IsTest cells.now turned test made) }
 {
     let cond = bare_test(alloc, test, cells)?;
     if turned {
@@ -67,14 +68,14 @@ pub fn written_test(
 /// PERFORM of the statements UNTIL the test, or UNTIL NOT it where it is turned.
 pub fn loop_until(
     alloc: Global,
-    test: &Test,
+    test: Test,
     turned: bool,
     after: bool,
     body: Items<Stmt>,
     cells: &[CellItem],
 ) -> Result<Stmt, NoMemory>
     ensures { IfOk result
-        (λ made. IsLoop cells.now turned test.now after (seen_stmts 0 body) made) }
+        (λ made. IsLoop cells.now turned test after (seen_stmts 0 body) made) }
 {
     match or_continue(body) {
         Ok(body) => match written_test(alloc, test, turned, cells) {
@@ -87,6 +88,9 @@ pub fn loop_until(
                 Err(fault)
             }
         },
-        Err(fault) => Err(fault),
+        Err(fault) => {
+            drop(test);
+            Err(fault)
+        }
     }
 }

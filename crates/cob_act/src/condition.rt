@@ -2,7 +2,7 @@
 
 ghost use Rattle.std.specs.Prelude.{◌≡◌, option_copied, slice_get};
 ghost use Rattle.std.specs.List.{list_all};
-ghost use Rattle.cob_store.specs.Number.{is_digit};
+ghost use Rattle.cob_tree.specs.Digits.{is_digit};
 ghost use Rattle.cob_store.specs.Place.{memory_of};
 ghost use Rattle.statements.specs.Condition.{has_sign, holds, in_span, in_spans, is_alphabetic, is_number, is_of_class, named, rel_holds, relation, spans_of, turned};
 ghost use Rattle.cob_act.specs.Side.{seen};
@@ -10,8 +10,10 @@ ghost use Rattle.cob_act.specs.Side.{seen};
 use crate::side::{Side, compared, expr_side, operand_side, place_side, side_bytes, valued};
 use crate::text::is_letter;
 use cob_num::Dec;
-use cob_store::{Area, Store, expr_value, is_digit, number_in};
-use cob_tree::{Abend, ClassKind, Cond, Entry, Expr, Operand, Place, Rel, SignKind, Span};
+use cob_store::{Area, Store, expr_value, number_in};
+use cob_tree::{
+    Abend, ClassKind, Cond, Entry, Expr, Operand, Place, Rel, SignKind, Span, is_digit,
+};
 use std::cmp::Ordering;
 
 fn rel_holds(rel: Rel, order: Ordering) -> bool

@@ -1,10 +1,10 @@
 //! MOVE and SET.
 
-ghost use Rattle.std.specs.Prelude.{◌≡◌, ◌-◌, IfOk, drop, length, not, option_copied};
+ghost use Rattle.std.specs.Prelude.{◌≡◌, ◌-◌, IfOk, length};
 ghost use Rattle.cob_store.specs.Store.{fitted, put_at};
-ghost use Rattle.cob_store.specs.Place.{memory_of, reached};
+ghost use Rattle.cob_store.specs.Place.{reached};
 ghost use Rattle.statements.specs.Moving.{all_groups, moved, form_of, is_group, digits_of, none_is_bad, number_received, put_answer, receive, received, sender_bytes, sender_number, sender_text, sent, set, text_number};
-ghost use Rattle.statements.specs.Outcome.{each, go_on};
+ghost use Rattle.statements.specs.Outcome.{each};
 ghost use Rattle.cob_act.specs.Moving.{outcome_of, seen_sender, seen_sent};
 
 use crate::condition::spans_at;

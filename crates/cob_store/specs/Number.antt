@@ -1,23 +1,11 @@
 -- Numbers as the bytes of an item spell them: digits, and a sign within the last one or beside.
 use Rattle.std.specs.Prelude.{ℕ, zero, suc, ◌+◌, ◌-◌, ◌*◌, ◌/◌, ◌%◌, Bool, true, false, ◌&&◌, if◌then◌else◌, nat_le, ◌==◌, ℤ, pos, neg_ℤ, unsigned_abs, List, [], ◌∷◌, ◌++◌, length, take, drop, slice_index, Option, Some, None, option_map, option_and_then}
 use Rattle.std.specs.Int.{is_negative}
+use Rattle.cob_tree.specs.Digits.{is_digit, digits_value}
 use Rattle.cob_tree.specs.declared.picture.Sign.{Sign}
 use Rattle.cob_tree.specs.declared.picture.Sign.TheVariants.{Within, SeparateLeading, SeparateTrailing}
 
 -- ---- reading
-
-abbrev pub is_digit : ℕ → Bool
-is_digit byte = nat_le 48 byte && nat_le byte 57
-
--- the number that these digits spell behind a number
-abbrev pub digits_after : ℕ → List ℕ → Option ℕ
-digits_after number [] = Some number
-digits_after number (byte ∷ bytes) =
-    if is_digit byte then digits_after (number * 10 + (byte - 48)) bytes else None
-
--- the number of at most 18 digits
-abbrev pub digits_value : List ℕ → Option ℕ
-digits_value bytes = if nat_le (length bytes) 18 then digits_after 0 bytes else None
 
 -- all bytes but the last, and the last
 abbrev pub front : List ℕ → List ℕ

@@ -24,7 +24,7 @@ use Rattle.cob_store.specs.declared.spot.Spot.{Spot}
 use Rattle.cob_store.specs.declared.spot.Reached.{Reached}
 use Rattle.cob_store.specs.Answer.{Answer, and_then}
 use Rattle.cob_store.specs.Size.{capped}
-use Rattle.cob_store.specs.Number.{digits_value}
+use Rattle.cob_tree.specs.Digits.{digits_value}
 use Rattle.cob_store.specs.Store.{Roots, value_at}
 
 -- where the items lie, and what is stored there

@@ -19,7 +19,7 @@ mod store;
 
 pub use area::{Area, Areas, Dim, Form, area_at};
 pub use laying::layout;
-pub use number::{digits_value, is_digit, number_in, put_digits};
+pub use number::{number_in, put_digits};
 pub use place::{expr_value, kept, literal_value, number_at, operand_value, place_value, reached};
 pub use spot::{Reached, Spot};
 pub use stack::Stack;

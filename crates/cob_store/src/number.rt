@@ -1,37 +1,12 @@
 //! Numbers as the bytes of an item spell them.
 
 ghost use Rattle.std.specs.Prelude.{◌≡◌, ◌+◌, ◌-◌, ◌*◌, ◌^◌, ◌<◌, ◌≤◌, length, unsigned_abs, IfSome};
-ghost use Rattle.cob_store.specs.Number.{beside, digits_value, front, is_digit, is_overpunched, last, leading, negative, number_in, overpunched, padded, positive, sign_byte, signed_bytes, trailing, within};
+ghost use Rattle.cob_tree.specs.Digits.{digits_value};
+ghost use Rattle.cob_store.specs.Number.{beside, front, is_overpunched, last, leading, negative, number_in, overpunched, padded, positive, sign_byte, signed_bytes, trailing, within};
 
-use cob_tree::Sign;
-
-const DIGIT_LIMIT: usize = 18;
+use cob_tree::{Sign, digits_value};
 
 // ---- reading
-
-pub fn is_digit(byte: u8) -> bool
-    ensures { result ≡ is_digit byte }
-{
-    byte >= b'0' && byte <= b'9'
-}
-
-/// The number of at most 18 digits.
-pub fn digits_value(bytes: &[u8]) -> Option<u64>
-    ensures value { result ≡ digits_value bytes.now }
-    ensures short { IfSome result (λ number. number < 10 ^ 18) }
-{
-    if bytes.len() > DIGIT_LIMIT {
-        return None;
-    }
-    let mut number = 0u64;
-    for byte in bytes {
-        if !is_digit(*byte) {
-            return None;
-        }
-        number = number * 10 + u64::from(*byte - b'0');
-    }
-    Some(number)
-}
 
 fn is_overpunched(byte: u8) -> bool
     ensures { result ≡ is_overpunched byte }

@@ -4,7 +4,6 @@ ghost use Rattle.std.specs.Prelude.{◌≡◌, ◌<◌, ◌^◌, map, unsigned_a
 ghost use Rattle.cob_store.specs.Place.{calculated, expr_value, kept, kept_behind, literal_value, memory_of, negated, number_at, occurrence, occurrence_at, offset_in, operand_value, place_value, reached, signed_by, sub_value, subscripted, sum_by, window_of, with_kept};
 
 use crate::area::{Area, Dim, Form, area_at};
-use crate::number::digits_value;
 use crate::spot::{Reached, Spot};
 use crate::store::Store;
 use cob_num::{Dec, Stored, add, mul, quotient, store, sub};
@@ -15,7 +14,7 @@ use smallvec::SmallVec;
 pub fn literal_value(number: &Number) -> Option<Dec>
     ensures { result ≡ literal_value number.now }
 {
-    let digits = digits_value(number.digits.as_slice())?;
+    let digits = number.digits.number()?;
     Dec::new(signed_by(number.negative, digits), number.scale)
 }
 

@@ -2,7 +2,7 @@
 
 use crate::cond::Cond;
 use crate::place::{Operand, Place};
-use cob_base::{Copied, NoMemory};
+use cob_base::{Boxed, Copied, NoMemory};
 use std::alloc::Global;
 
 /// The control of a PERFORM.
@@ -16,11 +16,12 @@ pub enum Control {
         after: bool,
         cond: Cond,
     },
+    /// In boxes, so that other statements aren't as large.
     Varying {
         after: bool,
-        item: Place,
-        from: Operand,
-        by: Operand,
+        item: Boxed<Place>,
+        from: Boxed<Operand>,
+        by: Boxed<Operand>,
         cond: Cond,
     },
 }

@@ -1,6 +1,7 @@
 //! The lists of reserved words.
 
 ghost use Rattle.std.specs.Prelude.{◌≡◌, map};
+ghost use Rattle.std.specs.Str.{bytes_eq};
 ghost use Rattle.cob_words.specs.Lists.{reserved_words, left_out_words, is_listed, of_length};
 
 use cob_base::Word;
@@ -150,9 +151,19 @@ fn is_in_row(row: &[&str], word: &[u8]) -> bool
     ensures { result ≡ is_listed (map (λ w. w.now) row.now) word.now }
 {
     for w in row {
-        if word == w.as_bytes() {
+        if is_same(word, w.as_bytes()) {
             return true;
         }
     }
     false
+}
+
+/// Whether the words are the same. Most differ in their first byte.
+fn is_same(one: &[u8], other: &[u8]) -> bool
+    ensures { result ≡ bytes_eq one.now other.now }
+{
+    match (one, other) {
+        ([first, ..], [begin, ..]) if *first != *begin => false,
+        _ => one == other,
+    }
 }

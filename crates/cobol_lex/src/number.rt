@@ -12,8 +12,8 @@ use crate::byte::{begins_digit, begins_sign, is_digit, is_word_byte, leads_sign}
 use crate::fault::LexFault;
 use crate::token::TokenKind;
 use crate::word::word_kind;
-use cob_base::{NoMemory, Text};
-use cob_tree::Number;
+use cob_base::{Boxed, NoMemory, Text};
+use cob_tree::{Digits, Number};
 use std::alloc::Global;
 
 /// The digits that a number can have.
@@ -130,11 +130,12 @@ fn decimal_kind(alloc: Global, line: u32, run: &[u8], bytes: &[u8]) -> Result<To
     if digits.len() > MOST_DIGITS {
         return Err(LexFault::TooManyDigits(line));
     }
-    Ok(TokenKind::Decimal(Number {
+    let number = Number {
         negative: matches!(run, [b'-', ..]),
-        digits,
+        digits: Digits::new(digits),
         scale: scale_of(bytes) as u8,
-    }))
+    };
+    Ok(TokenKind::Decimal(Boxed::new(alloc, number)?))
 }
 
 fn digits_kind(alloc: Global, line: u32, run: &[u8]) -> Result<TokenKind, LexFault>

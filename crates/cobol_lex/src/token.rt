@@ -1,6 +1,6 @@
 //! Tokens.
 
-use cob_base::{Text, Word};
+use cob_base::{Boxed, Text, Word};
 use cob_tree::Number;
 
 /// What a token is.
@@ -10,8 +10,8 @@ pub enum TokenKind {
     Word(Word),
     /// Digits alone.
     Digits(Text),
-    /// A number with a sign or a decimal point.
-    Decimal(Number),
+    /// A number with a sign or a decimal point, in a box, so that other tokens aren't as large.
+    Decimal(Boxed<Number>),
     /// The bytes of a literal, without its quotation marks.
     Literal(Text),
     /// The picture behind PIC or PICTURE.

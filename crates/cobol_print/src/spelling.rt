@@ -30,7 +30,7 @@ pub fn spelled(alloc: Global, token: &TokenKind) -> Result<Text, NoMemory>
     match token {
         TokenKind::Word(word) => text.add(word.as_slice())?,
         TokenKind::Digits(digits) => text.add(digits.as_slice())?,
-        TokenKind::Decimal(number) => add_number(&mut text, number)?,
+        TokenKind::Decimal(number) => add_number(&mut text, number.get())?,
         TokenKind::Literal(value) => add_literal(&mut text, value.as_slice())?,
         TokenKind::Picture(picture) => text.add(picture.as_slice())?,
         TokenKind::Period => text.add(b".")?,

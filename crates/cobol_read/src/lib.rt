@@ -16,7 +16,7 @@ mod program;
 mod refusal;
 mod status;
 
-ghost use Rattle.std.specs.Prelude.{◌≡◌, ◌≢◌, Ok, Err, IfOk, IfErr};
+ghost use Rattle.std.specs.Prelude.{◌≢◌, Ok, Err, IfOk, IfErr};
 ghost use Rattle.cob_tree.specs.declared.program.Program as tree;
 ghost use Rattle.cobol_read.specs.declared.refusal.ReadRefusal as refusal;
 ghost use Rattle.cobol_read.specs.declared.refusal.ReadRefusal.TheVariants.{NoMemory as Memory};

@@ -18,11 +18,11 @@ use Rattle.file_acts.specs.Over.{Did}
 use Rattle.statements.specs.Does.{does}
 use Rattle.statements.specs.Filing.{Declared, Effect, each_file, last_world, opened, rewritten, shut, written}
 use Rattle.control.specs.Doing.{Doing}
-use Rattle.control.specs.Items.{Way, item_way, tried}
+use Rattle.control.specs.Items.{item_way, tried}
 use Rattle.control.specs.Items as ways
 use Rattle.control.specs.Outcome.{Trace}
 use Rattle.language.specs.Control.{seen}
-use Rattle.language.specs.Items.{Item, before_arm}
+use Rattle.language.specs.Items.{Item}
 use Rattle.language.specs.Items as items
 use Rattle.language.specs.Language as language
 use Rattle.language.proofs.Rows.{seen_closes, seen_opens, seen_rewrite, seen_write}

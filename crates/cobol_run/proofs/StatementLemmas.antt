@@ -27,7 +27,7 @@ use Rattle.control.specs.Items.{Way, item_way, loop_begins, steps_on, stmt_way, 
 use Rattle.control.specs.Doing.{Doing, arm_of, giving}
 use Rattle.language.specs.Language as language
 use Rattle.language.specs.Control.{arith_of, arith_stmt, augmented, augmenting, arm_before, Branch, both_arms, branches_before, cell_chosen, control_in, count_from, evaluate_of, loop_of, perform_of, picker_by, seen, seen_stmts, seen_when, test_of, tests_of}
-use Rattle.language.specs.Items.{Item, before, before_arm, from_loop, past_sentence}
+use Rattle.language.specs.Items.{Item, before, before_arm}
 use Rattle.language.specs.Items as items
 use Rattle.language.specs.Own.{OwnAct, OwnPicker, OwnTest}
 use Rattle.language.proofs.Rows.{seen_arith, seen_both_is, seen_evaluate, seen_if, seen_if_any, seen_loop, seen_perform, seen_when_is}

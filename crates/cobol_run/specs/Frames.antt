@@ -4,7 +4,7 @@ use Rattle.cob_tree.specs.declared.program.Sentence.{Sentence}
 use Rattle.cob_tree.specs.declared.program.Paragraph.{Paragraph}
 use Rattle.cob_tree.specs.declared.program.Program.{Program}
 use Rattle.language.specs.Control.{augmented, section_last, seen, seen_sentence, seen_stmts, test_of}
-use Rattle.language.specs.Items.{Item, Do, SentenceEnd, Turn, Pending, before, before_body}
+use Rattle.language.specs.Items.{Item, Do, SentenceEnd, Turn, Pending, before}
 use Rattle.language.specs.Items as items
 use Rattle.language.specs.Language as language
 use Rattle.cobol_run.specs.declared.frame.Body.{Body}

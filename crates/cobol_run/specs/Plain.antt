@@ -9,7 +9,7 @@ use Rattle.cob_tree.specs.declared.control.Control.{Control}
 use Rattle.cob_tree.specs.declared.control.Control.TheVariants.{Once, Times, Until, Varying}
 use Rattle.cobol_run.specs.declared.statement.Entered.{Entered}
 use Rattle.language.specs.Own.{OwnTest}
-use Rattle.language.specs.Language.{Act, Own, Test, Holds, Picker, If, By, ByCell, Chooser, Evaluate, Read, Arith, Depending}
+use Rattle.language.specs.Language.{Act, Own, Holds, Picker, If, By, ByCell, Chooser, Read}
 use Rattle.language.specs.Language as language
 use Rattle.cobol_run.specs.Standing as standing
 use Rattle.cobol_laws.specs.cobol_meaning.Runs.{State}

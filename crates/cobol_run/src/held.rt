@@ -8,7 +8,7 @@ ghost use Rattle.language.specs.Language.{Arith, Depending, Evaluate};
 ghost use Rattle.language.specs.Control.{augmenting};
 ghost use Rattle.cob_act.specs.Acting.{is_inner};
 ghost use Rattle.cob_tree.specs.declared.stmt.When.{out-When};
-ghost use Rattle.cobol_laws.specs.cobol_meaning.Acting.{acted, answered, chooses_in, counts_in, does_to, name_in, tests_in, turns_in};
+ghost use Rattle.cobol_laws.specs.cobol_meaning.Acting.{answered, chooses_in, counts_in, does_to, name_in, tests_in, turns_in};
 ghost use Rattle.cob_store.specs.Answer.{and_then};
 ghost use Rattle.cobol_run.specs.Plan.{declared_by, did, memory_in, picked};
 ghost use Rattle.cobol_run.specs.Ways.{arm_after};

@@ -1,6 +1,6 @@
 //! A program as it runs, step by step.
 
-ghost use Rattle.std.specs.Prelude.{◌≡◌, ◌≢◌, ◌<◌, ◌^◌, [], ℕ, List, IfOk, IfSome, None, false, length, map, take};
+ghost use Rattle.std.specs.Prelude.{◌≡◌, ◌≢◌, ◌<◌, ◌^◌, [], List, IfOk, IfSome, None, false, length, map, take};
 ghost use Rattle.file_model.specs.World.{World};
 ghost use Rattle.cob_act.specs.Acting.{is_inner};
 ghost use Rattle.control.specs.Outcome.{Trace};

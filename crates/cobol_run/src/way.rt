@@ -450,10 +450,10 @@ pub fn control_way<'a>(
         } => {
             let varied = Varied {
                 after: *after,
-                from,
+                from: from.get(),
                 stepped: Stepped {
-                    item,
-                    by,
+                    item: item.get(),
+                    by: by.get(),
                     until: cond,
                 },
             };

@@ -3,7 +3,7 @@
 use Rattle.std.proofs.Common.{◌≡◌, ℕ, suc, ◌+◌, Bool, true, false, if◌then◌else◌, ◌==◌, nat_eq, List, [], ◌∷◌, ◌++◌, refl, ap, sym, ◌∙◌, arith, append_assoc, inl, inr, Option, Some, None}
 use Rattle.std.specs.Prelude.{slice_get, length}
 use Rattle.std.proofs.lemmas.Bool.Decides.{eqb_tells}
-use Rattle.language.specs.Language.{Test, Holds, Not, Is, Above, Picker, If, By, ByCell, Control, Times, Until, Varying, Stmt, Choose, Loop, Perform, Go, GoDepending, NextSentence, ExitParagraph, ExitSection, ExitPerform, StopRun, Stmts, none, also, Arms, done, given, missing, Body, Nested, Performed, Paragraph, Program, Range, Main, Part}
+use Rattle.language.specs.Language.{Test, Holds, Not, Is, Above, Picker, If, By, ByCell, Control, Times, Until, Varying, Stmt, Choose, Loop, Perform, Go, GoDepending, NextSentence, ExitParagraph, ExitSection, ExitPerform, StopRun, Stmts, none, also, Arms, done, given, missing, Nested, Performed, Paragraph, Program, Range, Main, Part}
 use Rattle.language.specs.Language as language
 use Rattle.language.specs.Own.{OwnTest, OwnControl}
 use Rattle.control.specs.Graph.{Label, Tree, tree, End, Pick, Jump, Return, Dead, no_more, more, end_of}

@@ -1,6 +1,7 @@
 //! The table of the names of a program.
 
-ghost use Rattle.std.specs.Prelude.{◌≡◌, ◌++◌, ◌<◌, ◌^◌, List, ℕ, [], ◌∷◌, ◌+◌, ◌==◌, get_or, take, drop, length, map, reverse, slice_get, IfOk, OnOk, if◌then◌else◌};
+ghost use Rattle.std.specs.Prelude.{◌≡◌, ◌++◌, ◌<◌, ◌^◌, ◌∷◌, ◌+◌, ◌==◌, [], List, ℕ};
+ghost use Rattle.std.specs.Prelude.{get_or, take, drop, length, map, reverse, slice_get, IfOk, OnOk, if◌then◌else◌};
 ghost use Rattle.std.specs.Option.{option_copied};
 ghost use Rattle.cob_base.specs.Answers.{Makes};
 ghost use Rattle.data_names.specs.Index.{and_item, find_among, numbers_in, places_of, places_within, tally};

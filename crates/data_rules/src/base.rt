@@ -1,7 +1,6 @@
 //! What a draft says of its entry by itself.
 
-ghost use Rattle.std.specs.Prelude.{◌≡◌, ◌^◌, ◌<◌, length, map, Some, slice_get};
-ghost use Rattle.std.specs.Option.{option_copied};
+ghost use Rattle.std.specs.Prelude.{◌≡◌, ◌<◌, map, Some};
 ghost use Rattle.cob_base.specs.Answers.{Makes};
 ghost use Rattle.data_rules.specs.Base as bases;
 

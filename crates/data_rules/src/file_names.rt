@@ -1,6 +1,5 @@
 //! The names of a program's files, by tables.
 
-ghost use Rattle.std.specs.Prelude.{◌≡◌, map};
 ghost use Rattle.cob_base.specs.Answers.{Makes};
 ghost use Rattle.data_rules.specs.FileNames as named;
 

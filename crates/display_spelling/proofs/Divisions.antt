@@ -1,5 +1,5 @@
 -- What spells the divisions before the PROCEDURE DIVISION of a program without files and data.
-use Rattle.std.proofs.Common.{◌≡◌, ℕ, List, [], ◌∷◌, Option, Some, None, refl, ap, ◌∙◌, true, false}
+use Rattle.std.proofs.Common.{◌≡◌, ℕ, List, [], ◌∷◌, Option, refl, ap, ◌∙◌, true, false}
 use Rattle.std.specs.Prelude.{codes}
 use Rattle.cob_tree.specs.declared.place.Place.{Place}
 use Rattle.cobol_lex.specs.declared.token.TokenKind.{TokenKind}
@@ -7,7 +7,6 @@ use Rattle.cobol_lex.specs.declared.token.TokenKind.TheVariants as kinds
 use Rattle.grammar_forms.specs.Form.{Form, begins_by}
 use Rattle.grammar_forms.specs.Part.{is_key}
 use Rattle.word_forms.specs.Word.{is_data_word}
-use Rattle.statement_grammar.specs.declared.data_forms.draft.DataDraft.{DataDraft}
 use Rattle.statement_grammar.specs.declared.data_forms.draft.Divisions.{Divisions}
 use Rattle.statement_grammar.specs.data_forms.Choice as choice
 use Rattle.statement_grammar.specs.data_forms.Data as data_forms

@@ -1,6 +1,5 @@
 //! Data description entries.
 
-ghost use Rattle.std.specs.Prelude.{◌≡◌};
 ghost use Rattle.grammar_forms.specs.Form as form;
 ghost use Rattle.grammar_forms.specs.Reading.{Reads};
 ghost use Rattle.statement_grammar.specs.data_forms.Clause as clauses;

@@ -1,5 +1,5 @@
 -- Targets of jumps in label order, and a node as a loop with its exits.
-use Rattle.std.proofs.Common.{◌≡◌, ◌≢◌, ◌<◌, ◌≤◌, ◌+◌, ◌-◌, ◌++◌, ℕ, zero, suc, Bool, true, false, if◌then◌else◌, ◌==◌, List, [], ◌∷◌, map, length, take, drop, get_or, set, refl, ap, sym, ◌∙◌, arith, add-one, append_assoc}
+use Rattle.std.proofs.Common.{◌≡◌, ◌<◌, ◌≤◌, ◌+◌, ◌-◌, ◌++◌, ℕ, zero, suc, Bool, true, false, if◌then◌else◌, ◌==◌, List, [], ◌∷◌, length, take, drop, get_or, set, refl, ap, sym, ◌∙◌, arith, add-one}
 use Rattle.std.specs.List.{insert}
 use Rattle.std.proofs.lemmas.List.{map-set, length-map}
 use Rattle.language.specs.Language.{ByCell, Set, Do, none}

@@ -51,7 +51,7 @@ fn bare(alloc: Global, targets: &[Label], returns: bool, room: Vec<Tree>) -> Ite
 }
 
 /// The tree of a node as a loop with its exits. Without memory the tree stays.
-fn exit_tree(alloc: Global, tree: &mut Tree, label: Label, cell: u32) -> Result<(), NoMemory>
+pub fn exit_tree(alloc: Global, tree: &mut Tree, label: Label, cell: u32) -> Result<(), NoMemory>
     ensures ok { OnOk result (seen_tree tree.new
         ≡ with_exits none_left_out cell label (seen_tree tree.old)) }
     ensures err { OnErr result (seen_tree tree.new ≡ seen_tree tree.old) }

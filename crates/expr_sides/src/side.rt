@@ -6,7 +6,7 @@ ghost use Rattle.statement_grammar.specs.expr_forms.Side as sides;
 
 use crate::fault::{is_whole, item_of, kind_of};
 use cob_base::{Boxed, Items, NoMemory, Text, Word};
-use cob_tree::{Expr, Figure, Number, Operand, Place, Sub, Window};
+use cob_tree::{Digits, Expr, Figure, Number, Operand, Place, Sub, Window};
 use data_names::Found;
 use grammar_forms::Position;
 use statement_grammar::expr_forms::{Make, Shape, Side, ValueKind, What};
@@ -107,7 +107,7 @@ pub fn number_of(negative: bool, digits: Text) -> Number
 {
     Number {
         negative,
-        digits,
+        digits: Digits::new(digits),
         scale: 0,
     }
 }

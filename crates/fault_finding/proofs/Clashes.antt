@@ -17,7 +17,7 @@ use Rattle.pending_returns.specs.declared.facts.Summary.{Summary}
 use Rattle.pending_returns.specs.Summary.{IsSummary}
 use Rattle.pending_returns.specs.Tabled.{CallsBelow}
 use Rattle.fault_finding.specs.declared.clash.Clash.{Clash}
-use Rattle.fault_finding.specs.Clashing.{LeadsFrom, FaultsAt, HasClash, NoClash}
+use Rattle.fault_finding.specs.Clashing.{LeadsFrom, HasClash, NoClash}
 use Rattle.fault_finding.specs.Clashing as clashing
 
 still : (b c : Bool) → c ≡ true → (if b then true else c) ≡ true

@@ -1,8 +1,12 @@
 -- What sentences, paragraphs and sections give of few tokens.
-use Rattle.std.proofs.Common.{◌≡◌, ◌<◌, ◌^◌, ℕ, true, List, [], ◌∷◌, Option, Some, None, refl}
+use Rattle.std.proofs.Common.{◌≡◌, ◌<◌, ◌^◌, ℕ, Bool, true, List, [], ◌∷◌, Option, Some, None, refl, ap, sym, ◌∙◌}
 use Rattle.std.specs.Prelude.{codes}
 use Rattle.cob_tree.specs.declared.program.Paragraph.{Paragraph}
 use Rattle.cob_tree.specs.declared.program.Sentence.{Sentence}
+use Rattle.cob_tree.specs.declared.stmt.Stmt.{fold-roll-Stmt}
+use Rattle.cob_tree.specs.declared.stmt.Stmt.TheOpen.{Stmt-F}
+use Rattle.cob_tree.specs.declared.stmt.Stmt.TheVariants as stmts
+use Rattle.cobol_laws.specs.fit_programs.Fit.{few_step, few_arms, few_when}
 use Rattle.grammar_forms.specs.declared.note.Position.{Position}
 use Rattle.grammar_forms.proofs.MakerLaws as laws
 use Rattle.statement_grammar.specs.declared.stmt_forms.outline.Outline.{Outline}
@@ -17,10 +21,10 @@ use Rattle.named_programs.proofs.Made.{both, all-added}
 use Rattle.few_stmts.specs.Giving.{GivesOfFew}
 use Rattle.few_stmts.specs.Paragraph.{sentence_names_few, sentences_name_few, paragraph_names_few, paragraphs_name_few}
 use Rattle.few_stmts.proofs.Giving.{any, hence, still, pure, refuse, chosen, where_next, loop, items_all, ◌>>=◌, ◌>>◌}
-use Rattle.few_stmts.proofs.Made.{made-Exit}
+use Rattle.few_stmts.proofs.Passing.{Passes, Stmts, stmt_passes}
 use Rattle.few_stmts.proofs.Simple as simple
-use Rattle.few_stmts.proofs.Simple.{Stmts}
 use Rattle.few_stmts.proofs.Holding as holding
+use Rattle.few_stmts.proofs.Few.{few_fold, few-by-parts}
 
 abbrev Sentences : List Sentence → Type 0
 Sentences list = sentences_name_few list ≡ true
@@ -40,23 +44,27 @@ one_few : (done : List Paragraph) → Paragraphs done → Paragraphs (paragraphs
 one_few [] h = refl
 one_few (paragraph ∷ done) h = h
 
+made-Exit : Passes few_fold stmts.Exit
+made-Exit =
+    ap (stmt_passes few_fold) (sym stmts.rolls-Exit) ∙ fold-roll-Stmt Bool Bool Bool few_step few_arms few_when Stmt-F.Exit
+
 module _ (bound : ℕ) (small : bound < 10 ^ 18) where
-  sentence_end : (found : Found) → GivesOfFew bound (paragraphs.sentence_end found) (λ sentence. Stmts found.0 → sentence_names_few sentence ≡ true)
+  sentence_end : (found : Found) → GivesOfFew bound (paragraphs.sentence_end found) (λ sentence. Stmts few_fold found.0 → sentence_names_few sentence ≡ true)
   unfolding paragraphs.sentence_end paragraphs.sentence_closed
   sentence_end found = chosen found.1 refuse (laws.period >> pure (λ h. h))
 
   module _ {Side Known : Type 0} {parts : Parts Side Known} (lawful : PartsAreLawful parts) where
     sentence : (scope : Scope) → GivesOfFew bound (paragraphs.sentence parts scope) (λ sentence. sentence_names_few sentence ≡ true)
     unfolding paragraphs.sentence
-    sentence scope = holding.stmts_with bound lawful small (holding.level bound lawful small max_nesting) scope >>= sentence_end
+    sentence scope = holding.stmts_with (few-by-parts bound small) lawful (holding.level (few-by-parts bound small) lawful max_nesting) scope >>= sentence_end
 
     sentences_from : (scope : Scope) {before : List Sentence} → GivesOfFew bound (paragraphs.sentences_from parts scope before) (λ list. Sentences before → Sentences list)
     sentences_from scope = items_all sentence_names_few (sentence scope)
 
     exit_sentence : (scope : Scope) (position : Position) → GivesOfFew bound (paragraphs.exit_sentence parts scope position) (λ sentence. sentence_names_few sentence ≡ true)
     unfolding paragraphs.exit_sentence
-    exit_sentence scope position = simple.exit_behind bound small scope position >>= (λ first.
-        loop {P = λ (found : Found). Stmts found.0} (holding.stmts_turn bound lawful small (holding.level bound lawful small max_nesting) scope)
+    exit_sentence scope position = simple.exit_behind (few-by-parts bound small) scope position >>= (λ first.
+        loop {P = λ (found : Found). Stmts few_fold found.0} (holding.stmts_turn (few-by-parts bound small) lawful (holding.level (few-by-parts bound small) lawful max_nesting) scope)
         >>= (λ found. hence (λ sentence h w f. h (w (both f refl))) (sentence_end found)))
 
     exit_sentences : (scope : Scope) (position : Position) → GivesOfFew bound (paragraphs.exit_sentences parts scope position) Sentences

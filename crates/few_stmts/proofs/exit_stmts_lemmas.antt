@@ -1,8 +1,4 @@
--- what is made of parts without EXIT
-pub mod Made
--- statements that hold no others
-pub mod Simple
--- statements that hold others
-pub mod Holding
+-- that no EXIT is among statements, as a test by parts
+pub mod Exitless
 -- sentences, paragraphs and the division
 pub mod Paragraphs

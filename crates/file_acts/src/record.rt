@@ -1,9 +1,9 @@
 //! Records: where they lie, and what is moved to them and from them.
 
-ghost use Rattle.std.specs.Prelude.{◌≡◌, ◌++◌, ◌-◌, [], IfOk, length, option_copied, replicate, slice_get, unwrap_or};
+ghost use Rattle.std.specs.Prelude.{◌≡◌, ◌-◌, IfOk, length, option_copied, slice_get};
 ghost use Rattle.file_model.specs.Attempts.{padded_to};
 ghost use Rattle.statements.specs.Does.{declared_with};
-ghost use Rattle.statements.specs.Filing.{entry_bytes, file_by, file_of, first_entry, from_by, into_by, is_of_file, record_entry, record_spot, root_by};
+ghost use Rattle.statements.specs.Filing.{entry_bytes, file_by, file_of, first_entry, from_by, into_by, is_of_file, record_spot, root_by};
 ghost use Rattle.cob_act.specs.Moving.{outcome_of};
 ghost use Rattle.file_acts.specs.Record.{item_place};
 

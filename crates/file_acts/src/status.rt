@@ -1,6 +1,6 @@
 //! Statuses: where they are stored, and how a statement ends by them.
 
-ghost use Rattle.std.specs.Prelude.{◌≡◌, ◌&&◌, ◌||◌, is_some, not, option_copied, slice_get};
+ghost use Rattle.std.specs.Prelude.{◌≡◌, ◌&&◌, ◌||◌, is_some, not, option_copied};
 ghost use Rattle.statements.specs.Does.{declared_with};
 ghost use Rattle.statements.specs.Filing.{always_ends, end_by, status_bytes, status_by, status_place, status_spot, with_status};
 ghost use Rattle.file_acts.specs.Ends.{ended_as};

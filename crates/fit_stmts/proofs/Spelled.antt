@@ -25,13 +25,13 @@ use Rattle.statement_grammar.specs.stmt_forms.Stmt.{max_nesting}
 use Rattle.readable_procedures.proofs.readable_stmts_lemmas.Lists.{each-hence}
 use Rattle.part_spelling.specs.stmt_spelling.Part.{Kept}
 use Rattle.part_spelling.specs.stmt_spelling.Stmt as spell
-use Rattle.part_spelling.specs.stmt_spelling.Stmt.{Each, IfAny, Some_of, SpellsCalc, SpellsControl, SpellsTurns, SpellsSubject, SpellsTest, SpellsArms, SpellsWhen, SpellsShape, SpellsStmt, SpellsList}
+use Rattle.part_spelling.specs.stmt_spelling.Stmt.{IfAny, Some_of, SpellsCalc, SpellsControl, SpellsTurns, SpellsSubject, SpellsTest, SpellsArms, SpellsWhen, SpellsShape, SpellsList}
 use Rattle.part_spelling.specs.stmt_spelling.Division.{SpellsSentence, SpellsSentences}
 use Rattle.fit_stmts.specs.Fits.{Fits}
 use Rattle.fit_stmts.specs.Given.{FitSentence, FitSentences}
 use Rattle.fit_stmts.specs.Spelling.{FitsSpell}
 use Rattle.fit_stmts.proofs.Shape as shape
-use Rattle.fit_stmts.proofs.Shape.{FitsCalc, FitsControl, FitsTurns, FitsSubject, FitsTest, FitsArms, FitsWhen, FitsShape, FitsStmt}
+use Rattle.fit_stmts.proofs.Shape.{FitsCalc, FitsControl, FitsTurns, FitsSubject, FitsTest, FitsArms, FitsWhen, FitsShape}
 use Rattle.fit_stmts.proofs.Trees.{Good, parted}
 
 some-hence : {A : Type 0} {P Q : A → Type 0} → ((x : A) → P x → Q x) → (list : List A) → Some_of P list → Some_of Q list

@@ -2,7 +2,7 @@
 -- round.
 use Rattle.std.proofs.Common.{arith, ◌≡◌, ◌≤◌, ◌+◌, ℕ, suc, max, Bool, true, false, ◌&&◌, List, [], ◌∷◌, map, Option, Some, None, refl, ap, subst, ◌∙◌}
 use Rattle.cob_tree.specs.Depth as depth
-use Rattle.cob_tree.specs.Depth.{stmt_depth, stmts_depth, arms_depth, when_depth, whens_depth, level, largest}
+use Rattle.cob_tree.specs.Depth.{stmt_depth, stmts_depth, arms_depth, when_depth, whens_depth}
 use Rattle.cob_tree.specs.declared.calc.Calc.{Calc}
 use Rattle.cob_tree.specs.declared.calc.Calc.TheVariants as calcs
 use Rattle.cob_tree.specs.declared.calc.Target.{Target}
@@ -28,7 +28,7 @@ use Rattle.statement_grammar.specs.stmt_forms.Loop.{looped}
 use Rattle.part_spelling.specs.stmt_spelling.Stmt.{Each, IfAny, Some_of}
 use Rattle.fit_stmts.specs.Fits.{Fits}
 use Rattle.fit_stmts.specs.Statement as fit
-use Rattle.fit_stmts.specs.Statement.{held, fit_receiver, fit_target, fit_targets, fit_results, fit_numbers, fit_calc, fit_control, fit_turns, fit_subject, fit_compared, fit_test, fit_into, fit_from, fit_stmt, fit_arms, fit_when, are_fit_stmts}
+use Rattle.fit_stmts.specs.Statement.{held, fit_receiver, fit_targets, fit_results, fit_numbers, fit_calc, fit_control, fit_turns, fit_subject, fit_compared, fit_test, fit_into, fit_from, fit_stmt, fit_arms, fit_when, are_fit_stmts}
 use Rattle.fit_stmts.specs.Scope as scopes
 use Rattle.fit_stmts.specs.Scope.{Scoped, each_in, is_in_scope, are_arms_in_scope, is_when_in_scope, are_in_scope}
 use Rattle.fit_stmts.proofs.Told.{Same, itself, always, never, beside, some-same, any-same, Tells, leaf, scoped-leaf, before, beside-told, retold, deep}

@@ -30,7 +30,7 @@ use Rattle.flow_graph.specs.Reaching.{AreReachedIn, Begins, IsRangeIn}
 use Rattle.flow_graph.proofs.LabelRows.{nodes_within, reached_label}
 use Rattle.flow_graph.proofs.NodeRows.{Found, from_sorted, in_is, is_in, is_there, IsIn, same_nodes, sorted_rising, to_sorted}
 
-found_by : (told : Told) (place_of : ℕ → ℕ) (trees : graph.Label → graph.Tree) (xs : List lower.Node) → Has told place_of trees xs → Found trees xs
+pub found_by : (told : Told) (place_of : ℕ → ℕ) (trees : graph.Label → graph.Tree) (xs : List lower.Node) → Has told place_of trees xs → Found trees xs
 found_by told place_of trees [] h = tt
 found_by told place_of trees (x ∷ xs) h = (h.0, found_by told place_of trees xs h.1)
 

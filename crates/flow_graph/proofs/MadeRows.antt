@@ -24,7 +24,7 @@ front_kept (x ∷ xs) (y ∷ ys) kept (suc n) le =
     let same : y ≡ x = cc in
     ap₂ (λ z zs. z ∷ zs) same (front_kept xs ys (λ at other is. kept (suc at) other is) n (omega (arith, le)))
 
-one_more : (before later : List ℕ) → ((at other : ℕ) → slice_get before at ≡ Some other → slice_get later at ≡ Some other) → (at here : ℕ) → at < length before → slice_get before at ≡ Some here →
+pub one_more : (before later : List ℕ) → ((at other : ℕ) → slice_get before at ≡ Some other → slice_get later at ≡ Some other) → (at here : ℕ) → at < length before → slice_get before at ≡ Some here →
     take (at + 1) later ≡ take at before ++ here ∷ []
 one_more before later kept at here lt is =
     let both : Some (get_or before at here) ≡ Some here = sym (slice_get-get_or before at here lt) ∙ is in

@@ -9,4 +9,5 @@ mod adding;
 mod nodes;
 mod reaching;
 
-pub use nodes::lower;
+pub use nodes::{first_of, lower};
+pub use reaching::visit_tree;

@@ -20,7 +20,7 @@ use rest_table::Spot;
 use std::alloc::Global;
 
 /// The paragraph that a range begins with.
-fn first_of(range: Range) -> u32
+pub fn first_of(range: Range) -> u32
     ensures { result ≡ entry_of (seen_range range) }
 {
     match range.exit {

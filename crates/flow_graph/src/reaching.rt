@@ -22,7 +22,7 @@ use std::alloc::Global;
 
 /// Adds the labels to which a tree jumps.
 #[cycle(jumps)]
-fn visit_tree(reach: &mut Reach, tree: &Tree) -> Result<(), NoMemory>
+pub fn visit_tree(reach: &mut Reach, tree: &Tree) -> Result<(), NoMemory>
     requires marked { IsMarked reach.old.places.items reach.old.marks.items }
     requires below { JumpBelow (length reach.old.marks.items) (end_of (seen_tree tree.now)) }
     requires small { length reach.old.marks.items ≤ 2 ^ 32 }

@@ -2,7 +2,7 @@
 use Rattle.std.proofs.Common.{◌≡◌, ◌<◌, ℕ, zero, suc, Bool, true, List, [], ◌∷◌, map, length, Option, Some, None, option_map, slice_get, refl, ap, sym, ◌∙◌, subst, eqb-true, eq-eqb, arith}
 use Rattle.cob_tree.specs.declared.program.Range.{Range}
 use Rattle.language.specs.Language.{Chooser, Program}
-use Rattle.flow_paths.specs.Step.{Point, start, Next, next, way_at, flattened, is_paragraph}
+use Rattle.flow_paths.specs.Step.{Point, next, way_at}
 use Rattle.flow_paths.specs.Step as lang
 use Rattle.flow_paths.specs.Flow.{part, Pending, FreePath, ReturnsIn, CallsIn, EndsIn}
 use Rattle.flow_paths.specs.Levels.{Comes, Levels, bottom, called}

@@ -1,8 +1,8 @@
 //! What a range's level comes to.
 
-ghost use Rattle.std.specs.Prelude.{[], ℕ, ◌≡◌, ◌<◌, ◌≤◌, ◌↔◌, ◌⊎◌, true, Some, length, slice_get, IfOk, OnOk, IsTrue};
-ghost use Rattle.flow_places.specs.Table.{ComesIn, AllBelow, IsTidy, IsTidyPlace};
-ghost use Rattle.flow_levels.specs.Reaching.{Holds, IsMarked, Adds, AddsNext, AddsAll, Succeeds, IsReach};
+ghost use Rattle.std.specs.Prelude.{[], ◌≡◌, ◌<◌, ◌≤◌, true, Some, length, IfOk, OnOk};
+ghost use Rattle.flow_places.specs.Table.{AllBelow, IsTidy, IsTidyPlace};
+ghost use Rattle.flow_levels.specs.Reaching.{IsMarked, Adds, AddsNext, AddsAll, IsReach};
 ghost use Rattle.flow_paths.specs.Flow.{is_exit};
 
 use cob_base::NoMemory;

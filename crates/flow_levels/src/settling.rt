@@ -1,6 +1,6 @@
 //! Which ranges return.
 
-ghost use Rattle.std.specs.Prelude.{Bool, ℕ, ◌≡◌, ◌<◌, ◌≤◌, ◌↔◌, true, false, length, IfOk, IsTrue};
+ghost use Rattle.std.specs.Prelude.{◌≡◌, ◌<◌, ◌≤◌, ◌↔◌, true, false, length, IfOk, IsTrue};
 ghost use Rattle.flow_places.specs.Table.{IsTidy, IsClosed, ReturnsHere};
 ghost use Rattle.flow_levels.specs.Reaching.{HasEnd, AllPlaces, IsMarked, SaysSoundly, StaysSound, trues};
 

@@ -13,7 +13,7 @@ use Rattle.cob_tree.specs.declared.file.FileEntry.{FileEntry}
 use Rattle.cob_tree.specs.declared.place.Place as places
 use Rattle.cob_tree.specs.declared.stmt.Stmt as tree
 use Rattle.cob_tree.specs.declared.stmt.When.{When, out-When}
-use Rattle.language.specs.Language.{Act, Picker, By, If, ByCell, Holds, Chooser, Evaluate, Read, Arith, Choose, Arms, done, given, missing, Stmts, none, also, Stmt, Program}
+use Rattle.language.specs.Language.{Act, Picker, By, If, Holds, Chooser, Evaluate, Read, Arith, Choose, Arms, done, given, Stmts, none, also, Stmt}
 use Rattle.language.specs.Language as language
 use Rattle.language.specs.Items.{Do}
 use Rattle.language.specs.Control.{test_of, always, arith_of, arith_stmt, Both, both_arms, arm_before, else_of, Branch, branches_before, tests_of, picker_by, evaluate_of, cell_chosen, count_from, stmts_of, seen, seen_when, seen_stmts}

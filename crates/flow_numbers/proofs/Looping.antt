@@ -5,7 +5,7 @@ use Rattle.cob_tree.specs.declared.program.Range.{Range}
 use Rattle.language.specs.Language.{Chooser, Control, Times, Until, Varying, Body, Nested, Performed, Loop, Perform, Choose, If, Holds, given, done, Stmts, none, also, Program}
 use Rattle.language.specs.Control.{perform_of, loop_of, always}
 use Rattle.language.specs.Items.{Item, Do, Turn, Steps, before, before_body, past_sentence}
-use Rattle.flow_paths.specs.Step.{Point, at, start, Next, next}
+use Rattle.flow_paths.specs.Step.{Point, at, start, next}
 use Rattle.flow_paths.specs.Step as lang
 use Rattle.flow_places.specs.declared.table.Place.{Place}
 use Rattle.flow_places.specs.declared.table.Place.TheVariants.{Goes, Chooses, Stops}

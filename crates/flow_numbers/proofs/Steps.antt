@@ -1,12 +1,12 @@
 -- What single statements add.
 use Rattle.std.proofs.Common.{◌≡◌, ◌+◌, ◌<◌, ℕ, suc, Bool, true, false, if◌then◌else◌, List, [], ◌∷◌, ◌++◌, map, length, Option, Some, None, option_map, slice_get, refl, ap, sym, ◌∙◌, arith, length-append}
 use Rattle.cob_tree.specs.declared.program.Range.{Range}
-use Rattle.language.specs.Language.{Act, Picker, By, If, ByCell, Chooser, Choose, Perform, Go, GoDepending, NextSentence, ExitParagraph, ExitSection, ExitPerform, StopRun, Arms, done, given, missing, Stmts, none, also, Stmt, Program}
+use Rattle.language.specs.Language.{Act, Picker, Chooser, Choose, Perform, Go, GoDepending, NextSentence, ExitParagraph, ExitSection, ExitPerform, StopRun, Arms, done, given, missing, Stmts, none, also, Program}
 use Rattle.language.specs.Language as language
 use Rattle.language.specs.Items.{Item, Do, before, before_arm, past_sentence, from_loop}
 use Rattle.control.specs.Items.{way_after, to_one}
 use Rattle.control_laws.specs.lowering.Told.{arm_count}
-use Rattle.flow_paths.specs.Step.{Point, at, start, Next, by_way, led, some_given, first_is_barred, without_first, ways_from, ways_of, next}
+use Rattle.flow_paths.specs.Step.{Point, at, start, by_way, led, some_given, first_is_barred, without_first, ways_from, ways_of, next}
 use Rattle.flow_paths.specs.Step as lang
 use Rattle.flow_paths.specs.Flow.{part}
 use Rattle.flow_places.specs.declared.table.Place.{Place}

@@ -1,6 +1,6 @@
 //! Places, from the last statement of a list to its first.
 
-ghost use Rattle.std.specs.Prelude.{ℕ, Bool, ◌≡◌, ◌<◌, ◌≤◌, ◌+◌, ◌++◌, ◌∷◌, [], true, false, Some, None, if◌then◌else◌, length, map, slice_get, slice_set, IfOk, OnOk};
+ghost use Rattle.std.specs.Prelude.{ℕ, Bool, ◌≡◌, ◌<◌, ◌≤◌, ◌+◌, ◌++◌, ◌∷◌, [], false, Some, None, length, slice_get, IfOk};
 ghost use Rattle.flow_places.specs.declared.table.Place.TheVariants.{Chooses, Goes};
 ghost use Rattle.language.specs.Language.{Chooser, also, none, Loop, Perform, Performed, Go, GoDepending, ExitParagraph, ExitSection};
 ghost use Rattle.language.specs.Language as language;

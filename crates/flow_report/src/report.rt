@@ -1,6 +1,6 @@
 //! What the report of a program tells.
 
-ghost use Rattle.std.specs.Prelude.{◌≡◌, map, IfOk};
+ghost use Rattle.std.specs.Prelude.{map, IfOk};
 ghost use Rattle.cob_base.specs.Answers.{Makes};
 ghost use Rattle.out_names.specs.Naming.{paragraph_label};
 ghost use Rattle.flow_report.specs.Report.{IsSummaryOf, IsReportOf};

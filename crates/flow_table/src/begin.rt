@@ -1,6 +1,6 @@
 //! The places with which numbering begins.
 
-ghost use Rattle.std.specs.Prelude.{[], ◌≡◌, IfOk};
+ghost use Rattle.std.specs.Prelude.{◌≡◌, IfOk};
 ghost use Rattle.flow_table.specs.Numbering.{HasEnds, CountsTwice};
 
 use cob_base::NoMemory;

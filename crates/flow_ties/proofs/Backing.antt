@@ -2,7 +2,7 @@
 use Rattle.std.proofs.Common.{subst, Bool, false, if◌then◌else◌, ◌≡◌, ◌≢◌, ℕ, zero, suc, ◌<◌, true, List, [], ◌∷◌, ◌++◌, Option, Some, None, refl, ap, sym, ◌∙◌, arith}
 use Rattle.std.specs.Prelude.{slice_get}
 use Rattle.control.specs.Outcome.{Got}
-use Rattle.language.specs.Language.{Chooser, Picker, If, By, ByCell, Control, Times, Until, Varying, Stmt, Choose, Loop, Perform, Go, GoDepending, NextSentence, ExitParagraph, ExitSection, ExitPerform, StopRun, Arms, Body, Program}
+use Rattle.language.specs.Language.{Chooser, Picker, If, By, ByCell, Control, Times, Until, Varying, Choose, Loop, Perform, Go, GoDepending, NextSentence, ExitParagraph, ExitSection, ExitPerform, StopRun, Arms, Body, Program}
 use Rattle.language.specs.Language as language
 use Rattle.language.specs.Items.{Turning, Counted, Tests, Steps, StepsAfter, Item, Do, SentenceEnd, Turn, before_body, before_arm, past_sentence, from_loop}
 use Rattle.control.specs.Items.{On, To, ToEnd, way_after, tried, on, to_one, item_way}

@@ -3,7 +3,7 @@ use Rattle.std.proofs.Common.{◌≡◌, ℕ, zero, suc, Bool, true, false, if�
 use Rattle.std.specs.Prelude.{slice_get, length, map}
 use Rattle.runs.specs.Run.{Going, Over}
 use Rattle.runs.specs.Machine.{iterate}
-use Rattle.control.specs.Outcome.{Trace, How, Normally, Ending, Stopped, Faulted, Standing}
+use Rattle.control.specs.Outcome.{Trace, How, Normally, Stopped, Faulted}
 use Rattle.control.specs.Outcome as outcome
 use Rattle.language.specs.Language.{Chooser, Paragraph, Program}
 use Rattle.language.specs.Items.{Item, ends_at}

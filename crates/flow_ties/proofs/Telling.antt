@@ -2,7 +2,7 @@
 use Rattle.std.proofs.Common.{subst, Bool, false, ◌≡◌, ◌≢◌, ℕ, zero, suc, ◌<◌, true, if◌then◌else◌, List, [], ◌∷◌, Option, Some, None, refl, ap, sym, ◌∙◌, arith}
 use Rattle.std.specs.Prelude.{slice_get, length}
 use Rattle.control.specs.Doing.{arm_of}
-use Rattle.language.specs.Language.{Chooser, Picker, If, By, ByCell, Test, Act, Control, Times, Until, Varying, Stmt, Choose, Loop, Perform, Go, GoDepending, NextSentence, ExitParagraph, ExitSection, ExitPerform, StopRun, Arms, done, given, missing, Body, Program}
+use Rattle.language.specs.Language.{Chooser, Picker, If, By, ByCell, Control, Times, Until, Varying, Choose, Loop, Perform, Go, GoDepending, NextSentence, ExitParagraph, ExitSection, ExitPerform, StopRun, Arms, done, given, missing, Body, Program}
 use Rattle.language.specs.Language as language
 use Rattle.language.specs.Items.{Turning, Counted, Tests, Steps, StepsAfter, Item, Do, SentenceEnd, Turn, before_body, before_arm, past_sentence, from_loop}
 use Rattle.control.specs.Items.{Way, On, Halts, Into, To, ToEnd, way_after, on, turns, steps_on, to_one, item_way}

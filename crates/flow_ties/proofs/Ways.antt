@@ -1,6 +1,6 @@
 -- The ways of an item are what the item does by each of them.
 use Rattle.std.proofs.Common.{◌≡◌, ◌≢◌, ℕ, zero, suc, ◌+◌, ◌<◌, Bool, true, false, List, [], ◌∷◌, Option, Some, refl, ap, ◌∙◌, subst, arith}
-use Rattle.language.specs.Language.{Chooser, Picker, Control, Times, Until, Varying, Stmt, Choose, Loop, Perform, Go, GoDepending, NextSentence, ExitParagraph, ExitSection, ExitPerform, StopRun, Program}
+use Rattle.language.specs.Language.{Chooser, Times, Until, Varying, Choose, Loop, Perform, Go, GoDepending, NextSentence, ExitParagraph, ExitSection, ExitPerform, StopRun, Program}
 use Rattle.language.specs.Language as language
 use Rattle.language.specs.Items.{Counted, Tests, Steps, StepsAfter, Item, Do, SentenceEnd, Turn}
 use Rattle.control.specs.Items.{Way, On, Halts, Into, To, ToEnd}

@@ -14,7 +14,7 @@ use Rattle.cob_tree.specs.declared.stmt.Stmt.{Stmt}
 use Rattle.cob_tree.specs.declared.stmt.Stmt.TheVariants.{Display, StopRun, Go, Exit}
 use Rattle.named_forms.specs.Giving.{Each}
 use Rattle.printable_programs.specs.Part as part
-use Rattle.printable_programs.specs.Part.{is_printable_place, is_printable_operand, is_printable_name}
+use Rattle.printable_programs.specs.Part.{is_printable_place, is_printable_operand}
 use Rattle.printable_programs.specs.Statement.{is_printable_stmt, is_printable_sentence, are_printable_sentences}
 use Rattle.printable_programs.specs.Whole.{is_printable_entry, IsPrintableParagraph, IsPrintableProgram}
 use Rattle.printable_programs.proofs.Made.{made-Place-operand, made-Number-operand, made-Leaf, made-Relation, made-Display, made-Arith, made-Arms, made-If, made-Perform, made-Go, made-StopRun, made-Exit}

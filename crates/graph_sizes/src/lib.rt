@@ -6,4 +6,4 @@
 
 mod sizing;
 
-pub use sizing::graph_size;
+pub use sizing::{graph_size, tree_size};

@@ -137,10 +137,10 @@ fn arms_within_size(leaves: &Leaves, arms: &[Tree]) -> u64
     count
 }
 
-/// The statements of a tree of a graph.
+/// The statements of a tree of a graph, with those of the arms at its end.
 #[cycle(tree)]
 #[tactic(auto, using(crate::proofs::SizeRows::tree_size_is))]
-fn tree_size(tree: &Tree) -> u64
+pub fn tree_size(tree: &Tree) -> u64
     ensures { result ≡ min (tree_size (seen_tree tree.now)) (2 ^ 64 - 1) }
 {
     body_size(tree.body.as_slice()).saturating_add(end_size(&tree.end))

@@ -3,11 +3,12 @@
 ghost use Rattle.std.specs.Prelude.{◌≡◌};
 ghost use Rattle.grammar_forms.specs.Form as form;
 ghost use Rattle.grammar_forms.specs.Reading.{Reads};
+ghost use Rattle.statement_grammar.specs.stmt_forms.Arithmetic as arithmetic;
 ghost use Rattle.statement_grammar.specs.stmt_forms.Loop as forms;
 ghost use Rattle.statement_grammar.specs.stmt_forms.Stmt as all;
 ghost use Rattle.loop_parse.specs.Step as steps;
 
-use cob_base::{Text, Word};
+use cob_base::{Boxed, Text, Word};
 use cob_tree::{Control, Operand, Place, Stmt};
 use grammar_forms::{Cursor, Position, Unread, Why};
 use head_parse::{at_thru, enter, thru};
@@ -80,12 +81,29 @@ fn until_cond<P: Parts>(
 }
 
 #[tactic(auto, unfolding(statement_grammar::specs::stmt_forms::Loop::varied))]
-fn varied<P: Parts>(parts: &P, alloc: Global, cursor: &mut Cursor<'_>) -> Result<Place, Unread>
+fn varied<P: Parts>(
+    parts: &P,
+    alloc: Global,
+    cursor: &mut Cursor<'_>,
+) -> Result<Boxed<Place>, Unread>
     ensures { Reads ((forms.varied (P.parts parts.now)).reads cursor.old) result cursor.new }
 {
     let side = parts.reference(alloc, cursor)?;
     cursor.note(parts.number_fault(&side));
-    Ok(parts.place_of(side))
+    Ok(Boxed::new(alloc, parts.place_of(side))?)
+}
+
+/// An operand that is a number.
+fn varying_number<P: Parts>(
+    parts: &P,
+    alloc: Global,
+    cursor: &mut Cursor<'_>,
+) -> Result<Boxed<Operand>, Unread>
+    ensures { Reads ((arithmetic.number_operand (P.parts parts.now)).reads cursor.old)
+        result cursor.new }
+{
+    let operand = number_operand(parts, alloc, cursor)?;
+    Ok(Boxed::new(alloc, operand)?)
 }
 
 fn varying_all<P: Parts>(
@@ -93,9 +111,9 @@ fn varying_all<P: Parts>(
     alloc: Global,
     cursor: &mut Cursor<'_>,
     after: bool,
-    item: Place,
-    from: Operand,
-    by: Operand,
+    item: Boxed<Place>,
+    from: Boxed<Operand>,
+    by: Boxed<Operand>,
 ) -> Result<(Control, bool), Unread>
     ensures { Reads ((steps.varying_all (P.parts parts.now) after item from by).reads cursor.old)
         result cursor.new }
@@ -112,9 +130,9 @@ fn varying_all<P: Parts>(
             Ok((control, not_read))
         }
         Err(stop) => {
-            drop_item(item);
-            drop_operand(from);
-            drop_operand(by);
+            drop_item(item.into_inner());
+            drop_operand(from.into_inner());
+            drop_operand(by.into_inner());
             Err(stop)
         }
     }
@@ -125,9 +143,9 @@ fn varying_until<P: Parts>(
     alloc: Global,
     cursor: &mut Cursor<'_>,
     after: bool,
-    item: Place,
-    from: Operand,
-    by: Operand,
+    item: Boxed<Place>,
+    from: Boxed<Operand>,
+    by: Boxed<Operand>,
 ) -> Result<(Control, bool), Unread>
     ensures { Reads ((steps.varying_until (P.parts parts.now) after item from by).reads cursor.old)
         result cursor.new }
@@ -135,9 +153,9 @@ fn varying_until<P: Parts>(
     match cursor.key(b"UNTIL") {
         Ok(_) => varying_all(parts, alloc, cursor, after, item, from, by),
         Err(stop) => {
-            drop_item(item);
-            drop_operand(from);
-            drop_operand(by);
+            drop_item(item.into_inner());
+            drop_operand(from.into_inner());
+            drop_operand(by.into_inner());
             Err(stop)
         }
     }
@@ -148,24 +166,24 @@ fn varying_by<P: Parts>(
     alloc: Global,
     cursor: &mut Cursor<'_>,
     after: bool,
-    item: Place,
-    from: Operand,
+    item: Boxed<Place>,
+    from: Boxed<Operand>,
 ) -> Result<(Control, bool), Unread>
     ensures { Reads ((steps.varying_by (P.parts parts.now) after item from).reads cursor.old)
         result cursor.new }
 {
     match cursor.key(b"BY") {
-        Ok(_) => match number_operand(parts, alloc, cursor) {
+        Ok(_) => match varying_number(parts, alloc, cursor) {
             Ok(by) => varying_until(parts, alloc, cursor, after, item, from, by),
             Err(stop) => {
-                drop_item(item);
-                drop_operand(from);
+                drop_item(item.into_inner());
+                drop_operand(from.into_inner());
                 Err(stop)
             }
         },
         Err(stop) => {
-            drop_item(item);
-            drop_operand(from);
+            drop_item(item.into_inner());
+            drop_operand(from.into_inner());
             Err(stop)
         }
     }
@@ -176,21 +194,21 @@ fn varying_from<P: Parts>(
     alloc: Global,
     cursor: &mut Cursor<'_>,
     after: bool,
-    item: Place,
+    item: Boxed<Place>,
 ) -> Result<(Control, bool), Unread>
     ensures { Reads ((steps.varying_from (P.parts parts.now) after item).reads cursor.old)
         result cursor.new }
 {
     match cursor.key(b"FROM") {
-        Ok(_) => match number_operand(parts, alloc, cursor) {
+        Ok(_) => match varying_number(parts, alloc, cursor) {
             Ok(from) => varying_by(parts, alloc, cursor, after, item, from),
             Err(stop) => {
-                drop_item(item);
+                drop_item(item.into_inner());
                 Err(stop)
             }
         },
         Err(stop) => {
-            drop_item(item);
+            drop_item(item.into_inner());
             Err(stop)
         }
     }

@@ -92,7 +92,7 @@ fn close_live(
 
 /// The tree of a node as a loop, with its added item where it has one. Without memory the tree
 /// stays.
-fn close_tree(
+pub fn close_tree(
     alloc: Global,
     tree: &mut Tree,
     label: Label,

@@ -1,14 +1,13 @@
 //! Going along statements.
 
-ghost use Rattle.std.specs.Prelude.{◌≡◌, ◌+◌, ◌<◌, ◌^◌, [], ◌&&◌, true, false, is_some, map, slice_get, sum_by, IfOk, OnOk, IsTrue, Some};
+ghost use Rattle.std.specs.Prelude.{◌≡◌, ◌+◌, ◌<◌, ◌^◌, [], true, false, is_some, map, slice_get, sum_by, IfOk, OnOk, IsTrue, Some};
 ghost use Rattle.cob_tree.specs.Places.{arms_places, stmt_places, when_places};
 ghost use Rattle.cob_tree.specs.declared.stmt.Arms.{out-Arms};
 ghost use Rattle.language.specs.All.{all};
 ghost use Rattle.language.specs.Control.{always, control_in, test_of};
 ghost use Rattle.language.specs.Language.{Arith, By, Evaluate, Holds, If, Read};
 ghost use Rattle.language.specs.OwnItems.{arms_own, control_own, stmt_own, stmts_own, when_own};
-ghost use Rattle.branch_tree.specs.Trees.{seen_body, seen_end};
-ghost use Rattle.lower_places.specs.Leaf.{seen_leaf};
+ghost use Rattle.branch_tree.specs.Trees.{seen_end};
 ghost use Rattle.cut_lists.specs.Told.{status_missing};
 ghost use Rattle.lower_stmts.specs.Along.{Runs, RunsBy, RunsTo, told_by};
 ghost use Rattle.lower_stmts.specs.Turns.{Begins, EndsLoop};

@@ -81,7 +81,7 @@ pub fn start_loop(
             Ok(())
         }
         Control::Until { .. } => Ok(()),
-        Control::Varying { item, from, .. } => push_setting(alloc, body, item, from),
+        Control::Varying { item, from, .. } => { push_setting(alloc, body, item.get(), from.get()) }
     }
 }
 

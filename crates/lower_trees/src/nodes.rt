@@ -77,7 +77,7 @@ pub fn third_node(
             cond,
             ..
         } => {
-            let step = step_tree(alloc, item, by, place)?;
+            let step = step_tree(alloc, item.get(), by.get(), place)?;
             if !*is_after {
                 return Ok(step);
             }

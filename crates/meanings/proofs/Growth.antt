@@ -7,7 +7,7 @@ use Rattle.runs.proofs.Ties.{covers-refl}
 use Rattle.runs.proofs.Machines.{machine-steady}
 use Rattle.cob_tree.specs.declared.ending.FlowFault.TheVariants.{Overlap, Reentry}
 use Rattle.meanings.specs.Language.{Stmt, Display, Go, Perform, StopRun, Other, Paragraph, Program, Item, Do, SentenceEnd}
-use Rattle.meanings.specs.World.{Event, Trace, Faulted, Standing, displayed}
+use Rattle.meanings.specs.World.{Trace, Faulted, Standing, displayed}
 use Rattle.meanings.specs.World as outside
 use Rattle.meanings.specs.Source.{Pending, SourceState, ends_at, comes_to, goes_to, stmt_step, falls, end_step, rest_step, step_by, source_machine}
 

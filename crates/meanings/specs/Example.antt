@@ -4,7 +4,7 @@ use Rattle.runs.specs.Run.{Going, Over}
 use Rattle.runs.specs.Machine.{meaning}
 use Rattle.cob_tree.specs.declared.place.Operand.TheVariants.{Text}
 use Rattle.meanings.specs.Language.{Stmt, Display, Go, StopRun, Program}
-use Rattle.meanings.specs.World.{World, Event, Normally, Stopped, Run}
+use Rattle.meanings.specs.World.{World, Event, Normally, Stopped}
 use Rattle.meanings.specs.World as outside
 use Rattle.meanings.specs.Source.{source_machine}
 use Rattle.meanings.specs.Structural.{structural}

@@ -3,7 +3,7 @@ use Rattle.std.specs.Prelude.{ℕ, zero, suc, if◌then◌else◌, ◌==◌, Lis
 use Rattle.runs.specs.Run.{Going, Over}
 use Rattle.cob_tree.specs.declared.program.Program as tree
 use Rattle.meanings.specs.Language.{Stmt, Display, Go, Perform, StopRun, Other, Sentence, Paragraph, Program, seen}
-use Rattle.meanings.specs.World.{World, Event, Normally, Stopped, Run, Standing, Trace, displayed}
+use Rattle.meanings.specs.World.{World, Normally, Stopped, Run, Standing, Trace, displayed}
 use Rattle.meanings.specs.World as outside
 
 -- what a statement comes to, with what it showed: it went on, with the world and the units that are

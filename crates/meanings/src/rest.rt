@@ -1,6 +1,6 @@
 //! What is to do in a paragraph, and the returns that are pending.
 
-ghost use Rattle.std.specs.Prelude.{◌≡◌, ◌++◌, ◌∷◌, ◌<◌, IfOk, OnOk, OnErr, map, MatchResult};
+ghost use Rattle.std.specs.Prelude.{◌≡◌, ◌++◌, ◌∷◌, ◌<◌, IfOk, OnOk, MatchResult};
 ghost use Rattle.std.specs.Vec.{vec_len, vec_capacity};
 ghost use Rattle.meanings.specs.Stepped.{whole_rest, sentence_items, is_pending};
 ghost use Rattle.meanings.specs.declared.state.Item.TheVariants.{Stmt};

@@ -9,7 +9,7 @@ use Rattle.grammar_forms.specs.declared.why.Why.{Why}
 use Rattle.grammar_forms.specs.Form as form
 use Rattle.grammar_forms.specs.Form.{Input, with_fault, behind_fault, noted_before, left, Outcome, Got, Stop, Form, then_read, past, position_of, taken_as, one_reads, is_next, begins_by, loop_reads}
 use Rattle.grammar_forms.specs.Part as parts
-use Rattle.grammar_forms.proofs.Lawful.{Lawful, IsEnd, got_is, then_got}
+use Rattle.grammar_forms.proofs.Lawful.{Lawful, got_is, then_got}
 use Rattle.grammar_forms.proofs.MakerLaws.{Law}
 use Rattle.language.specs.All.{all}
 use Rattle.named_programs.specs.Part.{is_filled}

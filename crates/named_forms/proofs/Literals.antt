@@ -1,9 +1,9 @@
 -- What numbers and literals give.
-use Rattle.std.proofs.Common.{◌≡◌, Bool, true, false, List, ℕ, length, Option, Some, None, refl, ap, sym, ◌∙◌, subst, arith}
+use Rattle.std.proofs.Common.{◌≡◌, Bool, true, false, List, ℕ, length, Some, ap, sym, ◌∙◌, subst, arith}
 use Rattle.std.proofs.lemmas.Bool.{le-leb}
 use Rattle.cob_tree.specs.declared.number.Number.{Number}
 use Rattle.cob_tree.specs.declared.place.Figure.{Figure}
-use Rattle.cob_tree.specs.declared.place.Operand.{Operand, out-Operand, out-roll-Operand}
+use Rattle.cob_tree.specs.declared.place.Operand.{Operand, out-roll-Operand}
 use Rattle.cob_tree.specs.declared.place.Expr.TheOpen.{Operand-F}
 use Rattle.cob_tree.specs.declared.place.Operand.TheVariants as operands
 use Rattle.cobol_lex.specs.declared.token.TokenKind.{TokenKind}

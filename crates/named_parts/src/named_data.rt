@@ -3,7 +3,6 @@
 //!
 //! The crate has no code.
 
-ghost use Rattle.grammar_forms.specs.Form.{Form};
 ghost use Rattle.std.specs.Prelude.{◌≡◌, true};
 ghost use Rattle.statement_grammar.specs.data_forms.Divisions.{divisions};
 ghost use Rattle.named_forms.specs.Giving.{Gives};

@@ -4,8 +4,7 @@
 //!
 //! `specs/named_stmts/Parts.antt` says what the open forms are to give. The crate has no code.
 
-ghost use Rattle.std.specs.Prelude.{◌≡◌, ℕ, true};
-ghost use Rattle.grammar_forms.specs.Form.{Form};
+ghost use Rattle.std.specs.Prelude.{◌≡◌, true};
 ghost use Rattle.named_forms.specs.Giving.{Gives};
 ghost use Rattle.named_forms.specs.Numbered.{IsNumbered};
 ghost use Rattle.named_programs.specs.Named.{paragraphs_named};

@@ -1,5 +1,5 @@
 -- IF and EVALUATE of the program's own.
-use Rattle.std.proofs.Common.{◌≡◌, ℕ, Bool, true, false, not, List, [], ◌∷◌, map, Option, Some, None, is_some, sym, subst}
+use Rattle.std.proofs.Common.{◌≡◌, ℕ, Bool, true, not, List, [], ◌∷◌, map, Option, Some, None, is_some, sym, subst}
 use Rattle.cob_tree.specs.declared.choice.Subject.{Subject}
 use Rattle.cob_tree.specs.declared.cond.Cond.{Cond}
 use Rattle.cob_tree.specs.declared.stmt.Stmt.{Stmt}

@@ -39,6 +39,7 @@ fn shown(alloc: Global, tokens: &[Token]) -> Result<Text, Fail> {
             TokenKind::Word(word) => show(&mut all, b"", word.as_slice())?,
             TokenKind::Digits(digits) => show(&mut all, b"#", digits.as_slice())?,
             TokenKind::Decimal(number) => {
+                let number = number.get();
                 let sign = if number.negative { b"#-" } else { b"#+" };
                 show(&mut all, sign, number.digits.as_slice())?;
                 let scale = format!(in alloc; "/{}", number.scale)?;

@@ -48,11 +48,11 @@ impl Tokens {
             } => {
                 self.after(*after)?;
                 self.word(b"VARYING")?;
-                self.place(program, item)?;
+                self.place(program, item.get())?;
                 self.word(b"FROM")?;
-                self.operand(program, from)?;
+                self.operand(program, from.get())?;
                 self.word(b"BY")?;
-                self.operand(program, by)?;
+                self.operand(program, by.get())?;
                 self.until(program, cond)
             }
         }

@@ -48,12 +48,12 @@ impl Tokens {
     {
         if number.negative {
             self.mark(b'-')?;
-            self.digits(&number.digits)
+            self.digits(number.digits.as_slice())
         } else if number.digits.as_slice() == b"0".as_slice() {
             Ok(())
         } else {
             self.mark(b'+')?;
-            self.digits(&number.digits)
+            self.digits(number.digits.as_slice())
         }
     }
 
@@ -103,7 +103,7 @@ impl Tokens {
         ensures { OnOk result (self.new ≡ self.old ++ sub_tokens program.now sub.now) }
     {
         match &sub.base {
-            None => self.digits(&sub.plus.digits),
+            None => self.digits(sub.plus.digits.as_slice()),
             Some(base) => {
                 self.place(program, base.get())?;
                 self.plus(&sub.plus)

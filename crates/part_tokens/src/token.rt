@@ -6,7 +6,7 @@ ghost use Rattle.cobol_lex.specs.Byte.{is_digit};
 ghost use Rattle.cobol_lex.specs.declared.token.TokenKind.TheVariants as kind;
 ghost use Rattle.part_tokens.specs.Token.{is_reserved_shape, number_token, procedure_token, opened_by, closed_by};
 
-use cob_base::{Copied, Items, NoMemory, Text, Word};
+use cob_base::{Boxed, Copied, Items, NoMemory, Text, Word};
 use cob_tree::Number;
 use cobol_lex::TokenKind;
 use std::alloc::Global;
@@ -105,9 +105,7 @@ impl Tokens {
         if !are_digits(name.as_slice()) {
             return self.name(name);
         }
-        let mut digits = Text::new(self.alloc);
-        digits.add(name.as_slice())?;
-        self.push(TokenKind::Digits(digits))
+        self.digits(name.as_slice())
     }
 
     pub fn mark(&mut self, mark: u8) -> Result<(), NoMemory>
@@ -116,11 +114,12 @@ impl Tokens {
         self.push(TokenKind::Mark(mark))
     }
 
-    pub fn digits(&mut self, digits: &Text) -> Result<(), NoMemory>
+    pub fn digits(&mut self, digits: &[u8]) -> Result<(), NoMemory>
         ensures { OnOk result (self.new ≡ self.old ++ kind.Digits digits.now ∷ []) }
     {
-        let digits = digits.copy(self.alloc)?;
-        self.push(TokenKind::Digits(digits))
+        let mut copy = Text::new(self.alloc);
+        copy.add(digits)?;
+        self.push(TokenKind::Digits(copy))
     }
 
     pub fn literal(&mut self, bytes: &Text) -> Result<(), NoMemory>
@@ -135,10 +134,10 @@ impl Tokens {
         ensures { OnOk result (self.new ≡ self.old ++ number_token number.now ∷ []) }
     {
         if !number.negative && number.scale == 0 {
-            return self.digits(&number.digits);
+            return self.digits(number.digits.as_slice());
         }
         let number = number.copy(self.alloc)?;
-        self.push(TokenKind::Decimal(number))
+        self.push(TokenKind::Decimal(Boxed::new(self.alloc, number)?))
     }
 
     /// Adds a parenthesis where one is asked for.

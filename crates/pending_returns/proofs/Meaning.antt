@@ -13,7 +13,7 @@ use Rattle.named_ranges.proofs.Ordered.{before-far}
 use Rattle.pending_returns.specs.declared.facts.RangeFacts.{RangeFacts}
 use Rattle.pending_returns.specs.declared.facts.Summary.{Summary}
 use Rattle.pending_returns.specs.Summary.{Rises, IsNumber, Tells, IsSummary}
-use Rattle.pending_returns.specs.Tabled.{Lists, TellsLevel, TellsLevels, LeadsTo, Ranks, IsRenumbered, KeepsFacts, MarksLevels, RangesRise, SummarisesTable}
+use Rattle.pending_returns.specs.Tabled.{Lists, TellsLevels, LeadsTo, Ranks, IsRenumbered, KeepsFacts, MarksLevels, RangesRise, SummarisesTable}
 use Rattle.pending_returns.specs.Tabled as tabled
 use Rattle.pending_returns.proofs.Getting.{get-below, get-some}
 use Rattle.pending_returns.proofs.Flags.{rises-far}

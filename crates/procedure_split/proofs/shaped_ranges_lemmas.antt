@@ -4,5 +4,7 @@ pub mod ShapedRows
 pub mod Keeping
 -- the plan with these graphs
 pub mod Planning
+-- numbering counters leaves graphs as large as they are
+pub mod NumberedSizes
 -- graphs of ranges, one after the other
 pub mod GraphRows

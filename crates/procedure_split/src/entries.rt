@@ -1,6 +1,6 @@
 //! The entries of the structured program.
 
-ghost use Rattle.std.specs.Prelude.{◌≡◌, ◌++◌, map};
+ghost use Rattle.std.specs.Prelude.{◌++◌, map};
 ghost use Rattle.cob_base.specs.Answers.{Makes};
 ghost use Rattle.cobol_laws.specs.cell_serving.Entries.{entries_of};
 ghost use Rattle.cell_table.specs.Names.{seen_item};

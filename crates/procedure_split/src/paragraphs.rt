@@ -1,6 +1,6 @@
 //! The paragraphs of the structured program.
 
-ghost use Rattle.std.specs.Prelude.{◌≡◌, length, IfOk};
+ghost use Rattle.std.specs.Prelude.{◌≡◌, IfOk};
 ghost use Rattle.cob_base.specs.Answers.{Makes};
 ghost use Rattle.lower_places.specs.Fall.{seen_range};
 ghost use Rattle.branch_tree.specs.Trees.{seen_tree};
@@ -10,12 +10,13 @@ ghost use Rattle.procedure_split.specs.Paragraphs.{paragraph_named};
 
 use crate::shaped_ranges::Closed;
 use body_writing::write_procedure;
-use branch_tree::Tree;
+use branch_tree::{End, Tree};
 use cell_words::CellItem;
 use choice_writing::Placed;
 use cob_base::{Items, NoMemory, Word};
 use cob_tree::{Paragraph, Range, Sentence};
 use std::alloc::Global;
+use std::mem;
 
 fn is_main(range: Range) -> bool
     ensures { result ≡ is_main (seen_range range) }
@@ -48,13 +49,13 @@ fn paragraph_named(alloc: Global, name: Word, sentence: Sentence) -> Result<Para
 fn paragraph_of(
     alloc: Global,
     range: Range,
-    tree: &Tree,
+    tree: Tree,
     cells: &[CellItem],
     places: &[Placed],
     name: Word,
 ) -> Result<Paragraph, NoMemory>
     ensures { IfOk result (λ made. IsParagraphOf cells.now places.now (is_main (seen_range range))
-        (seen_tree tree.now) name made) }
+        (seen_tree tree) name made) }
 {
     match write_procedure(alloc, tree, is_main(range), cells, places) {
         Ok(sentence) => paragraph_named(alloc, name, sentence),
@@ -62,24 +63,36 @@ fn paragraph_of(
     }
 }
 
+/// Takes the tree, and leaves an empty one.
+fn take_tree(alloc: Global, closed: &mut Closed) -> Tree
+    ensures { result ≡ closed.old.tree }
+{
+    let empty = Tree {
+        body: Vec::new(alloc),
+        end: End::Dead,
+    };
+    mem::replace(&mut closed.tree, empty)
+}
+
 /// The paragraphs of these ranges, in their order, each with the items of its cells and its name.
 /// Err where `write_procedure` has it.
 pub fn paragraphs_of(
     alloc: Global,
     order: &[Range],
-    closed: &[Closed],
+    closed: &mut [Closed],
     cells: &[Items<CellItem>],
     places: &[Placed],
     names: &[Word],
 ) -> Result<Items<Paragraph>, NoMemory>
-    requires { AreAsMany order.now closed.now cells.now names.now }
+    requires { AreAsMany order.now closed.old cells.now names.now }
     ensures { IfOk result (λ made.
-        AreParagraphsOf order.now closed.now cells.now places.now names.now made) }
+        AreParagraphsOf order.now closed.old cells.now places.now names.now made) }
 {
     let mut made = Items::new(alloc);
     for at in 0..order.len() {
         let own = cells[at].as_slice();
-        match paragraph_of(alloc, order[at], &closed[at].tree, own, places, names[at]) {
+        let tree = take_tree(alloc, &mut closed[at]);
+        match paragraph_of(alloc, order[at], tree, own, places, names[at]) {
             Ok(paragraph) => match made.push(paragraph) {
                 Ok(()) => {}
                 Err(fault) => {

@@ -1,6 +1,6 @@
 //! Where the procedures of a program's ranges stand.
 
-ghost use Rattle.std.specs.Prelude.{◌≡◌, ◌++◌, ◌*◌, ◌+◌, ◌^◌, IfOk, OnOk};
+ghost use Rattle.std.specs.Prelude.{◌≡◌, ◌++◌, ◌*◌, ◌+◌, IfOk, OnOk};
 ghost use Rattle.std.specs.List.Sorted.{IsNonDecreasingBy, IsPermutation};
 ghost use Rattle.procedure_split.specs.made_procedures.Made.{ArePlacesIn};
 ghost use Rattle.procedure_split.specs.Places.{key_of, place_at, places_from};

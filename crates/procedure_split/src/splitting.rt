@@ -1,6 +1,6 @@
 //! A program is split into its procedures.
 
-ghost use Rattle.std.specs.Prelude.{◌≡◌, length, MatchResult};
+ghost use Rattle.std.specs.Prelude.{MatchResult};
 ghost use Rattle.procedure_split.specs.shaped_ranges.Laws.{HasFlow};
 ghost use Rattle.procedure_split.specs.Split.{IsSplitFault, IsSplitWith};
 
@@ -24,7 +24,9 @@ pub fn split(alloc: Global, program: &Program, summary: &Summary) -> Result<Spli
     match lower_ranges(alloc, program, &plan) {
         Ok(graphs) => match shape_all(alloc, graphs) {
             Ok(closed) => {
-                let made = write_program(alloc, program, plan.order.as_slice(), closed.as_slice());
+                let mut closed = closed;
+                let order = plan.order.as_slice();
+                let made = write_program(alloc, program, order, closed.as_mut_slice());
                 drop(closed);
                 match made {
                     Ok(made) => Ok(made),

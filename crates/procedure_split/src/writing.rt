@@ -1,6 +1,6 @@
 //! What is written of shaped ranges.
 
-ghost use Rattle.std.specs.Prelude.{◌≡◌, ◌++◌, ◌*◌, ◌+◌, ◌<◌, ◌^◌, length, map, IfOk, IsTrue};
+ghost use Rattle.std.specs.Prelude.{◌≡◌, ◌++◌, ◌+◌, ◌<◌, ◌^◌, length, map, IfOk, IsTrue};
 ghost use Rattle.cob_base.specs.Answers.{Makes};
 ghost use Rattle.cobol_laws.specs.cell_serving.Entries.{entries_of};
 ghost use Rattle.cell_table.specs.Names.{seen_item};
@@ -108,10 +108,10 @@ pub fn write_program(
     alloc: Global,
     program: &Program,
     order: &[Range],
-    closed: &[Closed],
+    closed: &mut [Closed],
 ) -> Result<Split, NoMemory>
-    requires { length closed.now ≡ length order.now }
-    ensures { IfOk result (IsWrittenWith program.now order.now closed.now) }
+    requires { length closed.old ≡ length order.now }
+    ensures { IfOk result (IsWrittenWith program.now order.now closed.old) }
 {
     if !is_small(program, order) {
         return Err(NoMemory);
@@ -122,6 +122,7 @@ pub fn write_program(
     let rows = rows_of(alloc, order, closed)?;
     let first = program.entries.len() as u32;
     let given = give_items(alloc, &words, first, rows.as_slice())?;
+    drop(rows);
     let cells = given.cells.as_slice();
     match paragraphs_of(
         alloc,

@@ -1,14 +1,13 @@
 //! What the paragraphs say.
 
-ghost use Rattle.std.specs.Prelude.{◌≡◌, ◌≤◌, ◌<◌, ◌∷◌, [], ◌++◌, codes, Some};
-ghost use Rattle.std.specs.Fmt.{decimal};
+ghost use Rattle.std.specs.Prelude.{◌≡◌, ◌≤◌, ◌<◌, ◌∷◌, [], Some};
 ghost use Rattle.cob_base.specs.Answers.{Makes};
-ghost use Rattle.program_gen.specs.Generated.{counter, counter_entry, count_one, jump_below, whole, sentence, group_word, jumping, leaving, paragraph};
+ghost use Rattle.program_gen.specs.Generated.{counter, counter_entry, count_one, jump_below, whole, sentence, group_word, jumping, leaving};
 
 use cob_base::{Items, NoMemory, Word};
 use cob_tree::{
-    Arms, Calc, Cond, Entry, Expr, Number, Operand, Paragraph, Picture, Place, Rel, Sentence, Sign,
-    Stmt, Target,
+    Arms, Calc, Cond, Digits, Entry, Expr, Number, Operand, Paragraph, Picture, Place, Rel,
+    Sentence, Sign, Stmt, Target,
 };
 use numbered_words::{capital_word, numbered, numbered_text};
 use std::alloc::Global;
@@ -29,7 +28,7 @@ fn whole(alloc: Global, n: u32) -> Result<Number, NoMemory>
     let digits = numbered_text(alloc, b"", n)?;
     Ok(Number {
         negative: false,
-        digits,
+        digits: Digits::new(digits),
         scale: 0,
     })
 }

@@ -1,5 +1,5 @@
 -- A source that isn't faulty is planned by its summary as flow paths ask.
-use Rattle.std.proofs.Common.{◌≡◌, ◌<◌, ℕ, zero, suc, true, false, if◌then◌else◌, List, [], ◌∷◌, ◌++◌, length, Some, None, slice_get, refl, ap, sym, ◌∙◌, subst, inl, inr, eqb-true, eq-eqb, arith}
+use Rattle.std.proofs.Common.{◌≡◌, ◌<◌, ℕ, zero, suc, true, false, if◌then◌else◌, List, [], ◌∷◌, length, Some, None, slice_get, refl, ap, sym, ◌∙◌, subst, inl, inr, eqb-true, eq-eqb, arith}
 use Rattle.std.specs.Prelude.{map, drop}
 use Rattle.std.specs.Option.{option_map}
 use Rattle.std.proofs.lemmas.Option.{slice_get-map, slice_get_within}
@@ -11,7 +11,6 @@ use Rattle.control_laws.specs.lowering.Told.{Told, IsSource}
 use Rattle.control_laws.specs.lowering.flow.Entered.{FreelyComes, IsEntered}
 use Rattle.control_laws.specs.lowering.flow.Paths as theory
 use Rattle.control_laws.specs.lowering.flow.Called.{IsCalled}
-use Rattle.control_laws.proofs.lowering_lemmas.flow.FreeFlow.{free-as-checked}
 use Rattle.control_laws.specs.graph_rules.Walked.{is_in, In}
 use Rattle.control_laws.specs.headline.Chain.{CallsStandLater}
 use Rattle.control_laws.specs.headline.CallsReached.{GivesSome, CalledByPaths}
@@ -19,14 +18,12 @@ use Rattle.flow_paths.specs.Step.{Point, at, Calls, next}
 use Rattle.flow_paths.specs.Flow.{main_range, part, Pending, FreePath, IsFaulty, CallsIn, ReturnsIn, IsRange}
 use Rattle.flow_paths.specs.Levels.{Comes, Levels, bottom, called}
 use Rattle.flow_paths.proofs.Runs.{stands, levels-run}
-use Rattle.flow_paths.proofs.Faults.{flows}
 use Rattle.flow_levels.specs.Reaching.{Holds}
 use Rattle.flow_levels.proofs.Exact.{path-comes, comes-path}
 use Rattle.flow_ties.specs.Uncounted.{uncounted, point_at, range_of}
 use Rattle.flow_ties.proofs.Ways.{next-calls, next-ends}
 use Rattle.flow_ties.proofs.SameLevels.{comes-here, comes-back}
-use Rattle.flow_ties.proofs.SameFaults.{own-path}
-use Rattle.flow_ties.proofs.Lifting.{faulty-there, lift, Lifts, lowered, lowered-alike}
+use Rattle.flow_ties.proofs.Lifting.{faulty-there}
 use Rattle.pending_returns.specs.declared.facts.RangeFacts.{RangeFacts}
 use Rattle.pending_returns.specs.declared.facts.Summary.{Summary}
 use Rattle.pending_returns.specs.Summary.{IsSummary}

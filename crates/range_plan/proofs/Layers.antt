@@ -9,7 +9,7 @@ use Rattle.flow_levels.specs.Reaching.{Holds}
 use Rattle.pending_returns.specs.declared.facts.RangeFacts.{RangeFacts}
 use Rattle.pending_returns.specs.declared.facts.Summary.{Summary}
 use Rattle.pending_returns.specs.Summary.{IsSummary}
-use Rattle.fault_finding.specs.Clashing.{LeadsFrom, EndsOne, NoClash}
+use Rattle.fault_finding.specs.Clashing.{LeadsFrom, NoClash}
 use Rattle.fault_finding.specs.Clashing as clashing
 use Rattle.fault_finding.proofs.Clashes.{clash-faulty}
 use Rattle.range_plan.specs.Planned.{calls_of}

@@ -1,6 +1,5 @@
 -- The plan of a program that isn't faulty, by flow paths.
 use Rattle.std.specs.Prelude.{ℕ, Bool, ◌≡◌, ◌<◌, true, List, [], ◌∷◌, length, map, drop, Option, Some, None}
-use Rattle.cob_tree.specs.declared.file.FileEntry.{FileEntry}
 use Rattle.cob_tree.specs.declared.program.Range as tree
 use Rattle.cob_tree.specs.declared.program.Program as cobol
 use Rattle.language.specs.Control.{control_of}

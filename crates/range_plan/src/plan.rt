@@ -1,6 +1,6 @@
 //! The plan of a program.
 
-ghost use Rattle.std.specs.Prelude.{◌≡◌, ◌<◌, ◌^◌, length, map, IfOk};
+ghost use Rattle.std.specs.Prelude.{◌≡◌, ◌<◌, map, IfOk};
 ghost use Rattle.cob_base.specs.Answers.{Makes};
 ghost use Rattle.range_plan.specs.Planned.{calls_of, range_at, IsPlanOf};
 

@@ -1,7 +1,8 @@
 -- The trees of rests in a range.
-use Rattle.std.proofs.Common.{◌≡◌, ℕ, zero, suc, ◌+◌, ◌≤◌, ◌<◌, Bool, true, false, List, [], ◌∷◌, drop, get_or, length, sum_by, Option, Some, None, refl, ap, ap₂, sym, ◌∙◌, subst, arith}
+use Rattle.std.proofs.Common.{◌≡◌, ℕ, zero, suc, ◌+◌, ◌≤◌, ◌<◌, Bool, true, false, List, [], ◌∷◌, drop, get_or, length, sum_by, Option, Some, None, if◌then◌else◌, slice_get, refl, ap, ap₂, sym, ◌∙◌, subst, arith}
 use Rattle.std.proofs.lemmas.Bool.{and_parts}
 use Rattle.std.proofs.lemmas.List.Sums.{sum_by-cons}
+use Rattle.std.proofs.lemmas.Option.{slice_get-get_or}
 use Rattle.cob_tree.specs.Places.{stmt_places}
 use Rattle.cob_tree.specs.declared.calc.Calc.{Calc}
 use Rattle.cob_tree.specs.declared.calc.Target.{Target}
@@ -22,7 +23,7 @@ use Rattle.control_laws.specs.lowering.Lowered.{place_in}
 use Rattle.branch_tree.specs.Trees.{seen_body, seen_end}
 use Rattle.branch_tree.specs.declared.tree.End.{End}
 use Rattle.branch_tree.specs.declared.tree.Piece.{Piece}
-use Rattle.lower_places.specs.Fall.{seen_range}
+use Rattle.lower_places.specs.Fall.{range_by, seen_range}
 use Rattle.lower_places.specs.Leaf.{seen_leaf}
 use Rattle.lower_places.specs.declared.layout.Layout.{Layout}
 use Rattle.lower_places.specs.declared.leaf.Leaf.{Leaf}
@@ -32,12 +33,12 @@ use Rattle.lower_stmts.specs.declared.telling.Leaving.{Leaving}
 use Rattle.lower_stmts.specs.declared.telling.Telling.{Telling}
 use Rattle.lower_trees.specs.Loops.{before}
 use Rattle.lower_trees.proofs.StartRows.{followed_none}
-use Rattle.rest_table.specs.Onward.{Lowering, behind_by, leaving_by}
+use Rattle.rest_table.specs.Onward.{Lowering, behind_by, ended, leaving_by}
 use Rattle.rest_table.specs.Paragraphs.{graph_of}
 use Rattle.rest_table.specs.Spots.{AllFit, AreRests, Fits, IsRest, turn_by}
 use Rattle.rest_table.specs.declared.spot.Onward.{Onward}
 use Rattle.rest_table.specs.declared.spot.Spot.{Spot}
-use Rattle.range_trees.specs.Nodes.{GoesOnIn, is_no_loop, IsPlaced, LeavesIn}
+use Rattle.range_trees.specs.Nodes.{GoAlike, GoAlikeFrom, GoesOnIn, is_no_loop, IsPlaced, LeavesIn, returns_at}
 
 -- by its place
 
@@ -51,6 +52,51 @@ pub rest_at_index : (layout : Layout) (g : Lowering layout) (place : ℕ) (spots
 rest_at_index layout g place [] i spot lt is h = absurd (omega (arith, lt))
 rest_at_index layout g place (first ∷ spots) zero spot lt is h = subst (λ n. IsRest layout g n spot) (omega arith) (subst (IsRest layout g place) (sym is) h.0)
 rest_at_index layout g place (first ∷ spots) (suc i) spot lt is h = subst (λ n. IsRest layout g n spot) (omega arith) (rest_at_index layout g (place + 1) spots i spot (omega (arith, lt)) is h.1)
+
+pub here_is : (spots : List Spot) (i : ℕ) (spot : Spot) → i < length spots → spot ≡ get_or spots i spot → slice_get spots i ≡ Some spot
+here_is spots i spot lt is = slice_get-get_or spots i spot lt ∙ ap (λ (s : Spot). Some s) (sym is)
+
+-- in ranges that go on alike
+
+leaf_at_end : (place_of : ℕ → ℕ) (program : language.Program) (entry : ℕ) (exit : Option ℕ) (number : ℕ) →
+    lower.end_leaf place_of program (range_by entry exit) number
+    ≡ (if returns_at exit number then graph.Return else lower.fall_leaf place_of number (slice_get program.paragraphs (suc number)))
+leaf_at_end place_of program entry None number = refl
+leaf_at_end place_of program entry (Some exit) number = refl
+
+ends_alike : (place_of : ℕ → ℕ) (program : language.Program) (range other : code.Range) (number : ℕ) → returns_at range.exit number ≡ returns_at other.exit number →
+    lower.end_leaf place_of program (seen_range range) number ≡ lower.end_leaf place_of program (seen_range other) number
+ends_alike place_of program range other number same =
+    leaf_at_end place_of program range.entry range.exit number
+    ∙ ap (λ t. if t then graph.Return else lower.fall_leaf place_of number (slice_get program.paragraphs (suc number))) same
+    ∙ sym (leaf_at_end place_of program other.entry other.exit number)
+
+pub leaves_alike : (telling : Telling) (range other : code.Range) (onward : Onward) (found : Leaving) → GoAlike range other onward → LeavesIn telling range onward found → LeavesIn telling other onward found
+leaves_alike telling range other onward found alike h = λ program placed.
+    let was = h program placed in
+    let control = control_of program in
+    let paragraph = ends_alike (place_in control) control range other onward.paragraph alike.paragraph in
+    let last = ends_alike (place_in control) control range other onward.last alike.last in
+    record {
+      sentence = ap (λ end. ended end onward.sentence) (sym paragraph) ∙ was.sentence;
+      paragraph = sym paragraph ∙ was.paragraph;
+      section = sym last ∙ was.section;
+      loop = ap (λ end. ended end onward.behind_loop) (sym paragraph) ∙ was.loop;
+      cycle = ap (λ end. ended end onward.cycle) (sym paragraph) ∙ was.cycle;
+    }
+
+pub goes_alike : (telling : Telling) (range other : code.Range) (onward : Onward) (found : Leaf) → GoAlike range other onward → GoesOnIn telling range onward found → GoesOnIn telling other onward found
+goes_alike telling range other onward found alike h = λ program placed.
+    let control = control_of program in
+    h program placed ∙ ap (λ end. ended end onward.after) (ends_alike (place_in control) control range other onward.paragraph alike.paragraph)
+
+pub goes_same : (spots : List Spot) (range : code.Range) (place : ℕ) → GoAlikeFrom spots range range place
+goes_same spots range place = record {
+  along = λ at. true;
+  here = refl;
+  behind = λ at next spot on is goes. refl;
+  alike = λ at spot on is. record { paragraph = refl; last = refl };
+}
 
 module _ (telling : Telling) (range : code.Range) (program : Program) (placed : IsPlaced telling program) where
   abbrev layout : Layout

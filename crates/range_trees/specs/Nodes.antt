@@ -1,5 +1,5 @@
 -- The nodes of ranges, by a table of rests.
-use Rattle.std.specs.Prelude.{ℕ, ◌≡◌, ◌<◌, ◌^◌, Bool, true, false, List, length}
+use Rattle.std.specs.Prelude.{ℕ, ◌≡◌, ◌<◌, ◌^◌, ◌==◌, Bool, true, false, List, length, Option, Some, None, slice_get}
 use Rattle.cob_tree.specs.declared.program.Program.{Program}
 use Rattle.cob_tree.specs.declared.program.Range as code
 use Rattle.cob_tree.specs.declared.stmt.Stmt.{Stmt}
@@ -81,3 +81,33 @@ IsTurnIn telling spot range place is_head made =
     (seen_stmts spot.onward.last spot.stmts.now) place
     (leaving_by telling.layout.now (graph_of telling program (seen_range range) placed) spot.onward)
     (after_by telling.layout.now (graph_of telling program (seen_range range) placed) spot.onward)
+
+-- whether a range with this exit returns at the end of a paragraph
+abbrev pub returns_at : Option ℕ → ℕ → Bool
+returns_at None number = false
+returns_at (Some exit) number = exit == number
+
+-- two ranges go on alike from a rest
+pub record GoAlike (range other : code.Range) (onward : Onward) : Type 0 where
+  pub paragraph : returns_at range.exit onward.paragraph ≡ returns_at other.exit onward.paragraph
+  pub last : returns_at range.exit onward.last ≡ returns_at other.exit onward.last
+
+-- from the rest at a place, and from all that the tree may go on at behind it
+pub record GoAlikeFrom (spots : List Spot) (range other : code.Range) (place : ℕ) : Type 0 where
+  pub along : ℕ → Bool
+  pub here : along place ≡ true
+  pub behind : (at next : ℕ) (spot : Spot) → along at ≡ true → slice_get spots at ≡ Some spot →
+      spot.onward.behind ≡ Some next → along next ≡ true
+  pub alike : (at : ℕ) (spot : Spot) → along at ≡ true → slice_get spots at ≡ Some spot →
+      GoAlike range other spot.onward
+
+-- it is the tree at a label of this place in each range that goes on alike
+abbrev pub IsNodeAlike : Telling → List Spot → code.Range → ℕ → graph.Label → tree.Tree → Type 0
+IsNodeAlike telling spots range place label made =
+    (other : code.Range) → GoAlikeFrom spots range other place →
+    IsNodeIn telling spots other label made
+
+abbrev pub IsTurnAlike : Telling → Spot → code.Range → ℕ → Bool → tree.Tree → Type 0
+IsTurnAlike telling spot range place is_head made =
+    (other : code.Range) → GoAlike range other spot.onward →
+    IsTurnIn telling spot other place is_head made

@@ -1,10 +1,10 @@
 //! The tree at a label.
 
-ghost use Rattle.std.specs.Prelude.{◌≡◌, ◌*◌, ◌<◌, ◌^◌, length, IfOk, MatchOption};
+ghost use Rattle.std.specs.Prelude.{◌≡◌, ◌*◌, ◌/◌, ◌<◌, ◌^◌, length, IfOk, MatchOption};
 ghost use Rattle.cob_tree.specs.declared.stmt.Stmt.TheVariants.{Loop};
 ghost use Rattle.control_laws.specs.lowering.Lower.{point};
 ghost use Rattle.rest_table.specs.Spots.{Fits};
-ghost use Rattle.range_trees.specs.Nodes.{GoesOnIn, HoldsNoLoop, IsNodeIn, IsTurnIn, IsWhole, LeavesIn};
+ghost use Rattle.range_trees.specs.Nodes.{GoesOnIn, HoldsNoLoop, IsNodeAlike, IsNodeIn, IsTurnAlike, IsWhole, LeavesIn};
 
 use branch_tree::{End, Tree};
 use cob_base::NoMemory;
@@ -47,7 +47,7 @@ fn point_tree(
 ) -> Result<Tree, NoMemory>
     requires whole { IsWhole telling.now spots.now }
     requires there { place < length spots.now }
-    ensures { IfOk result (IsNodeIn telling.now spots.now range (point place)) }
+    ensures { IfOk result (IsNodeAlike telling.now spots.now range place (point place)) }
 {
     let mut body = Vec::new(alloc);
     let mut here = place;
@@ -110,7 +110,7 @@ fn turn_tree(
 ) -> Result<Tree, NoMemory>
     requires fits { Fits telling.now.layout.now.end place spot.now }
     requires small { telling.now.layout.now.end < 2 ^ 30 }
-    ensures { IfOk result (IsTurnIn telling.now spot.now range place is_head) }
+    ensures { IfOk result (IsTurnAlike telling.now spot.now range place is_head) }
 {
     match spot.stmts {
         [] => Ok(only(alloc, End::Dead)),
@@ -130,7 +130,7 @@ fn turn_tree(
     }
 }
 
-/// The tree at a label.
+/// The tree at a label. It is that of each range that goes on alike from there.
 pub fn label_tree(
     alloc: Global,
     spots: &[Spot<'_>],
@@ -140,7 +140,8 @@ pub fn label_tree(
 ) -> Result<Tree, NoMemory>
     requires whole { IsWhole telling.now spots.now }
     requires there { label < 3 * length spots.now }
-    ensures { IfOk result (IsNodeIn telling.now spots.now range label) }
+    ensures own { IfOk result (IsNodeIn telling.now spots.now range label) }
+    ensures alike { IfOk result (IsNodeAlike telling.now spots.now range (label / 3) label) }
 {
     let place = label / 3;
     let part = label % 3;

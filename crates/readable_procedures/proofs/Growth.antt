@@ -18,7 +18,7 @@ use Rattle.procedure_names.specs.declared.scan.Scan.{Scan}
 use Rattle.procedure_names.specs.declared.table.Header.{Header}
 use Rattle.procedure_names.specs.declared.table.ProcedureTable.{ProcedureTable}
 use Rattle.procedure_names.specs.Procedures as procedures
-use Rattle.procedure_names.specs.Procedures.{header_name, named_by, with_name, header_at, header_of, begun_by, turned, scanned, closed, again_fault}
+use Rattle.procedure_names.specs.Procedures.{header_name, named_by, with_name, header_at, header_of, begun_by, turned, scanned, again_fault}
 use Rattle.readable_procedures.proofs.Finding.{split-first, found-at}
 
 -- the second table has what the first has, and more

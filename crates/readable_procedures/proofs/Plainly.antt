@@ -13,7 +13,7 @@ use Rattle.procedure_names.specs.declared.scan.Scan.{Scan}
 use Rattle.procedure_names.specs.declared.table.Header.{Header}
 use Rattle.procedure_names.specs.declared.table.ProcedureTable.{ProcedureTable}
 use Rattle.procedure_names.specs.Procedures as procedures
-use Rattle.procedure_names.specs.Procedures.{named_by, whole_count, section_headed, paragraph_headed, unheaded, closed, header_at, header_of, last_of, range_of}
+use Rattle.procedure_names.specs.Procedures.{named_by, whole_count, section_headed, paragraph_headed, unheaded, closed, header_at, header_of, range_of}
 use Rattle.statement_grammar.specs.Name.{is_capital_word, procedure_of}
 use Rattle.readable_procedures.specs.Own.{without_index, without_indices}
 use Rattle.readable_procedures.specs.Told.{section_told, behind_section, name_told, sentences_told, paragraph_told, paragraphs_told, own_procedures}

@@ -1,6 +1,6 @@
--- the lowest label at which a rule applies
-pub mod Lowest
--- one step of the rules
-pub mod Steps
+-- where Exits applies among slots
+pub mod Leaving
+-- a graph in slots while all rules reduce it
+pub mod Closings
 -- a graph as one body
 pub mod Shape

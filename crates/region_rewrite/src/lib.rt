@@ -8,7 +8,8 @@
 //! did, that the rules end, and that a dispatch stands only where no other rule applies.
 #![tactic(auto)]
 
-mod lowest;
+mod all_rules;
+mod exiting;
 mod ordering;
 mod reducing;
 mod shaping;

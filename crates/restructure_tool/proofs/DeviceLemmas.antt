@@ -1,8 +1,7 @@
 -- A device fault that is told is one of a device.
-use Rattle.std.proofs.Common.{◌≡◌, ◌∙◌, sym, subst, refl, ℕ, List, Option, Some, None, ◌⊎◌, inl, inr}
+use Rattle.std.proofs.Common.{◌≡◌, ◌∙◌, sym, subst, refl, ℕ, List, Option, Some, ◌⊎◌, inl, inr}
 use Rattle.cob_base.specs.Source.{SourceCall}
 use Rattle.cob_base.specs.Sink.{SinkCall}
-use Rattle.cob_tree.specs.declared.program.Program.{Program}
 use Rattle.file_desk.specs.Seen.{Seen}
 use Rattle.cobol_run.specs.declared.machine.Ending.TheVariants as ending
 use Rattle.cobol_run.specs.declared.running.Ran.TheVariants as ran

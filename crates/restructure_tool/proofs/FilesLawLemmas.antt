@@ -3,7 +3,7 @@ use Rattle.std.proofs.Common.{◌≡◌, ℕ, List, Option, Some, None, refl, ap
 use Rattle.cob_base.specs.Sink.{SinkCall}
 use Rattle.cob_tree.specs.declared.program.Program.{Program}
 use Rattle.file_desk.specs.Seen as desk
-use Rattle.runs.specs.Run.{Going, Over}
+use Rattle.runs.specs.Run.{Going}
 use Rattle.cobol_laws.specs.cobol_meaning.Runs.{Files}
 use Rattle.cobol_read.specs.Reading.{Reads}
 use Rattle.cobol_read.proofs.OneWay.{one_way}
@@ -31,7 +31,7 @@ use Rattle.restructure_tool.specs.Reading.{Tells}
 use Rattle.restructure_tool.specs.Running.{EndsOnFiles, IsRunDueOnFiles, StandsOnFiles, TellsCame, refusal_of, refusal_of_ending, unread}
 use Rattle.restructure_tool.specs.Writing.{Notes}
 use Rattle.restructure_tool.specs.Laws.{OneRunIsDueOnFiles, DueRunComesOnFiles, statuses_over}
-use Rattle.restructure_tool.proofs.RunLawLemmas.{ending-same, never-both, no-memory-comes, noted, over-never, over-same, unread-same, unrun-comes}
+use Rattle.restructure_tool.proofs.RunLawLemmas.{ending-same, never-both, no-memory-comes, over-never, over-same, unread-same, unrun-comes}
 
 -- what is due, by what the bytes are
 data IsOf (steps : ℕ) (bytes : List ℕ) (files : Files) (due : Option Refusal) : Type 0 where

@@ -1,7 +1,7 @@
 -- What the words ask.
 use Rattle.std.specs.Prelude.{ℕ, ◌≤◌, ◌+◌, nat_lt, if◌then◌else◌, Bool, true, false, List, [], ◌∷◌, Option, Some, None, option_map, option_and_then, codes}
 use Rattle.std.specs.Str.{bytes_eq}
-use Rattle.cob_store.specs.Number.{digits_value}
+use Rattle.cob_tree.specs.Digits.{digits_value}
 use Rattle.cobol_read.specs.Limit.{source_limit}
 use Rattle.restructure_tool.specs.declared.ask.Ask.{Ask}
 use Rattle.restructure_tool.specs.declared.ask.Ask.TheVariants.{Restructure, Report, Check, Run, Generate, Trial}

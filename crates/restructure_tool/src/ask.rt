@@ -4,7 +4,7 @@ ghost use Rattle.std.specs.Prelude.{◌≡◌, map, string_bytes, IfSome};
 ghost use Rattle.restructure_tool.specs.Ask as asks;
 ghost use Rattle.restructure_tool.specs.Ask.{ask_of, ask_of_word, ask_of_two, run_of, number_of, program_number, HasProgram, IsProgramNumber};
 
-use cob_store::digits_value;
+use cob_tree::digits_value;
 
 /// What is asked.
 #[derive(Clone, Copy, Debug, PartialEq, Eq)]

@@ -1,10 +1,8 @@
 //! The ask to run a source.
 
 ghost use Rattle.std.specs.Prelude.{◌≡◌, map, take};
-ghost use Rattle.cob_base.specs.Faults.{Rose};
 ghost use Rattle.cob_base.specs.Source.{source_call};
 ghost use Rattle.cob_base.specs.Sink.{sink_call};
-ghost use Rattle.run_answer.specs.Answers.{IsWriteFault};
 ghost use Rattle.restructure_tool.specs.Running.{EndsOfRun, EndsOfRunWithFiles, IsDeviceTold, TellsCame, refusal_of};
 ghost use Rattle.restructure_tool.specs.Running as runs;
 

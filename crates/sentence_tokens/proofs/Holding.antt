@@ -21,7 +21,7 @@ use Rattle.statement_grammar.specs.declared.stmt_forms.scope.Scope.{Scope}
 use Rattle.statement_grammar.specs.declared.stmt_forms.whens.Whens.{Whens}
 use Rattle.statement_grammar.specs.stmt_forms.Part.{Parts}
 use Rattle.sentence_tokens.proofs.Parts.{PartsArePlain}
-use Rattle.statement_grammar.specs.stmt_forms.Arms.{Level, Found, Arm}
+use Rattle.statement_grammar.specs.stmt_forms.Arms.{Level, Found}
 use Rattle.statement_grammar.specs.stmt_forms.Arms as arms
 use Rattle.statement_grammar.specs.stmt_forms.Choice as choice
 use Rattle.statement_grammar.specs.stmt_forms.Loop as loops

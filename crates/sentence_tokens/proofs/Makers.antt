@@ -7,7 +7,7 @@ use Rattle.grammar_forms.specs.declared.note.Note.{Note}
 use Rattle.grammar_forms.specs.declared.note.Position.{Position}
 use Rattle.grammar_forms.specs.declared.why.Why.{Why}
 use Rattle.grammar_forms.specs.Form as form
-use Rattle.grammar_forms.specs.Form.{Input, with_fault, Outcome, Got, Stop, Form, then_read, past, position_of, taken_as, one_reads, is_next, begins_by, loop_reads}
+use Rattle.grammar_forms.specs.Form.{Input, with_fault, Got, Form, then_read, past, position_of, taken_as, one_reads, is_next, begins_by, loop_reads}
 use Rattle.grammar_forms.specs.Part as parts
 use Rattle.grammar_forms.specs.Part.{is_period}
 use Rattle.grammar_forms.proofs.Lawful.{got_is, then_got}

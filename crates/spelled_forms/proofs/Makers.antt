@@ -6,7 +6,7 @@ use Rattle.cobol_lex.specs.declared.token.TokenKind.{TokenKind}
 use Rattle.grammar_forms.specs.declared.note.Note.{Note}
 use Rattle.grammar_forms.specs.declared.note.Position.{Position}
 use Rattle.grammar_forms.specs.Form as form
-use Rattle.grammar_forms.specs.Form.{Input, Form, next, begins_by}
+use Rattle.grammar_forms.specs.Form.{Form, next, begins_by}
 use Rattle.spelled_forms.specs.Spelling.{kinds_of, here, first_of, Any, Spelled}
 
 head-is : {A : Type 0} {x y : A} {xs ys : List A} → x ∷ xs ≡ y ∷ ys → x ≡ y

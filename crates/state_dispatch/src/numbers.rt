@@ -1,6 +1,6 @@
 //! Labels of nodes, and their numbers.
 
-ghost use Rattle.std.specs.Prelude.{◌≡◌, ◌<◌, ◌≤◌, ◌^◌, suc, length};
+ghost use Rattle.std.specs.Prelude.{◌≡◌, ◌<◌, ◌^◌, suc, length};
 ghost use Rattle.cob_base.specs.Answers.{Makes};
 ghost use Rattle.control_laws.specs.closing.Dispatches.{labels_of, number_in, one_further};
 ghost use Rattle.branch_tree.specs.Graphs.{seen_nodes};

@@ -1,6 +1,5 @@
 //! The parts of statements, as they are read.
 
-ghost use Rattle.std.specs.Prelude.{◌≡◌};
 ghost use Rattle.statement_grammar.specs.Whole.{parts_of};
 ghost use Rattle.statement_grammar.proofs.PartLaws as laws;
 

@@ -18,7 +18,8 @@ use Rattle.cob_tree.specs.declared.place.Place.{Place, out-Place}
 use Rattle.cob_tree.specs.declared.cond.Cond.{Cond, fold-Cond}
 use Rattle.cob_tree.specs.declared.cond.Cond.TheOpen.{Cond-F}
 use Rattle.cob_store.specs.Answer.{Answer, and_then}
-use Rattle.cob_store.specs.Number.{is_digit, number_in}
+use Rattle.cob_tree.specs.Digits.{is_digit}
+use Rattle.cob_store.specs.Number.{number_in}
 use Rattle.cob_store.specs.Place.{Memory, expr_value}
 use Rattle.statements.specs.Text.{is_letter}
 use Rattle.statements.specs.Side.{Side, Item, place_side, operand_side, expr_side, compared, side_bytes, valued}

@@ -18,7 +18,8 @@ use Rattle.cob_store.specs.declared.area.Form.TheVariants as forms
 use Rattle.cob_store.specs.declared.spot.Spot.{Spot}
 use Rattle.cob_store.specs.declared.spot.Reached.{Reached}
 use Rattle.cob_store.specs.Answer.{Answer, and_then, there_or}
-use Rattle.cob_store.specs.Number.{digits_value, number_in, number_bytes, padded}
+use Rattle.cob_tree.specs.Digits.{digits_value}
+use Rattle.cob_store.specs.Number.{number_in, number_bytes, padded}
 use Rattle.cob_store.specs.Store.{Roots, spot_bytes, put_at, fitted}
 use Rattle.cob_store.specs.Place.{Memory, memory_of, Value, kept, literal_value, OfMemory, reached, reached_in}
 use Rattle.cob_store.specs.Store.{number_of}

@@ -22,8 +22,8 @@ pub fn control_most(control: &Control) -> u32
             cond,
             ..
         } => {
-            let ends = operand_most(from).max(operand_most(by));
-            place_most(item).max(ends).max(cond_terms(cond))
+            let ends = operand_most(from.get()).max(operand_most(by.get()));
+            place_most(item.get()).max(ends).max(cond_terms(cond))
         }
     }
 }

@@ -8,10 +8,10 @@ use Rattle.flow_paths.specs.declared.trail.Move.{Move}
 use Rattle.flow_paths.specs.declared.trail.Move.TheVariants.{Into}
 use Rattle.flow_paths.specs.declared.trail.Lemma.{Lemma}
 use Rattle.flow_paths.specs.declared.trail.Hop.{Hop}
-use Rattle.flow_paths.specs.Step.{Point, Next, start, next, is_paragraph}
+use Rattle.flow_paths.specs.Step.{Point, Next, next, is_paragraph}
 use Rattle.flow_paths.specs.Step as lang
 use Rattle.flow_paths.specs.Flow.{main_range, part, is_exit, is_among, fault_of}
-use Rattle.flow_paths.specs.Accepted.{walk, Leads, LeadsTo, Meets, with_exit, HopsLead, BeginsInMain, lemma_ranges, hop_ranges}
+use Rattle.flow_paths.specs.Accepted.{walk, LeadsTo, Meets, with_exit, HopsLead, BeginsInMain, lemma_ranges, hop_ranges}
 use Rattle.flow_paths.specs.Accepted as accepted
 use Rattle.flow_places.specs.declared.table.Place.{Place}
 use Rattle.flow_places.specs.declared.table.Place.TheVariants.{Goes, Chooses, Calls, Stops, Ends}

@@ -5,7 +5,7 @@ use Rattle.language.specs.Language.{Chooser, Program}
 use Rattle.flow_paths.specs.declared.trail.FlowFault.{FlowFault}
 use Rattle.flow_paths.specs.declared.trail.Lemma.{Lemma}
 use Rattle.flow_paths.specs.declared.trail.Hop.{Hop}
-use Rattle.flow_paths.specs.Step.{Point, next, is_paragraph}
+use Rattle.flow_paths.specs.Step.{Point, next}
 use Rattle.flow_paths.specs.Step as lang
 use Rattle.flow_paths.specs.Flow.{main_range, part, Pending, returning, CallsIn, EndsIn, IsRange}
 use Rattle.flow_paths.specs.Levels.{Levels, bottom, called}

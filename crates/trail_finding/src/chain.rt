@@ -1,6 +1,6 @@
 //! The ranges of a trail's hops.
 
-ghost use Rattle.std.specs.Prelude.{[], ◌∷◌, ◌++◌, ◌≡◌, ◌<◌, ◌↔◌, ℕ, length, slice_get, Some, IfOk, OnOk, IsTrue, MatchOption};
+ghost use Rattle.std.specs.Prelude.{◌∷◌, ◌++◌, ◌≡◌, ◌<◌, ◌↔◌, ℕ, length, slice_get, Some, IfOk, OnOk, IsTrue, MatchOption};
 ghost use Rattle.flow_levels.specs.Reaching.{Holds, IsMarked};
 ghost use Rattle.pending_returns.specs.Tabled.{AllBelow, AddsCalls, CallsBelow};
 ghost use Rattle.fault_finding.specs.Clashing.{LeadsFrom, HasClash};

@@ -3,7 +3,7 @@
 ghost use Rattle.std.specs.Prelude.{◌≡◌, ◌↔◌, IfOk, IsTrue, MatchOption};
 ghost use Rattle.language.specs.Control.{control_of};
 ghost use Rattle.flow_paths.specs.Flow.{IsFaulty};
-ghost use Rattle.flow_paths.specs.Accepted.{IsAccepted, NoneTwice, lemma_ranges, hop_ranges};
+ghost use Rattle.flow_paths.specs.Accepted.{lemma_ranges, hop_ranges};
 ghost use Rattle.flow_numbers.specs.Kinds.{never_first_of};
 ghost use Rattle.pending_returns.specs.Summary.{IsSummary};
 ghost use Rattle.fault_finding.specs.Clashing.{HasClash};

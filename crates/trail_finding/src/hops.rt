@@ -6,7 +6,7 @@ ghost use Rattle.flow_paths.specs.declared.trail.Move.TheVariants.{Into};
 ghost use Rattle.flow_places.specs.Table.{IsTidy};
 ghost use Rattle.trail_finding.specs.Aims.{IsMetSomewhere};
 ghost use Rattle.trail_finding.specs.Routes.{flags_of};
-ghost use Rattle.trail_finding.specs.Hopping.{aim_at, into_of, HopsCome};
+ghost use Rattle.trail_finding.specs.Hopping.{aim_at, HopsCome};
 
 use crate::aim::{Aim, Found, route_to};
 use crate::chain::Chain;

@@ -1,6 +1,6 @@
 //! The lemmas of all ranges that return.
 
-ghost use Rattle.std.specs.Prelude.{[], ◌∷◌, ◌++◌, ◌≡◌, ◌<◌, ◌≤◌, ℕ, true, false, length, replicate, slice_get, slice_set, Some, None, IfOk, OnOk, MatchOption};
+ghost use Rattle.std.specs.Prelude.{[], ◌∷◌, ◌++◌, ◌≡◌, ◌<◌, true, false, length, replicate, slice_get, slice_set, Some, None, IfOk, OnOk, MatchOption};
 ghost use Rattle.cob_tree.specs.declared.program.Range.{Range};
 ghost use Rattle.flow_places.specs.Table.{IsTidy, IsClosed, ReturnsHere};
 ghost use Rattle.flow_levels.specs.Reaching.{trues};

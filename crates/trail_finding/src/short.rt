@@ -1,6 +1,6 @@
 //! A trail without the lemmas that its hops don't need.
 
-ghost use Rattle.std.specs.Prelude.{[], ◌∷◌, ◌++◌, ◌≡◌, ◌<◌, ◌≤◌, ℕ, Bool, true, length, slice_get, Some, IfOk, OnOk};
+ghost use Rattle.std.specs.Prelude.{◌≡◌, ◌<◌, ◌≤◌, ℕ, Bool, true, length, slice_get, Some, IfOk, OnOk};
 ghost use Rattle.language.specs.Language.{Chooser, Program};
 ghost use Rattle.trail_finding.specs.Finding.{IsFound};
 ghost use Rattle.trail_finding.specs.Short.{Flags, FlagsOver, Adds, FlagHops, FlagLemmas, renamed, renumber, KeepsOne, Keeps, Renumbers};

@@ -1,16 +1,11 @@
 -- The one arm, or the one node, with the jump to a label.
-use Rattle.std.proofs.Common.{◌≡◌, ◌<◌, ◌≤◌, ℕ, zero, suc, ◌+◌, Bool, true, false, if◌then◌else◌, ◌==◌, List, [], ◌∷◌, length, get_or, set, map, Option, Some, None, refl, ap, sym, ◌∙◌, arith}
+use Rattle.std.proofs.Common.{◌≡◌, ◌<◌, ◌≤◌, ℕ, zero, suc, ◌+◌, Bool, true, false, if◌then◌else◌, ◌==◌, List, [], ◌∷◌, length, take, get_or, set, refl, ap, sym, ◌∙◌, arith, add-one}
 use Rattle.language.specs.Language.{Stmts}
 use Rattle.control.specs.Doing.{is_above}
 use Rattle.control.specs.Graph.{Label, Tree, tree, End, Pick, Jump, Return, Stop, Dead, Trees, no_more, more}
 use Rattle.control_laws.specs.graph_rules.Shapes.{inlined, inline_end, inlined_arms, leaves_to, end_leaves_to, arms_leaves_to}
 use Rattle.branch_tree.specs.Changes.{gone_on}
-use Rattle.branch_tree.specs.declared.tree.Tree as code
-use Rattle.branch_tree.specs.Trees.{seen_tree, seen_trees, trees_of}
-use Rattle.std.proofs.lemmas.List.{map-set, length-map}
-use Rattle.std.proofs.Math.Seq.{map-set_same}
-use Rattle.tree_rules.specs.Puts.{Puts, PutsOne}
-use Rattle.tree_rules.proofs.Arms.{seen_at}
+use Rattle.branch_tree.specs.Trees.{trees_of}
 
 abbrev once_if : Bool → ℕ
 once_if z = if z then 1 else 0
@@ -93,16 +88,40 @@ module _ (label : Label) (by : Tree) where
       ap (more t) (put_set ts at d less rest here)
       ∙ ap (λ x. more x (inlined_arms label by (trees_of ts))) (sym (tree_absent t first))
 
--- what became of the arm is what became of the arms
-pub puts_one : (r : Option code.Tree) (label : Label) (by : Tree) (arms : List code.Tree) (at : ℕ) (d new : code.Tree) →
-    at < length arms → arms_leaves_to label (seen_trees arms) ≡ 1 → leaves_to label (seen_tree (get_or arms at d)) ≡ 1 →
-    Puts r label by (seen_tree (get_or arms at d)) (seen_tree new) →
-    PutsOne r label by (seen_trees arms) (seen_trees (set arms at new))
-puts_one None label by arms at d new within one here h =
-    let trees = map seen_tree arms in
-    let mapped = length-map arms seen_tree in
-    ap trees_of (map-set seen_tree arms at new)
-    ∙ ap (λ v. trees_of (set trees at v)) (h ∙ ap (inlined label by) (seen_at arms at d))
-    ∙ put_set label by trees at (seen_tree d) (omega (arith, mapped, within)) one (ap (leaves_to label) (sym (seen_at arms at d)) ∙ here)
-puts_one (Some back) label by arms at d new within one here h =
-    (ap trees_of (map-set_same seen_tree arms at new d h.0), h.1)
+-- The arms one after the other.
+
+leaves_next : (label : Label) (ts : List Tree) (at : ℕ) (d : Tree) → at < length ts →
+    arms_leaves_to label (trees_of (take at ts)) + leaves_to label (get_or ts at d) ≡ arms_leaves_to label (trees_of (take (suc at) ts))
+leaves_next label [] at d within = let no : ⊥ = omega (arith, within) in absurd no
+leaves_next label (t ∷ ts) zero d within = omega arith
+leaves_next label (t ∷ ts) (suc at) d within =
+    let less : at < length ts = omega (arith, within) in
+    let h = leaves_next label ts at d less in
+    omega (arith, h)
+
+-- one more without such a jump
+pub none_next : (label : Label) (ts : List Tree) (at : ℕ) (d : Tree) → at < length ts → arms_leaves_to label (trees_of (take at ts)) ≡ 0 →
+    leaves_to label (get_or ts at d) ≡ 0 → arms_leaves_to label (trees_of (take (at + 1) ts)) ≡ 0
+none_next label ts at d within none here =
+    let h = leaves_next label ts at d within in
+    let e : arms_leaves_to label (trees_of (take (suc at) ts)) ≡ 0 = omega (arith, h, none, here) in
+    ap (λ n. arms_leaves_to label (trees_of (take n ts))) (add-one at) ∙ e
+
+pub few_in_arm : (label : Label) (by : Tree) (ts : List Tree) (at : ℕ) (d : Tree) → at < length ts → arms_leaves_to label (trees_of ts) ≤ 1 → leaves_to label (get_or ts at d) ≤ 1
+few_in_arm label by ts at d within few = let most = leaves_most label by ts at d within in omega (arith, most, few)
+
+-- the tree stands in the arm
+pub placed_set : (label : Label) (by : Tree) (ts : List Tree) (at : ℕ) (d new : Tree) → at < length ts → arms_leaves_to label (trees_of ts) ≤ 1 →
+    new ≡ inlined label by (get_or ts at d) → leaves_to label (get_or ts at d) ≡ 1 →
+    (trees_of (set ts at new) ≡ inlined_arms label by (trees_of ts)) × (arms_leaves_to label (trees_of ts) ≡ 1)
+placed_set label by ts at d new within few is here =
+    let most = leaves_most label by ts at d within in
+    let one : arms_leaves_to label (trees_of ts) ≡ 1 = omega (arith, most, few, here) in
+    (ap (λ t. trees_of (set ts at t)) is ∙ put_set label by ts at d within one here, one)
+
+-- the jump of a leaf
+pub leaf_one : (label to : Label) (body : Stmts) → (to == label) ≡ true → leaves_to label (tree body (Jump to)) ≡ 1
+leaf_one label to body h = ap once_if h
+
+pub leaf_none : (label to : Label) (body : Stmts) → (to == label) ≡ false → leaves_to label (tree body (Jump to)) ≡ 0
+leaf_none label to body h = ap once_if h

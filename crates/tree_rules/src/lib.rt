@@ -15,4 +15,5 @@ mod targets;
 
 pub use inlining::{inline, inline_at, inlines_at, place_of};
 pub use joining::join;
+pub use putting::put;
 pub use targets::{Targets, other_targets};

@@ -8,7 +8,7 @@ ghost use Rattle.grammar_forms.specs.Reading.{Reads};
 ghost use Rattle.word_forms.specs.Constant as constants;
 
 use cob_base::Word;
-use cob_tree::{Figure, Number, Operand};
+use cob_tree::{Digits, Figure, Number, Operand};
 use cobol_lex::TokenKind;
 use grammar_forms::{Cursor, Position, Unread, Why};
 use std::alloc::Global;
@@ -118,7 +118,7 @@ fn whole_number(alloc: Global, cursor: &mut Cursor<'_>) -> Result<(Operand, Posi
     let (digits, position) = cursor.digits(alloc)?;
     let number = Number {
         negative: false,
-        digits,
+        digits: Digits::new(digits),
         scale: 0,
     };
     Ok((Operand::Number(number), position))

@@ -19,7 +19,7 @@ use Rattle.cob_store.specs.declared.spot.Reached.{Reached}
 use Rattle.cob_store.specs.Answer.{Answer, and_then}
 use Rattle.cob_store.specs.Store.{Roots}
 use Rattle.cob_store.specs.Place as place
-use Rattle.cob_store.specs.Place.{Memory, memory_of, Value, OfMemory, number_at, place_number, negated, calculated, sum_by, sub_by, literal_value, offset_in, kept_behind, offsets_behind, occurrence_at, subscripted, long_by, spot_from, spot_long, windowed_by, reached_in, reached, sub_value, window_of, operand_value, expr_value}
+use Rattle.cob_store.specs.Place.{Memory, memory_of, Value, OfMemory, number_at, place_number, negated, calculated, sum_by, literal_value, offset_in, kept_behind, offsets_behind, occurrence_at, subscripted, long_by, spot_from, spot_long, windowed_by, reached_in, reached, sub_value, window_of, operand_value, expr_value}
 use Rattle.language.specs.All.{all, if_there}
 use Rattle.cobol_laws.specs.added_items.Within as within
 use Rattle.cobol_laws.specs.added_items.Within.{place_within, operand_within, expr_within, sub_within, window_within}

@@ -14,7 +14,7 @@ use Rattle.cob_store.specs.Answer.{Answer}
 use Rattle.cob_store.specs.Number.{number_in, number_bytes, signed_bytes, padded, overpunched}
 use Rattle.cob_store.specs.Store.{Roots, spot_bytes}
 use Rattle.cob_store.specs.Place as place
-use Rattle.cob_store.specs.Place.{Memory, memory_of, Value, OfMemory, kept, number_at, place_number, reached_in, reached, place_value, literal_value}
+use Rattle.cob_store.specs.Place.{Memory, memory_of, Value, OfMemory, reached_in, reached}
 use Rattle.cobol_laws.specs.stored_numbers.Laws.{Fits}
 use Rattle.cobol_laws.proofs.stored_numbers_lemmas.ReadBack.{read-back}
 use Rattle.cobol_laws.specs.cell_items.Cell.{cell_place, IsCell, cell_bytes, Holds}

@@ -23,7 +23,7 @@ use Rattle.cob_store.specs.Answer.{Answer, and_then}
 use Rattle.cob_store.specs.Store.{Roots, number_of, put_at}
 use Rattle.cob_store.specs.Number.{number_in}
 use Rattle.cob_store.specs.Place as place
-use Rattle.cob_store.specs.Place.{Memory, memory_of, Value, OfMemory, kept, literal_value, reached, number_at, operand_value}
+use Rattle.cob_store.specs.Place.{Memory, memory_of, Value, OfMemory, kept, literal_value, number_at, operand_value}
 use Rattle.statements.specs.Outcome.{done, go_on, then_do}
 use Rattle.statements.specs.Arithmetic.{Less, basis_of, value_for, part_of, given, given_by, targeted, all_targeted, calculated, both}
 use Rattle.cobol_laws.specs.stored_numbers.Laws.{Fits}

@@ -29,7 +29,7 @@ use Rattle.cob_store.specs.Store.{Roots, spot_bytes, number_of}
 use Rattle.cob_store.specs.Place.{Memory, memory_of, expr_value}
 use Rattle.statements.specs.Side.{Side, Amount, Item, Literal, Bytes, valued, item_side, place_side, figure_side, operand_side, expr_side, compared, side_number}
 use Rattle.statements.specs.Condition as condition
-use Rattle.statements.specs.Condition.{Tests, rel_holds, relation, holds}
+use Rattle.statements.specs.Condition.{Tests, rel_holds, holds}
 use Rattle.cobol_laws.specs.stored_numbers.Laws.{Fits}
 use Rattle.cobol_laws.specs.cell_items.Cell.{cell_place, cell_operand, number_operand, operand_expr, IsCell, cell_bytes, Holds}
 use Rattle.cobol_laws.specs.cell_items.Laws.{IsWhole, cell_relation}

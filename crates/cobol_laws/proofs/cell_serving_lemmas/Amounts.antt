@@ -24,10 +24,11 @@ use Rattle.cob_store.specs.declared.area.Area.{Area}
 use Rattle.cob_store.specs.declared.spot.Spot.{Spot}
 use Rattle.cob_store.specs.declared.spot.Reached.{Reached}
 use Rattle.cob_store.specs.Answer.{Answer, and_then, there_or}
-use Rattle.cob_store.specs.Number.{is_digit, digits_after, digits_value, front, last, positive, negative, is_overpunched, within, beside, number_in}
+use Rattle.cob_tree.specs.Digits.{is_digit, digits_after, digits_value}
+use Rattle.cob_store.specs.Number.{front, last, positive, negative, is_overpunched, within, beside, number_in}
 use Rattle.cob_store.specs.Store.{Roots, spot_bytes, number_of}
 use Rattle.cob_store.specs.Place as place
-use Rattle.cob_store.specs.Place.{Memory, memory_of, Value, OfMemory, reached, reached_in, subscripted, windowed_by, spot_of, expr_value, operand_value, sub_value, number_at, literal_value}
+use Rattle.cob_store.specs.Place.{Memory, memory_of, Value, OfMemory, reached, reached_in, subscripted, spot_of, expr_value, operand_value, sub_value, number_at}
 use Rattle.cobol_laws.specs.stored_numbers.Laws.{bytes_for}
 use Rattle.cobol_laws.proofs.cell_items_lemmas.Takes.{Layered, worth_by, worth-of}
 use Rattle.cobol_laws.specs.cell_serving.Amounts.{IsWholePlace, IsAmountBy, IsAmount}

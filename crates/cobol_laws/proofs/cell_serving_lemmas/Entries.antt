@@ -16,7 +16,7 @@ use Rattle.cob_tree.specs.declared.place.Operand.{out-roll-Operand}
 use Rattle.cob_tree.specs.declared.place.Expr.TheOpen.{Operand-F}
 use Rattle.cob_store.specs.declared.area.Form.TheVariants as forms
 use Rattle.cob_store.specs.Laying.{layout_of, area_of}
-use Rattle.cob_store.specs.Number.{digits_after, digits_value}
+use Rattle.cob_tree.specs.Digits.{digits_after, digits_value}
 use Rattle.cob_store.specs.Place.{signed_by, kept}
 use Rattle.cob_store.specs.Starting.{store_of, started_by, value_in}
 use Rattle.cob_store.specs.Store.{blank}

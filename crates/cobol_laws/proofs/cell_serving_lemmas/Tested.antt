@@ -15,7 +15,7 @@ use Rattle.cob_tree.specs.declared.place.Expr.TheOpen.{Operand-F}
 use Rattle.cob_store.specs.declared.area.Area.{Area}
 use Rattle.cob_store.specs.declared.area.Form.{Form}
 use Rattle.cob_store.specs.declared.area.Form.TheVariants as forms
-use Rattle.cob_store.specs.Number.{digits_after, digits_value}
+use Rattle.cob_tree.specs.Digits.{digits_after, digits_value}
 use Rattle.cob_store.specs.Place.{signed_by}
 use Rattle.language.specs.Language.{Chooser, Evaluate, Arith, Depending}
 use Rattle.language.specs.Language as language

@@ -8,7 +8,7 @@ use Rattle.cob_tree.specs.declared.file.FileEntry.{FileEntry}
 use Rattle.cob_tree.specs.declared.place.Place.{Place}
 use Rattle.cob_tree.specs.declared.program.Program.{Program}
 use Rattle.language.specs.All.{all}
-use Rattle.language.specs.Language.{Range, By, Stmts, none, also, Arms, done, given, missing}
+use Rattle.language.specs.Language.{Range, By, none, also, Arms, done, given, missing}
 use Rattle.language.specs.Language as language
 use Rattle.language.specs.Control.{control_of}
 use Rattle.control_laws.specs.lowering.Told.{Told, IsSource}

@@ -18,7 +18,7 @@ use Rattle.cob_tree.specs.declared.place.Window.{Window}
 use Rattle.cob_store.specs.declared.area.Area.{Area}
 use Rattle.cob_store.specs.declared.area.Form.TheVariants as forms
 use Rattle.cob_store.specs.Laying.{layout_of}
-use Rattle.cob_store.specs.Number.{digits_after, digits_value}
+use Rattle.cob_tree.specs.Digits.{digits_after, digits_value}
 use Rattle.cob_store.specs.Size.{sign_size, is_condition}
 use Rattle.language.specs.All.{all}
 use Rattle.cobol_laws.specs.added_items.Laying.{begins_with_item}

@@ -5,7 +5,8 @@ use Rattle.std.specs.Prelude.{take, slice_index, option_and_then, ℤ, pos, negs
 use Rattle.std.specs.Int.{is_negative}
 use Rattle.cob_tree.specs.declared.picture.Sign.{Sign}
 use Rattle.cob_tree.specs.declared.picture.Sign.TheVariants.{Within, SeparateLeading, SeparateTrailing}
-use Rattle.cob_store.specs.Number.{is_digit, digits_after, digits_value, front, last, positive, negative, is_overpunched, within, beside, number_in, padded, overpunched, signed_bytes, number_bytes}
+use Rattle.cob_tree.specs.Digits.{is_digit, digits_after, digits_value}
+use Rattle.cob_store.specs.Number.{front, last, positive, negative, is_overpunched, within, beside, number_in, padded, overpunched, signed_bytes, number_bytes}
 use Rattle.cob_store.specs.Size.{sign_size}
 use Rattle.cobol_laws.specs.stored_numbers.Laws.{bytes_for, Fits}
 

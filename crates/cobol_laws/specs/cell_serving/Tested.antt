@@ -11,7 +11,7 @@ use Rattle.cob_tree.specs.declared.place.Expr.TheOpen.{Operand-F}
 use Rattle.cob_store.specs.declared.area.Area.{Area}
 use Rattle.cob_store.specs.declared.area.Form.{Form}
 use Rattle.cob_store.specs.declared.area.Form.TheVariants as forms
-use Rattle.cob_store.specs.Number.{digits_value}
+use Rattle.cob_tree.specs.Digits.{digits_value}
 use Rattle.language.specs.Language as language
 use Rattle.language.specs.Language.{Range, Chooser, Evaluate, Arith, Depending}
 use Rattle.control_laws.specs.rendering.Procedures.{Writable}

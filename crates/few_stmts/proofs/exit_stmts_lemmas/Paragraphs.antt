@@ -18,9 +18,10 @@ use Rattle.few_stmts.specs.Giving.{GivesOfFew}
 use Rattle.struct_form.specs.Structured.{stmts_exitless}
 use Rattle.few_stmts.specs.lone_exits.Alone.{is_lone_exit, sentence_exits_alone, sentences_exit_alone, paragraph_exits_alone, paragraphs_exit_alone}
 use Rattle.few_stmts.proofs.Giving.{any, hence, still, pure, refuse, chosen, where_next, loop, items_all, ◌>>=◌, ◌>>◌}
-use Rattle.few_stmts.proofs.exit_stmts_lemmas.Simple as simple
-use Rattle.few_stmts.proofs.exit_stmts_lemmas.Simple.{Stmts}
-use Rattle.few_stmts.proofs.exit_stmts_lemmas.Holding as holding
+use Rattle.few_stmts.proofs.Passing.{Stmts}
+use Rattle.few_stmts.proofs.Simple as simple
+use Rattle.few_stmts.proofs.Holding as holding
+use Rattle.few_stmts.proofs.exit_stmts_lemmas.Exitless.{exitless_fold, exitless-by-parts}
 
 or-second : (a b : Bool) → b ≡ true → (a || b) ≡ true
 or-second true b h = refl
@@ -45,22 +46,22 @@ one_alone [] h = refl
 one_alone (paragraph ∷ done) h = h
 
 module _ (bound : ℕ) where
-  sentence_end : (found : Found) → GivesOfFew bound (paragraphs.sentence_end found) (λ sentence. Stmts found.0 → sentence_exits_alone sentence ≡ true)
+  sentence_end : (found : Found) → GivesOfFew bound (paragraphs.sentence_end found) (λ sentence. Stmts exitless_fold found.0 → sentence_exits_alone sentence ≡ true)
   unfolding paragraphs.sentence_end paragraphs.sentence_closed
   sentence_end found = chosen found.1 refuse (laws.period >> pure (λ h. or-second (is_lone_exit found.0) (stmts_exitless found.0) h))
 
   module _ {Side Known : Type 0} {parts : Parts Side Known} (lawful : PartsAreLawful parts) where
     sentence : (scope : Scope) → GivesOfFew bound (paragraphs.sentence parts scope) (λ sentence. sentence_exits_alone sentence ≡ true)
     unfolding paragraphs.sentence
-    sentence scope = holding.stmts_with bound lawful (holding.level bound lawful max_nesting) scope >>= sentence_end
+    sentence scope = holding.stmts_with (exitless-by-parts bound) lawful (holding.level (exitless-by-parts bound) lawful max_nesting) scope >>= sentence_end
 
     sentences_from : (scope : Scope) {before : List Sentence} → GivesOfFew bound (paragraphs.sentences_from parts scope before) (λ list. Sentences before → Sentences list)
     sentences_from scope = items_all sentence_exits_alone (sentence scope)
 
     exit_sentence : (scope : Scope) (position : Position) → GivesOfFew bound (paragraphs.exit_sentence parts scope position) (λ sentence. sentence_exits_alone sentence ≡ true)
     unfolding paragraphs.exit_sentence
-    exit_sentence scope position = simple.exit_behind bound scope position >>= (λ first.
-        loop {P = λ (found : Found). Stmts found.0} (holding.stmts_turn bound lawful (holding.level bound lawful max_nesting) scope)
+    exit_sentence scope position = simple.exit_behind (exitless-by-parts bound) scope position >>= (λ first.
+        loop {P = λ (found : Found). Stmts exitless_fold found.0} (holding.stmts_turn (exitless-by-parts bound) lawful (holding.level (exitless-by-parts bound) lawful max_nesting) scope)
         >>= (λ found. hence (λ sentence h w f. h (w (both f refl))) (sentence_end found)))
 
     exit_sentences : (scope : Scope) (position : Position) → GivesOfFew bound (paragraphs.exit_sentences parts scope position) Sentences

@@ -1,6 +1,6 @@
 -- The trees and nodes that lowering builds of a sound source are sound.
 use Rattle.std.proofs.Common.{◌≡◌, ℕ, suc, ◌+◌, Bool, true, false, if◌then◌else◌, List, [], ◌∷◌, ◌++◌, refl, ap, sym, subst}
-use Rattle.language.specs.Language.{Simple, Picker, Control, Times, Until, Varying, Stmt, Choose, Loop, Perform, Go, GoDepending, NextSentence, ExitParagraph, ExitSection, ExitPerform, StopRun, Stmts, none, also, Arms, done, given, missing, Body, Nested, Performed, By}
+use Rattle.language.specs.Language.{Simple, Control, Times, Until, Varying, Stmt, Choose, Loop, Perform, Go, GoDepending, NextSentence, ExitParagraph, ExitSection, ExitPerform, StopRun, Stmts, none, also, Arms, done, given, missing, Body, Nested, Performed}
 use Rattle.language.specs.Language as language
 use Rattle.control.specs.Graph.{Tree, tree, End, Pick, Jump, Dead, Trees}
 use Rattle.control_laws.specs.lowering.Told.{Told}

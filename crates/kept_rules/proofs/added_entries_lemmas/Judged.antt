@@ -23,7 +23,7 @@ use Rattle.data_names.specs.Names.{Names}
 use Rattle.statement_grammar.specs.declared.expr_forms.side.Make.TheVariants as makes
 use Rattle.statement_grammar.specs.expr_forms.Fault.{item_kind, kind_of, is_condition}
 use Rattle.part_spelling.specs.expr_spelling.Printable as judging
-use Rattle.part_spelling.specs.expr_spelling.Printable.{Judged, is_number, is_counting, are_data_words, suits, suits_base, are_fit, if_fit, if_counting, kind_seen, is_bare, reference, judged_expr, judged_operand, judged_place, judged_sub, judged_window}
+use Rattle.part_spelling.specs.expr_spelling.Printable.{Judged, is_number, is_counting, are_data_words, suits, are_fit, if_fit, kind_seen, is_bare, reference, judged_expr, judged_operand, judged_place, judged_sub, judged_window}
 use Rattle.part_spelling.specs.cond_spelling.Printable as conditions
 use Rattle.part_spelling.specs.cond_spelling.Printable.{is_value, are_comparable, cond_fit}
 use Rattle.kept_rules.specs.added_entries.Items.{WholeItem, HasAdded, AreNew}

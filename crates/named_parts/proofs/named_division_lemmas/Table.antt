@@ -12,7 +12,7 @@ use Rattle.procedure_names.specs.declared.scan.Awaited.{Awaited}
 use Rattle.procedure_names.specs.declared.scan.Awaited.TheVariants as awaited
 use Rattle.procedure_names.specs.declared.scan.Scan.{Scan}
 use Rattle.procedure_names.specs.Procedures as procedures
-use Rattle.procedure_names.specs.Procedures.{start, named_by, with_empty, whole_count, headed, unheaded, begun_by, begun, turned, scanned, at_least_one, closed, procedures_of, header_at, header_of, last_of, range_of}
+use Rattle.procedure_names.specs.Procedures.{start, named_by, with_empty, whole_count, unheaded, begun_by, turned, scanned, at_least_one, procedures_of, header_at, header_of, last_of, range_of}
 use Rattle.named_forms.specs.Giving.{Each}
 
 -- headers begin, and sections too, below so many paragraphs

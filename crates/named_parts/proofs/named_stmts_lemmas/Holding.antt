@@ -1,5 +1,5 @@
 -- What statements that hold others give, where what they hold is named.
-use Rattle.std.proofs.Common.{◌≡◌, ℕ, zero, suc, Bool, true, false, ◌&&◌, ◌||◌, List, [], ◌∷◌, ◌++◌, map, Option, Some, None, refl, ap}
+use Rattle.std.proofs.Common.{◌≡◌, ℕ, zero, suc, Bool, true, false, ◌&&◌, ◌||◌, List, [], ◌∷◌, ◌++◌, map, Option, Some, None, refl}
 use Rattle.std.specs.Prelude.{codes}
 use Rattle.std.proofs.lemmas.Bool.{and_parts}
 use Rattle.cob_tree.specs.declared.choice.Subject.{Subject}
@@ -36,18 +36,18 @@ use Rattle.statement_grammar.specs.stmt_forms.Stmt as forms
 use Rattle.statement_grammar.proofs.stmt_forms_lemmas.HoldingLaws as law
 use Rattle.statement_grammar.proofs.stmt_forms_lemmas.HoldingLaws.{LevelIsLawful}
 use Rattle.language.specs.All.{all}
-use Rattle.named_programs.specs.Part.{Counts, is_filled, if_any, file_named, paragraph_named, place_named, operand_named, expr_named}
+use Rattle.named_programs.specs.Part.{Counts, if_any, file_named, paragraph_named, place_named, operand_named, expr_named}
 use Rattle.named_programs.specs.Beside.{turns, is_truth, is_value, cond_named, control_named, subject_named, test_named}
 use Rattle.named_programs.specs.Named.{Branch, fit, stmt_named, arms_named, stmts_named, when_seen}
 use Rattle.named_programs.proofs.Made as made
 use Rattle.named_programs.proofs.Made.{both, all-added, given_named}
 use Rattle.named_forms.specs.Giving.{Gives}
 use Rattle.named_forms.specs.Numbered.{IsNumbered}
-use Rattle.named_forms.proofs.Giving.{Full, full-added, full-one, any, hence, still, pure, refuse, note, key, maybe, chosen, where_next, loop, added, items, some, ◌>>=◌, ◌>>◌}
+use Rattle.named_forms.proofs.Giving.{Full, full-added, full-one, any, hence, still, pure, refuse, note, key, maybe, chosen, where_next, loop, items, ◌>>=◌, ◌>>◌}
 use Rattle.named_forms.proofs.Literals.{digits}
 use Rattle.named_parts.specs.named_stmts.Parts.{PartsGive}
 use Rattle.named_parts.proofs.named_stmts_lemmas.Simple as simple
-use Rattle.named_parts.proofs.named_stmts_lemmas.Simple.{Named, WorkNamed, SpanNamed}
+use Rattle.named_parts.proofs.named_stmts_lemmas.Simple.{Named, WorkNamed}
 
 -- ---- tests and the subjects under which they stand
 

@@ -1,5 +1,5 @@
 -- What sentences, paragraphs and sections give.
-use Rattle.std.proofs.Common.{◌≡◌, ℕ, Bool, true, false, ◌&&◌, List, [], ◌∷◌, ◌++◌, map, Option, Some, None, refl}
+use Rattle.std.proofs.Common.{◌≡◌, ℕ, Bool, true, List, [], ◌∷◌, Option, Some, None, refl}
 use Rattle.std.specs.Prelude.{codes}
 use Rattle.cob_tree.specs.declared.program.Paragraph.{Paragraph}
 use Rattle.cob_tree.specs.declared.program.Sentence.{Sentence}
@@ -13,13 +13,12 @@ use Rattle.statement_grammar.specs.stmt_forms.Stmt.{max_nesting}
 use Rattle.statement_grammar.specs.stmt_forms.Stmt as forms
 use Rattle.statement_grammar.specs.stmt_forms.Paragraph as paragraphs
 use Rattle.statement_grammar.proofs.stmt_forms_lemmas.ParagraphLaws as law
-use Rattle.language.specs.All.{all}
 use Rattle.named_programs.specs.Part.{Counts, is_filled}
-use Rattle.named_programs.specs.Named.{stmt_named, stmts_named, sentence_named, sentences_named, paragraphs_named}
+use Rattle.named_programs.specs.Named.{stmt_named, sentence_named, sentences_named, paragraphs_named}
 use Rattle.named_programs.proofs.Made.{both, all-added, made-Exit}
 use Rattle.named_forms.specs.Giving.{Gives}
 use Rattle.named_forms.specs.Numbered.{IsNumbered}
-use Rattle.named_forms.proofs.Giving.{Full, full-one, any, hence, still, pure, refuse, note, key, period, ended, chosen, where_next, loop, items_all, ◌>>=◌, ◌>>◌}
+use Rattle.named_forms.proofs.Giving.{full-one, any, hence, still, pure, refuse, note, key, period, ended, chosen, where_next, loop, items_all, ◌>>=◌, ◌>>◌}
 use Rattle.named_parts.specs.named_stmts.Parts.{PartsGive}
 use Rattle.named_parts.proofs.named_stmts_lemmas.Simple as simple
 use Rattle.named_parts.proofs.named_stmts_lemmas.Holding as holding

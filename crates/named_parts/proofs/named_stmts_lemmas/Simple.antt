@@ -1,5 +1,5 @@
 -- What statements that hold no others give.
-use Rattle.std.proofs.Common.{◌≡◌, ℕ, Bool, true, false, ◌&&◌, List, [], ◌∷◌, ◌++◌, map, Option, Some, None, refl}
+use Rattle.std.proofs.Common.{◌≡◌, ℕ, true, List, [], ◌∷◌, map, Option, Some, None, refl}
 use Rattle.std.specs.Prelude.{codes}
 use Rattle.std.proofs.lemmas.Bool.{and_parts}
 use Rattle.cob_tree.specs.declared.file.How.{How}
@@ -10,7 +10,6 @@ use Rattle.grammar_forms.specs.declared.note.Position.{Position}
 use Rattle.grammar_forms.proofs.MakerLaws as laws
 use Rattle.statement_grammar.specs.declared.stmt_forms.scope.Scope.{Scope}
 use Rattle.statement_grammar.specs.stmt_forms.Part.{Parts}
-use Rattle.statement_grammar.specs.stmt_forms.Laws.{PartsAreLawful}
 use Rattle.statement_grammar.specs.stmt_forms.Move as move
 use Rattle.statement_grammar.specs.stmt_forms.Arithmetic as arithmetic
 use Rattle.statement_grammar.specs.stmt_forms.Arithmetic.{Goal, Work, added_to, subtracted_from, multiplied_by, divided_into}
@@ -19,7 +18,7 @@ use Rattle.statement_grammar.specs.stmt_forms.Jump as jump
 use Rattle.statement_grammar.specs.stmt_forms.Stmt as forms
 use Rattle.statement_grammar.proofs.stmt_forms_lemmas.SimpleLaws as law
 use Rattle.language.specs.All.{all}
-use Rattle.named_programs.specs.Part.{Counts, is_filled, if_any, file_named, paragraph_named, place_named, places_named, operand_named, operands_named}
+use Rattle.named_programs.specs.Part.{Counts, if_any, file_named, paragraph_named, place_named, operand_named}
 use Rattle.named_programs.specs.Beside.{calc_named, target_named}
 use Rattle.named_programs.specs.Named.{opening_named, stmt_named, stmts_named}
 use Rattle.named_programs.proofs.Made as made

@@ -1,11 +1,10 @@
 -- A run that begins as a number has a digit.
-use Rattle.std.proofs.Common.{◌≡◌, ℕ, zero, suc, ◌+◌, ◌≤◌, Bool, true, false, not, ◌&&◌, List, [], ◌∷◌, take, drop, length, filter, refl, ap, sym, ◌∙◌, subst, arith, cond}
+use Rattle.std.proofs.Common.{◌≡◌, ℕ, zero, suc, ◌+◌, Bool, true, false, not, ◌&&◌, List, [], ◌∷◌, take, filter, refl, ap, sym, ◌∙◌, subst, arith, cond}
 use Rattle.std.specs.Prelude.{◌||◌, ◌==◌, if◌then◌else◌}
-use Rattle.std.specs.List.{list_all}
 use Rattle.std.proofs.lemmas.Bool.{and_parts}
 use Rattle.cob_base.specs.Spelling.{word_byte}
 use Rattle.cobol_lex.specs.Byte.{is_digit, is_point, is_sign, leads_sign, begins}
-use Rattle.cobol_lex.specs.Number.{begins_unsigned, begins_number, unsigned_length, number_length, number_run, unsigned, digits_of}
+use Rattle.cobol_lex.specs.Number.{begins_unsigned, begins_number, unsigned_length, number_run, unsigned, digits_of}
 use Rattle.cobol_lex.proofs.BoolLemmas.{either_way, same_byte}
 use Rattle.named_programs.specs.Part.{is_filled}
 

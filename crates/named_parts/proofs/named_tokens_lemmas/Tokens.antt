@@ -1,5 +1,5 @@
 -- The numbers of the tokens of a text are numbers.
-use Rattle.std.proofs.Common.{◌≡◌, ℕ, zero, suc, ◌≤◌, ◌-◌, Bool, true, false, not, ◌&&◌, List, [], ◌∷◌, length, filter, Option, Some, None, refl, ap, sym, ◌∙◌, subst, arith, cond}
+use Rattle.std.proofs.Common.{◌≡◌, ℕ, zero, suc, ◌-◌, Bool, true, false, not, ◌&&◌, List, [], ◌∷◌, length, Option, Some, None, refl, sym, ◌∙◌, subst, cond}
 use Rattle.std.specs.Prelude.{◌||◌, ◌==◌, nat_le, nat_lt, Result, Ok, Err, if◌then◌else◌}
 use Rattle.std.specs.List.{list_all, list_any, count_by}
 use Rattle.std.proofs.lemmas.Bool.{and_parts, le-leb, ltb-false}
@@ -9,10 +9,10 @@ use Rattle.ref_format.specs.Placed.{bytes_of}
 use Rattle.cobol_lex.specs.Byte.{is_separator, is_digit, is_point, is_sign, is_quote, is_letter, is_mark, begins}
 use Rattle.cobol_lex.specs.Awaits.{awaits_behind, awaits_picture}
 use Rattle.cobol_lex.specs.Lexeme.{lexeme_of, mark_lexeme, plain_lexeme, next_lexeme}
-use Rattle.cobol_lex.specs.Literal.{quoted_by, quoted_lexeme, literal_lexeme}
-use Rattle.cobol_lex.specs.Number.{begins_number, number_run, number_kind, decimal_kind, digits_kind, decimal_number, unsigned, digits_of, decimals, is_decimal}
+use Rattle.cobol_lex.specs.Literal.{quoted_by, quoted_lexeme}
+use Rattle.cobol_lex.specs.Number.{begins_number, number_run, number_kind, decimal_kind, digits_kind, unsigned, digits_of, decimals, is_decimal}
 use Rattle.cobol_lex.specs.Picture.{picture_run, picture_lexeme}
-use Rattle.cobol_lex.specs.Token.{with_token, after_lexeme, tokens_from, tokens_of}
+use Rattle.cobol_lex.specs.Token.{with_token, after_lexeme, tokens_from}
 use Rattle.cobol_lex.specs.Word.{word_run, word_kind, fits_word}
 use Rattle.cobol_lex.specs.declared.awaits.Awaits.{Awaits}
 use Rattle.cobol_lex.specs.declared.awaits.Awaits.TheVariants as awaits
@@ -22,7 +22,7 @@ use Rattle.cobol_lex.specs.declared.literal.Quoted.{Quoted}
 use Rattle.cobol_lex.specs.declared.token.Token.{Token}
 use Rattle.cobol_lex.specs.declared.token.TokenKind.{TokenKind}
 use Rattle.cobol_lex.proofs.RunLemmas.{decimals_within}
-use Rattle.named_programs.specs.Part.{is_filled, are_digits}
+use Rattle.named_programs.specs.Part.{is_filled}
 use Rattle.named_programs.proofs.Made.{both}
 use Rattle.named_forms.specs.Giving.{AreOf}
 use Rattle.named_forms.specs.Numbered.{IsNumbered}

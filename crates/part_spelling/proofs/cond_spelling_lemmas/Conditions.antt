@@ -16,7 +16,7 @@ use Rattle.cobol_lex.specs.declared.token.TokenKind.TheVariants as kinds
 use Rattle.grammar_forms.specs.declared.note.Position.{Position}
 use Rattle.grammar_forms.specs.declared.why.Why.TheVariants.{Syntax}
 use Rattle.grammar_forms.specs.Form as form
-use Rattle.grammar_forms.specs.Form.{begins_by, ◌>>=◌, ◌>>◌}
+use Rattle.grammar_forms.specs.Form.{begins_by}
 use Rattle.grammar_forms.specs.Part as part
 use Rattle.part_tokens.specs.Token.{Tokens, in_parentheses}
 use Rattle.part_tokens.specs.Place.{place_tokens, expr_tokens}
@@ -29,7 +29,7 @@ use Rattle.statement_grammar.specs.declared.expr_forms.side.What.{What}
 use Rattle.statement_grammar.specs.declared.expr_forms.side.What.TheVariants as whats
 use Rattle.statement_grammar.specs.expr_forms.Fault.{is_condition}
 use Rattle.statement_grammar.specs.expr_forms.Limit.{Inner}
-use Rattle.statement_grammar.specs.expr_forms.Side.{expr_of, shape_of, enclosed_what}
+use Rattle.statement_grammar.specs.expr_forms.Side.{expr_of, enclosed_what}
 use Rattle.statement_grammar.specs.expr_forms.Side as sides
 use Rattle.statement_grammar.specs.declared.cond_forms.part.Part.{Part}
 use Rattle.statement_grammar.specs.declared.cond_forms.test.Primary.{Primary}

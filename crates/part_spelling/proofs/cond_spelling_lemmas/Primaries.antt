@@ -24,7 +24,7 @@ use Rattle.cobol_lex.specs.declared.token.TokenKind.{TokenKind}
 use Rattle.cobol_lex.specs.declared.token.TokenKind.TheVariants as kinds
 use Rattle.grammar_forms.specs.declared.note.Position.{Position}
 use Rattle.grammar_forms.specs.Form as form
-use Rattle.grammar_forms.specs.Form.{begins_by, ◌>>=◌, ◌>>◌}
+use Rattle.grammar_forms.specs.Form.{begins_by}
 use Rattle.grammar_forms.specs.Part as part
 use Rattle.part_tokens.specs.Token.{Tokens, in_parentheses}
 use Rattle.part_tokens.specs.Place.{op_mark, operand_tokens, place_tokens, expr_tokens}

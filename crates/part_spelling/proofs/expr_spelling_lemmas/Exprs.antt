@@ -34,7 +34,7 @@ use Rattle.statement_grammar.specs.expr_forms.Token.{begins_turn, op_of}
 use Rattle.spelled_forms.specs.Spelling.{first_of, Any, Spelled}
 use Rattle.spelled_forms.proofs.Makers.{pure, note, hence, where_behind, bind, then, ending, behind_none, there_next, other_next, one, no_turn, last_turn}
 use Rattle.spelled_forms.proofs.Tokens.{sign}
-use Rattle.part_spelling.specs.expr_spelling.Printable.{Judged, is_number, is_counting, judged_expr, judged_operand, IsPrintableExpr, IsPrintableOperand}
+use Rattle.part_spelling.specs.expr_spelling.Printable.{Judged, is_number, is_counting, judged_expr, IsPrintableExpr, IsPrintableOperand}
 use Rattle.part_spelling.specs.expr_spelling.Printable as judging
 use Rattle.part_spelling.specs.expr_spelling.Spelled.{Ends, continues_place, continues_expr, what_of, IsKnownAs, IsOperandSide, IsExprSide, size_terms, OperandHasRoom}
 use Rattle.part_spelling.proofs.expr_spelling_lemmas.Layers.{expr-cases, operand-cases, tokens-Leaf, tokens-Minus, tokens-Both, judged-Leaf, judged-Minus, judged-Both, terms-Leaf, terms-Minus, terms-Both, terms-Place, terms-place, terms-window, window_count}

@@ -36,14 +36,14 @@ use Rattle.statement_grammar.specs.declared.expr_forms.side.What.TheVariants as 
 use Rattle.statement_grammar.specs.expr_forms.Fault.{found_fault, item_of, item_kind, kind_of, is_condition, usage}
 use Rattle.statement_grammar.specs.expr_forms.Side.{literal_kind, literal_side, ref_side, kind_within}
 use Rattle.statement_grammar.specs.expr_forms.Token.{is_of, begins_operand}
-use Rattle.statement_grammar.specs.expr_forms.Limit.{Inner, max_terms}
+use Rattle.statement_grammar.specs.expr_forms.Limit.{Inner}
 use Rattle.statement_grammar.specs.expr_forms.Limit as limits
 use Rattle.statement_grammar.specs.expr_forms.Reference as references
 use Rattle.statement_grammar.specs.expr_forms.Operand as operand_forms
 use Rattle.spelled_forms.specs.Spelling.{first_of, Any, Spelled}
 use Rattle.spelled_forms.proofs.Makers.{pure, note, hence, where_behind, bind, then, ending, behind_none, chosen_other, there_next, other_next, no_turn, turn}
 use Rattle.spelled_forms.proofs.Tokens.{key, valued, name}
-use Rattle.part_spelling.specs.expr_spelling.Printable.{Judged, reference, judged_expr, judged_operand, judged_place, judged_sub, judged_window, are_data_words, suits, are_fit, if_fit, kind_seen, IsPrintableExpr, IsPrintableOperand, IsPrintablePlace}
+use Rattle.part_spelling.specs.expr_spelling.Printable.{reference, judged_operand, judged_sub, judged_window, are_data_words, suits, are_fit, if_fit, kind_seen, IsPrintableExpr, IsPrintableOperand, IsPrintablePlace}
 use Rattle.part_spelling.specs.expr_spelling.Printable as judging
 use Rattle.part_spelling.specs.expr_spelling.Spelled.{Ends, continues_place, what_of, IsOperandSide, IsExprSide, size_terms, HasRoom, made_window, made_place, WindowHasRoom, PlaceHasRoom, OperandHasRoom}
 use Rattle.part_spelling.proofs.expr_spelling_lemmas.Layers.{operand-cases, place-cases, window-cases, tokens-Place, tokens-Number, tokens-Text, tokens-Figure, tokens-place, tokens-window, windows_tokens, judged-Place, judged-Number, judged-Text, judged-Figure, judged-place, judged_windows, terms-Place, terms-Number, terms-Text, terms-Figure, terms-place, terms-window, window_count}

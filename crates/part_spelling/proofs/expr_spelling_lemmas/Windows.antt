@@ -21,7 +21,7 @@ use Rattle.statement_grammar.specs.expr_forms.Window.{second_count}
 use Rattle.spelled_forms.specs.Spelling.{first_of, Any, Spelled}
 use Rattle.spelled_forms.proofs.Makers.{pure, note, hence, where_behind, bind, then, ending, behind_none, there_next, other_next}
 use Rattle.spelled_forms.proofs.Tokens.{sign}
-use Rattle.part_spelling.specs.expr_spelling.Printable.{Judged, is_number, is_counting, judged_expr, judged_window, IsPrintableExpr}
+use Rattle.part_spelling.specs.expr_spelling.Printable.{is_counting, judged_expr, judged_window, IsPrintableExpr}
 use Rattle.part_spelling.specs.expr_spelling.Printable as judging
 use Rattle.part_spelling.specs.expr_spelling.Spelled.{Ends, continues_expr, size_terms, HasRoom, made_window}
 use Rattle.part_spelling.proofs.expr_spelling_lemmas.Layers.{expr-cases, size_tokens, tokens-Leaf, tokens-window, judged-window, judged_sizes}

@@ -20,7 +20,7 @@ use Rattle.statement_grammar.specs.declared.stmt_forms.phrase.Phrase.{Phrase}
 use Rattle.statement_grammar.specs.declared.stmt_forms.phrase.Phrase.TheVariants as phrases
 use Rattle.statement_grammar.specs.declared.stmt_forms.scope.Scope.{Scope}
 use Rattle.statement_grammar.specs.stmt_forms.Arms as arm
-use Rattle.statement_grammar.specs.stmt_forms.Arms.{Level, Found}
+use Rattle.statement_grammar.specs.stmt_forms.Arms.{Level}
 use Rattle.statement_grammar.specs.stmt_forms.File as file
 use Rattle.statement_grammar.specs.stmt_forms.Part.{Parts}
 use Rattle.statement_grammar.specs.stmt_forms.Verb.{begins_stmt, begins_simple, begins_moving, begins_filing, begins_jumping, begins_holding, begins_arithmetic, begins_adding, begins_multiplying, begins_choice}

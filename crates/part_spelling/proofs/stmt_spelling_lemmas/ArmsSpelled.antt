@@ -15,7 +15,7 @@ use Rattle.statement_grammar.specs.declared.stmt_forms.phrase.Phrase.TheVariants
 use Rattle.statement_grammar.specs.declared.stmt_forms.scope.Scope.{Scope}
 use Rattle.statement_grammar.specs.stmt_forms.Verb.{begins_stmt}
 use Rattle.statement_grammar.specs.stmt_forms.Arms as arm
-use Rattle.statement_grammar.specs.stmt_forms.Arms.{Level, Found}
+use Rattle.statement_grammar.specs.stmt_forms.Arms.{Level}
 use Rattle.spelled_forms.specs.Spelling.{first_of, Any, Spelled}
 use Rattle.spelled_forms.proofs.Makers.{pure, where_behind, bind, then, ending, behind_first, behind_none, chosen_there, chosen_other, there_next, other_next}
 use Rattle.spelled_forms.proofs.Tokens.{key, maybe}

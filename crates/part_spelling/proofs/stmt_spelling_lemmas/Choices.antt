@@ -24,7 +24,7 @@ use Rattle.part_tokens.specs.Token.{Tokens, joined}
 use Rattle.statement_grammar.specs.declared.stmt_forms.scope.Scope.{Scope}
 use Rattle.statement_grammar.specs.declared.stmt_forms.whens.Whens.{Whens}
 use Rattle.statement_grammar.specs.stmt_forms.Arms as arm
-use Rattle.statement_grammar.specs.stmt_forms.Arms.{Level, Found}
+use Rattle.statement_grammar.specs.stmt_forms.Arms.{Level}
 use Rattle.statement_grammar.specs.stmt_forms.Choice as choice
 use Rattle.statement_grammar.specs.stmt_forms.Part.{Parts}
 use Rattle.statement_grammar.specs.stmt_forms.Stmt as forms

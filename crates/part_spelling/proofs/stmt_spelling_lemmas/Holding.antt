@@ -26,7 +26,7 @@ use Rattle.statement_grammar.specs.declared.stmt_forms.head.PerformHead.TheVaria
 use Rattle.statement_grammar.specs.declared.stmt_forms.phrase.Phrase.TheVariants as phrases
 use Rattle.statement_grammar.specs.declared.stmt_forms.scope.Scope.{Scope}
 use Rattle.statement_grammar.specs.stmt_forms.Arms as arm
-use Rattle.statement_grammar.specs.stmt_forms.Arms.{Level, Found, FoundOne}
+use Rattle.statement_grammar.specs.stmt_forms.Arms.{Level, Found}
 use Rattle.statement_grammar.specs.stmt_forms.Choice as choice
 use Rattle.statement_grammar.specs.stmt_forms.Loop as loops
 use Rattle.statement_grammar.specs.stmt_forms.Part.{Parts}

@@ -19,7 +19,7 @@ use Rattle.statement_grammar.specs.declared.stmt_forms.head.ReadHead.TheVariants
 use Rattle.statement_grammar.specs.declared.stmt_forms.phrase.Phrase.TheVariants as phrases
 use Rattle.statement_grammar.specs.declared.stmt_forms.scope.Scope.{Scope}
 use Rattle.statement_grammar.specs.stmt_forms.Arms as arm
-use Rattle.statement_grammar.specs.stmt_forms.Arms.{Level, Found}
+use Rattle.statement_grammar.specs.stmt_forms.Arms.{Level}
 use Rattle.statement_grammar.specs.stmt_forms.File as file
 use Rattle.statement_grammar.specs.stmt_forms.Part.{Parts}
 use Rattle.statement_grammar.specs.stmt_forms.Stmt as forms

@@ -1,4 +1,4 @@
-use Rattle.std.proofs.Common.{◌≡◌, ◌+◌, ℕ, length, Ok, Err, sym, ap, ◌∙◌, arith}
+use Rattle.std.proofs.Common.{◌≡◌, ◌+◌, length, Err, sym, ap, ◌∙◌, arith}
 use Rattle.picture_data.specs.Fault.{fault_at}
 use Rattle.picture_data.proofs.ReadingLemmas.{goes_on, stops, ends}
 use Rattle.picture_data.proofs.read_picture.Goals as goal

@@ -21,13 +21,13 @@ use Rattle.language.specs.Control.{cell_of, number_written, setting, move_to, mo
 use Rattle.named_programs.proofs.Made.{both}
 use Rattle.named_programs.specs.Part.{if_any}
 use Rattle.printable_programs.specs.Part.{is_printable_place, are_printable_places, is_printable_operand, are_printable_operands}
-use Rattle.printable_programs.specs.Beside.{is_printable_cond, is_printable_control, is_printable_calc, is_printable_target, is_printable_subject, is_printable_test}
+use Rattle.printable_programs.specs.Beside.{is_printable_cond, is_printable_control, is_printable_calc, is_printable_target, is_printable_subject}
 use Rattle.printable_programs.specs.Statement.{stmt_step, arms_step, when_step, is_printable_stmt, are_printable_arms, is_printable_when, are_printable_stmts}
 use Rattle.printable_programs.proofs.Made as made
 use Rattle.language.proofs.Conditions.{cond-back}
 use Rattle.language.proofs.Unseen.{cond_of}
 use Rattle.language.specs.Own.{OwnTest}
-use Rattle.printable_programs.specs.printable_control.Prints.{are_printable_tests, chooser_prints, ActPrints, TestPrints, PickerPrints, ControlPrints, StmtPrints, StmtsPrint, ArmsPrint}
+use Rattle.printable_programs.specs.printable_control.Prints.{are_printable_tests, chooser_prints, ActPrints, TestPrints, PickerPrints, StmtPrints, StmtsPrint, ArmsPrint}
 
 abbrev BothPrint : Both → Type 0
 BothPrint two = ArmsPrint (both_arms two)

@@ -1,10 +1,9 @@
 -- Each part of a source that can be printed may be written, where what can be printed may be.
-use Rattle.std.proofs.Common.{◌≡◌, ℕ, zero, suc, Bool, true, false, ◌&&◌, List, [], ◌∷◌, map, Option, Some, None, refl, ap, sym, ◌∙◌, subst, inl, inr}
+use Rattle.std.proofs.Common.{◌≡◌, ℕ, zero, suc, Bool, true, false, ◌&&◌, List, [], ◌∷◌, map, Option, Some, None, refl, ap, sym, ◌∙◌, subst, inl}
 use Rattle.std.proofs.lemmas.Bool.{and_parts}
 use Rattle.cob_tree.specs.declared.calc.Calc.{Calc}
 use Rattle.cob_tree.specs.declared.calc.Target.{Target}
 use Rattle.cob_tree.specs.declared.choice.Test.{Test}
-use Rattle.cob_tree.specs.declared.choice.Subject.{Subject}
 use Rattle.cob_tree.specs.declared.cond.Cond.{Cond, ind-Cond, map-Cond, roll-Cond, fold-roll-Cond}
 use Rattle.cob_tree.specs.declared.cond.Cond.TheOpen.{Cond-F}
 use Rattle.cob_tree.specs.declared.cond.Cond.TheVariants as conds
@@ -21,16 +20,16 @@ use Rattle.cob_tree.specs.declared.program.Paragraph.{Paragraph}
 use Rattle.cob_tree.specs.declared.program.Sentence.{Sentence}
 use Rattle.cob_tree.specs.declared.stmt.Arms.{Arms, roll-Arms, map-Arms, fold-roll-Arms}
 use Rattle.cob_tree.specs.declared.stmt.When.{When, out-When, roll-out-When, roll-When, map-When, fold-roll-When}
-use Rattle.cob_tree.specs.declared.stmt.Stmt.{Stmt, ind-Stmt, map-Stmt, out-Stmt, roll-Stmt, roll-out-Stmt, fold-roll-Stmt}
+use Rattle.cob_tree.specs.declared.stmt.Stmt.{Stmt, ind-Stmt, map-Stmt, roll-Stmt, fold-roll-Stmt}
 use Rattle.cob_tree.specs.declared.stmt.Stmt.TheOpen.{Stmt-F, Arms-F, When-F}
 use Rattle.cob_tree.specs.declared.stmt.Stmt.TheVariants as stmts
 use Rattle.language.specs.All.{all}
 use Rattle.language.specs.Language as language
-use Rattle.language.specs.Control.{cell_of, number_written, setting, move_to, move_of, lowered_cell, arith_act, arith_stmt, arith_alone, setting_item, augmenting, relation_of, cell_in, number_in, Tested, tested_step, tested, zero_side, always, arm_before, else_of, stmts_of, control_in, loop_of, perform_of, test_of, picker_by, cell_chosen, count_from, evaluate_of, tests_of, Branch, branches_before, Both, both_arms, both_step, branch_step, seen_step, seen, seen_when, seen_both, seen_stmts, seen_sentence, seen_paragraphs, section_last}
+use Rattle.language.specs.Control.{cell_of, number_written, setting, move_to, move_of, lowered_cell, arith_act, arith_stmt, arith_alone, setting_item, augmenting, relation_of, cell_in, number_in, Tested, tested_step, tested, zero_side, always, arm_before, else_of, stmts_of, control_in, loop_of, perform_of, test_of, picker_by, cell_chosen, count_from, tests_of, Branch, branches_before, Both, both_arms, both_step, branch_step, seen_step, seen, seen_when, seen_both, seen_stmts, seen_sentence, seen_paragraphs, section_last}
 use Rattle.control_laws.specs.lowering.Told.{Told}
 use Rattle.control_laws.specs.rendering.Rendering.{Naming, count_arms}
 use Rattle.control_laws.specs.rendering.Procedures.{Writable}
-use Rattle.control_laws.specs.served_graphs.Served.{ActIsServed, TestIsServed, PickerIsServed, StmtIsServed, StmtsAreServed, ArmsAreServed, IsIdle, SentenceIsServed, ParagraphIsServed, ParagraphsAreServed}
+use Rattle.control_laws.specs.served_graphs.Served.{ActIsServed, TestIsServed, PickerIsServed, StmtIsServed, StmtsAreServed, ArmsAreServed, ParagraphIsServed, ParagraphsAreServed}
 use Rattle.named_programs.specs.Part.{if_any}
 use Rattle.named_programs.proofs.Made.{both}
 use Rattle.printable_programs.specs.Part.{expr_step, operand_step, place_step, sub_step, window_step, is_printable_place, are_printable_places, is_printable_operand, is_printable_expr}

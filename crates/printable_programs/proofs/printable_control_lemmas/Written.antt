@@ -1,14 +1,10 @@
 -- What is written of statements that may stand can be printed, where their parts can.
-use Rattle.std.proofs.Common.{◌≡◌, ℕ, suc, Bool, true, false, List, [], length, refl, ap, sym, subst, inl, inr}
-use Rattle.language.specs.Language.{Simple, Cond, Chooser, Amount, Act, Own, Set, Take, Lower, Test, Holds, Not, Is, Above, Picker, If, By, ByCell, Control, Times, Until, Varying, Stmt, Do, Choose, Loop, Perform, Go, GoDepending, NextSentence, ExitParagraph, ExitSection, ExitPerform, StopRun, Stmts, none, also, Arms, done, given, missing, Body, Nested, Performed, Range, Main, Part}
+use Rattle.std.proofs.Common.{◌≡◌, ℕ, suc, Bool, true, false, List, length, refl, ap, sym, subst, inl, inr}
+use Rattle.language.specs.Language.{Act, Own, Set, Take, Lower, Test, Holds, Not, Is, Above, Picker, If, By, ByCell, Control, Times, Until, Varying, Stmt, Do, Choose, Loop, Perform, Go, GoDepending, NextSentence, ExitParagraph, ExitSection, ExitPerform, StopRun, Stmts, none, also, Arms, done, given, missing, Body, Nested, Performed, Range, Main, Part}
 use Rattle.control.specs.Graph.{End, Pick, Jump, Return, Stop, Dead}
 use Rattle.control_laws.specs.rendering.Rendering.{Empty, Continues, Stays, Goes, Naming, Procedure, place_of, count_arms, standing, required, written_act, written_test, written_picker, written_control, written_arm, and_missing, whole_arms, picker_lacks, then_stmts, closing, written_stmt, written_stmts, written_arms, written_body}
 use Rattle.control_laws.specs.rendering.Procedures.{Writable, ActFits, TestFits, PickerFits, ControlFits, StmtStands, StmtsStand, StmtsLeft, ArmsStand, BodyStands, StmtChooses, BodyChooses}
-use Rattle.printable_programs.specs.Part.{is_printable_operand}
-use Rattle.printable_programs.specs.Beside.{is_printable_cond}
-use Rattle.printable_programs.specs.Statement.{is_printable_stmt}
-use Rattle.printable_programs.proofs.Made.{made-Continue}
-use Rattle.printable_programs.specs.printable_control.Prints.{chooser_prints, ActPrints, TestPrints, PickerPrints, ControlPrints, StmtPrints, StmtsPrint, ArmsPrint, BodyPrints}
+use Rattle.printable_programs.specs.printable_control.Prints.{ActPrints, TestPrints, PickerPrints, ControlPrints, StmtPrints, StmtsPrint, ArmsPrint, BodyPrints}
 use Rattle.printable_programs.specs.printable_control.Written.{NamesPrint}
 
 missing-print : (arms : Arms) → ArmsPrint arms → ArmsPrint (and_missing arms)

@@ -1,5 +1,5 @@
 -- What statements are made of, as far as it can be printed.
-use Rattle.std.proofs.Common.{◌≡◌, ℕ, true, List, [], ◌∷◌, Option, Some, None, refl}
+use Rattle.std.proofs.Common.{◌≡◌, true, List, [], None, refl}
 use Rattle.cob_tree.specs.declared.entry.Entry.{Entry}
 use Rattle.statement_grammar.specs.declared.expr_forms.side.What.{What}
 use Rattle.statement_grammar.specs.declared.expr_forms.side.What.TheVariants as whats

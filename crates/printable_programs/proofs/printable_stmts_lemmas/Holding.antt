@@ -1,5 +1,5 @@
 -- What statements that hold others give, where what they hold can be printed.
-use Rattle.std.proofs.Common.{◌≡◌, ℕ, zero, suc, Bool, true, false, ◌&&◌, ◌||◌, List, [], ◌∷◌, ◌++◌, map, Option, Some, None, refl, ap}
+use Rattle.std.proofs.Common.{◌≡◌, ℕ, zero, suc, Bool, true, false, ◌||◌, List, [], ◌++◌, map, Option, Some, None, refl}
 use Rattle.std.specs.Prelude.{codes}
 use Rattle.cob_tree.specs.declared.choice.Subject.{Subject}
 use Rattle.cob_tree.specs.declared.choice.Test.{Test}
@@ -37,7 +37,7 @@ use Rattle.language.specs.All.{all}
 use Rattle.named_programs.specs.Part.{if_any}
 use Rattle.named_programs.proofs.Made.{both, all-added}
 use Rattle.named_forms.specs.Giving.{Gives}
-use Rattle.named_forms.proofs.Giving.{Full, full-added, full-one, any, hence, still, pure, refuse, note, key, maybe, chosen, where_next, loop, added, items, some, ◌>>=◌, ◌>>◌}
+use Rattle.named_forms.proofs.Giving.{Full, full-added, full-one, any, hence, still, pure, refuse, note, key, maybe, chosen, where_next, loop, items, ◌>>=◌, ◌>>◌}
 use Rattle.printable_programs.specs.printable_tokens.Printable.{IsPrintable}
 use Rattle.printable_programs.specs.Part.{is_printable_place, is_printable_operand, is_printable_expr}
 use Rattle.printable_programs.specs.Beside.{is_printable_cond, is_printable_control, is_printable_subject, is_printable_test}

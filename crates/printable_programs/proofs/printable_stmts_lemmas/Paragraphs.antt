@@ -1,5 +1,5 @@
 -- What sentences, paragraphs and sections give.
-use Rattle.std.proofs.Common.{◌≡◌, ℕ, true, List, [], ◌∷◌, ◌++◌, map, Option, Some, None, refl}
+use Rattle.std.proofs.Common.{◌≡◌, ℕ, true, List, [], ◌∷◌, ◌++◌, Option, Some, None, refl}
 use Rattle.std.specs.Prelude.{codes}
 use Rattle.cob_tree.specs.declared.program.Paragraph.{Paragraph}
 use Rattle.cob_tree.specs.declared.program.Sentence.{Sentence}

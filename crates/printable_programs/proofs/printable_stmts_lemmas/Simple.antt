@@ -1,5 +1,5 @@
 -- What statements that hold no others give.
-use Rattle.std.proofs.Common.{◌≡◌, ℕ, Bool, true, false, ◌&&◌, List, [], ◌∷◌, ◌++◌, map, Option, Some, None, refl}
+use Rattle.std.proofs.Common.{◌≡◌, ℕ, true, List, [], ◌∷◌, Option, Some, None, refl}
 use Rattle.std.specs.Prelude.{codes}
 use Rattle.cob_tree.specs.declared.place.Operand.{Operand}
 use Rattle.cob_tree.specs.declared.stmt.Stmt.{Stmt}
@@ -15,11 +15,10 @@ use Rattle.statement_grammar.specs.stmt_forms.File as file
 use Rattle.statement_grammar.specs.stmt_forms.Jump as jump
 use Rattle.statement_grammar.specs.stmt_forms.Stmt as forms
 use Rattle.statement_grammar.proofs.stmt_forms_lemmas.SimpleLaws as law
-use Rattle.language.specs.All.{all}
 use Rattle.named_programs.specs.Part.{if_any}
 use Rattle.named_programs.proofs.Made.{both}
 use Rattle.named_forms.specs.Giving.{Gives}
-use Rattle.named_forms.proofs.Giving.{Full, full-added, full-one, any, hence, still, pure, refuse, note, key, maybe, where_next, loop, added, items, some, ◌>>=◌, ◌>>◌}
+use Rattle.named_forms.proofs.Giving.{Full, full-added, any, hence, still, pure, refuse, note, key, maybe, where_next, loop, added, items, some, ◌>>=◌, ◌>>◌}
 use Rattle.printable_programs.specs.printable_tokens.Printable.{IsPrintable}
 use Rattle.printable_programs.specs.Part.{is_printable_place, is_printable_operand}
 use Rattle.printable_programs.specs.Beside.{is_printable_calc, is_printable_target}

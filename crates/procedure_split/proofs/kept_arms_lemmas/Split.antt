@@ -1,9 +1,7 @@
 -- What a program is split into nests within the limit, where the choices of its graphs have arms.
-use Rattle.std.proofs.Common.{◌≡◌, ◌≤◌, ℕ, List, [], ◌∷◌, subst}
+use Rattle.std.proofs.Common.{◌≤◌, List, [], ◌∷◌, subst}
 use Rattle.cob_tree.specs.Depth.{program_depth}
 use Rattle.cob_tree.specs.declared.program.Program.{Program}
-use Rattle.control.specs.Graph.{tree, Dead}
-use Rattle.language.specs.Language.{none}
 use Rattle.control_laws.specs.graph_rules.Reduced.{Node}
 use Rattle.control_laws.specs.closing.Closes.{closed_graph}
 use Rattle.pending_returns.specs.declared.facts.Summary.{Summary}

@@ -1,8 +1,7 @@
 -- The graphs of ranges are one list, as they are seen, and so is what they are shaped to.
-use Rattle.std.proofs.Common.{◌≡◌, ◌≤◌, ◌<◌, ◌+◌, ℕ, zero, suc, List, [], ◌∷◌, map, Some, slice_get, sum_by, refl, ap, ap₂, sym, subst, ◌∙◌, arith}
-use Rattle.std.proofs.lemmas.List.Sums.{sum_by-cons}
+use Rattle.std.proofs.Common.{◌≡◌, ◌≤◌, ◌<◌, ℕ, zero, suc, List, [], ◌∷◌, map, Some, slice_get, refl, ap, ap₂, sym, subst, ◌∙◌, arith}
 use Rattle.cob_tree.specs.declared.program.Range as code
-use Rattle.language.specs.Language.{Program, Stmts}
+use Rattle.language.specs.Language.{Program}
 use Rattle.control.specs.Graph.{Tree, body_of}
 use Rattle.control_laws.specs.lowering.Told.{Told}
 use Rattle.control_laws.specs.graph_rules.Families.{Added}
@@ -11,10 +10,9 @@ use Rattle.control_laws.specs.closing.Closes.{closed_graph}
 use Rattle.branch_tree.specs.Graphs.{seen_graph}
 use Rattle.branch_tree.specs.declared.graph.Graph.{Graph}
 use Rattle.lower_places.specs.Fall.{seen_range}
-use Rattle.graph_sizes.specs.Sizes.{graph_size}
 use Rattle.region_rewrite.specs.Shape.{first_tree, max_nesting, result_nesting}
 use Rattle.cell_table.specs.Row.{CellRange}
-use Rattle.procedure_split.specs.shaped_ranges.Graphs.{AreGraphsOf, node_count}
+use Rattle.procedure_split.specs.shaped_ranges.Graphs.{HaveGraphs}
 use Rattle.procedure_split.specs.shaped_ranges.Shaped.{AllShaped, IsOneTooDeep, IsShapedTo}
 use Rattle.procedure_split.specs.declared.shaped_ranges.shaping.Closed.{Closed}
 use Rattle.procedure_split.specs.Rows.{row_of, rows_of}
@@ -23,37 +21,19 @@ use Rattle.procedure_split.proofs.one_split_lemmas.Kept.{one-graph}
 abbrev pub all_seen : List Graph → List reduced.Graph
 all_seen = map seen_graph
 
+-- ranges have one list of graphs
 pub one-list : (told : Told) (program : Program) (order : List code.Range)
-    (graphs others : List Graph) → AreGraphsOf told program order graphs →
-    AreGraphsOf told program order others → all_seen graphs ≡ all_seen others
-one-list told program [] [] [] are also_are = refl
-one-list told program [] [] (other ∷ others) are also_are = absurd also_are
-one-list told program [] (graph ∷ graphs) others are also_are = absurd are
-one-list told program (range ∷ order) [] others are also_are = absurd are
-one-list told program (range ∷ order) (graph ∷ graphs) [] are also_are = absurd also_are
-one-list told program (range ∷ order) (graph ∷ graphs) (other ∷ others) are also_are =
+    (graphs others : List reduced.Graph) → HaveGraphs told program order graphs →
+    HaveGraphs told program order others → graphs ≡ others
+one-list told program [] [] [] have also_have = refl
+one-list told program [] [] (other ∷ others) have also_have = absurd also_have
+one-list told program [] (graph ∷ graphs) others have also_have = absurd have
+one-list told program (range ∷ order) [] others have also_have = absurd have
+one-list told program (range ∷ order) (graph ∷ graphs) [] have also_have = absurd also_have
+one-list told program (range ∷ order) (graph ∷ graphs) (other ∷ others) have also_have =
     ap₂ (λ (first : reduced.Graph) (rest : List reduced.Graph). first ∷ rest)
-    (one-graph told program (seen_range range) (seen_graph graph) (seen_graph other) are.0
-    also_are.0)
-    (one-list told program order graphs others are.1 also_are.1)
-
--- Their size.
-
-abbrev size_in : Graph → ℕ
-size_in graph = graph_size (seen_graph graph)
-
-count-seen : (graphs : List Graph) → node_count graphs ≡ sum_by graph_size (all_seen graphs)
-count-seen [] = refl
-count-seen (graph ∷ graphs) =
-    sum_by-cons size_in graph graphs
-    ∙ ap (λ (n : ℕ). graph_size (seen_graph graph) + n) (count-seen graphs)
-    ∙ sym (sum_by-cons graph_size (seen_graph graph) (all_seen graphs))
-
-pub counts-same : (graphs others : List Graph) → all_seen graphs ≡ all_seen others →
-    node_count graphs ≡ node_count others
-counts-same graphs others same =
-    count-seen graphs ∙ ap (λ (gs : List reduced.Graph). sum_by graph_size gs) same
-    ∙ sym (count-seen others)
+    (one-graph told program (seen_range range) graph other have.0 also_have.0)
+    (one-list told program order graphs others have.1 also_have.1)
 
 -- What they are shaped to.
 

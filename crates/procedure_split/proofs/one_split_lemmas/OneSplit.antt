@@ -1,5 +1,5 @@
 -- A program is split in one way.
-use Rattle.std.proofs.Common.{◌≡◌, ◌<◌, ◌≤◌, ℕ, List, [], ◌∷◌, ◌++◌, map, length, Option, Some, None, slice_get, refl, ap, ap₂, sym, subst, ◌∙◌, inl, inr, arith}
+use Rattle.std.proofs.Common.{◌≡◌, ◌<◌, ◌≤◌, ℕ, List, ◌∷◌, ◌++◌, map, length, Some, slice_get, ap, ap₂, sym, subst, ◌∙◌, inl, inr, arith}
 use Rattle.cob_base.specs.declared.limit.Limit.{Limit}
 use Rattle.cob_tree.specs.declared.entry.Entry.{Entry}
 use Rattle.cob_tree.specs.declared.fault.SplitFault.TheVariants as fault
@@ -11,6 +11,7 @@ use Rattle.language.specs.Control.{control_of}
 use Rattle.language.specs.Language as language
 use Rattle.language.specs.Own.{OwnParagraphs}
 use Rattle.language.proofs.Losing.{control-loses_nothing}
+use Rattle.control_laws.specs.lowering.Told.{Told}
 use Rattle.cut_lists.specs.Told.{told_of}
 use Rattle.control_laws.specs.graph_rules.Reduced as reduced
 use Rattle.control_laws.specs.rendering.Rendering.{Procedure, Naming, rendered}
@@ -39,7 +40,7 @@ use Rattle.cell_table.specs.Tables.{table_of_cells}
 use Rattle.branch_tree.specs.Graphs.{seen_graph}
 use Rattle.branch_tree.specs.declared.graph.Graph.{Graph}
 use Rattle.lower_places.specs.Fall.{seen_range}
-use Rattle.procedure_split.specs.shaped_ranges.Graphs.{AreGraphsOf, node_count}
+use Rattle.procedure_split.specs.shaped_ranges.Graphs.{AreGraphsOf, HaveGraphs, node_count, total_size}
 use Rattle.procedure_split.specs.shaped_ranges.Limit.{nodes_passed, node_limit}
 use Rattle.procedure_split.proofs.made_procedures_lemmas.Rows.{beside}
 use Rattle.procedure_split.specs.Rows.{rows_of}
@@ -49,8 +50,9 @@ use Rattle.procedure_split.specs.Split.{Planned, IsSplit, IsSplitFault, IsSplitW
 use Rattle.procedure_split.specs.split_behaviour.Alike.{IsWellMade, FlowsSo}
 use Rattle.procedure_split.proofs.split_behaviour_lemmas.FewNodes.{as-many-graphs}
 use Rattle.procedure_split.proofs.split_behaviour_lemmas.Joined as joined
-use Rattle.procedure_split.specs.one_split.Laws.{IsSplitOnce, SplitsAreOne}
-use Rattle.procedure_split.proofs.one_split_lemmas.Graphs.{all_seen, one-list, counts-same, rows-same, none-deep}
+use Rattle.procedure_split.specs.one_split.Laws.{SplitsAreOne}
+use Rattle.procedure_split.proofs.one_split_lemmas.Graphs.{all_seen, one-list, rows-same, none-deep}
+use Rattle.procedure_split.proofs.shaped_ranges_lemmas.GraphRows.{count-seen, have-seen}
 use Rattle.procedure_split.proofs.one_split_lemmas.Owned.{rendered-own}
 use Rattle.procedure_split.proofs.one_split_lemmas.Written.{lists-same, paragraph-same, statements-at, procedures-same}
 
@@ -79,38 +81,66 @@ module _ (program : Program) (one other : Summary) (well : IsWellMade program)
       ∙ ap (λ (rs : List RangeFacts). map (range_at rs) (order_of (calls_of rs))) (sym ranges-same)
       ∙ sym p.is.stands
 
-  graphs-same : (p : Planned program one) (q : Planned program other) (graphs others : List Graph)
-      → AreGraphsOf (told_of program.files p.returning) control p.order graphs →
-      AreGraphsOf (told_of program.files q.returning) control q.order others →
-      all_seen graphs ≡ all_seen others
-  graphs-same p q graphs others are also_are =
-      one-list (told_of program.files p.returning) control p.order graphs others are
+  graphs-same : (p : Planned program one) (q : Planned program other)
+      (graphs others : List reduced.Graph) →
+      HaveGraphs (told_of program.files p.returning) control p.order graphs →
+      HaveGraphs (told_of program.files q.returning) control q.order others → graphs ≡ others
+  graphs-same p q graphs others have also_have =
+      one-list (told_of program.files p.returning) control p.order graphs others have
       (subst (λ (order : List code.Range).
-      AreGraphsOf (told_of program.files p.returning) control order others) (order-same p q)
+      HaveGraphs (told_of program.files p.returning) control order others) (order-same p q)
       (subst (λ (table : List (List ℕ)).
-      AreGraphsOf (told_of program.files table) control q.order others) (returning-same p q)
-      also_are))
+      HaveGraphs (told_of program.files table) control q.order others) (returning-same p q)
+      also_have))
+
+  abbrev told_in : (summary : Summary) → Planned program summary → Told
+  told_in summary p = told_of program.files p.returning
+
+  both-seen : (p : Planned program one) (q : Planned program other) (graphs others : List Graph)
+      → AreGraphsOf (told_in one p) control p.order graphs →
+      AreGraphsOf (told_in other q) control q.order others → all_seen graphs ≡ all_seen others
+  both-seen p q graphs others are also_are =
+      graphs-same p q (all_seen graphs) (all_seen others)
+      (have-seen (told_in one p) control p.order graphs are)
+      (have-seen (told_in other q) control q.order others also_are)
 
   -- One limit.
+
+  -- graphs that are made aren't past it
+  apart : (p : Planned program one) (q : Planned program other) (graphs : List Graph)
+      (others : List reduced.Graph) → AreGraphsOf (told_in one p) control p.order graphs →
+      node_count graphs ≤ node_limit → HaveGraphs (told_in other q) control q.order others →
+      node_limit < total_size others → ⊥
+  apart p q graphs others are within have past =
+      let same = graphs-same p q (all_seen graphs) others
+      (have-seen (told_in one p) control p.order graphs are) have in
+      let counts : node_count graphs ≡ total_size others =
+      count-seen graphs ∙ ap total_size same in
+      omega (arith, counts, within, past)
+
+  past-apart : (p : Planned program one) (q : Planned program other)
+      (graphs : List reduced.Graph) (others : List Graph) →
+      HaveGraphs (told_in one p) control p.order graphs → node_limit < total_size graphs →
+      AreGraphsOf (told_in other q) control q.order others → node_count others ≤ node_limit → ⊥
+  past-apart p q graphs others have past are within =
+      let same = graphs-same p q graphs (all_seen others) have
+      (have-seen (told_in other q) control q.order others are) in
+      let counts : node_count others ≡ total_size graphs =
+      count-seen others ∙ ap total_size (sym same) in
+      omega (arith, counts, within, past)
 
   limit-same : (first second : Limit) → IsSplitFault program one (fault.Limit first) →
       IsSplitFault program other (fault.Limit second) → first ≡ second
   limit-same first second (inl h) (inl g) =
-      let same = counts-same h.past.graphs g.past.graphs
-      (graphs-same h.plan g.plan h.past.graphs g.past.graphs h.past.are g.past.are) in
-      h.past.is ∙ ap nodes_passed same ∙ sym g.past.is
+      h.past.is ∙ ap (λ graphs. nodes_passed (total_size graphs))
+      (graphs-same h.plan g.plan h.past.graphs g.past.graphs h.past.have g.past.have)
+      ∙ sym g.past.is
   limit-same first second (inl h) (inr g) =
-      let same = counts-same h.past.graphs g.graphs
-      (graphs-same h.plan g.plan h.past.graphs g.graphs h.past.are g.lowered.are) in
-      let past : node_limit < node_count h.past.graphs = h.past.past in
-      let within : node_count g.graphs ≤ node_limit = g.lowered.within in
-      absurd (omega (arith, same, past, within))
+      absurd (past-apart h.plan g.plan h.past.graphs g.graphs h.past.have h.past.past
+      g.lowered.are g.lowered.within)
   limit-same first second (inr h) (inl g) =
-      let same = counts-same h.graphs g.past.graphs
-      (graphs-same h.plan g.plan h.graphs g.past.graphs h.lowered.are g.past.are) in
-      let past : node_limit < node_count g.past.graphs = g.past.past in
-      let within : node_count h.graphs ≤ node_limit = h.lowered.within in
-      absurd (omega (arith, same, past, within))
+      absurd (apart h.plan g.plan h.graphs g.past.graphs h.lowered.are h.lowered.within
+      g.past.have g.past.past)
   limit-same first second (inr h) (inr g) = h.is ∙ sym g.is
 
   -- A program, or a limit.
@@ -118,14 +148,11 @@ module _ (program : Program) (one other : Summary) (well : IsWellMade program)
   split-within : (made : Program) (limit : Limit) → IsSplit program one made →
       IsSplitFault program other (fault.Limit limit) → ⊥
   split-within made limit h (inl g) =
-      let same = counts-same h.graphs g.past.graphs
-      (graphs-same h.plan g.plan h.graphs g.past.graphs h.lowered.are g.past.are) in
-      let past : node_limit < node_count g.past.graphs = g.past.past in
-      let within : node_count h.graphs ≤ node_limit = h.lowered.within in
-      omega (arith, same, past, within)
+      apart h.plan g.plan h.graphs g.past.graphs h.lowered.are h.lowered.within g.past.have
+      g.past.past
   split-within made limit h (inr g) =
       none-deep h.graphs g.graphs h.closed
-      (graphs-same h.plan g.plan h.graphs g.graphs h.lowered.are g.lowered.are) h.shaped g.deep
+      (both-seen h.plan g.plan h.graphs g.graphs h.lowered.are g.lowered.are) h.shaped g.deep
 
   -- One program.
 
@@ -138,7 +165,7 @@ module _ (program : Program) (one other : Summary) (well : IsWellMade program)
     also_rows = rows_of g.plan.order g.closed
 
     seen-same : all_seen h.graphs ≡ all_seen g.graphs
-    seen-same = graphs-same h.plan g.plan h.graphs g.graphs h.lowered.are g.lowered.are
+    seen-same = both-seen h.plan g.plan h.graphs g.graphs h.lowered.are g.lowered.are
 
     both-rows : rows ≡ also_rows
     both-rows =

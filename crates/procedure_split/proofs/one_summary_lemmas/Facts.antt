@@ -1,5 +1,5 @@
 -- Two summaries of one program.
-use Rattle.std.proofs.Common.{◌≡◌, ◌<◌, ◌↔◌, ℕ, zero, suc, Bool, true, false, List, [], ◌∷◌, length, Option, Some, None, slice_get, refl, ap, sym, ◌∙◌, subst, ◌⊎◌, inl, inr, arith}
+use Rattle.std.proofs.Common.{◌≡◌, ◌<◌, ℕ, zero, suc, Bool, true, false, List, [], ◌∷◌, length, Some, slice_get, refl, ap, sym, ◌∙◌, subst, arith}
 use Rattle.std.specs.Prelude.{map}
 use Rattle.cob_tree.specs.declared.program.Range.{Range}
 use Rattle.language.specs.Language.{Chooser, Program}
@@ -8,7 +8,7 @@ use Rattle.flow_levels.specs.Reaching.{Holds}
 use Rattle.named_ranges.specs.Named.{is_before, Has}
 use Rattle.pending_returns.specs.declared.facts.RangeFacts.{RangeFacts}
 use Rattle.pending_returns.specs.declared.facts.Summary.{Summary}
-use Rattle.pending_returns.specs.Summary.{Rises, IsNumber, Tells, IsSummary}
+use Rattle.pending_returns.specs.Summary.{IsNumber, Tells, IsSummary}
 use Rattle.procedure_split.proofs.one_summary_lemmas.Ranges.{Rising, apart, head-before, one-list}
 use Rattle.procedure_split.proofs.one_summary_lemmas.Numbers.{one-rising}
 

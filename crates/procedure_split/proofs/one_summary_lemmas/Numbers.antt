@@ -1,5 +1,5 @@
 -- Rising numbers.
-use Rattle.std.proofs.Common.{◌≡◌, ◌<◌, ◌≤◌, ℕ, zero, suc, List, [], ◌∷◌, Some, slice_get, refl, ap, sym, ◌∙◌, ◌⊎◌, inl, inr, arith}
+use Rattle.std.proofs.Common.{◌≡◌, ◌<◌, ℕ, zero, suc, List, [], ◌∷◌, Some, slice_get, refl, ap, sym, ◌∙◌, ◌⊎◌, inl, inr, arith}
 use Rattle.flow_levels.specs.Reaching.{Holds}
 use Rattle.pending_returns.specs.Summary.{Rises}
 

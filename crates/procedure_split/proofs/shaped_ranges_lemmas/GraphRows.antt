@@ -1,9 +1,11 @@
 -- The graphs of ranges, one after the other.
-use Rattle.std.proofs.Common.{◌≡◌, ◌<◌, ◌≤◌, ℕ, zero, suc, ◌+◌, ◌-◌, ◌^◌, min, nat_le, true, false, if◌then◌else◌, List, [], ◌∷◌, ◌++◌, take, length, Some, slice_get, refl, ap, sym, ◌∙◌, subst, arith, le-leb, get_or, Result, Ok, Err}
-use Rattle.std.proofs.lemmas.List.Sums.{sum_by-cons}
+use Rattle.std.proofs.Common.{◌≡◌, ◌<◌, ◌≤◌, ℕ, zero, suc, ◌+◌, ◌-◌, ◌^◌, min, List, [], ◌∷◌, ◌++◌, map, take, drop, length, Some, slice_get, refl, ap, sym, ◌∙◌, subst, arith, get_or, Result, Ok, Err}
+use Rattle.std.proofs.lemmas.List.{take-append-drop}
+use Rattle.std.proofs.lemmas.List.Sums.{sum_by-append, sum_by-cons, sum_by_push}
 use Rattle.std.proofs.lemmas.Option.{slice_get-get_or}
-use Rattle.std.specs.Prelude.{Vec, MatchResult}
+use Rattle.std.specs.Prelude.{Vec, IfOk, MatchResult}
 use Rattle.std.specs.declared.alloc.Global.{Global}
+use Rattle.cob_base.specs.declared.memory.NoMemory.{NoMemory}
 use Rattle.cob_tree.specs.declared.file.FileEntry.{FileEntry}
 use Rattle.cob_tree.specs.declared.fault.SplitFault.{SplitFault}
 use Rattle.cob_tree.specs.declared.fault.SplitFault.TheVariants as faults
@@ -17,6 +19,7 @@ use Rattle.statements.specs.Does.{declared_in}
 use Rattle.cobol_laws.specs.cobol_parts.Named.{NamesOwnParagraphs}
 use Rattle.cobol_laws.proofs.cobol_parts_lemmas.Sources.{source}
 use Rattle.control_laws.specs.closing.Closes.{IsClosed}
+use Rattle.control_laws.specs.graph_rules.Reduced as reduced
 use Rattle.branch_tree.specs.Graphs.{seen_graph}
 use Rattle.branch_tree.specs.declared.graph.Graph.{Graph}
 use Rattle.counter_cells.specs.Placed.{ClosesPlaced, NumbersPlaced}
@@ -24,16 +27,18 @@ use Rattle.cut_lists.specs.Told.{told_of}
 use Rattle.flow_graph.specs.Lowered.{IsLoweredIn}
 use Rattle.flow_graph.specs.Reaching.{IsRangeIn}
 use Rattle.graph_sizes.specs.Sizes.{graph_size}
+use Rattle.range_sizes.specs.Sizes.{IsSizeIn}
 use Rattle.lower_places.specs.Fall.{seen_range}
 use Rattle.lower_places.specs.Layout.{IsLayout}
 use Rattle.lower_stmts.specs.Along.{told_by}
 use Rattle.lower_stmts.specs.declared.telling.Telling.{Telling}
 use Rattle.rest_table.specs.Paragraphs.{AreRestsOf}
 use Rattle.rest_table.specs.declared.spot.Spot.{Spot}
-use Rattle.procedure_split.specs.shaped_ranges.Graphs.{AreGraphsOf, IsGraphOf, node_count}
+use Rattle.procedure_split.specs.shaped_ranges.Graphs.{AreGraphsOf, HaveGraphs, IsGraphOf, graph_by, node_count, total_size}
 use Rattle.procedure_split.specs.shaped_ranges.Limit.{AreLowered, IsLoweringFault, node_limit, nodes_passed}
 use Rattle.procedure_split.specs.shaped_ranges.Shaped.{AllClosed}
-use Rattle.procedure_split.specs.shaped_ranges.Steps.{AreLoweredIn, AreRangesIn, AreRangesOf, IsGraphIn, IsLoweringFaultIn, IsPastBy, kept_within}
+use Rattle.procedure_split.specs.shaped_ranges.Steps.{AreLoweredIn, AreRangesIn, AreRangesOf, IsCountedOn, IsGraphIn, IsLoweringFaultIn, IsPastBy}
+use Rattle.procedure_split.proofs.shaped_ranges_lemmas.NumberedSizes.{numbered-size}
 
 -- One graph.
 
@@ -63,17 +68,6 @@ closed-graph telling spots range old new found lowered closes =
 abbrev last_number : ℕ
 last_number = 2 ^ 64 - 1
 
-count-more : (all : List Graph) (graph : Graph) →
-    node_count (all ++ graph ∷ []) ≡ node_count all + graph_size (seen_graph graph)
-count-more [] graph =
-    let one = sum_by-cons (λ (g : Graph). graph_size (seen_graph g)) graph [] in
-    omega (arith, one)
-count-more (first ∷ all) graph =
-    let size : Graph → ℕ = λ g. graph_size (seen_graph g) in
-    let new = sum_by-cons size first (all ++ graph ∷ []) in
-    let old = sum_by-cons size first all in
-    omega (arith, new, old, count-more all graph)
-
 graphs-more : (told : Told) (program : language.Program) (ranges : List code.Range)
     (all : List Graph) (range : code.Range) (graph : Graph) →
     AreGraphsOf told program ranges all → IsGraphOf told program (seen_range range) (seen_graph graph) →
@@ -84,13 +78,37 @@ graphs-more told program (first ∷ ranges) [] range graph are is = absurd are
 graphs-more told program (first ∷ ranges) (one ∷ all) range graph are is =
     (are.0, graphs-more told program ranges all range graph are.1 is)
 
--- so far there are these, where they are within the limit, of so many labels and statements
+pub have-seen : (told : Told) (program : language.Program) (ranges : List code.Range)
+    (graphs : List Graph) → AreGraphsOf told program ranges graphs →
+    HaveGraphs told program ranges (map seen_graph graphs)
+have-seen told program [] [] are = tt
+have-seen told program [] (graph ∷ graphs) are = absurd are
+have-seen told program (range ∷ ranges) [] are = absurd are
+have-seen told program (range ∷ ranges) (graph ∷ graphs) are =
+    (are.0, have-seen told program ranges graphs are.1)
+
+have-both : (told : Told) (program : language.Program) (ranges others : List code.Range)
+    (graphs more : List reduced.Graph) → HaveGraphs told program ranges graphs →
+    HaveGraphs told program others more → HaveGraphs told program (ranges ++ others) (graphs ++ more)
+have-both told program [] others [] more have also_have = also_have
+have-both told program [] others (graph ∷ graphs) more have also_have = absurd have
+have-both told program (range ∷ ranges) others [] more have also_have = absurd have
+have-both told program (range ∷ ranges) others (graph ∷ graphs) more have also_have =
+    (have.0, have-both told program ranges others graphs more have.1 also_have)
+
+pub count-seen : (graphs : List Graph) → node_count graphs ≡ total_size (map seen_graph graphs)
+count-seen [] = refl
+count-seen (graph ∷ graphs) =
+    sum_by-cons (λ (g : Graph). graph_size (seen_graph g)) graph graphs
+    ∙ ap (λ (n : ℕ). graph_size (seen_graph graph) + n) (count-seen graphs)
+    ∙ sym (sum_by-cons graph_size (seen_graph graph) (map seen_graph graphs))
+
+-- so far there are these, of so many labels and statements, within the limit
 pub record Counted (told : Told) (program : language.Program) (ranges : List code.Range)
     (graphs : List Graph) (count : ℕ) : Type 0 where
-  pub all : List Graph
-  pub are : AreGraphsOf told program ranges all
-  pub count_is : count ≡ min (node_count all) last_number
-  pub kept : node_count all ≤ node_limit → graphs ≡ all
+  pub are : AreGraphsOf told program ranges graphs
+  pub count_is : count ≡ node_count graphs
+  pub within : node_count graphs ≤ node_limit
 
 abbrev pub SoFar : Telling → List Spot → List code.Range → ℕ → List Graph → ℕ → Type 0
 SoFar telling spots ranges index graphs count = (program : Program) →
@@ -99,59 +117,112 @@ SoFar telling spots ranges index graphs count = (program : Program) →
 
 pub none-yet : (telling : Telling) (spots : List Spot) (ranges : List code.Range)
     (graphs : List Graph) → graphs ≡ [] → SoFar telling spots ranges 0 graphs 0
-none-yet telling spots ranges graphs none = λ program are. record {
-  all = [];
-  are = tt;
-  count_is = omega arith;
-  kept = λ few. none;
-}
-
-kept-so : (count : ℕ) (graphs : List Graph) (graph : Graph) → count ≤ node_limit →
-    kept_within count graphs graph ≡ graphs ++ graph ∷ []
-kept-so count graphs graph few =
-    ap (λ t. if t then graphs ++ graph ∷ [] else graphs) (le-leb count node_limit few)
-
-one-more : (told : Told) (program : language.Program) (ranges : List code.Range)
-    (graphs more : List Graph) (count next : ℕ) (range : code.Range) (graph : Graph) →
-    Counted told program ranges graphs count →
-    IsGraphOf told program (seen_range range) (seen_graph graph) →
-    next ≡ min (count + min (graph_size (seen_graph graph)) last_number) last_number →
-    more ≡ kept_within next graphs graph →
-    Counted told program (ranges ++ range ∷ []) more next
-one-more told program ranges graphs more count next range graph so is adds keeps =
-    let counted = count-more so.all graph in
-    let was = so.count_is in
-    record {
-      all = so.all ++ graph ∷ [];
-      are = graphs-more told program ranges so.all range graph so.are is;
-      count_is = omega (arith, adds, was, counted);
-      kept = λ few.
-          let before : node_count so.all ≤ node_limit = omega (arith, few, counted) in
-          let within : next ≤ node_limit = omega (arith, few, counted, adds, was) in
-          keeps ∙ kept-so next graphs graph within ∙ ap (λ l. l ++ graph ∷ []) (so.kept before);
-    }
+none-yet telling spots ranges graphs none = λ program are.
+    subst (λ g. Counted (told_by telling) (control_of program) [] g 0) (sym none)
+    (record { are = tt; count_is = refl; within = omega arith })
 
 take-more : (ranges : List code.Range) (index : ℕ) (range : code.Range) →
-    slice_get ranges index ≡ Some range → take (suc index) ranges ≡ take index ranges ++ range ∷ []
-take-more [] index range is = cc
-take-more (first ∷ ranges) zero range is =
-    let same : first ≡ range = cc in ap (λ r. r ∷ []) same
-take-more (first ∷ ranges) (suc index) range is = ap (λ l. first ∷ l) (take-more ranges index range is)
-
-pub so-far-more : (telling : Telling) (spots : List Spot) (ranges : List code.Range) (index : ℕ)
-    (graphs more : List Graph) (count next : ℕ) (range : code.Range) (graph : Graph) →
-    SoFar telling spots ranges index graphs count → slice_get ranges index ≡ Some range →
-    IsGraphIn telling spots range graph →
-    next ≡ min (count + min (graph_size (seen_graph graph)) last_number) last_number →
-    more ≡ kept_within next graphs graph → SoFar telling spots ranges (index + 1) more next
-so-far-more telling spots ranges index graphs more count next range graph so there is adds keeps =
-    λ program are.
+    slice_get ranges index ≡ Some range → take (index + 1) ranges ≡ take index ranges ++ range ∷ []
+take-more ranges index range is =
     let by_one : suc index ≡ index + 1 = omega arith in
-    subst (λ l. Counted (told_by telling) (control_of program) l more next)
-    (sym (take-more ranges index range there) ∙ ap (λ n. take n ranges) by_one)
-    (one-more (told_by telling) (control_of program) (take index ranges) graphs more count next
-    range graph (so program are)
-    (is program (record { table = are.table; own = are.own index range there })) adds keeps)
+    sym (ap (λ n. take n ranges) by_one) ∙ after ranges index range is
+  where
+    after : (ranges : List code.Range) (index : ℕ) (range : code.Range) →
+        slice_get ranges index ≡ Some range →
+        take (suc index) ranges ≡ take index ranges ++ range ∷ []
+    after [] index range is = cc
+    after (first ∷ ranges) zero range is =
+        let same : first ≡ range = cc in ap (λ r. r ∷ []) same
+    after (first ∷ ranges) (suc index) range is =
+        ap (λ l. first ∷ l) (after ranges index range is)
+
+-- one graph more
+
+module _ (telling : Telling) (spots : List Spot) (ranges : List code.Range) (index : ℕ)
+    (graphs : List Graph) (count next : ℕ) (range : code.Range) (graph : Graph)
+    (so : SoFar telling spots ranges index graphs count)
+    (there : slice_get ranges index ≡ Some range) (is : IsGraphIn telling spots range graph)
+    (adds : next ≡ min (count + min (graph_size (seen_graph graph)) last_number) last_number) where
+  abbrev more : List Graph
+  more = graphs ++ graph ∷ []
+
+  more-are : (program : Program) → AreRangesIn telling spots program ranges →
+      AreGraphsOf (told_by telling) (control_of program) (take (index + 1) ranges) more
+  more-are program are =
+      subst (λ l. AreGraphsOf (told_by telling) (control_of program) l more)
+      (sym (take-more ranges index range there))
+      (graphs-more (told_by telling) (control_of program) (take index ranges) graphs range graph
+      (so program are).are (is program (record { table = are.table; own = are.own index range there })))
+
+  more-count : node_count more ≡ node_count graphs + graph_size (seen_graph graph)
+  more-count = sum_by_push (λ (g : Graph). graph_size (seen_graph g)) graphs graph
+
+  pub so-far-more : (new : List Graph) → new ≡ more → next ≤ node_limit →
+      SoFar telling spots ranges (index + 1) new next
+  so-far-more new same few = λ program are.
+      let was = (so program are).count_is in
+      let within = (so program are).within in
+      subst (λ g. Counted (told_by telling) (control_of program) (take (index + 1) ranges) g next)
+      (sym same) (record {
+        are = more-are program are;
+        count_is = omega (arith, adds, was, within, few, more-count);
+        within = omega (arith, adds, was, within, few, more-count);
+      })
+
+  drop-own : (program : Program) → AreRangesIn telling spots program ranges →
+      AreRangesIn telling spots program (drop (index + 1) ranges)
+  drop-own program are = record {
+    table = are.table;
+    own = λ at one here. are.own (index + 1 + at) one (further (index + 1) ranges at one here);
+  }
+    where
+      further : (n : ℕ) (ranges : List code.Range) (at : ℕ) (one : code.Range) →
+          slice_get (drop n ranges) at ≡ Some one → slice_get ranges (n + at) ≡ Some one
+      further zero ranges at one here =
+          let none : at ≡ 0 + at = omega arith in
+          subst (λ (n : ℕ). slice_get ranges n ≡ Some one) none here
+      further (suc n) [] at one here = cc
+      further (suc n) (first ∷ ranges) at one here =
+          let later : suc (n + at) ≡ suc n + at = omega arith in
+          subst (λ (m : ℕ). slice_get (first ∷ ranges) m ≡ Some one) later
+          (further n ranges at one here)
+
+  -- and all others are counted alone, since they are past the limit
+  pub past-limit : node_limit < next → (counted : Result ℕ NoMemory) →
+      IfOk counted (IsCountedOn telling spots (drop (index + 1) ranges) next) →
+      (fault : SplitFault) → IsPastBy counted fault →
+      IsLoweringFaultIn telling spots ranges fault
+  past-limit past counted on (faults.Limit limit) by = λ program are.
+      let rest = ok-at counted by.0 by.1 on program (drop-own program are) in
+      let seen = map seen_graph more in
+      let all = seen ++ rest.0 in
+      let total : total_size all ≡ node_count more + total_size rest.0 =
+      sum_by-append graph_size seen rest.0
+      ∙ ap (λ (n : ℕ). n + total_size rest.0) (sym (count-seen more)) in
+      let was = (so program are).count_is in
+      let within = (so program are).within in
+      let less = by.2 in
+      let count_is = rest.2 in
+      let same : by.0 ≡ total_size all =
+      omega (arith, total, was, within, adds, count_is, less, past, more-count) in
+      record {
+        graphs = all;
+        have = subst (λ l. HaveGraphs (told_by telling) (control_of program) l all)
+            (take-append-drop (index + 1) ranges)
+            (have-both (told_by telling) (control_of program) (take (index + 1) ranges)
+            (drop (index + 1) ranges) seen rest.0
+            (have-seen (told_by telling) (control_of program) (take (index + 1) ranges) more
+            (more-are program are)) rest.1);
+        past = omega (arith, total, was, within, adds, past, more-count);
+        is = by.3 ∙ ap nodes_passed same;
+      }
+    where
+      ok-at : (counted : Result ℕ NoMemory) (count : ℕ) → counted ≡ Ok count →
+          IfOk counted (IsCountedOn telling spots (drop (index + 1) ranges) next) →
+          IsCountedOn telling spots (drop (index + 1) ranges) next count
+      ok-at counted count at on =
+          subst (λ r. IfOk r (IsCountedOn telling spots (drop (index + 1) ranges) next)) at on
+  past-limit past counted on faults.NoMemory by = λ program are. tt
 
 take-all : (ranges : List code.Range) (index : ℕ) → length ranges ≤ index →
     take index ranges ≡ ranges
@@ -162,51 +233,70 @@ take-all (range ∷ ranges) (suc index) past =
     ap (λ l. range ∷ l) (take-all ranges index (omega (arith, past)))
 
 pub all-lowered : (telling : Telling) (spots : List Spot) (ranges : List code.Range) (index : ℕ)
-    (graphs kept : List Graph) (count : ℕ) → SoFar telling spots ranges index graphs count →
-    length ranges ≤ index → kept ≡ graphs → count ≤ node_limit →
-    AreLoweredIn telling spots ranges kept
-all-lowered telling spots ranges index graphs kept count so past same few = λ program are.
-    let counted = so program are in
-    let is = counted.count_is in
-    let within : node_count counted.all ≤ node_limit = omega (arith, is, few) in
-    subst (λ g. AreLowered (told_by telling) (control_of program) ranges g)
-    (sym (same ∙ counted.kept within))
-    (record {
-      are = subst (λ l. AreGraphsOf (told_by telling) (control_of program) l counted.all)
-          (take-all ranges index past) counted.are;
-      within = within;
-    })
-
-pub past-limit : (telling : Telling) (spots : List Spot) (ranges : List code.Range) (index : ℕ)
     (graphs : List Graph) (count : ℕ) → SoFar telling spots ranges index graphs count →
-    length ranges ≤ index → (fault : SplitFault) → IsPastBy count fault →
-    IsLoweringFaultIn telling spots ranges fault
-past-limit telling spots ranges index graphs count so past (faults.Limit limit) by = λ program are.
-    let counted = so program are in
-    let is = counted.count_is in
-    let more = by.0 in
-    let less = by.1 in
-    let same : count ≡ node_count counted.all = omega (arith, is, less) in
-    record {
-      graphs = counted.all;
-      are = subst (λ l. AreGraphsOf (told_by telling) (control_of program) l counted.all)
-          (take-all ranges index past) counted.are;
-      past = subst (λ n. node_limit < n) same more;
-      is = by.2 ∙ ap nodes_passed same;
-    }
-past-limit telling spots ranges index graphs count so past faults.NoMemory by = λ program are. tt
+    length ranges ≤ index → AreLoweredIn telling spots ranges graphs
+all-lowered telling spots ranges index graphs count so past = λ program are. record {
+  are = subst (λ l. AreGraphsOf (told_by telling) (control_of program) l graphs)
+      (take-all ranges index past) (so program are).are;
+  within = (so program are).within;
+}
 
-pub closed-more : (count : ℕ) (graphs : List Graph) (graph : Graph) → AllClosed graphs →
-    IsClosed (seen_graph graph) → AllClosed (kept_within count graphs graph)
-closed-more count graphs graph all closed =
-    elim (nat_le count node_limit) as (λ t. AllClosed (if t then graphs ++ graph ∷ [] else graphs)) [
-      | true ↦ behind graphs all
-      | false ↦ all
-    ]
-  where
-    behind : (before : List Graph) → AllClosed before → AllClosed (before ++ graph ∷ [])
-    behind [] all = (closed, tt)
-    behind (first ∷ before) all = (all.0, behind before all.1)
+-- Graphs that are counted alone.
+
+abbrev pub CountedSoFar : Telling → List Spot → List code.Range → ℕ → (others count : ℕ) → Type 0
+CountedSoFar telling spots ranges index others count = (program : Program) →
+    AreRangesIn telling spots program ranges →
+    (graphs : List reduced.Graph)
+    × HaveGraphs (told_by telling) (control_of program) (take index ranges) graphs
+    × (count ≡ min (others + total_size graphs) last_number)
+
+pub counted-none : (telling : Telling) (spots : List Spot) (ranges : List code.Range)
+    (others : ℕ) → others < 2 ^ 64 → CountedSoFar telling spots ranges 0 others others
+counted-none telling spots ranges others small = λ program are. ([], tt, omega (arith, small))
+
+pub counted-more : (telling : Telling) (spots : List Spot) (ranges : List code.Range) (index : ℕ)
+    (others count size next : ℕ) (range : code.Range) →
+    CountedSoFar telling spots ranges index others count → slice_get ranges index ≡ Some range →
+    IsSizeIn telling spots range size → next ≡ min (count + size) last_number →
+    CountedSoFar telling spots ranges (index + 1) others next
+counted-more telling spots ranges index others count size next range so there sized adds =
+    λ program are.
+    let told = told_by telling in
+    let control = control_of program in
+    let was = so program are in
+    let one = sized program (record { table = are.table; own = are.own index range there }) in
+    let graph = graph_by told control one.0 (seen_range range) in
+    let own : IsGraphOf told control (seen_range range) graph =
+    record { keep = one.0; just = one.1; is = refl } in
+    let same = numbered-size told control one.0 (seen_range range) in
+    let total = sum_by_push graph_size was.0 graph in
+    let counts = was.2 in
+    let sizes = one.2 in (
+      was.0 ++ graph ∷ [],
+      subst (λ l. HaveGraphs told control l (was.0 ++ graph ∷ []))
+          (sym (take-more ranges index range there))
+          (have-both told control (take index ranges) (range ∷ []) was.0 (graph ∷ []) was.1
+          (own, tt)),
+      omega (arith, adds, counts, sizes, same, total),
+    )
+
+pub counted-all : (telling : Telling) (spots : List Spot) (ranges : List code.Range) (index : ℕ)
+    (others count : ℕ) → CountedSoFar telling spots ranges index others count →
+    length ranges ≤ index → IsCountedOn telling spots ranges others count
+counted-all telling spots ranges index others count so past = λ program are.
+    let was = so program are in (
+      was.0,
+      subst (λ l. HaveGraphs (told_by telling) (control_of program) l was.0)
+          (take-all ranges index past) was.1,
+      was.2,
+    )
+
+pub closed-more : (graphs new : List Graph) (graph : Graph) → new ≡ graphs ++ graph ∷ [] →
+    AllClosed graphs → IsClosed (seen_graph graph) → AllClosed new
+closed-more graphs new graph is all closed = subst AllClosed (sym is) (behind graphs all) where
+  behind : (before : List Graph) → AllClosed before → AllClosed (before ++ graph ∷ [])
+  behind [] all = (closed, tt)
+  behind (first ∷ before) all = (all.0, behind before all.1)
 
 -- In a program.
 

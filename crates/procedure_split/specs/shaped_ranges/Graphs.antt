@@ -35,6 +35,17 @@ AreGraphsOf told program (range ∷ ranges) (graph ∷ graphs) =
     IsGraphOf told program (seen_range range) (seen_graph graph)
     × AreGraphsOf told program ranges graphs
 
+-- the same of graphs as the theory has them, of which nothing need be made
+abbrev pub HaveGraphs : Told → Program → List code.Range → List reduced.Graph → Type 0
+HaveGraphs told program [] [] = Unit {0}
+HaveGraphs told program [] (graph ∷ graphs) = ⊥
+HaveGraphs told program (range ∷ ranges) [] = ⊥
+HaveGraphs told program (range ∷ ranges) (graph ∷ graphs) =
+    IsGraphOf told program (seen_range range) graph × HaveGraphs told program ranges graphs
+
 -- the labels and statements of all
+abbrev pub total_size : List reduced.Graph → ℕ
+total_size = sum_by graph_size
+
 abbrev pub node_count : List Graph → ℕ
 node_count = sum_by (λ graph. graph_size (seen_graph graph))

@@ -7,8 +7,9 @@ use Rattle.cob_tree.specs.declared.fault.SplitFault.TheVariants as fault
 use Rattle.cob_tree.specs.declared.program.Range.{Range}
 use Rattle.language.specs.Language.{Program}
 use Rattle.control_laws.specs.lowering.Told.{Told}
+use Rattle.control_laws.specs.graph_rules.Reduced as reduced
 use Rattle.branch_tree.specs.declared.graph.Graph.{Graph}
-use Rattle.procedure_split.specs.shaped_ranges.Graphs.{AreGraphsOf, node_count}
+use Rattle.procedure_split.specs.shaped_ranges.Graphs.{AreGraphsOf, HaveGraphs, node_count, total_size}
 
 abbrev pub node_limit : ℕ
 node_limit = 500000
@@ -23,13 +24,13 @@ pub record AreLowered (told : Told) (program : Program) (ranges : List Range) (g
   pub are : AreGraphsOf told program ranges graphs
   pub within : node_count graphs ≤ node_limit
 
--- they are past it
+-- the graphs that they have are past it
 pub record ArePast (told : Told) (program : Program) (ranges : List Range) (limit : Limit)
     : Type 0 where
-  pub graphs : List Graph
-  pub are : AreGraphsOf told program ranges graphs
-  pub past : node_limit < node_count graphs
-  pub is : limit ≡ nodes_passed (node_count graphs)
+  pub graphs : List reduced.Graph
+  pub have : HaveGraphs told program ranges graphs
+  pub past : node_limit < total_size graphs
+  pub is : limit ≡ nodes_passed (total_size graphs)
 
 -- why they aren't lowered: they are past the limit; want of memory may come at any place
 abbrev pub IsLoweringFault : Told → Program → List Range → SplitFault → Type 0

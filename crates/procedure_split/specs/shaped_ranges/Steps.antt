@@ -1,5 +1,6 @@
 -- What the steps of lowering give, whatever the program.
-use Rattle.std.specs.Prelude.{ℕ, ◌≡◌, ◌<◌, ◌^◌, ◌-◌, nat_le, if◌then◌else◌, List, [], ◌∷◌, ◌++◌, Some, slice_get}
+use Rattle.std.specs.Prelude.{ℕ, ◌≡◌, ◌<◌, ◌+◌, ◌-◌, ◌^◌, min, List, Result, Ok, Some, slice_get}
+use Rattle.cob_base.specs.declared.memory.NoMemory.{NoMemory}
 use Rattle.cob_tree.specs.declared.fault.SplitFault.{SplitFault}
 use Rattle.cob_tree.specs.declared.fault.SplitFault.TheVariants as fault
 use Rattle.cob_tree.specs.declared.program.Program.{Program}
@@ -7,6 +8,7 @@ use Rattle.cob_tree.specs.declared.program.Range as code
 use Rattle.language.specs.Control.{control_of}
 use Rattle.language.specs.Language as language
 use Rattle.control_laws.specs.lowering.WellFormed.{IsRangeOf}
+use Rattle.control_laws.specs.graph_rules.Reduced as reduced
 use Rattle.branch_tree.specs.Graphs.{seen_graph}
 use Rattle.branch_tree.specs.declared.graph.Graph.{Graph}
 use Rattle.lower_places.specs.Fall.{seen_range}
@@ -15,8 +17,8 @@ use Rattle.lower_stmts.specs.declared.telling.Telling.{Telling}
 use Rattle.rest_table.specs.declared.spot.Spot.{Spot}
 use Rattle.range_trees.specs.Nodes.{IsTableOf}
 use Rattle.flow_graph.specs.Reaching.{IsRangeIn}
-use Rattle.procedure_split.specs.shaped_ranges.Graphs.{IsGraphOf}
-use Rattle.procedure_split.specs.shaped_ranges.Limit.{AreLowered, IsLoweringFault, node_limit, nodes_passed}
+use Rattle.procedure_split.specs.shaped_ranges.Graphs.{HaveGraphs, IsGraphOf, total_size}
+use Rattle.procedure_split.specs.shaped_ranges.Limit.{AreLowered, IsLoweringFault, nodes_passed}
 
 -- they begin with paragraphs of the program
 abbrev pub AreRangesOf : language.Program → List code.Range → Type 0
@@ -43,13 +45,17 @@ IsLoweringFaultIn telling spots ranges fault = (program : Program) →
     AreRangesIn telling spots program ranges →
     IsLoweringFault (told_by telling) (control_of program) ranges fault
 
--- one more, where the count is within the limit
-abbrev pub kept_within : ℕ → List Graph → Graph → List Graph
-kept_within count graphs graph =
-    if nat_le count node_limit then graphs ++ graph ∷ [] else graphs
+-- the graphs that ranges have, with so many other labels and statements, come to this count; past
+-- the last number of its type to that number
+abbrev pub IsCountedOn : Telling → List Spot → List code.Range → (others count : ℕ) → Type 0
+IsCountedOn telling spots ranges others count = (program : Program) →
+    AreRangesIn telling spots program ranges →
+    (graphs : List reduced.Graph)
+    × HaveGraphs (told_by telling) (control_of program) ranges graphs
+    × (count ≡ min (others + total_size graphs) (2 ^ 64 - 1))
 
--- more than the limit, which the count tells, unless it is the last number of its type
-abbrev pub IsPastBy : ℕ → SplitFault → Type 0
-IsPastBy count (fault.Limit limit) =
-    (node_limit < count) × (count < 2 ^ 64 - 1) × (limit ≡ nodes_passed count)
-IsPastBy count fault.NoMemory = Unit {0}
+-- the limit tells the count, unless it is that last number, or memory was wanted
+abbrev pub IsPastBy : Result ℕ NoMemory → SplitFault → Type 0
+IsPastBy counted (fault.Limit limit) = (count : ℕ) × (counted ≡ Ok count)
+    × (count < 2 ^ 64 - 1) × (limit ≡ nodes_passed count)
+IsPastBy counted fault.NoMemory = Unit {0}

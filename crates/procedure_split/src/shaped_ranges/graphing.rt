@@ -1,6 +1,6 @@
 //! The graphs of the ranges of a plan.
 
-ghost use Rattle.std.specs.Prelude.{◌≡◌, ◌≤◌, ◌*◌, length, IfOk, OnOk, MatchResult};
+ghost use Rattle.std.specs.Prelude.{[], ◌∷◌, ◌++◌, ◌≡◌, ◌*◌, length, IfOk, OnOk, MatchResult};
 ghost use Rattle.cob_tree.specs.declared.program.Program.{Program};
 ghost use Rattle.language.specs.Control.{control_of};
 ghost use Rattle.language.specs.OwnItems.{NamesOwnItems};
@@ -11,9 +11,9 @@ ghost use Rattle.cobol_laws.specs.cobol_parts.Named.{NamesOwnParagraphs};
 ghost use Rattle.flow_levels.specs.Reaching.{IsMarked};
 ghost use Rattle.range_trees.specs.Nodes.{IsWhole};
 ghost use Rattle.flow_graph.specs.Reaching.{IsRangeIn};
-ghost use Rattle.procedure_split.specs.shaped_ranges.Limit.{AreLowered, IsLoweringFault, node_limit, nodes_passed};
+ghost use Rattle.procedure_split.specs.shaped_ranges.Limit.{AreLowered, IsLoweringFault, nodes_passed};
 ghost use Rattle.procedure_split.specs.shaped_ranges.Shaped.{AllClosed};
-ghost use Rattle.procedure_split.specs.shaped_ranges.Steps.{AreLoweredIn, AreRangesIn, AreRangesOf, IsGraphIn, IsLoweringFaultIn, IsPastBy, kept_within};
+ghost use Rattle.procedure_split.specs.shaped_ranges.Steps.{AreLoweredIn, AreRangesIn, AreRangesOf, IsCountedOn, IsGraphIn, IsLoweringFaultIn, IsPastBy};
 
 use branch_tree::Graph;
 use cob_base::{Limit, LimitKind, NoMemory};
@@ -25,6 +25,7 @@ use graph_sizes::graph_size;
 use lower_places::layout_of;
 use lower_stmts::Telling;
 use range_plan::RangePlan;
+use range_sizes::{Known, range_size};
 use rest_table::{Spot, spots_of};
 use std::alloc::Global;
 
@@ -72,14 +73,10 @@ fn graph_of(
     }
 }
 
-/// Adds a graph, where there is room in the limit.
-fn keep_graph(graphs: &mut Vec<Graph>, graph: Graph, count: u64) -> Result<(), NoMemory>
-    ensures { OnOk result (graphs.new.items ≡ kept_within count graphs.old.items graph) }
+/// Adds a graph.
+fn keep_graph(graphs: &mut Vec<Graph>, graph: Graph) -> Result<(), NoMemory>
+    ensures { OnOk result (graphs.new.items ≡ graphs.old.items ++ graph ∷ []) }
 {
-    if count > NODE_LIMIT {
-        drop(graph);
-        return Ok(());
-    }
     match graphs.push(graph) {
         Ok(()) => Ok(()),
         Err(left) => {
@@ -89,22 +86,43 @@ fn keep_graph(graphs: &mut Vec<Graph>, graph: Graph, count: u64) -> Result<(), N
     }
 }
 
-/// The graphs, or the limit that so many labels and statements pass.
-fn within_limit(graphs: Vec<Graph>, count: u64) -> Result<Vec<Graph>, SplitFault>
-    ensures { MatchResult result (λ kept. (kept ≡ graphs) × (count ≤ node_limit))
-        (λ fault. IsPastBy count fault) }
+/// How many labels and statements the graphs of ranges have, with so many others.
+fn counted_on(
+    alloc: Global,
+    reach: &mut Reach,
+    spots: &[Spot<'_>],
+    ranges: &[Range],
+    telling: &Telling<'_>,
+    others: u64,
+) -> Result<u64, NoMemory>
+    requires marked { IsMarked reach.old.places.items reach.old.marks.items }
+    requires whole { IsWhole telling.now spots.now }
+    requires size { length reach.old.marks.items ≡ 3 * length spots.now }
+    requires ranges { (program : Program) × AreRangesIn telling.now spots.now program ranges.now }
+    ensures { IfOk result (IsCountedOn telling.now spots.now ranges.now others) }
 {
-    if count <= NODE_LIMIT {
-        return Ok(graphs);
+    let mut known = Known::new(alloc, spots)?;
+    let mut count = others;
+    for range in ranges {
+        let size = range_size(alloc, reach, &mut known, spots, *range, telling)?;
+        count = count.saturating_add(size);
     }
-    drop(graphs);
-    if count == u64::MAX {
-        return Err(SplitFault::NoMemory);
-    }
-    Err(SplitFault::Limit(nodes_passed(count)))
+    Ok(count)
 }
 
-/// The graphs of these ranges.
+/// The limit that ranges pass whose graphs have so many labels and statements.
+fn past_limit(counted: Result<u64, NoMemory>) -> SplitFault
+    ensures { IsPastBy counted result }
+{
+    match counted {
+        Err(_) => SplitFault::NoMemory,
+        Ok(u64::MAX) => SplitFault::NoMemory,
+        Ok(count) => SplitFault::Limit(nodes_passed(count)),
+    }
+}
+
+/// The graphs of these ranges. From the first one on with which they pass the limit they are
+/// counted without being made.
 fn graphs_of(
     alloc: Global,
     reach: &mut Reach,
@@ -123,15 +141,22 @@ fn graphs_of(
 {
     let mut graphs = Vec::new(alloc);
     let mut count = 0u64;
-    for range in ranges {
-        match graph_of(alloc, reach, spots, *range, telling) {
+    for at in 0..ranges.len() {
+        match graph_of(alloc, reach, spots, ranges[at], telling) {
             Err(_) => {
                 drop(graphs);
                 return Err(SplitFault::NoMemory);
             }
             Ok(graph) => {
                 count = count.saturating_add(graph_size(&graph));
-                match keep_graph(&mut graphs, graph, count) {
+                if count > NODE_LIMIT {
+                    drop(graph);
+                    drop(graphs);
+                    let others = &ranges[at + 1..];
+                    let counted = counted_on(alloc, reach, spots, others, telling, count);
+                    return Err(past_limit(counted));
+                }
+                match keep_graph(&mut graphs, graph) {
                     Ok(()) => {}
                     Err(_) => {
                         drop(graphs);
@@ -141,7 +166,7 @@ fn graphs_of(
             }
         }
     }
-    within_limit(graphs, count)
+    Ok(graphs)
 }
 
 /// The graphs of the ranges of a plan, in its order. Limit exactly where they have more than

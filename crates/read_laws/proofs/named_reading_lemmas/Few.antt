@@ -6,7 +6,7 @@ use Rattle.cob_tree.specs.declared.entry.Entry.{Entry}
 use Rattle.cob_tree.specs.declared.place.Place.{Place}
 use Rattle.cobol_lex.specs.declared.token.TokenKind.{TokenKind}
 use Rattle.grammar_forms.specs.Form as form
-use Rattle.grammar_forms.specs.Form.{Input, Outcome, Got, Stop, left, Form, then_read, begins_by, is_next, loop_reads}
+use Rattle.grammar_forms.specs.Form.{Input, Got, left, Form, then_read, begins_by, is_next, loop_reads}
 use Rattle.grammar_forms.proofs.Lawful.{got_is, then_got}
 use Rattle.grammar_forms.proofs.MakerLaws as makers
 use Rattle.grammar_forms.proofs.MakerLaws.{Law}

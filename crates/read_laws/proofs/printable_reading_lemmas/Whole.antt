@@ -12,7 +12,6 @@ use Rattle.grammar_forms.proofs.Lawful.{got_is, then_got}
 use Rattle.grammar_forms.proofs.MakerLaws as makers
 use Rattle.statement_grammar.specs.declared.data_forms.draft.Divisions.{Divisions}
 use Rattle.data_names.specs.Names.{Names, names_of}
-use Rattle.data_rules.specs.Declaring.{declared_of}
 use Rattle.cobol_read.specs.declared.program.Declarations.{Declarations}
 use Rattle.cobol_read.specs.declared.program.ProgramDraft.{ProgramDraft}
 use Rattle.cobol_read.specs.Program as forms

@@ -21,7 +21,7 @@ use Rattle.language.specs.All.{all}
 use Rattle.named_programs.specs.Part.{number_named}
 use Rattle.part_tokens.specs.Token.{Tokens, joined, opened_by, closed_by, in_parentheses, enclosed}
 use Rattle.part_tokens.specs.Place as tok
-use Rattle.part_tokens.specs.Place.{item_name, of_tokens, plus_tokens, op_mark, figure_word, subs_tokens, place_tokens, operand_tokens, operands_tokens, expr_tokens, sub_tokens, window_tokens}
+use Rattle.part_tokens.specs.Place.{of_tokens, plus_tokens, op_mark, figure_word, subs_tokens, place_tokens, operand_tokens, operands_tokens, expr_tokens, sub_tokens, window_tokens}
 use Rattle.printable_programs.specs.Part as part
 use Rattle.printable_programs.specs.Part.{is_printable_name, is_printable_place, are_printable_places, is_printable_operand, are_printable_operands, is_printable_expr, is_printable_sub, is_printable_window}
 use Rattle.read_laws.proofs.printed_words_lemmas.Tokens.{Allowed, AreAllowed, none, word, mark, text-allowed, digits-allowed, number-allowed, printable-name, ItemsNamed, ◌∷∷◌, ◌+++◌}

@@ -13,7 +13,7 @@ use Rattle.cob_tree.specs.declared.place.Sub.{Sub, map-Sub, roll-Sub, fold-roll-
 use Rattle.cob_tree.specs.declared.place.Window.{Window, map-Window, roll-Window, fold-roll-Window}
 use Rattle.language.specs.All.{all}
 use Rattle.cobol_laws.specs.added_items.Within as within
-use Rattle.cobol_laws.specs.added_items.Within.{place_within, operand_within, expr_within, sub_within, window_within, span_within, entries_within, files_within}
+use Rattle.cobol_laws.specs.added_items.Within.{place_within, operand_within, expr_within, sub_within, window_within, entries_within, files_within}
 use Rattle.named_programs.specs.Part.{Counts, if_any, number_named, item_named, place_named, operand_named, expr_named, sub_named, window_named}
 use Rattle.named_programs.specs.Part as part
 use Rattle.named_programs.proofs.Made.{both}

@@ -44,7 +44,7 @@ use Rattle.readable_procedures.proofs.readable_exprs_lemmas.Told.{Told, leaf-tol
 use Rattle.readable_procedures.proofs.readable_exprs_lemmas.Expressions as exprs
 use Rattle.readable_procedures.proofs.readable_exprs_lemmas.Expressions.{InnerTold}
 use Rattle.readable_procedures.proofs.readable_exprs_lemmas.Tests as tell
-use Rattle.readable_procedures.proofs.readable_exprs_lemmas.Tests.{CondTold, SettingTold, SetTold, PartTold, PrimTold, ReadTold, LeftTold, JoinedTold, value-known, condition-known}
+use Rattle.readable_procedures.proofs.readable_exprs_lemmas.Tests.{SettingTold, SetTold, PartTold, PrimTold, ReadTold, LeftTold, JoinedTold, value-known, condition-known}
 
 module _ (Kind : TokenKind → Type 0) (names : Names) (program : Program) (finds : Finds names program) where
   -- ---- tests of one side

@@ -25,7 +25,6 @@ use Rattle.statement_grammar.specs.expr_forms.Limit as limits
 use Rattle.statement_grammar.specs.expr_forms.Limit.{Inner}
 use Rattle.statement_grammar.specs.expr_forms.Chain as chains
 use Rattle.statement_grammar.specs.expr_forms.Either as eithers
-use Rattle.statement_grammar.specs.expr_forms.Either.{bare_sub, item_sub, number_sub}
 use Rattle.statement_grammar.specs.expr_forms.Reference as references
 use Rattle.statement_grammar.specs.expr_forms.Operand as operand_forms
 use Rattle.statement_grammar.specs.expr_forms.Expression as expressions
@@ -34,7 +33,7 @@ use Rattle.statement_grammar.specs.expr_forms.Subscript as subscripts
 use Rattle.statement_grammar.specs.expr_forms.Front as front_forms
 use Rattle.statement_grammar.specs.expr_forms.Levels as knots
 use Rattle.statement_grammar.specs.expr_forms.Side as sides
-use Rattle.statement_grammar.specs.expr_forms.Side.{place_of, ref_side}
+use Rattle.statement_grammar.specs.expr_forms.Side.{place_of}
 use Rattle.statement_grammar.proofs.expr_forms_lemmas.ExpressionLaws as law
 use Rattle.named_forms.specs.Giving.{Gives}
 use Rattle.named_forms.proofs.Giving.{any, hence, still, pure, refuse, note, mark, too_deep, chosen, where_next, loop, ◌>>=◌, ◌>>◌}

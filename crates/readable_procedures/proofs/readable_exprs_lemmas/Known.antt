@@ -36,7 +36,7 @@ use Rattle.statement_grammar.specs.expr_forms.Fault.{usage, item_of, is_whole, n
 use Rattle.statement_grammar.specs.expr_forms.Side as sides
 use Rattle.statement_grammar.specs.expr_forms.Side.{expr_of, place_of, kind_within, windowed, literal_kind}
 use Rattle.named_programs.proofs.Made.{both}
-use Rattle.part_spelling.specs.expr_spelling.Printable.{reference, is_number, is_counting, is_exact, are_data_words, suits, are_fit, if_fit, kind_seen, judged_expr, judged_operand, judged_place, judged_sub, IsPrintableExpr, IsPrintableOperand, IsPrintablePlace}
+use Rattle.part_spelling.specs.expr_spelling.Printable.{reference, is_number, is_counting, is_exact, are_data_words, suits, are_fit, if_fit, kind_seen, judged_expr, judged_place, judged_sub, IsPrintableExpr, IsPrintableOperand, IsPrintablePlace}
 use Rattle.part_spelling.specs.expr_spelling.Printable as judging
 use Rattle.part_spelling.specs.expr_spelling.Spelled.{IsOperandSide, IsExprSide}
 use Rattle.part_spelling.proofs.expr_spelling_lemmas.Layers.{judged-Leaf, judged-Minus, judged-Both, judged-Place, judged-place, judged_windows, judged-sub, terms-Both}

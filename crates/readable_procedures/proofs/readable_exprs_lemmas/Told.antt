@@ -30,7 +30,7 @@ use Rattle.statement_grammar.specs.expr_forms.Side as sides
 use Rattle.statement_grammar.specs.expr_forms.Side.{expr_of, place_of, literal_kind}
 use Rattle.statement_grammar.specs.expr_forms.Window.{second_count}
 use Rattle.named_programs.proofs.Made.{both}
-use Rattle.part_spelling.specs.expr_spelling.Printable.{is_counting, is_number, are_data_words, are_fit, if_fit, judged_expr, judged_place, judged_sub, judged_window, IsPrintableOperand, IsPrintablePlace}
+use Rattle.part_spelling.specs.expr_spelling.Printable.{is_counting, is_number, are_fit, if_fit, judged_sub, judged_window, IsPrintableOperand}
 use Rattle.part_spelling.specs.expr_spelling.Printable as judging
 use Rattle.part_spelling.specs.expr_spelling.Spelled.{what_of, IsOperandSide, size_terms, HasRoom, made_window, made_place, WindowHasRoom, PlaceHasRoom, OperandHasRoom}
 use Rattle.part_spelling.proofs.expr_spelling_lemmas.Layers.{judged-Place, judged_windows, judged-window, judged_sizes, terms-Leaf, terms-Minus, terms-Place, terms-Number, terms-place, terms-window, window_count}

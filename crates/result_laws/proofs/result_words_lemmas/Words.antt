@@ -33,7 +33,7 @@ use Rattle.named_programs.proofs.Made.{both}
 use Rattle.term_sizes.specs.Condition as cond_sizes
 use Rattle.term_sizes.specs.Condition.{cond_terms}
 use Rattle.term_sizes.specs.Expression as sizes
-use Rattle.term_sizes.specs.Expression.{expr_terms, operand_terms, place_terms}
+use Rattle.term_sizes.specs.Expression.{expr_terms, place_terms}
 use Rattle.term_sizes.specs.Program.{max_terms}
 use Rattle.statement_grammar.specs.declared.expr_forms.side.Make.{Make}
 use Rattle.statement_grammar.specs.declared.expr_forms.side.Make.TheVariants as makes
@@ -42,7 +42,7 @@ use Rattle.statement_grammar.specs.declared.expr_forms.side.ValueKind.TheVariant
 use Rattle.statement_grammar.specs.expr_forms.Fault.{compared_as, kind_of}
 use Rattle.statement_grammar.specs.expr_forms.Side.{windowed}
 use Rattle.part_spelling.specs.expr_spelling.Printable as judging
-use Rattle.part_spelling.specs.expr_spelling.Printable.{Judged, literal, is_number, is_counting, judged_sub, reference}
+use Rattle.part_spelling.specs.expr_spelling.Printable.{Judged, literal, is_number, is_counting, reference}
 use Rattle.part_spelling.specs.expr_spelling.Spelled.{made_place}
 use Rattle.part_spelling.proofs.expr_spelling_lemmas.Layers.{place-cases, judged-place}
 use Rattle.part_spelling.proofs.cond_spelling_lemmas.Layers.{fit-Relation, fit-Not, terms-Not}

@@ -8,7 +8,7 @@ use Rattle.cob_tree.specs.declared.program.Paragraph.{Paragraph}
 use Rattle.cobol_lex.specs.declared.token.Token.{Token}
 use Rattle.data_names.specs.Names.{Names}
 use Rattle.grammar_forms.specs.declared.note.Position.{Position}
-use Rattle.grammar_forms.specs.Form.{Input, Got, Form, then_read, note, pure, refuse, where_next, loop_reads, is_next, next, begins_by}
+use Rattle.grammar_forms.specs.Form.{Input, Got, Form, then_read, note, pure, refuse, where_next, loop_reads, is_next, next}
 use Rattle.grammar_forms.specs.Form as form
 use Rattle.grammar_forms.specs.Part.{is_key, key, period, ended}
 use Rattle.grammar_forms.proofs.Lawful.{got_is, then_got}

@@ -1,12 +1,10 @@
 -- The makers of forms keep forms alike.
-use Rattle.std.proofs.Common.{◌≡◌, ℕ, zero, suc, ◌+◌, Bool, true, false, if◌then◌else◌, List, [], ◌∷◌, ◌++◌, length, Option, Some, None, refl, ap, sym, ◌∙◌, subst}
-use Rattle.cobol_lex.specs.declared.token.Token.{Token}
+use Rattle.std.proofs.Common.{◌≡◌, ℕ, zero, suc, Bool, true, false, if◌then◌else◌, length, Option, Some, None, refl, ap, sym, ◌∙◌, subst}
 use Rattle.cobol_lex.specs.declared.token.TokenKind.{TokenKind}
 use Rattle.grammar_forms.specs.declared.note.Note.{Note}
-use Rattle.grammar_forms.specs.declared.note.Position.{Position}
 use Rattle.grammar_forms.specs.declared.why.Why.{Why}
 use Rattle.grammar_forms.specs.Form as form
-use Rattle.grammar_forms.specs.Form.{Input, with_fault, behind_fault, noted_before, Outcome, Got, Stop, Form, then_read, is_next, begins_by, loop_reads}
+use Rattle.grammar_forms.specs.Form.{Input, noted_before, Outcome, Got, Stop, Form, then_read, is_next, begins_by, loop_reads}
 use Rattle.grammar_forms.specs.Part as parts
 use Rattle.grammar_forms.proofs.Lawful.{Lawful}
 use Rattle.grammar_forms.proofs.MakerLaws.{Law}

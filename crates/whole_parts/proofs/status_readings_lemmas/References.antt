@@ -1,6 +1,5 @@
 -- Whatever names there are, references and expressions take the same tokens.
-use Rattle.std.proofs.Common.{◌≡◌, ℕ, zero, suc, ◌+◌, Bool, true, false, List, [], ◌∷◌, ◌++◌, length, Option, Some, None, refl, ap, sym, ◌∙◌, subst}
-use Rattle.std.specs.Prelude.{codes, nat_lt}
+use Rattle.std.proofs.Common.{◌≡◌, ℕ, zero, suc, Bool, true, false, List, refl, ap, subst}
 use Rattle.std.specs.Option.{is_some}
 use Rattle.cob_base.specs.Bytes.{left_parenthesis, right_parenthesis, plus_sign, hyphen, colon}
 use Rattle.cob_tree.specs.declared.place.Op.{Op}
@@ -8,7 +7,6 @@ use Rattle.cob_tree.specs.declared.place.Op.TheVariants as ops
 use Rattle.cob_tree.specs.declared.place.Place.{Place}
 use Rattle.cob_tree.specs.declared.place.Sub.{Sub}
 use Rattle.grammar_forms.specs.declared.note.Position.{Position}
-use Rattle.grammar_forms.specs.declared.why.Why.TheVariants.{Terms}
 use Rattle.grammar_forms.proofs.MakerLaws as laws
 use Rattle.data_names.specs.declared.name.Found.{Found}
 use Rattle.data_names.specs.Names.{Names}

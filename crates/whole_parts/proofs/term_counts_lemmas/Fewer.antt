@@ -1,5 +1,5 @@
 -- What terms that were counted before change, written as the form is.
-use Rattle.std.proofs.Common.{◌≡◌, ℕ, zero, suc, ◌+◌, ◌<◌, ◌≤◌, ◌⊎◌, Bool, true, false, ◌||◌, if◌then◌else◌, inl, inr, List, ◌++◌, length, Option, refl, sym, ap, subst, ◌∙◌, length-append, arith}
+use Rattle.std.proofs.Common.{◌≡◌, ℕ, zero, suc, ◌+◌, ◌<◌, ◌≤◌, ◌⊎◌, Bool, true, false, ◌||◌, if◌then◌else◌, inl, inr, List, ◌++◌, length, Option, refl, sym, ap, subst, length-append, arith}
 use Rattle.std.specs.Prelude.{nat_lt}
 use Rattle.std.proofs.lemmas.Bool.Decides.{nat_tests}
 use Rattle.cobol_lex.specs.declared.token.Token.{Token}
@@ -8,7 +8,7 @@ use Rattle.grammar_forms.specs.declared.why.Why.{Why}
 use Rattle.grammar_forms.specs.declared.why.Why.TheVariants.{Terms}
 use Rattle.grammar_forms.specs.Form as form
 use Rattle.grammar_forms.specs.Form.{Input, Outcome, Got, Stop, left, then_read, Form, is_next, begins_by, loop_reads}
-use Rattle.grammar_forms.proofs.Lawful.{Lawful, IsEnd, end_all, end_then, then_got, got_is}
+use Rattle.grammar_forms.proofs.Lawful.{IsEnd, end_all, end_then, then_got, got_is}
 use Rattle.grammar_forms.proofs.MakerLaws as laws
 use Rattle.grammar_forms.proofs.MakerLaws.{Law}
 use Rattle.statement_grammar.specs.expr_forms.Limit.{max_terms, tally}

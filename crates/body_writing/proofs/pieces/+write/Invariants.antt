@@ -6,20 +6,31 @@ use Rattle.choice_writing.specs.Written.{all_written}
 use Rattle.body_writing.specs.Bodies.{Each, within_arm, within_loop}
 use Rattle.body_writing.proofs.pieces.+write.Given as goal
 
-abbrev pub invariant-add_pieces-loop-piece : goal.invariant-add_pieces-loop-piece
-invariant-add_pieces-loop-piece l = Each l.cells l.places (λ way.
-    followed (seen_stmts 0 l.made) (all_written way (seen_body (drop l.piece-index l.pieces)))
-    ≡ followed (seen_stmts 0 l.fn.made) (all_written way (seen_body l.pieces)))
+abbrev pub invariant-add_pieces-loop-at : goal.invariant-add_pieces-loop-at
+invariant-add_pieces-loop-at l = record {
+  same : Each l.cells l.places (λ way.
+      followed (seen_stmts 0 l.made) (all_written way (seen_body (drop l.at l.fn.pieces)))
+      ≡ followed (seen_stmts 0 l.fn.made) (all_written way (seen_body l.fn.pieces)));
+  unvisited : goal.unvisited-add_pieces-loop-at l;
+}
 
-abbrev pub invariant-add_arms-loop-arm : goal.invariant-add_arms-loop-arm
-invariant-add_arms-loop-arm l = Each l.cells l.places (λ way.
-    map (seen_stmts 0) l.lists ++ map (all_written way) (map within_arm (drop l.arm-index l.arms))
-    ≡ map (seen_stmts 0) l.fn.lists ++ map (all_written way) (map within_arm l.arms))
+abbrev pub invariant-add_arms-loop-at : goal.invariant-add_arms-loop-at
+invariant-add_arms-loop-at l = record {
+  same : Each l.cells l.places (λ way.
+      map (seen_stmts 0) l.lists ++ map (all_written way) (map within_arm (drop l.at l.fn.arms))
+      ≡ map (seen_stmts 0) l.fn.lists ++ map (all_written way) (map within_arm l.fn.arms));
+  unvisited : goal.unvisited-add_arms-loop-at l;
+}
 
-abbrev pub invariant-add_stated_arms-loop-arm : goal.invariant-add_stated_arms-loop-arm
-invariant-add_stated_arms-loop-arm l = Each l.cells l.places (λ way.
-    map (seen_stmts 0) l.lists ++ map (all_written way) (map (within_loop l.leaves) (drop l.arm-index l.arms))
-    ≡ map (seen_stmts 0) l.fn.lists ++ map (all_written way) (map (within_loop l.leaves) l.arms))
+abbrev pub invariant-add_stated_arms-loop-at : goal.invariant-add_stated_arms-loop-at
+invariant-add_stated_arms-loop-at l = record {
+  same : Each l.cells l.places (λ way.
+      map (seen_stmts 0) l.lists
+      ++ map (all_written way) (map (within_loop l.leaves) (drop l.at l.fn.arms))
+      ≡ map (seen_stmts 0) l.fn.lists
+      ++ map (all_written way) (map (within_loop l.leaves) l.fn.arms));
+  unvisited : goal.unvisited-add_stated_arms-loop-at l;
+}
 
 abbrev pub decreases-write_piece : goal.decreases-write_piece
 decreases-write_piece l = 14 * goal.size-write_piece l + 3
@@ -44,6 +55,9 @@ decreases-add_stated l = 14 * goal.size-add_stated l + 5
 
 abbrev pub decreases-write_stated : goal.decreases-write_stated
 decreases-write_stated l = 14 * goal.size-write_stated l + 6
+
+abbrev pub decreases-write_turns : goal.decreases-write_turns
+decreases-write_turns l = 14 * goal.size-write_turns l + 7
 
 abbrev pub decreases-add_stated_arms : goal.decreases-add_stated_arms
 decreases-add_stated_arms l = 14 * goal.size-add_stated_arms l + 7

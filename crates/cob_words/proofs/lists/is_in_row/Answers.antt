@@ -4,8 +4,8 @@ use Rattle.std.proofs.lemmas.List.Folds.{list_any_at}
 use Rattle.std.specs.Str.{bytes_eq}
 use Rattle.cob_words.proofs.lists.is_in_row.Goals as goal
 
-pub returns-then-eq : goal.returns-then-eq
-returns-then-eq c =
+pub returns-then-is_same : goal.returns-then-is_same
+returns-then-is_same c =
     let word = c.args.word.now in
     let words : List (List ℕ) = map {A = Bor (List ℕ)} {B = List ℕ} (λ w. w.now) c.args.row.now in
     let within : c.loop-w.w-index < length words = simp length-map c.loop-w-test.true in

@@ -88,8 +88,7 @@ module _ {Memory Left : Type 0} (acting : Acting Memory) (left : Memory → Left
   in_level (inside items tail end e f j) = true
 
   abbrev in_callers : (olds news : List Level) → CallersRel olds news → Bool
-  in_callers [] [] c = false
-  in_callers [] (b ∷ news) c = false
+  in_callers [] news c = false
   in_callers (a ∷ olds) [] c = false
   in_callers (a ∷ olds) (b ∷ news) c = if in_level c.0.0 then true else in_callers olds news c.1
 
@@ -115,8 +114,7 @@ module _ {Memory Left : Type 0} (acting : Acting Memory) (left : Memory → Left
   owed_level (inside items tail end e f j) = 1
 
   abbrev callers_owed : (olds news : List Level) → CallersRel olds news → ℕ
-  callers_owed [] [] c = 0
-  callers_owed [] (b ∷ news) c = 0
+  callers_owed [] news c = 0
   callers_owed (a ∷ olds) [] c = 0
   callers_owed (a ∷ olds) (b ∷ news) c = (4 * frees a.items + owed_level c.0.0) + callers_owed olds news c.1
 
@@ -297,8 +295,7 @@ module _ {Memory Left : Type 0} (acting : Acting Memory) (left : Memory → Left
 
   -- callers that stand before the range aren't inside the loop
   outside : (r : Range) (olds news : List Level) (c : CallersRel olds news) → place order r ≤ place order range → Chain r olds → in_callers olds news c ≡ false
-  outside r [] [] c le chain = refl
-  outside r [] (b ∷ news) c le chain = refl
+  outside r [] news c le chain = refl
   outside r (a ∷ olds) [] c le chain = refl
   outside r (a ∷ olds) (b ∷ news) c le chain =
       ap (λ x. if x then true else in_callers olds news c.1) (not-in c.0.0 (let f = chain.0 in omega (arith, f, le))) ∙ outside a.range olds news c.1 (let f = chain.0 in omega (arith, f, le)) chain.1
@@ -761,8 +758,7 @@ module _ {Memory Left : Type 0} (acting : Acting Memory) (left : Memory → Left
       × (parted w ≡ true → spent step_h (cost acting) j v ≤ owed w v r.settled + 2)
   stepped w v r is =
       let k = goes-of w v r.settled is (r.sound 1) in
-      let j = k.leads.0 in
-      let paid = k.leads.2 in
+      let j = k.leads.0 in let paid = k.leads.2 in
       let a = k.most in let b = k.few in let d = k.duly in
       let all = subst (λ x. (next : Settled (step_g w) x) × ((step_g w).run.standing ≡ Going → k.pays + owed (step_g w) x next ≤ 8 * cost acting w + owed w v r.settled)) (sym k.leads.1) (k.settled, k.owing) in
       (j, record { settled = all.0; sound = λ n. r.sound (suc n) }, omega (arith, paid, a), (λ on. ((let o = all.1 on in omega (arith, paid, o)), omega (arith, paid, d))), (λ part. omega (arith, paid, b)))

@@ -1,4 +1,4 @@
-use Rattle.std.proofs.Common.{◌≡◌, ◌≤◌, map, length, ap, ◌∙◌, arith}
+use Rattle.std.proofs.Common.{◌≤◌, map, length, ap, ◌∙◌, arith}
 use Rattle.std.proofs.lemmas.Grind.{common_steps}
 use Rattle.branch_tree.specs.Trees.{seen_tree, seen_trees, trees_of}
 use Rattle.exit_rules.proofs.ExitRows.{bare_done}

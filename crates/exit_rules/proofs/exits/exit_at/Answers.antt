@@ -3,7 +3,6 @@ use Rattle.std.proofs.Math.Seq.{map-set_same}
 use Rattle.std.proofs.lemmas.List.{map-append}
 use Rattle.branch_tree.specs.declared.graph.Added.TheVariants as added
 use Rattle.branch_tree.specs.Graphs.{seen_node, seen_added}
-use Rattle.branch_tree.specs.Trees.{seen_tree}
 use Rattle.tree_rules.proofs.Arms.{any_default}
 use Rattle.tree_rules.proofs.InlineRows.{graph_same}
 use Rattle.loop_rules.proofs.NodeRows.{count_is}

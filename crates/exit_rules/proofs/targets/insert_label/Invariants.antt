@@ -1,5 +1,4 @@
-use Rattle.std.proofs.Common.{◌≡◌, ◌++◌, take, drop}
-use Rattle.control_laws.specs.closing.Targets.{inserted}
+use Rattle.std.proofs.Common.{◌≡◌}
 use Rattle.exit_rules.proofs.ExitRows.{Further}
 use Rattle.exit_rules.proofs.targets.insert_label.Given as goal
 

@@ -1,5 +1,4 @@
-use Rattle.std.proofs.Common.{◌≡◌, suc, ◌-◌, ap, sym, subst, arith}
-use Rattle.grammar_forms.specs.Form.{Got}
+use Rattle.std.proofs.Common.{◌≡◌, suc, ◌-◌, ap, sym, arith}
 use Rattle.statement_grammar.specs.stmt_forms.Stmt.{enter}
 use Rattle.head_parse.proofs.arms.enter.Goals as goal
 

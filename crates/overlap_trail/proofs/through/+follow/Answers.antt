@@ -2,7 +2,7 @@ use Rattle.std.proofs.Common.{◌≤◌, ◌+◌, ◌∙◌, ℕ, true, false, L
 use Rattle.cob_tree.specs.declared.stmt.Arms.{out-Arms}
 use Rattle.cob_tree.specs.declared.stmt.When.{When}
 use Rattle.cob_tree.specs.declared.stmt.Stmt.TheVariants as tree
-use Rattle.language.specs.Language.{also, none, Stmts, Stmt, Choose, If, Holds, given, done, Loop, Nested, Go, GoDepending, Depending, NextSentence, StopRun, ExitParagraph, ExitSection, ExitPerform, Own}
+use Rattle.language.specs.Language.{also, none, Stmt, Choose, If, Holds, given, done, Loop, Nested, Go, GoDepending, Depending, NextSentence, StopRun, ExitParagraph, ExitSection, ExitPerform, Own}
 use Rattle.language.specs.Control.{always, control_in, loop_of, perform_of, move_of, arith_stmt, Both, both_arms, seen, seen_stmts}
 use Rattle.language.specs.Language as language
 use Rattle.language.proofs.Rows.{seen_both_is, seen_arith, seen_read, seen_if, seen_evaluate, seen_loop, seen_perform, seen_go, seen_go_depending, seen_next_sentence, seen_stop_run, seen_exit_paragraph, seen_exit_section, seen_exit_perform, seen_display, seen_move, seen_set_true, seen_opens, seen_closes, seen_write, seen_rewrite, seen_exit, seen_continue}

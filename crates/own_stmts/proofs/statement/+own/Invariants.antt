@@ -1,4 +1,4 @@
-use Rattle.std.proofs.Common.{◌≡◌, ◌+◌, ◌*◌, drop}
+use Rattle.std.proofs.Common.{◌+◌, ◌*◌, drop}
 use Rattle.language.specs.Control.{seen_stmts}
 use Rattle.language.specs.Own.{OwnStmts}
 use Rattle.own_stmts.specs.Within.{OwnWhens}

@@ -15,10 +15,10 @@ pub write_program-made-requires : goal.write_program-made-requires
 write_program-made-requires c =
     let plan = c.in_ok-plan.plan in
     let program = c.args.program.now in
-    ap length c.as_slice-in-Ok-shape_all.ensures.value
+    ap length c.as_mut_slice.ensures.value
     ∙ as-many (told_of program.files plan.returning) (control_of program) plan.order
     c.in-Ok.graphs.items c.in-Ok-shape_all.closed.items c.in-Ok.ensures.lowered.are
-    c.in-Ok-shape_all.ensures ∙ sym (ap length c.as_slice.ensures)
+    c.in-Ok-shape_all.ensures ∙ sym (ap length c.as_slice-order.ensures)
 
 pub returns-in-Ok-made : goal.returns-in-Ok-made
 returns-in-Ok-made c =
@@ -26,9 +26,9 @@ returns-in-Ok-made c =
     let made = c.in-Ok-made.made in
     let written : IsWrittenWith program c.in_ok-plan.plan.order c.in-Ok-shape_all.closed.items made =
     subst (λ o. IsWrittenWith program o c.in-Ok-shape_all.closed.items made)
-    c.as_slice.ensures
-    (subst (λ l. IsWrittenWith program c.as_slice.result.now l made)
-    c.as_slice-in-Ok-shape_all.ensures.value c.in-Ok-made.ensures) in
+    c.as_slice-order.ensures
+    (subst (λ l. IsWrittenWith program c.as_slice-order.result.now l made)
+    c.as_mut_slice.ensures.value c.in-Ok-made.ensures) in
     record {
       is = record {
         plan = record {

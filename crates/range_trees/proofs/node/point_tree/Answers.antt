@@ -8,16 +8,19 @@ use Rattle.lower_trees.specs.Loops.{before}
 use Rattle.rest_table.specs.Onward.{after_by, GoesLater, tree_behind}
 use Rattle.rest_table.specs.Spots.{Fits, IsRest}
 use Rattle.range_trees.specs.Nodes.{node_in}
-use Rattle.range_trees.proofs.NodeSteps.{before_only, fit_at, graph_in, rest_at_index, run_ends, run_goes}
+use Rattle.range_trees.proofs.NodeSteps.{before_only, fit_at, goes_alike, graph_in, here_is, leaves_alike, rest_at_index, run_ends, run_goes}
 use Rattle.range_trees.proofs.node.point_tree.Goals as goal
 
 pub loop-turn-init : goal.loop-turn-init
 loop-turn-init c = (
   c.requires.there,
   omega arith,
-  λ program table.
-      let node = node_in c.args.telling.now program c.args.range (lower.point c.args.place) in
-      ap (λ l. before (seen_body l) node) c.new-body.ensures.items ∙ before_nothing node,
+  λ other alike. (
+    alike.here,
+    λ program table.
+        let node = node_in c.args.telling.now program other (lower.point c.args.place) in
+        ap (λ l. before (seen_body l) node) c.new-body.ensures.items ∙ before_nothing node,
+  ),
 )
 
 pub run_on-requires-clause-own : goal.run_on-requires-clause-own
@@ -62,12 +65,20 @@ loop-turn-preserved c =
     let later : GoesLater (0 + here + 1) layout.end (Some next) = subst (GoesLater (0 + here + 1) layout.end) c.in-Some-behind.is fit.later in (
       omega (arith, later.1, whole.count),
       omega (arith, later.0, inv.1),
-      λ program table.
-          let g = graph_in telling c.args.range program table.placed in
-          let rest : IsRest layout g here spot = subst (λ n. IsRest layout g n spot) (omega arith) (rest_at_index layout g 0 spots here spot inv.0 c.index-spots-here.is (table.rests.rests (seen_range c.args.range) table.placed)) in
-          ap (before (seen_body news)) (sym (ap (λ b. tree_behind layout g b (after_by layout g spot.onward)) c.in-Some-behind.is))
-          ∙ sym (run_goes telling c.args.range program table.placed here spot leaving after rest c.leaving_of-leaving.ensures c.after_of-after.ensures (seen_body bodies) bodies news _ refl c.in_ok-end.ensures c.in-None.is)
-          ∙ inv.2 program table,
+      λ other alike.
+          let so = inv.2 other alike in
+          let found = here_is spots here spot inv.0 c.index-spots-here.is in
+          let same = alike.alike here spot so.0 found in
+          let leaves = leaves_alike telling c.args.range other spot.onward leaving same c.leaving_of-leaving.ensures in
+          let goes = goes_alike telling c.args.range other spot.onward after same c.after_of-after.ensures in (
+            alike.behind here next spot so.0 found c.in-Some-behind.is,
+            λ program table.
+                let g = graph_in telling other program table.placed in
+                let rest : IsRest layout g here spot = subst (λ n. IsRest layout g n spot) (omega arith) (rest_at_index layout g 0 spots here spot inv.0 c.index-spots-here.is (table.rests.rests (seen_range other) table.placed)) in
+                ap (before (seen_body news)) (sym (ap (λ b. tree_behind layout g b (after_by layout g spot.onward)) c.in-Some-behind.is))
+                ∙ sym (run_goes telling other program table.placed here spot leaving after rest leaves goes (seen_body bodies) bodies news _ refl c.in_ok-end.ensures c.in-None.is)
+                ∙ so.1 program table,
+          ),
     )
 
 pub returns-in-Some : goal.returns-in-Some
@@ -84,12 +95,17 @@ returns-in-Some c =
     let news = c.run_on.new.body.items in
     let leaving = c.leaving_of-leaving.result in
     let after = c.after_of-after.result in
+    λ other alike.
+    let so = inv.2 other alike in
+    let same = alike.alike here spot so.0 (here_is spots here spot inv.0 c.index-spots-here.is) in
+    let leaves = leaves_alike telling c.args.range other spot.onward leaving same c.leaving_of-leaving.ensures in
+    let goes = goes_alike telling c.args.range other spot.onward after same c.after_of-after.ensures in
     λ program table.
-    let g = graph_in telling c.args.range program table.placed in
-    let rest : IsRest layout g here spot = subst (λ n. IsRest layout g n spot) (omega arith) (rest_at_index layout g 0 spots here spot inv.0 c.index-spots-here.is (table.rests.rests (seen_range c.args.range) table.placed)) in
+    let g = graph_in telling other program table.placed in
+    let rest : IsRest layout g here spot = subst (λ n. IsRest layout g n spot) (omega arith) (rest_at_index layout g 0 spots here spot inv.0 c.index-spots-here.is (table.rests.rests (seen_range other) table.placed)) in
     c.ended.ensures
-    ∙ sym (run_ends telling c.args.range program table.placed here spot leaving after rest c.leaving_of-leaving.ensures c.after_of-after.ensures (seen_body bodies) bodies news _ refl c.in_ok-end.ensures c.in-Some.end c.in-Some.is)
-    ∙ inv.2 program table
+    ∙ sym (run_ends telling other program table.placed here spot leaving after rest leaves goes (seen_body bodies) bodies news _ refl c.in_ok-end.ensures c.in-Some.end c.in-Some.is)
+    ∙ so.1 program table
 
 pub returns-in-None-behind : goal.returns-in-None-behind
 returns-in-None-behind c =
@@ -105,14 +121,19 @@ returns-in-None-behind c =
     let news = c.run_on.new.body.items in
     let leaving = c.leaving_of-leaving.result in
     let after = c.after_of-after.result in
+    λ other alike.
+    let so = inv.2 other alike in
+    let same = alike.alike here spot so.0 (here_is spots here spot inv.0 c.index-spots-here.is) in
+    let leaves = leaves_alike telling c.args.range other spot.onward leaving same c.leaving_of-leaving.ensures in
+    let goes = goes_alike telling c.args.range other spot.onward after same c.after_of-after.ensures in
     λ program table.
-    let g = graph_in telling c.args.range program table.placed in
-    let rest : IsRest layout g here spot = subst (λ n. IsRest layout g n spot) (omega arith) (rest_at_index layout g 0 spots here spot inv.0 c.index-spots-here.is (table.rests.rests (seen_range c.args.range) table.placed)) in
+    let g = graph_in telling other program table.placed in
+    let rest : IsRest layout g here spot = subst (λ n. IsRest layout g n spot) (omega arith) (rest_at_index layout g 0 spots here spot inv.0 c.index-spots-here.is (table.rests.rests (seen_range other) table.placed)) in
     let end = after_by layout g spot.onward in
-    c.ended-in-None-behind.ensures ∙ ap (graph.tree (seen_body news)) (c.end_at.ensures ∙ c.after_of-after.ensures program table.placed) ∙ sym (before_only (seen_body news) end)
+    c.ended-in-None-behind.ensures ∙ ap (graph.tree (seen_body news)) (c.end_at.ensures ∙ goes program table.placed) ∙ sym (before_only (seen_body news) end)
     ∙ ap (before (seen_body news)) (sym (ap (λ b. tree_behind layout g b end) c.in-None-behind.is))
-    ∙ sym (run_goes telling c.args.range program table.placed here spot leaving after rest c.leaving_of-leaving.ensures c.after_of-after.ensures (seen_body bodies) bodies news _ refl c.in_ok-end.ensures c.in-None.is)
-    ∙ inv.2 program table
+    ∙ sym (run_goes telling other program table.placed here spot leaving after rest leaves goes (seen_body bodies) bodies news _ refl c.in_ok-end.ensures c.in-None.is)
+    ∙ so.1 program table
 
 pub returns : goal.returns
-returns c = λ program table. absurd (omega (arith, c.loop-turn.invariant.0, c.loop-turn.invariant.1, c.loop-turn-test.false))
+returns c = λ other alike program table. absurd (omega (arith, c.loop-turn.invariant.0, c.loop-turn.invariant.1, c.loop-turn-test.false))

@@ -14,7 +14,7 @@ use Rattle.lower_stmts.specs.Turns.{loop_at}
 use Rattle.lower_stmts.proofs.PartRows.{loop_own, loop_places}
 use Rattle.rest_table.specs.Onward.{after_by, leaving_by}
 use Rattle.rest_table.specs.Spots.{turn_by}
-use Rattle.range_trees.proofs.NodeSteps.{first_fits, first_left, graph_in, no_turn, setting, turn_of_loop}
+use Rattle.range_trees.proofs.NodeSteps.{first_fits, first_left, goes_alike, graph_in, leaves_alike, no_turn, setting, turn_of_loop}
 use Rattle.range_trees.proofs.node.turn_tree.Goals as goal
 
 pub returns-in-None : goal.returns-in-None
@@ -26,8 +26,8 @@ returns-in-None c =
     let lt : 0 < length stmts = omega (arith, c.in-len1-up.len_at_least) in
     let cons = first_left stmts stmt lt c.stmt-item.is in
     let first = first_fits telling.layout.now.end c.args.place spot stmt lt c.stmt-item.is c.requires.fits in
-    λ program placed.
-    let g = graph_in telling c.args.range program placed in
+    λ other alike program placed.
+    let g = graph_in telling other program placed in
     let leaving = leaving_by telling.layout.now g spot.onward in
     let after = after_by telling.layout.now g spot.onward in
     let told = told_by telling in
@@ -117,8 +117,8 @@ returns-in_ok-tree-in-Some c =
     let turns = c.in-Some.turns.now in
     let is : stmt ≡ Loop control turns = c.in-Some.ensures in
     let places = ap stmt_places is ∙ loop_places control turns in
-    λ program placed.
-    let g = graph_in telling c.args.range program placed in
+    λ other alike program placed.
+    let g = graph_in telling other program placed in
     let leaving = leaving_by telling.layout.now g spot.onward in
     let after = after_by telling.layout.now g spot.onward in
     let told = told_by telling in
@@ -131,8 +131,9 @@ returns-in_ok-tree-in-Some c =
     c.leaf_of-after.ensures telling.files.now telling.returning.now last place_of placed.places_in
     ∙ ap (λ l. lower.leaf told place_of (seen_stmts last l) (c.args.place + c.stmt_size.result) (seen_leaf c.after_of-behind.result)) c.rest_at.ensures
     ∙ ap (λ n. lower.leaf told place_of (seen_stmts last rest) n (seen_leaf c.after_of-behind.result)) far
-    ∙ ap (lower.leaf told place_of (seen_stmts last rest) (c.args.place + size (seen last (Loop control turns)))) (c.after_of-behind.ensures program placed) in
-    c.in_ok-tree-in-Some.ensures (setting telling c.args.range program placed spot.onward c.leaving_of-leaving.result c.leaving_of-leaving.ensures)
+    ∙ ap (lower.leaf told place_of (seen_stmts last rest) (c.args.place + size (seen last (Loop control turns)))) (goes_alike telling c.args.range other spot.onward c.after_of-behind.result alike c.after_of-behind.ensures program placed) in
+    c.in_ok-tree-in-Some.ensures (setting telling other program placed spot.onward c.leaving_of-leaving.result
+    (leaves_alike telling c.args.range other spot.onward c.leaving_of-leaving.result alike c.leaving_of-leaving.ensures))
     ∙ ap (loop_at told place_of c.args.is_head (control_in control) (seen_stmts last turns) c.args.place leaving) there
     ∙ sym (ap (λ l. turn_by told place_of c.args.is_head (seen_stmts last l) c.args.place leaving after) cons
     ∙ ap (λ s. turn_by told place_of c.args.is_head (seen_stmts last (s ∷ rest)) c.args.place leaving after) is

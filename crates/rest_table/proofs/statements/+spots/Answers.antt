@@ -1,6 +1,6 @@
 use Rattle.std.proofs.Common.{◌≡◌, ℕ, ◌+◌, drop, length, sum_by, refl, ap, sym, ◌∙◌, subst, arith, rules, [], take}
 use Rattle.std.proofs.lemmas.List.{take_all}
-use Rattle.cob_tree.specs.Places.{arms_places, stmt_places, when_places}
+use Rattle.cob_tree.specs.Places.{stmt_places, when_places}
 use Rattle.cob_tree.specs.Places as places
 use Rattle.cob_tree.specs.declared.stmt.Stmt.{fold-roll-Stmt}
 use Rattle.cob_tree.specs.declared.stmt.Stmt.TheOpen.{Stmt-F}

@@ -1,6 +1,0 @@
-use Rattle.std.proofs.Common.{◌≡◌, ◌^◌, ◌<◌, drop}
-use Rattle.cob_store.specs.Number.{digits_after}
-use Rattle.cob_store.proofs.number.digits_value.Given as goal
-
-abbrev pub invariant-loop-byte : goal.invariant-loop-byte
-invariant-loop-byte l = record { short : l.number < 10 ^ l.byte-index; same : digits_after l.number (drop l.byte-index l.bytes) ≡ digits_after 0 l.bytes }

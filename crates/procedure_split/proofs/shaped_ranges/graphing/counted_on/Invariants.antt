@@ -1,0 +1,13 @@
+use Rattle.std.proofs.Common.{◌≡◌, ◌*◌, length}
+use Rattle.flow_levels.specs.Reaching.{IsMarked}
+use Rattle.range_sizes.specs.Known.{IsKnown}
+use Rattle.procedure_split.proofs.shaped_ranges_lemmas.GraphRows.{CountedSoFar}
+use Rattle.procedure_split.proofs.shaped_ranges.graphing.counted_on.Given as goal
+
+abbrev pub invariant-loop-range : goal.invariant-loop-range
+invariant-loop-range l = record {
+  so : CountedSoFar l.telling l.spots l.ranges l.range-index l.others l.count;
+  known : IsKnown l.telling l.spots l.known;
+  marked : IsMarked l.reach.places.items l.reach.marks.items;
+  size : length l.reach.marks.items ≡ 3 * length l.spots;
+}

@@ -1,0 +1,10 @@
+-- ranges that go on alike
+pub mod Alike
+-- what is counted of a tree
+pub mod PartRows
+-- the parts that are kept
+pub mod KeptRows
+-- the labels of a range, counted one after the other
+pub mod CountRows
+-- the count as the size of a graph
+pub mod GraphSums

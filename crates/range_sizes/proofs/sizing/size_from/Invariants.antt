@@ -1,0 +1,12 @@
+use Rattle.std.proofs.Common.{take}
+use Rattle.flow_graph.proofs.Reached.{ReachSoFar}
+use Rattle.range_sizes.specs.Known.{IsKnown}
+use Rattle.range_sizes.specs.Sizes.{CountsTo}
+use Rattle.range_sizes.proofs.sizing.size_from.Given as goal
+
+abbrev pub invariant-loop-at : goal.invariant-loop-at
+invariant-loop-at l = record {
+  reach : ReachSoFar l.telling l.spots l.range l.entry l.reach.places.items l.reach.marks.items l.at;
+  known : IsKnown l.telling l.spots l.known;
+  counts : CountsTo l.telling l.spots l.range (take l.at l.reach.places.items) l.count;
+}
