@@ -1,13 +1,16 @@
-//! Changes of trees and graphs, in which something is dropped.
+//! Changes of trees, in which something is dropped, and what lets parts of graphs go.
 
-ghost use Rattle.std.specs.Prelude.{◌≡◌, ◌<◌, ◌≤◌, insert};
-ghost use Rattle.std.specs.Vec.{vec_len, vec_capacity};
+ghost use Rattle.std.specs.Prelude.{◌≡◌};
 ghost use Rattle.branch_tree.specs.Changes.{GoesOn};
 ghost use Rattle.branch_tree.specs.Trees.{seen_tree};
 
-use crate::graph::{Graph, Node};
+use crate::graph::Node;
+use crate::kept::Kept;
 use crate::tree::{End, Piece, Tree};
+use crate::work::Work;
 use cob_base::Items;
+use slab::Slab;
+use std::alloc::AllocFailed;
 
 impl Tree {
     /// Gives the tree another end.
@@ -35,24 +38,26 @@ impl Tree {
     }
 }
 
-impl Graph {
-    /// Puts a node among the others, in room that is there.
-    pub fn put_back(&mut self, at: usize, node: Node)
-        requires within { at ≤ vec_len self.old.nodes }
-        requires room { vec_len self.old.nodes < vec_capacity self.old.nodes }
-        ensures entry { self.new.entry ≡ self.old.entry }
-        ensures nodes { self.new.nodes.items ≡ insert self.old.nodes.items at node }
-        ensures added { self.new.added ≡ self.old.added }
-    {
-        match self.nodes.insert(at, node) {
-            Ok(()) => {}
-            Err(_) => unreachable!(),
-        }
-    }
-}
-
 /// Lets trees go.
 pub fn drop_trees(_trees: Items<Tree>) {}
 
 /// Lets pieces go.
 pub fn drop_pieces(_pieces: Vec<Piece>) {}
+
+/// Lets a tree go.
+pub fn drop_tree(_tree: Tree) {}
+
+/// Lets a node go.
+pub fn drop_kept(_kept: Kept) {}
+
+/// Lets a node go that found no slot.
+pub fn drop_failed(_failed: AllocFailed<Kept>) {}
+
+/// Lets nodes go.
+pub fn drop_nodes(_nodes: Vec<Node>) {}
+
+/// Lets slots go.
+pub fn drop_slots(_slots: Slab<Kept>) {}
+
+/// Lets a graph go that was rewritten.
+pub fn drop_work(_work: Work) {}

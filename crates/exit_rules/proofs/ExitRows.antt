@@ -1,30 +1,23 @@
 -- Targets of jumps in label order, and a node as a loop with its exits.
-use Rattle.std.proofs.Common.{◌≡◌, ◌<◌, ◌≤◌, ◌+◌, ◌-◌, ◌++◌, ℕ, zero, suc, Bool, true, false, if◌then◌else◌, ◌==◌, List, [], ◌∷◌, length, take, drop, get_or, set, refl, ap, sym, ◌∙◌, arith, add-one}
+use Rattle.std.proofs.Common.{◌≡◌, ◌<◌, ◌≤◌, ◌+◌, ◌++◌, ℕ, zero, suc, Bool, true, false, if◌then◌else◌, ◌==◌, List, [], ◌∷◌, length, take, drop, get_or, refl, ap, sym, ◌∙◌, arith, add-one}
 use Rattle.std.specs.List.{insert}
-use Rattle.std.proofs.lemmas.List.{map-set, length-map}
 use Rattle.language.specs.Language.{ByCell, Set, Do, none}
-use Rattle.control.specs.Doing.{is_above}
 use Rattle.control.specs.Graph.{Label, Tree, tree, End, Pick, Jump, Return, more}
-use Rattle.control_laws.specs.graph_rules.Families.{Added, Exit}
-use Rattle.control_laws.specs.graph_rules.Shapes.{alone, leaves_to, other_targets}
-use Rattle.control_laws.specs.graph_rules.Reduced.{Node, Graph, tree_in, with_tree, count}
-use Rattle.control_laws.specs.closing.Closes.{none_left_out, are_several, has_exits, exits_graph}
-use Rattle.control_laws.specs.closing.Dispatches.{Rising, bare, exited, tree_returns}
+use Rattle.control_laws.specs.graph_rules.Families.{Exit}
+use Rattle.control_laws.specs.graph_rules.Shapes.{alone}
+use Rattle.control_laws.specs.graph_rules.Reduced.{Graph, tree_in, count, looped_graph}
+use Rattle.control_laws.specs.closing.Closes.{none_left_out, exits_graph}
+use Rattle.control_laws.specs.closing.Dispatches.{bare, exited, tree_returns}
 use Rattle.control_laws.specs.closing.Targets.{inserted, is_below, targets_of, with_exits}
 use Rattle.branch_tree.specs.declared.chooser.Picker.TheVariants as picker
 use Rattle.branch_tree.specs.declared.chooser.Test.TheVariants as test
-use Rattle.branch_tree.specs.declared.graph.Node as code
 use Rattle.branch_tree.specs.declared.tree.Tree as code_tree
 use Rattle.branch_tree.specs.declared.tree.End.TheVariants as end
 use Rattle.branch_tree.specs.declared.tree.Leaves.TheVariants as leaves
 use Rattle.branch_tree.specs.declared.tree.Piece.{Piece}
 use Rattle.branch_tree.specs.declared.tree.Piece.TheVariants as piece
-use Rattle.branch_tree.specs.Graphs.{seen_node, seen_nodes}
 use Rattle.branch_tree.specs.Trees.{seen_tree, seen_trees, seen_body, seen_end, trees_of}
 use Rattle.branch_tree.proofs.TreeRows.{seen_tree_is, seen_pick, seen_jump, seen_return, seen_set}
-use Rattle.tree_rules.specs.Places.{label_at, tree_at}
-use Rattle.tree_rules.proofs.Nodes.{none_here, label_is, label_seen, tree_seen, with_at, tree_in_at}
-use Rattle.tree_rules.proofs.InlineRows.{graph_with, graph_same}
 use Rattle.loop_rules.specs.declared.forms.Turning.{Turning}
 use Rattle.loop_rules.specs.Forms.{looped_by}
 use Rattle.loop_rules.proofs.NodeRows.{append_none}
@@ -124,53 +117,15 @@ exits_row cell label t new targets before out arms returns h hb ho ha ht hr =
     ∙ ap (λ r. exited none_left_out cell label targets r t) hr
     ∙ ap (λ l. exited none_left_out cell label l (tree_returns t) t) ht
 
--- Exits on the node at a place.
-module _ (g : Graph) (at : ℕ) (rising : Rising g.nodes) (within : at < length g.nodes) where
-  abbrev place : Label
-  place = label_at g.nodes at
+-- Exits on the node with the label.
 
-  pub exits_is : has_exits g place
-      ≡ (if is_above (leaves_to place (tree_at g.nodes at)) then are_several (other_targets place (tree_at g.nodes at)) else false)
-  exits_is = ap (λ t. if is_above (leaves_to place t) then are_several (other_targets place t) else false) (tree_in_at g.nodes at rising within)
-
-module _ (entry : Label) (added : List Added) (nodes : List code.Node) (at : ℕ) (node : code.Node)
-    (rising : Rising (seen_nodes nodes)) (within : at < length nodes)
-    (is_node : node ≡ get_or nodes at node) where
-  abbrev seen : List Node
-  seen = seen_nodes nodes
-
-  abbrev there : Label
-  there = label_at seen at
-
-  within_seen : at < length seen
-  within_seen = let mapped = length-map nodes seen_node in omega (arith, mapped, within)
-
-  label_node : there ≡ node.label
-  label_node = label_seen nodes at node within ∙ ap (λ n. n.label) (sym is_node)
-
-  found : tree_in seen there ≡ seen_tree node.tree
-  found =
-      tree_in_at seen at rising within_seen ∙ tree_seen nodes at node within ∙ ap (λ n. seen_tree n.tree) (sym is_node)
-
-  put : (t : Tree) → with_tree there t seen ≡ set seen at (record { label = node.label; tree = t })
-  put t =
-      ap (λ l. with_tree l t seen) (label_is seen at none_here within_seen)
-      ∙ with_at seen at none_here t rising within_seen
-      ∙ ap (λ l. set seen at (record { label = l; tree = t })) (sym (label_is seen at none_here within_seen) ∙ label_node)
-
-  pub exit_row : (cell : ℕ) (label : Label) (new : code_tree.Tree) → cell ≡ count added → label ≡ node.label →
-      seen_tree new ≡ with_exits none_left_out cell label (seen_tree node.tree) →
-      graph_with entry (seen_nodes (set nodes at (record { label = node.label; tree = new }))) (added ++ Exit ∷ [])
-      ≡ exits_graph there (graph_with entry seen added)
-  exit_row cell label new c l h =
-      let is : seen_tree new ≡ with_exits none_left_out (count added) there (tree_in seen there) =
-      h ∙ ap (λ n. with_exits none_left_out n label (seen_tree node.tree)) c
-      ∙ ap (λ x. with_exits none_left_out (count added) x (seen_tree node.tree)) (l ∙ sym label_node)
-      ∙ ap (with_exits none_left_out (count added) there) (sym found) in
-      graph_same _ _ _ _ _ _ refl
-      (map-set seen_node nodes at (record { label = node.label; tree = new }) ∙ sym (put (seen_tree new))
-      ∙ ap (λ x. with_tree there x seen) is)
-      refl
+pub exit_row : (label : Label) (g : Graph) (cell : ℕ) (t new : Tree) → cell ≡ count g.added →
+    t ≡ tree_in g.nodes label → new ≡ with_exits none_left_out cell label t →
+    looped_graph label new (Exit ∷ []) g ≡ exits_graph label g
+exit_row label g cell t new c is h =
+    ap (λ x. looped_graph label x (Exit ∷ []) g)
+    (h ∙ ap (λ n. with_exits none_left_out n label t) c
+    ∙ ap (with_exits none_left_out (count g.added) label) is)
 
 -- behind the last target
 none_behind : (targets : List Label) (at : ℕ) → length targets ≤ at → jump_trees (drop at targets) ≡ []

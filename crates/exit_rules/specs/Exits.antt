@@ -2,9 +2,11 @@
 use Rattle.std.specs.Prelude.{◌≡◌, Bool, true, false, if◌then◌else◌, Result, Ok, Err, List, [], ◌∷◌}
 use Rattle.cob_base.specs.declared.memory.NoMemory.{NoMemory}
 use Rattle.language.specs.Language.{none}
+use Rattle.control.specs.Doing.{is_above}
 use Rattle.control.specs.Graph.{Label, Tree, tree, Jump, Return}
+use Rattle.control_laws.specs.graph_rules.Shapes.{leaves_to, other_targets}
 use Rattle.control_laws.specs.graph_rules.Reduced.{Graph, has_node}
-use Rattle.control_laws.specs.closing.Closes.{has_exits, exits_graph}
+use Rattle.control_laws.specs.closing.Closes.{are_several, has_exits, exits_graph}
 
 -- bare jumps to labels
 abbrev pub jump_trees : List Label → List Tree
@@ -15,6 +17,11 @@ jump_trees (label ∷ labels) = tree none (Jump label) ∷ jump_trees labels
 abbrev pub return_trees : Bool → List Tree
 return_trees true = tree none Return ∷ []
 return_trees false = []
+
+-- a leaf of the tree at the label jumps to it, and the other live leaves have several targets
+abbrev pub leaves_by_exits : Label → Tree → Bool
+leaves_by_exits label t =
+    if is_above (leaves_to label t) then are_several (other_targets label t) else false
 
 -- the label is that of a node on which Exits applies
 abbrev pub may_exit : Graph → Label → Bool

@@ -2,22 +2,23 @@
 
 ghost use Rattle.std.specs.Prelude.{◌≡◌, ◌<◌, ◌≤◌, ◌+◌, ◌++◌, ◌^◌, true, map, length, OnOk, OnErr};
 ghost use Rattle.std.specs.Vec.{vec_len, vec_capacity};
-ghost use Rattle.control_laws.specs.closing.Closes.{has_exits, exits_graph, are_several, none_left_out};
-ghost use Rattle.control_laws.specs.closing.Dispatches.{Rising, bare};
+ghost use Rattle.control_laws.specs.graph_rules.Reduced.{has_node};
+ghost use Rattle.control_laws.specs.closing.Closes.{exits_graph, are_several, none_left_out};
+ghost use Rattle.control_laws.specs.closing.Dispatches.{bare};
 ghost use Rattle.control_laws.specs.closing.Targets.{with_exits};
-ghost use Rattle.branch_tree.specs.Graphs.{seen_graph, seen_nodes};
+ghost use Rattle.branch_tree.specs.Graphs.{seen_nodes};
+ghost use Rattle.branch_tree.specs.Helds.{seen_work};
 ghost use Rattle.branch_tree.specs.Trees.{seen_tree, seen_trees};
-ghost use Rattle.tree_rules.specs.Places.{label_at};
 ghost use Rattle.tree_rules.specs.Targets.{seen_targets};
-ghost use Rattle.exit_rules.specs.Exits.{CloseExits, return_trees};
+ghost use Rattle.exit_rules.specs.Exits.{CloseExits, leaves_by_exits, may_exit, return_trees};
 
 use crate::targets::targets_of;
-use branch_tree::{Added, End, Graph, Label, Leaves, Picker, Piece, Test, Tree, drop_pieces};
+use branch_tree::{Added, End, Label, Leaves, Picker, Piece, Test, Tree, Work, drop_pieces};
 use cob_base::{Items, NoMemory};
 use loop_rules::{Turning, looped};
 use state_dispatch::tree_returns;
 use std::alloc::Global;
-use tree_rules::{Targets, other_targets, place_of};
+use tree_rules::{Targets, other_targets};
 
 /// A bare return behind the other trees, where there is to be one, in room that is there.
 fn push_return(alloc: Global, trees: &mut Vec<Tree>, returns: bool)
@@ -93,60 +94,66 @@ fn are_several(targets: &Targets) -> bool
     }
 }
 
-/// Whether Exits applies on the node at this place.
-pub fn exits_at(graph: &Graph, at: usize) -> bool
-    requires within { at < length graph.now.nodes.items }
-    requires rising { Rising (seen_nodes graph.now.nodes.items) }
-    ensures { result ≡ has_exits (seen_graph graph.now)
-        (label_at (seen_nodes graph.now.nodes.items) at) }
+/// Whether Exits applies on a node with this label and this tree.
+fn leaves_by_exits(tree: &Tree, label: Label) -> bool
+    ensures { result ≡ leaves_by_exits label (seen_tree tree.now) }
 {
-    let node = &graph.nodes[at];
-    if node.tree.jumps_to(node.label) {
-        are_several(&other_targets(&node.tree, node.label))
+    if tree.jumps_to(label) {
+        are_several(&other_targets(tree, label))
     } else {
         false
     }
 }
 
-/// Makes a loop with exits of the node at this place. Without memory the graph stays.
-pub fn exit_at(alloc: Global, graph: &mut Graph, at: usize) -> Result<(), NoMemory>
-    requires within { at < length graph.old.nodes.items }
-    requires rising { Rising (seen_nodes graph.old.nodes.items) }
-    requires room { length graph.old.added.items < 2 ^ 32 }
-    ensures ok { OnOk result (seen_graph graph.new
-        ≡ exits_graph (label_at (seen_nodes graph.old.nodes.items) at) (seen_graph graph.old)) }
-    ensures err { OnErr result (seen_graph graph.new ≡ seen_graph graph.old) }
+/// Whether Exits applies on the label.
+pub fn may_exit(work: &Work, label: Label) -> bool
+    ensures { result ≡ may_exit (seen_work work.now) label }
 {
-    let cell = graph.added.len() as u32;
-    graph.added.reserve(1)?;
-    let label = graph.nodes[at].label;
-    match exit_tree(alloc, &mut graph.nodes[at].tree, label, cell) {
-        Ok(()) => {
-            graph.added.push_reserved(Added::Exit);
-            Ok(())
+    match work.node(label) {
+        None => false,
+        Some(node) => leaves_by_exits(&node.tree, label),
+    }
+}
+
+/// Makes a loop with exits of the node with the label. Without memory the graph stays.
+fn exit_node(alloc: Global, work: &mut Work, label: Label) -> Result<(), NoMemory>
+    requires has { has_node (seen_nodes work.old.nodes) label ≡ true }
+    requires room { vec_len work.old.added < 2 ^ 32 }
+    ensures ok { OnOk result (seen_work work.new ≡ exits_graph label (seen_work work.old)) }
+    ensures err { OnErr result (seen_work work.new ≡ seen_work work.old) }
+{
+    let cell = work.added_len() as u32;
+    work.reserve_added()?;
+    work.sound();
+    match work.take(alloc, label) {
+        None => unreachable!(),
+        Some(tree) => {
+            let mut tree = tree;
+            let closed = exit_tree(alloc, &mut tree, label, cell);
+            work.put(label, tree);
+            match closed {
+                Ok(()) => {
+                    work.push_added(Added::Exit);
+                    Ok(())
+                }
+                Err(fault) => Err(fault),
+            }
         }
-        Err(fault) => Err(fault),
     }
 }
 
 /// Exits on the node with the label: true where the rule applied, false where it doesn't. With
 /// false, and without memory, the graph stays.
-pub fn close_exits(alloc: Global, graph: &mut Graph, label: Label) -> Result<bool, NoMemory>
-    requires rising { Rising (seen_nodes graph.old.nodes.items) }
-    requires room { length graph.old.added.items < 2 ^ 32 }
-    ensures { CloseExits result label (seen_graph graph.old) (seen_graph graph.new) }
+pub fn close_exits(alloc: Global, work: &mut Work, label: Label) -> Result<bool, NoMemory>
+    requires room { vec_len work.old.added < 2 ^ 32 }
+    ensures { CloseExits result label (seen_work work.old) (seen_work work.new) }
 {
-    match place_of(&graph.nodes, label) {
-        None => Ok(false),
-        Some(at) => {
-            if exits_at(graph, at) {
-                match exit_at(alloc, graph, at) {
-                    Ok(()) => Ok(true),
-                    Err(fault) => Err(fault),
-                }
-            } else {
-                Ok(false)
-            }
+    if may_exit(work, label) {
+        match exit_node(alloc, work, label) {
+            Ok(()) => Ok(true),
+            Err(fault) => Err(fault),
         }
+    } else {
+        Ok(false)
     }
 }

@@ -11,4 +11,4 @@
 mod exits;
 mod targets;
 
-pub use exits::{close_exits, exit_at, exit_tree, exits_at};
+pub use exits::{close_exits, exit_tree, may_exit};

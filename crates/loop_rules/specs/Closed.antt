@@ -1,11 +1,12 @@
 -- A node's tree as a loop, with the added items that it brings.
 use Rattle.std.specs.Prelude.{ℕ, ◌≡◌, Bool, true, false, if◌then◌else◌, List, [], ◌∷◌, Option, Some, None, Result, Ok, Err}
 use Rattle.cob_base.specs.declared.memory.NoMemory.{NoMemory}
+use Rattle.control.specs.Doing.{is_above}
 use Rattle.control.specs.Graph.{Label, Tree, tree, Dead}
 use Rattle.control_laws.specs.graph_rules.Families.{Added, Never, Flag}
 use Rattle.control_laws.specs.graph_rules.Loops.{Flagged, Endless, loop_of}
-use Rattle.control_laws.specs.graph_rules.Shapes.{Targets, NoTarget, Only, Several, other_targets, flat}
-use Rattle.control_laws.specs.graph_rules.Reduced.{Graph, has_node, loops, close_graph}
+use Rattle.control_laws.specs.graph_rules.Shapes.{Targets, NoTarget, Only, Several, leaves_to, other_targets, flat}
+use Rattle.control_laws.specs.graph_rules.Reduced.{Graph, has_node, at_most_one, loops, close_graph}
 use Rattle.control_laws.specs.graph_rules.Reduced as reduced
 use Rattle.branch_tree.specs.Graphs.{seen_added}
 use Rattle.branch_tree.specs.declared.graph.Added as code
@@ -51,6 +52,11 @@ with_kinds t kind = record { node = t; kinds = kinds_of kind }
 abbrev pub Closes : Result (Option code.Added) NoMemory → Closed → Tree → Tree → Type 0
 Closes (Ok kind) closed old new = with_kinds new kind ≡ closed
 Closes (Err fault) closed old new = new ≡ old
+
+-- a leaf of the tree at the label jumps to it, and the other live leaves have at most one target
+abbrev pub turns : Label → Tree → Bool
+turns label t =
+    if is_above (leaves_to label t) then at_most_one (other_targets label t) else false
 
 -- the label is that of a node on which Loop applies
 abbrev pub may_loop : Graph → Label → Bool

@@ -10,4 +10,4 @@ mod forms;
 mod nodes;
 
 pub use forms::{Form, Turning, form_of, looped};
-pub use nodes::{close_at, close_loop, close_tree, loops_at};
+pub use nodes::{close_loop, close_tree, may_loop};

@@ -1,23 +1,22 @@
 //! Loop on a node.
 
-ghost use Rattle.std.specs.Prelude.{◌≡◌, ◌<◌, ◌^◌, true, length, OnOk, OnErr};
-ghost use Rattle.control_laws.specs.closing.Dispatches.{Rising};
+ghost use Rattle.std.specs.Prelude.{◌≡◌, ◌<◌, ◌^◌, true, OnOk, OnErr};
+ghost use Rattle.std.specs.Vec.{vec_len};
 ghost use Rattle.control.specs.Graph as graph;
 ghost use Rattle.control_laws.specs.graph_rules.Loops.{Flagged, Endless, loop_of};
-ghost use Rattle.control_laws.specs.graph_rules.Reduced.{loops, close_graph, at_most_one};
+ghost use Rattle.control_laws.specs.graph_rules.Reduced.{close_graph, at_most_one};
 ghost use Rattle.control_laws.specs.graph_rules.Shapes.{flat};
-ghost use Rattle.branch_tree.specs.Graphs.{seen_graph, seen_nodes};
+ghost use Rattle.branch_tree.specs.Helds.{seen_work};
 ghost use Rattle.branch_tree.specs.Trees.{seen_tree};
-ghost use Rattle.tree_rules.specs.Places.{label_at};
 ghost use Rattle.tree_rules.specs.Targets.{seen_targets};
-ghost use Rattle.loop_rules.specs.Closed.{Closes, CloseLoop, closed, closed_live};
+ghost use Rattle.loop_rules.specs.Closed.{Closes, CloseLoop, closed, closed_live, may_loop, turns};
 ghost use Rattle.loop_rules.specs.Forms.{end_by};
 
 use crate::forms::{Form, Turning, close_after, close_before, end_of, form_of, looped};
-use branch_tree::{Added, Graph, Label, Leaves, Piece, Test, Tree};
+use branch_tree::{Added, Label, Leaves, Piece, Test, Tree, Work};
 use cob_base::NoMemory;
 use std::alloc::Global;
-use tree_rules::{Targets, other_targets, place_of};
+use tree_rules::{Targets, other_targets};
 
 /// The loop without an end. Without memory the tree stays.
 fn close_endless(alloc: Global, tree: &mut Tree, label: Label, cell: u32) -> Result<(), NoMemory>
@@ -124,63 +123,67 @@ fn at_most_one(targets: &Targets) -> bool
     }
 }
 
-/// Whether Loop applies on the node at this place.
-pub fn loops_at(graph: &Graph, at: usize) -> bool
-    requires within { at < length graph.now.nodes.items }
-    requires rising { Rising (seen_nodes graph.now.nodes.items) }
-    ensures { result ≡ loops (seen_graph graph.now)
-        (label_at (seen_nodes graph.now.nodes.items) at) }
+/// Whether Loop applies on a node with this label and this tree.
+fn turns(tree: &Tree, label: Label) -> bool
+    ensures { result ≡ turns label (seen_tree tree.now) }
 {
-    let node = &graph.nodes[at];
-    if node.tree.jumps_to(node.label) {
-        at_most_one(&other_targets(&node.tree, node.label))
+    if tree.jumps_to(label) {
+        at_most_one(&other_targets(tree, label))
     } else {
         false
     }
 }
 
-/// Makes a loop of the node at this place. Without memory the graph stays.
-pub fn close_at(alloc: Global, graph: &mut Graph, at: usize) -> Result<(), NoMemory>
-    requires within { at < length graph.old.nodes.items }
-    requires rising { Rising (seen_nodes graph.old.nodes.items) }
-    requires applies { loops (seen_graph graph.old) (label_at (seen_nodes graph.old.nodes.items) at)
-        ≡ true }
-    requires room { length graph.old.added.items < 2 ^ 32 }
-    ensures ok { OnOk result (seen_graph graph.new
-        ≡ close_graph (label_at (seen_nodes graph.old.nodes.items) at) (seen_graph graph.old)) }
-    ensures err { OnErr result (seen_graph graph.new ≡ seen_graph graph.old) }
+/// Whether Loop applies on the label.
+pub fn may_loop(work: &Work, label: Label) -> bool
+    ensures { result ≡ may_loop (seen_work work.now) label }
 {
-    let cell = graph.added.len() as u32;
-    graph.added.reserve(1)?;
-    let label = graph.nodes[at].label;
-    match close_tree(alloc, &mut graph.nodes[at].tree, label, cell) {
-        Ok(None) => Ok(()),
-        Ok(Some(kind)) => {
-            graph.added.push_reserved(kind);
-            Ok(())
+    match work.node(label) {
+        None => false,
+        Some(node) => turns(&node.tree, label),
+    }
+}
+
+/// Makes a loop of the node with the label. Without memory the graph stays.
+fn close_node(alloc: Global, work: &mut Work, label: Label) -> Result<(), NoMemory>
+    requires applies { may_loop (seen_work work.old) label ≡ true }
+    requires room { vec_len work.old.added < 2 ^ 32 }
+    ensures ok { OnOk result (seen_work work.new ≡ close_graph label (seen_work work.old)) }
+    ensures err { OnErr result (seen_work work.new ≡ seen_work work.old) }
+{
+    let cell = work.added_len() as u32;
+    work.reserve_added()?;
+    work.sound();
+    match work.take(alloc, label) {
+        None => unreachable!(),
+        Some(tree) => {
+            let mut tree = tree;
+            let closed = close_tree(alloc, &mut tree, label, cell);
+            work.put(label, tree);
+            match closed {
+                Ok(None) => Ok(()),
+                Ok(Some(kind)) => {
+                    work.push_added(kind);
+                    Ok(())
+                }
+                Err(fault) => Err(fault),
+            }
         }
-        Err(fault) => Err(fault),
     }
 }
 
 /// Loop on the node with the label: true where the rule applied, false where it doesn't. With
 /// false, and without memory, the graph stays.
-pub fn close_loop(alloc: Global, graph: &mut Graph, label: Label) -> Result<bool, NoMemory>
-    requires rising { Rising (seen_nodes graph.old.nodes.items) }
-    requires room { length graph.old.added.items < 2 ^ 32 }
-    ensures { CloseLoop result label (seen_graph graph.old) (seen_graph graph.new) }
+pub fn close_loop(alloc: Global, work: &mut Work, label: Label) -> Result<bool, NoMemory>
+    requires room { vec_len work.old.added < 2 ^ 32 }
+    ensures { CloseLoop result label (seen_work work.old) (seen_work work.new) }
 {
-    match place_of(&graph.nodes, label) {
-        None => Ok(false),
-        Some(at) => {
-            if loops_at(graph, at) {
-                match close_at(alloc, graph, at) {
-                    Ok(()) => Ok(true),
-                    Err(fault) => Err(fault),
-                }
-            } else {
-                Ok(false)
-            }
+    if may_loop(work, label) {
+        match close_node(alloc, work, label) {
+            Ok(()) => Ok(true),
+            Err(fault) => Err(fault),
         }
+    } else {
+        Ok(false)
     }
 }

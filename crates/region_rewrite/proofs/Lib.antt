@@ -1,7 +1,11 @@
--- the places on which Exits is to be tried
-pub mod LeavingRows
--- Exits on nodes in slots
-pub mod ExitSteps
+-- trees that are joined
+pub mod JoinedRows
+-- the labels on which rules are to be tried, as graphs change
+pub mod CandidateRows
+-- sets of such labels
+pub mod SetRows
+-- what the rules make of both
+pub mod ReduceRows
 -- the steps of the rules
 pub mod StepRows
 -- the one node that is left

@@ -2,14 +2,16 @@
 //! Inline on the lowest, else Exits on the lowest; and where none applies and several nodes are
 //! left, the dispatch. `shape` gives the body that is left.
 //!
-//! The definitions are those of the theory of control, `shaped` in
-//! `control_laws/specs/graph_rules/Reduced.antt` and `closed_graph` in
-//! `control_laws/specs/closing/Closes.antt`; its laws say that a closed graph does what the graph
+//! Each rule is tried on the labels of an ordered set alone, in which all labels are on which it
+//! applies; so a step takes about the time of what it changes. The definitions are those of the
+//! theory of control, `shaped` in `control_laws/specs/graph_rules/Reduced.antt` and `closed_graph`
+//! in `control_laws/specs/closing/Closes.antt`; its laws say that a closed graph does what the graph
 //! did, that the rules end, and that a dispatch stands only where no other rule applies.
 #![tactic(auto)]
 
-mod all_rules;
+mod candidates;
 mod exiting;
+mod joining;
 mod ordering;
 mod reducing;
 mod shaping;

@@ -1,37 +1,148 @@
-//! Join, everywhere.
+//! Loop and Inline, on the lowest label where they apply, Loop first.
 
-ghost use Rattle.std.specs.Prelude.{◌≡◌, ◌*◌, IfOk, OnOk};
-ghost use Rattle.control_laws.specs.graph_rules.Reduced.{each_tree, join_graph, size};
-ghost use Rattle.control_laws.specs.graph_rules.Shapes.{joined};
-ghost use Rattle.branch_tree.specs.Graphs.{seen_graph, seen_nodes};
+ghost use Rattle.std.specs.Prelude.{◌≡◌, true, false, OnOk};
+ghost use Rattle.control.specs.Graph.{Label};
+ghost use Rattle.control_laws.specs.graph_rules.Reduced.{close_graph, has_node, inline_graph, join_graph, reduced, rule_step};
+ghost use Rattle.loop_rules.specs.Closed.{may_loop};
+ghost use Rattle.tree_rules.specs.Inlines.{may_inline};
+ghost use Rattle.region_rewrite.specs.Candidates.{Enters};
+ghost use Rattle.region_rewrite.specs.Reducings.{StateHolds, StateHoldsBut, graph_in};
+ghost use Rattle.region_rewrite.specs.Steps.{LoopSteps, Steps};
 
-use branch_tree::{Graph, Node};
+use crate::candidates::{Rule, next, put_node_targets};
+use branch_tree::{Label, Work};
 use cob_base::NoMemory;
-use tree_rules::join;
+use loop_rules::close_loop;
+use std::alloc::Global;
+use std::collections::BTreeSet;
+use tree_rules::{inline_into, join_at};
 
-fn join_nodes(nodes: &mut [Node]) -> Result<(), NoMemory>
-    ensures { OnOk result (seen_nodes nodes.new ≡ each_tree joined (seen_nodes nodes.old)) }
+/// A graph while the rules reduce it, and the labels on which each is to be tried.
+#[derive(Drop)]
+pub struct Reducing {
+    pub work: Work,
+    pub loops: BTreeSet<Label>,
+    pub inlines: BTreeSet<Label>,
+    pub exits: BTreeSet<Label>,
+}
+
+/// Each rule is to be tried on the label.
+fn enter(state: &mut Reducing, label: Label) -> Result<(), NoMemory>
+    ensures work { state.new.work ≡ state.old.work }
+    ensures loops { OnOk result (Enters label state.old.loops state.new.loops) }
+    ensures inlines { OnOk result (Enters label state.old.inlines state.new.inlines) }
+    ensures exits { OnOk result (Enters label state.old.exits state.new.exits) }
 {
-    for at in 0..nodes.len() {
-        join(&mut nodes[at].tree)?;
-    }
+    state.loops.insert(label)?;
+    state.inlines.insert(label)?;
+    state.exits.insert(label)?;
     Ok(())
 }
 
-/// Join, everywhere.
-pub fn join_graph(graph: &mut Graph) -> Result<(), NoMemory>
-    ensures { OnOk result (seen_graph graph.new ≡ join_graph (seen_graph graph.old)) }
+/// Joins the tree of the node whose tree has changed; each rule is to be tried on it, and Inline on
+/// those to which its leaves jumped.
+pub fn settle(alloc: Global, state: &mut Reducing, label: Label) -> Result<(), NoMemory>
+    requires has { has_node (graph_in state.old).nodes label ≡ true }
+    requires but { StateHoldsBut label state.old }
+    ensures graph { OnOk result (graph_in state.new ≡ join_graph (graph_in state.old)) }
+    ensures holds { OnOk result (StateHolds state.new) }
 {
-    join_nodes(graph.nodes.as_mut_slice())
+    state.work.sound();
+    put_node_targets(&state.work, label, &mut state.inlines)?;
+    join_at(alloc, &mut state.work, label)?;
+    enter(state, label)
 }
 
-/// As many steps as are enough, three for each node. A graph with 2^32 - 1 nodes is out of memory.
-pub fn enough_steps(graph: &Graph) -> Result<usize, NoMemory>
-    ensures { IfOk result (λ most. most ≡ 3 * size (seen_nodes graph.now.nodes.items)) }
+/// Loop on a label where it applies. A graph with 2^32 - 1 added items is out of memory.
+fn loop_on(alloc: Global, state: &mut Reducing, label: Label) -> Result<(), NoMemory>
+    requires applies { may_loop (graph_in state.old) label ≡ true }
+    requires but { StateHoldsBut label state.old }
+    ensures graph { OnOk result (graph_in state.new ≡ close_graph label (graph_in state.old)) }
+    ensures holds { OnOk result (StateHolds state.new) }
 {
-    let nodes = graph.nodes.len();
-    if nodes >= u32::MAX as usize {
+    if state.work.added_len() >= u32::MAX as usize {
         return Err(NoMemory);
     }
-    Ok(3 * nodes)
+    state.work.sound();
+    put_node_targets(&state.work, label, &mut state.inlines)?;
+    close_loop(alloc, &mut state.work, label)?;
+    enter(state, label)
+}
+
+/// Inline on a label where it applies, and Join where it is put.
+fn inline_on(alloc: Global, state: &mut Reducing, label: Label) -> Result<(), NoMemory>
+    requires applies { may_inline (graph_in state.old) label ≡ true }
+    requires but { StateHoldsBut label state.old }
+    ensures graph { OnOk result (graph_in state.new
+        ≡ join_graph (inline_graph label (graph_in state.old))) }
+    ensures holds { OnOk result (StateHolds state.new) }
+{
+    state.work.sound();
+    match inline_into(alloc, &mut state.work, label)? {
+        None => unreachable!(),
+        Some(from) => settle(alloc, state, from),
+    }
+}
+
+/// Loop on the lowest label where it applies.
+fn loop_lowest(alloc: Global, state: &mut Reducing) -> Result<bool, NoMemory>
+    requires { StateHolds state.old }
+    ensures holds { OnOk result (StateHolds state.new) }
+    ensures step { LoopSteps result (graph_in state.old) (graph_in state.new) }
+{
+    state.work.sound();
+    match next(Rule::Loop, &state.work, &mut state.loops) {
+        None => Ok(false),
+        Some(label) => {
+            loop_on(alloc, state, label)?;
+            Ok(true)
+        }
+    }
+}
+
+/// Inline on the lowest label where it applies, where Loop applies on none.
+fn inline_lowest(alloc: Global, state: &mut Reducing) -> Result<bool, NoMemory>
+    requires holds { StateHolds state.old }
+    requires none { (l : Label) → may_loop (graph_in state.old) l ≡ false }
+    ensures holds { OnOk result (StateHolds state.new) }
+    ensures step { Steps result (rule_step (graph_in state.old)) (graph_in state.old)
+        (graph_in state.new) }
+{
+    state.work.sound();
+    match next(Rule::Inline, &state.work, &mut state.inlines) {
+        None => Ok(false),
+        Some(label) => {
+            inline_on(alloc, state, label)?;
+            Ok(true)
+        }
+    }
+}
+
+/// One step of Loop or Inline, where one applies.
+pub fn step(alloc: Global, state: &mut Reducing) -> Result<bool, NoMemory>
+    requires { StateHolds state.old }
+    ensures holds { OnOk result (StateHolds state.new) }
+    ensures step { Steps result (rule_step (graph_in state.old)) (graph_in state.old)
+        (graph_in state.new) }
+{
+    if loop_lowest(alloc, state)? {
+        return Ok(true);
+    }
+    inline_lowest(alloc, state)
+}
+
+/// As many steps of Loop and Inline as apply, at most this many. Without memory some are done.
+pub fn steps(alloc: Global, state: &mut Reducing, most: usize) -> Result<(), NoMemory>
+    requires { StateHolds state.old }
+    ensures holds { OnOk result (StateHolds state.new) }
+    ensures graph { OnOk result (graph_in state.new ≡ reduced most (graph_in state.old)) }
+{
+    let mut left = most;
+    while left > 0 {
+        left -= 1;
+        if !step(alloc, state)? {
+            return Ok(());
+        }
+    }
+    Ok(())
 }

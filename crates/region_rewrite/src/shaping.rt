@@ -69,9 +69,8 @@ pub fn shape(alloc: Global, graph: Graph) -> Result<Shaped, SplitFault>
     ensures shaped { Shapes result (closed_graph (seen_graph graph)) }
     ensures end { IfOk result (λ shaped. PlainEnd (seen_end shaped.end)) }
 {
-    let mut graph = graph;
-    match close(alloc, &mut graph) {
-        Ok(()) => one_node(graph),
+    match close(alloc, graph) {
+        Ok(graph) => one_node(graph),
         Err(_) => Err(SplitFault::NoMemory),
     }
 }

@@ -1,2 +1,4 @@
+-- how all nodes but one go
+pub mod ClearRows
 -- what the dispatch makes
 pub mod DispatchRows

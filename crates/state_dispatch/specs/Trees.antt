@@ -1,18 +1,15 @@
 -- The trees of nodes.
-use Rattle.std.specs.Prelude.{ℕ, false, List, map}
+use Rattle.std.specs.Prelude.{ℕ, false, List, [], ◌∷◌}
 use Rattle.language.specs.Language.{ByCell, none}
 use Rattle.control.specs.Graph.{Tree, tree, Pick, Trees}
+use Rattle.control_laws.specs.graph_rules.Reduced.{Node}
 use Rattle.branch_tree.specs.declared.chooser.Test.TheVariants as test
 use Rattle.branch_tree.specs.declared.tree.Leaves.TheVariants as leaves
 use Rattle.loop_rules.specs.declared.forms.Turning.{Turning}
-use Rattle.branch_tree.specs.declared.graph.Node.{Node}
-use Rattle.branch_tree.specs.Trees.{seen_tree}
-
-abbrev pub tree_of : Node → Tree
-tree_of node = seen_tree node.tree
 
 abbrev pub node_trees : List Node → List Tree
-node_trees nodes = map tree_of nodes
+node_trees [] = []
+node_trees (node ∷ nodes) = node.tree ∷ node_trees nodes
 
 -- the choice among trees by the state
 abbrev pub choice_of : ℕ → Trees → Tree

@@ -1,38 +1,53 @@
 //! The dispatch.
 
-ghost use Rattle.std.specs.Prelude.{◌≡◌, ◌<◌, ◌≤◌, ◌^◌, [], suc, false, length, map, OnOk, OnErr};
+ghost use Rattle.std.specs.Prelude.{◌≡◌, ◌<◌, ◌≤◌, ◌^◌, suc, length, map, OnOk, OnErr};
 ghost use Rattle.std.specs.Vec.{vec_len, vec_capacity};
-ghost use Rattle.control.specs.Graph as graph;
-ghost use Rattle.control_laws.specs.closing.Closes.{dispatch_graph};
-ghost use Rattle.control_laws.specs.closing.Dispatches.{return_if};
-ghost use Rattle.branch_tree.specs.Graphs.{seen_graph};
+ghost use Rattle.control_laws.specs.closing.Closes.{dispatch_graph, none_left_out};
+ghost use Rattle.control_laws.specs.closing.Dispatches.{dispatched, labels_of, number_in, return_if, set_to};
+ghost use Rattle.branch_tree.specs.Graphs.{seen_nodes};
+ghost use Rattle.branch_tree.specs.Helds.{seen_work};
+ghost use Rattle.branch_tree.specs.Sounds.{bare, WithNodes};
 ghost use Rattle.branch_tree.specs.Trees.{seen_tree, seen_trees, seen_end, seen_body};
 ghost use Rattle.loop_rules.specs.Forms.{looped_by};
-ghost use Rattle.state_dispatch.specs.Trees.{node_trees, state_loop, choice_of};
+ghost use Rattle.state_dispatch.specs.Clearing.{taken_trees, all_taken, Clears, one_node};
+ghost use Rattle.state_dispatch.specs.Trees.{state_loop, choice_of};
 
-use crate::numbers::{labels_of, number_in};
-use crate::returns::some_returns;
-use branch_tree::{Added, End, Graph, Label, Leaves, Node, Picker, Piece, Test, Tree, drop_pieces};
+use crate::numbers::number_in;
+use crate::returns::trees_return;
+use branch_tree::{Added, End, Label, Leaves, Picker, Piece, Test, Tree, Work, drop_pieces};
 use cob_base::{Items, NoMemory};
 use loop_rules::{Turning, looped};
 use std::alloc::Global;
 
-/// Takes the trees of all nodes, in their order, into room that is there.
-fn take_trees(nodes: &mut Vec<Node>, room: Vec<Tree>) -> Vec<Tree>
+/// Takes the trees at the labels, in their order, into room that is there.
+fn take_trees(alloc: Global, work: &mut Work, labels: &[Label], room: Vec<Tree>) -> Vec<Tree>
     requires none { vec_len room ≡ 0 }
-    requires enough { vec_len nodes.old ≤ vec_capacity room }
-    ensures trees { map seen_tree result.items ≡ node_trees nodes.old.items }
-    ensures none { nodes.new.items ≡ [] }
-    ensures len { vec_len nodes.new ≡ 0 }
-    ensures capacity { vec_capacity nodes.new ≡ vec_capacity nodes.old }
+    requires enough { length labels.now ≤ vec_capacity room }
+    ensures trees { map seen_tree result.items
+        ≡ taken_trees labels.now (seen_nodes work.old.nodes) }
+    ensures nodes { WithNodes (all_taken labels.now (seen_nodes work.old.nodes)) work.old work.new }
 {
     let mut trees = room;
-    while let Some(node) = nodes.pop() {
-        let Node { label: _, tree } = node;
-        trees.push_reserved(tree);
+    for label in labels {
+        match work.take(alloc, *label) {
+            None => {}
+            Some(tree) => trees.push_reserved(tree),
+        }
     }
-    trees.reverse();
     trees
+}
+
+/// Takes away the nodes at the labels, but the entry's.
+fn leave_entry(work: &mut Work, labels: &[Label])
+    requires { Clears work.old.entry labels.now (seen_nodes work.old.nodes) }
+    ensures { WithNodes (one_node work.old.entry bare) work.old work.new }
+{
+    let entry = work.entry();
+    for label in labels {
+        if *label != entry {
+            work.remove(*label);
+        }
+    }
 }
 
 fn return_if(returns: bool) -> End
@@ -77,20 +92,47 @@ fn gathered(
     tree
 }
 
+/// Makes one node of all nodes, whose labels these are, behind these pieces, in room that is there.
+fn gather(
+    alloc: Global,
+    work: &mut Work,
+    labels: Vec<Label>,
+    before: Vec<Piece>,
+    room: Vec<Tree>,
+    state: u32,
+)
+    requires labels { labels.items ≡ labels_of (seen_nodes work.old.nodes) }
+    requires space { vec_len before < vec_capacity before }
+    requires first { seen_body before.items
+        ≡ set_to state (number_in (labels_of (seen_nodes work.old.nodes)) work.old.entry) }
+    requires none { vec_len room ≡ 0 }
+    requires enough { vec_len labels ≤ vec_capacity room }
+    ensures { WithNodes (one_node work.old.entry
+        (dispatched none_left_out state work.old.entry (seen_nodes work.old.nodes))) work.old
+        work.new }
+{
+    work.sound();
+    let arms = take_trees(alloc, work, labels.as_slice(), room);
+    leave_entry(work, labels.as_slice());
+    let returns = trees_return(arms.as_slice());
+    let tree = gathered(alloc, arms, before, state, Items::from_vec(labels), returns);
+    let entry = work.entry();
+    work.put(entry, tree);
+}
+
 /// Makes one node of all nodes, which loops over a choice by a state. Without memory the graph
 /// stays.
-pub fn dispatch(alloc: Global, graph: &mut Graph) -> Result<(), NoMemory>
-    requires some { 0 < length graph.old.nodes.items }
-    requires numbered { suc (length graph.old.nodes.items) < 2 ^ 32 }
-    requires room { length graph.old.added.items < 2 ^ 32 }
-    ensures ok { OnOk result (seen_graph graph.new ≡ dispatch_graph (seen_graph graph.old)) }
-    ensures err { OnErr result (seen_graph graph.new ≡ seen_graph graph.old) }
+pub fn dispatch(alloc: Global, work: &mut Work) -> Result<(), NoMemory>
+    requires numbered { suc (length work.old.nodes) < 2 ^ 32 }
+    requires room { vec_len work.old.added < 2 ^ 32 }
+    ensures ok { OnOk result (seen_work work.new ≡ dispatch_graph (seen_work work.old)) }
+    ensures err { OnErr result (seen_work work.new ≡ seen_work work.old) }
 {
-    let state = graph.added.len() as u32;
-    graph.added.reserve(1)?;
-    let labels = labels_of(alloc, &graph.nodes)?;
+    let state = work.added_len() as u32;
+    work.reserve_added()?;
+    let labels = work.labels(alloc)?;
     let mut before = Vec::with_capacity(alloc, 2)?;
-    let room = match Vec::with_capacity(alloc, graph.nodes.len()) {
+    let room = match Vec::with_capacity(alloc, labels.len()) {
         Ok(room) => room,
         Err(_) => {
             drop_pieces(before);
@@ -99,15 +141,9 @@ pub fn dispatch(alloc: Global, graph: &mut Graph) -> Result<(), NoMemory>
     };
     before.push_reserved(Piece::Set {
         cell: state,
-        value: number_in(labels.as_slice(), graph.entry),
+        value: number_in(labels.as_slice(), work.entry()),
     });
-    let returns = some_returns(&graph.nodes);
-    let arms = take_trees(&mut graph.nodes, room);
-    let tree = gathered(alloc, arms, before, state, labels, returns);
-    graph.nodes.push_reserved(Node {
-        label: graph.entry,
-        tree,
-    });
-    graph.added.push_reserved(Added::State);
+    gather(alloc, work, labels, before, room, state);
+    work.push_added(Added::State);
     Ok(())
 }

@@ -1,24 +1,9 @@
-//! Labels of nodes, and their numbers.
+//! Numbers of labels.
 
 ghost use Rattle.std.specs.Prelude.{◌≡◌, ◌<◌, ◌^◌, suc, length};
-ghost use Rattle.cob_base.specs.Answers.{Makes};
-ghost use Rattle.control_laws.specs.closing.Dispatches.{labels_of, number_in, one_further};
-ghost use Rattle.branch_tree.specs.Graphs.{seen_nodes};
+ghost use Rattle.control_laws.specs.closing.Dispatches.{number_in, one_further};
 
-use branch_tree::{Label, Node};
-use cob_base::{Items, NoMemory};
-use std::alloc::Global;
-
-/// The labels of the nodes, in their order.
-pub fn labels_of(alloc: Global, nodes: &[Node]) -> Result<Items<Label>, NoMemory>
-    ensures { Makes (labels_of (seen_nodes nodes.now)) result }
-{
-    let mut labels = Items::new(alloc);
-    for node in nodes {
-        labels.push(node.label)?;
-    }
-    Ok(labels)
-}
+use branch_tree::Label;
 
 fn one_further(number: u32) -> u32
     requires { suc number < 2 ^ 32 }

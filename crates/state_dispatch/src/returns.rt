@@ -1,11 +1,10 @@
 //! Whether some leaf returns.
 
 ghost use Rattle.std.specs.Prelude.{◌≡◌};
-ghost use Rattle.control_laws.specs.closing.Dispatches.{tree_returns, trees_return, some_returns};
-ghost use Rattle.branch_tree.specs.Graphs.{seen_nodes};
+ghost use Rattle.control_laws.specs.closing.Dispatches.{tree_returns, trees_return};
 ghost use Rattle.branch_tree.specs.Trees.{seen_tree, seen_trees};
 
-use branch_tree::{End, Node, Tree};
+use branch_tree::{End, Tree};
 
 /// Whether a leaf of the tree returns.
 #[cycle(returns)]
@@ -21,24 +20,13 @@ pub fn tree_returns(tree: &Tree) -> bool
     }
 }
 
+/// Whether a leaf of these trees returns.
 #[cycle(returns)]
-fn trees_return(arms: &[Tree]) -> bool
+pub fn trees_return(arms: &[Tree]) -> bool
     ensures { result ≡ trees_return (seen_trees arms.now) }
 {
     for arm in arms {
         if tree_returns(arm) {
-            return true;
-        }
-    }
-    false
-}
-
-/// Whether a leaf of a node returns.
-pub fn some_returns(nodes: &[Node]) -> bool
-    ensures { result ≡ some_returns (seen_nodes nodes.now) }
-{
-    for node in nodes {
-        if tree_returns(&node.tree) {
             return true;
         }
     }

@@ -1,11 +1,10 @@
 -- What Inline answers, and leaves.
-use Rattle.std.specs.Prelude.{ℕ, ◌≡◌, ◌<◌, Bool, true, false, if◌then◌else◌, Result, Ok, Err, Option, Some, None, List, length}
+use Rattle.std.specs.Prelude.{ℕ, ◌≡◌, Bool, true, false, if◌then◌else◌, Result, Ok, Err, Option, Some, None}
 use Rattle.cob_base.specs.declared.memory.NoMemory.{NoMemory}
 use Rattle.control.specs.Doing.{is_above}
 use Rattle.control.specs.Graph.{Label}
 use Rattle.control_laws.specs.graph_rules.Shapes.{leaves_to}
-use Rattle.control_laws.specs.graph_rules.Reduced.{Node, Graph, has_node, inlines, inline_graph, all_leaves_to}
-use Rattle.tree_rules.specs.Places.{label_at, tree_at}
+use Rattle.control_laws.specs.graph_rules.Reduced.{Graph, has_node, tree_in, inlines, inline_graph}
 
 -- the label is that of a node, and exactly one leaf jumps to it, from another node
 abbrev pub may_inline : Graph → Label → Bool
@@ -18,13 +17,10 @@ Inlines (Ok true) label old new = (may_inline old label ≡ true) × (new ≡ in
 Inlines (Ok false) label old new = (may_inline old label ≡ false) × (new ≡ old)
 Inlines (Err fault) label old new = new ≡ old
 
--- a leaf of the node at this place jumps to the label
-abbrev pub JumpsAt : Label → List Node → Option ℕ → Type 0
-JumpsAt label nodes None = all_leaves_to label nodes ≡ 0
-JumpsAt label nodes (Some at) = (at < length nodes)
-    × (is_above (leaves_to label (tree_at nodes at)) ≡ true)
-
--- the place of the first node with the label
-abbrev pub PlaceOf : Label → List Node → Option ℕ → Type 0
-PlaceOf label nodes None = has_node nodes label ≡ false
-PlaceOf label nodes (Some at) = (at < length nodes) × (label_at nodes at ≡ label)
+-- the same with the label of the node whose leaf jumped
+abbrev pub InlinesInto : Result (Option ℕ) NoMemory → Label → Graph → Graph → Type 0
+InlinesInto (Ok (Some from)) label old new = (may_inline old label ≡ true)
+    × (new ≡ inline_graph label old) × (has_node old.nodes from ≡ true)
+    × (is_above (leaves_to label (tree_in old.nodes from)) ≡ true)
+InlinesInto (Ok None) label old new = (may_inline old label ≡ false) × (new ≡ old)
+InlinesInto (Err fault) label old new = new ≡ old

@@ -4,7 +4,7 @@ pub mod Targets
 pub mod Joins
 -- a tree in the place of a jump
 pub mod Puts
--- nodes by their places
-pub mod Places
 -- what Inline answers, and leaves
 pub mod Inlines
+-- room for the choices that become statements
+pub mod Rooms

@@ -1,101 +1,92 @@
 //! Inline: a node in the place of the one jump to it.
 
-ghost use Rattle.std.specs.Prelude.{◌≡◌, ◌<◌, true, length, OnOk, OnErr};
-ghost use Rattle.control_laws.specs.closing.Dispatches.{Rising};
-ghost use Rattle.control_laws.specs.graph_rules.Reduced.{inlines, inline_graph};
-ghost use Rattle.branch_tree.specs.Graphs.{seen_graph, seen_nodes};
-ghost use Rattle.tree_rules.specs.Inlines.{Inlines, JumpsAt, PlaceOf};
-ghost use Rattle.tree_rules.specs.Places.{label_at};
+ghost use Rattle.std.specs.Prelude.{◌≡◌, true, OnOk, OnErr};
+ghost use Rattle.control.specs.Doing.{is_above};
+ghost use Rattle.control_laws.specs.graph_rules.Reduced.{has_node, inline_graph, tree_in};
+ghost use Rattle.control_laws.specs.graph_rules.Shapes.{leaves_to};
+ghost use Rattle.branch_tree.specs.Helds.{seen_work};
+ghost use Rattle.tree_rules.specs.Inlines.{Inlines, InlinesInto, may_inline};
 
 use crate::putting::put;
-use branch_tree::{Graph, Label, Node};
+use branch_tree::{Label, Work};
 use cob_base::NoMemory;
+use std::alloc::Global;
 
-/// The place of the first node with a leaf that jumps to the label.
-fn jumping(nodes: &[Node], label: Label) -> Option<usize>
-    ensures { JumpsAt label (seen_nodes nodes.now) result }
-{
-    for at in 0..nodes.len() {
-        if nodes[at].tree.jumps_to(label) {
-            return Some(at);
-        }
-    }
-    None
-}
-
-/// The place of the node with the label.
-pub fn place_of(nodes: &[Node], label: Label) -> Option<usize>
-    ensures { PlaceOf label (seen_nodes nodes.now) result }
-{
-    for at in 0..nodes.len() {
-        if nodes[at].label == label {
-            return Some(at);
-        }
-    }
-    None
-}
-
-/// Whether exactly one leaf of the graph jumps to the node at this place, from another node, and it
+/// Whether exactly one leaf of the graph jumps to the node with the label, from another node, and it
 /// isn't the entry.
-pub fn inlines_at(graph: &Graph, at: usize) -> bool
-    requires within { at < length graph.now.nodes.items }
-    requires rising { Rising (seen_nodes graph.now.nodes.items) }
-    ensures { result ≡ inlines (seen_graph graph.now)
-        (label_at (seen_nodes graph.now.nodes.items) at) }
+pub fn may_inline(work: &Work, label: Label) -> bool
+    ensures { result ≡ may_inline (seen_work work.now) label }
 {
-    let node = &graph.nodes[at];
-    if node.label == graph.entry {
-        return false;
+    match work.node(label) {
+        None => false,
+        Some(node) => {
+            if label == work.entry() {
+                return false;
+            }
+            if node.tree.jumps_to(label) {
+                return false;
+            }
+            work.incoming(label) == 1
+        }
     }
-    if node.tree.jumps_to(node.label) {
-        return false;
-    }
-    graph.leaves_to(node.label) == 1
 }
 
-/// Puts the node at this place in the place of the one jump to it. Without memory the graph stays.
-pub fn inline_at(graph: &mut Graph, at: usize) -> Result<(), NoMemory>
-    requires within { at < length graph.old.nodes.items }
-    requires rising { Rising (seen_nodes graph.old.nodes.items) }
-    requires applies { inlines (seen_graph graph.old)
-        (label_at (seen_nodes graph.old.nodes.items) at) ≡ true }
-    ensures ok { OnOk result (seen_graph graph.new
-        ≡ inline_graph (label_at (seen_nodes graph.old.nodes.items) at) (seen_graph graph.old)) }
-    ensures err { OnErr result (seen_graph graph.new ≡ seen_graph graph.old) }
+/// Puts the node, on which Inline applies, in the place of the jump to it, which a leaf of the other
+/// has. Without memory the graph stays.
+fn put_into(alloc: Global, work: &mut Work, label: Label, from: Label) -> Result<(), NoMemory>
+    requires applies { may_inline (seen_work work.old) label ≡ true }
+    requires has { has_node (seen_work work.old).nodes from ≡ true }
+    requires jumps { is_above (leaves_to label (tree_in (seen_work work.old).nodes from)) ≡ true }
+    ensures ok { OnOk result (seen_work work.new ≡ inline_graph label (seen_work work.old)) }
+    ensures err { OnErr result (seen_work work.new ≡ seen_work work.old) }
 {
-    let Node { label, tree } = graph.nodes.remove(at);
-    match jumping(&graph.nodes, label) {
-        Some(from) => match put(&mut graph.nodes[from].tree, label, tree) {
-            None => Ok(()),
-            Some(tree) => {
-                graph.put_back(at, Node { label, tree });
-                Err(NoMemory)
+    work.sound();
+    let Some(by) = work.take(alloc, label) else {
+        unreachable!()
+    };
+    match work.take(alloc, from) {
+        None => unreachable!(),
+        Some(tree) => {
+            let mut tree = tree;
+            let back = put(&mut tree, label, by);
+            work.put(from, tree);
+            match back {
+                None => {
+                    work.remove(label);
+                    Ok(())
+                }
+                Some(by) => {
+                    work.put(label, by);
+                    Err(NoMemory)
+                }
             }
-        },
-        None => {
-            graph.put_back(at, Node { label, tree });
-            Err(NoMemory)
+        }
+    }
+}
+
+/// Inline on the node with the label: the label of the node whose leaf jumped to it, where the rule
+/// applied, and none where it doesn't. With none, and without memory, the graph stays.
+pub fn inline_into(alloc: Global, work: &mut Work, label: Label) -> Result<Option<Label>, NoMemory>
+    ensures { InlinesInto result label (seen_work work.old) (seen_work work.new) }
+{
+    if !may_inline(work, label) {
+        return Ok(None);
+    }
+    work.sound();
+    match work.source(label) {
+        None => unreachable!(),
+        Some(from) => {
+            put_into(alloc, work, label, from)?;
+            Ok(Some(from))
         }
     }
 }
 
 /// Inline on the node with the label: true where the rule applied, false where it doesn't. With
 /// false, and without memory, the graph stays.
-pub fn inline(graph: &mut Graph, label: Label) -> Result<bool, NoMemory>
-    requires rising { Rising (seen_nodes graph.old.nodes.items) }
-    ensures { Inlines result label (seen_graph graph.old) (seen_graph graph.new) }
+pub fn inline(alloc: Global, work: &mut Work, label: Label) -> Result<bool, NoMemory>
+    ensures { Inlines result label (seen_work work.old) (seen_work work.new) }
 {
-    match place_of(&graph.nodes, label) {
-        None => Ok(false),
-        Some(at) => {
-            if inlines_at(graph, at) {
-                match inline_at(graph, at) {
-                    Ok(()) => Ok(true),
-                    Err(fault) => Err(fault),
-                }
-            } else {
-                Ok(false)
-            }
-        }
-    }
+    let into = inline_into(alloc, work, label)?;
+    Ok(into.is_some())
 }

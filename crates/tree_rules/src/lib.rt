@@ -13,7 +13,7 @@ mod joining;
 mod putting;
 mod targets;
 
-pub use inlining::{inline, inline_at, inlines_at, place_of};
-pub use joining::join;
+pub use inlining::{inline, inline_into, may_inline};
+pub use joining::{join, join_at};
 pub use putting::put;
 pub use targets::{Targets, other_targets};

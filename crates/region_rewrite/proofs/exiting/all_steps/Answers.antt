@@ -1,14 +1,13 @@
 use Rattle.std.proofs.Common.{◌≡◌, Some, ap, sym, ◌∙◌, arith}
-use Rattle.control_laws.specs.closing.Closes.{any_step, reduced_by_all}
-use Rattle.slot_rules.proofs.StepTells.{took, kept}
-use Rattle.region_rewrite.specs.Closings.{closing_graph}
-use Rattle.region_rewrite.proofs.ExitSteps.{all_reduced_next, stays_all}
+use Rattle.control_laws.specs.closing.Closes.{reduced_by_all, any_step}
+use Rattle.region_rewrite.specs.Reducings.{graph_in}
+use Rattle.region_rewrite.proofs.StepRows.{took, kept, all_reduced_next, stays_all}
 use Rattle.region_rewrite.proofs.exiting.all_steps.Goals as goal
 
 pub loop-left-preserved : goal.loop-left-preserved
 loop-left-preserved c =
-    let g = closing_graph c.loop-left.closing in
-    let new = closing_graph c.any_step.new.closing in
+    let g = graph_in c.loop-left.state in
+    let new = graph_in c.any_step.new.state in
     let one : any_step g ≡ Some new = took _ (any_step g) g new c.if-not-branch.false c.in_ok-any_step.ensures.step in
     record {
       same = all_reduced_next c.loop-left.left g new c.loop-left-test.true one ∙ c.loop-left.invariant.same;
@@ -17,12 +16,12 @@ loop-left-preserved c =
 
 pub returns-then-not-branch : goal.returns-then-not-branch
 returns-then-not-branch c =
-    let g = closing_graph c.loop-left.closing in
-    let new = closing_graph c.any_step.new.closing in
+    let g = graph_in c.loop-left.state in
+    let new = graph_in c.any_step.new.state in
     let none = kept _ (any_step g) g new c.if-not-branch.true c.in_ok-any_step.ensures.step in
     none.1 ∙ sym (stays_all c.loop-left.left g none.0) ∙ c.loop-left.invariant.same
 
 pub returns : goal.returns
 returns c =
     let last : 0 ≡ c.loop-left.left = omega arith in
-    ap (λ n. reduced_by_all n (closing_graph c.loop-left.closing)) last ∙ c.loop-left.invariant.same
+    ap (λ n. reduced_by_all n (graph_in c.loop-left.state)) last ∙ c.loop-left.invariant.same

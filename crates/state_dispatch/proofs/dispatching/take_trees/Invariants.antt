@@ -1,15 +1,17 @@
-use Rattle.std.proofs.Common.{◌≡◌, ◌≤◌, ◌+◌, ◌++◌, length, map, reverse}
+use Rattle.std.proofs.Common.{◌≡◌, ◌≤◌, ◌+◌, ◌++◌, length, map, drop}
 use Rattle.std.specs.Vec.{vec_len, vec_capacity}
+use Rattle.branch_tree.specs.Graphs.{seen_nodes}
 use Rattle.branch_tree.specs.Trees.{seen_tree}
-use Rattle.state_dispatch.specs.Trees.{node_trees}
+use Rattle.state_dispatch.specs.Clearing.{all_taken, taken_trees}
 use Rattle.state_dispatch.proofs.dispatching.take_trees.Given as goal
 
-abbrev pub invariant-loop-node : goal.invariant-loop-node
-invariant-loop-node l = record {
-  same : node_trees l.nodes.items ++ map seen_tree (reverse l.trees.items) ≡ node_trees l.fn.nodes.items;
-  enough : vec_len l.trees + vec_len l.nodes ≤ vec_capacity l.trees;
-  capacity : vec_capacity l.nodes ≡ vec_capacity l.fn.nodes;
+abbrev pub invariant-loop-label : goal.invariant-loop-label
+invariant-loop-label l = record {
+  trees : map seen_tree l.trees.items ++ taken_trees (drop l.label-index l.labels) (seen_nodes l.work.nodes)
+      ≡ taken_trees l.labels (seen_nodes l.fn.work.nodes);
+  nodes : all_taken (drop l.label-index l.labels) (seen_nodes l.work.nodes)
+      ≡ all_taken l.labels (seen_nodes l.fn.work.nodes);
+  enough : vec_len l.trees + length (drop l.label-index l.labels) ≤ vec_capacity l.trees;
+  entry : l.work.entry ≡ l.fn.work.entry;
+  added : l.work.added ≡ l.fn.work.added;
 }
-
-abbrev pub decreases-loop-node : goal.decreases-loop-node
-decreases-loop-node l = length l.nodes.items

@@ -1,0 +1,13 @@
+use Rattle.std.proofs.Common.{◌≡◌}
+use Rattle.control_laws.specs.graph_rules.Reduced.{reduced}
+use Rattle.region_rewrite.specs.Reducings.{StateHolds, graph_in}
+use Rattle.region_rewrite.proofs.reducing.steps.Given as goal
+
+abbrev pub invariant-loop-left : goal.invariant-loop-left
+invariant-loop-left l = record {
+  same : reduced l.left (graph_in l.state) ≡ reduced l.fn.most (graph_in l.fn.state);
+  holds : StateHolds l.state;
+}
+
+abbrev pub decreases-loop-left : goal.decreases-loop-left
+decreases-loop-left l = l.left

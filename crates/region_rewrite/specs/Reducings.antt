@@ -1,0 +1,17 @@
+-- A graph while the rules reduce it.
+use Rattle.control.specs.Graph.{Label}
+use Rattle.control_laws.specs.graph_rules.Reduced.{Graph}
+use Rattle.branch_tree.specs.Helds.{seen_work}
+use Rattle.region_rewrite.specs.Candidates.{Holds, HoldsBut}
+use Rattle.region_rewrite.specs.declared.reducing.Reducing.{Reducing}
+
+abbrev pub graph_in : Reducing → Graph
+graph_in state = seen_work state.work
+
+-- all trees are joined, and each rule applies only on labels on which it is to be tried
+abbrev pub StateHolds : Reducing → Type 0
+StateHolds state = Holds (graph_in state) state.loops state.inlines state.exits
+
+-- so it is but for this label
+abbrev pub StateHoldsBut : Label → Reducing → Type 0
+StateHoldsBut label state = HoldsBut label (graph_in state) state.loops state.inlines state.exits

@@ -1,9 +1,0 @@
-use Rattle.std.proofs.Common.{take}
-use Rattle.control_laws.specs.graph_rules.Shapes.{arms_leaves_to}
-use Rattle.branch_tree.specs.Trees.{seen_trees}
-use Rattle.slot_rules.specs.Works.{Moves}
-use Rattle.slot_rules.proofs.work.+counts.Given as goal
-
-abbrev pub invariant-count_arms-loop-arm : goal.invariant-count_arms-loop-arm
-invariant-count_arms-loop-arm l =
-    Moves l.comes (λ label. arms_leaves_to label (seen_trees (take l.arm-index l.arms))) l.fn.work l.work
