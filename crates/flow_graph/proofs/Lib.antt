@@ -10,3 +10,7 @@ pub mod NodeRows
 pub mod MadeRows
 -- the graph made of them
 pub mod GraphRows
+-- the labels of a range, counted one after the other
+pub mod CountRows
+-- the nodes that are kept, added up
+pub mod KeptSums

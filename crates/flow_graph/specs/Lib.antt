@@ -4,3 +4,5 @@ pub mod Lowered
 pub mod Jumps
 -- the labels that are reached
 pub mod Reaching
+-- how large the graph of a range is
+pub mod Counts

@@ -1,12 +1,12 @@
 //! The graph of a range.
 
-ghost use Rattle.std.specs.Prelude.{◌≡◌, ◌*◌, length, IfOk};
+ghost use Rattle.std.specs.Prelude.{◌≡◌, ◌*◌, ◌<◌, ◌-◌, ◌^◌, length, IfOk};
 ghost use Rattle.cob_tree.specs.declared.program.Program.{Program};
 ghost use Rattle.control_laws.specs.lowering.flow.Comes.{entry_of};
 ghost use Rattle.lower_places.specs.Fall.{seen_range};
 ghost use Rattle.flow_levels.specs.Reaching.{IsMarked};
 ghost use Rattle.range_trees.specs.Nodes.{IsWhole};
-ghost use Rattle.flow_graph.specs.Lowered.{IsLoweredIn};
+ghost use Rattle.flow_graph.specs.Counts.{IsLoweredWithin};
 ghost use Rattle.flow_graph.specs.Reaching.{IsRangeIn};
 
 use crate::reaching::reach_from;
@@ -30,35 +30,51 @@ pub fn first_of(range: Range) -> u32
 }
 
 /// The graph of a range: the nodes that are reached from its entry, in the order of their labels.
+/// None where it has more than `most` labels and statements: once that many are made they are let go.
 /// One `reach` serves all ranges of a program, since only what was reached is cleared.
-pub fn lower(
+pub fn lower_within(
     alloc: Global,
     reach: &mut Reach,
     spots: &[Spot<'_>],
     range: Range,
     telling: &Telling<'_>,
-) -> Result<Graph, NoMemory>
+    most: u64,
+) -> Result<Option<Graph>, NoMemory>
     requires marked { IsMarked reach.old.places.items reach.old.marks.items }
     requires whole { IsWhole telling.now spots.now }
     requires size { length reach.old.marks.items ≡ 3 * length spots.now }
     requires range { (program : Program) × IsRangeIn telling.now spots.now range program }
-    ensures graph { IfOk result (IsLoweredIn telling.now spots.now range) }
+    requires small { most < 2 ^ 64 - 1 }
+    ensures graph { IfOk result (IsLoweredWithin telling.now spots.now range most) }
     ensures marked { IsMarked reach.new.places.items reach.new.marks.items }
     ensures size { length reach.new.marks.items ≡ length reach.old.marks.items }
 {
     let place = telling.layout.place_of(first_of(range));
     let mut nodes = Vec::new(alloc);
-    match reach_from(alloc, reach, &mut nodes, spots, place * 3, range, telling) {
-        Ok(()) => {}
+    match reach_from(
+        alloc,
+        reach,
+        &mut nodes,
+        spots,
+        place * 3,
+        range,
+        telling,
+        most,
+    ) {
+        Ok(true) => {}
+        Ok(false) => {
+            drop(nodes);
+            return Ok(None);
+        }
         Err(fault) => {
             drop(nodes);
             return Err(fault);
         }
     }
     nodes.sort_unstable_by_key(|node: &Node| node.label.number());
-    Ok(Graph {
+    Ok(Some(Graph {
         entry: point(place),
         nodes,
         added: Vec::new(alloc),
-    })
+    }))
 }

@@ -1,10 +1,11 @@
 //! The labels that are reached.
 
-ghost use Rattle.std.specs.Prelude.{[], ◌≡◌, ◌≤◌, ◌<◌, ◌*◌, ◌^◌, length, OnOk};
+ghost use Rattle.std.specs.Prelude.{[], ◌≡◌, ◌≤◌, ◌<◌, ◌*◌, ◌^◌, true, false, length, IfOk, OnOk};
 ghost use Rattle.cob_tree.specs.declared.program.Program.{Program};
 ghost use Rattle.control.specs.Graph.{end_of};
 ghost use Rattle.branch_tree.specs.Trees.{seen_tree, seen_trees};
 ghost use Rattle.flow_levels.specs.Reaching.{IsMarked};
+ghost use Rattle.flow_graph.specs.Counts.{CountsWithin, IsLargerIn, IsSizeAt};
 ghost use Rattle.flow_graph.specs.Jumps.{AddsArmJumps, AddsJumps, ArmsJumpBelow, JumpBelow};
 ghost use Rattle.flow_graph.specs.Lowered.{AddsNode, AreMade};
 ghost use Rattle.range_trees.specs.Nodes.{IsWhole};
@@ -15,6 +16,7 @@ use branch_tree::{End, Node, Tree};
 use cob_base::NoMemory;
 use cob_tree::Range;
 use flow_levels::Reach;
+use graph_sizes::tree_size;
 use lower_stmts::Telling;
 use range_trees::label_tree;
 use rest_table::Spot;
@@ -56,7 +58,8 @@ fn visit_arms(reach: &mut Reach, arms: &[Tree]) -> Result<(), NoMemory>
     Ok(())
 }
 
-/// Adds the node at a label, and the labels to which it jumps.
+/// Adds the node at a label, and the labels to which it jumps, and tells how many statements its tree
+/// has.
 fn visit_node(
     alloc: Global,
     reach: &mut Reach,
@@ -65,24 +68,28 @@ fn visit_node(
     label: u32,
     range: Range,
     telling: &Telling<'_>,
-) -> Result<(), NoMemory>
+) -> Result<u64, NoMemory>
     requires marked { IsMarked reach.old.places.items reach.old.marks.items }
     requires whole { IsWhole telling.now spots.now }
     requires there { label < 3 * length spots.now }
     requires below { NodeJumpsBelow telling.now spots.now range label
         (length reach.old.marks.items) }
     requires small { length reach.old.marks.items ≤ 2 ^ 32 }
-    ensures adds { OnOk result
-        (AddsNodeJumps telling.now spots.now range label reach.old.places.items
-        reach.new.places.items) }
-    ensures node { OnOk result
-        (AddsNode telling.now spots.now range label nodes.old.items nodes.new.items) }
+    ensures adds { IfOk result (λ size. AddsNodeJumps telling.now spots.now range label
+        reach.old.places.items reach.new.places.items) }
+    ensures node { IfOk result (λ size. AddsNode telling.now spots.now range label
+        nodes.old.items nodes.new.items) }
+    ensures counts { IfOk result (IsSizeAt telling.now spots.now range label) }
     ensures marked { IsMarked reach.new.places.items reach.new.marks.items }
     ensures size { length reach.new.marks.items ≡ length reach.old.marks.items }
 {
     let tree = label_tree(alloc, spots, label, range, telling)?;
+    let size = tree_size(&tree);
     match visit_tree(reach, &tree) {
-        Ok(()) => push_node(nodes, label, tree),
+        Ok(()) => {
+            push_node(nodes, label, tree)?;
+            Ok(size)
+        }
         Err(fault) => {
             drop(tree);
             Err(fault)
@@ -91,7 +98,8 @@ fn visit_node(
 }
 
 /// Makes these the labels that are reached in the range from this one, and adds their nodes, in the
-/// order in which they are come to.
+/// order in which they are come to; true then. Once they have more than so many labels and statements
+/// it gives up: false then.
 pub fn reach_from(
     alloc: Global,
     reach: &mut Reach,
@@ -100,27 +108,38 @@ pub fn reach_from(
     entry: u32,
     range: Range,
     telling: &Telling<'_>,
-) -> Result<(), NoMemory>
+    most: u64,
+) -> Result<bool, NoMemory>
     requires marked { IsMarked reach.old.places.items reach.old.marks.items }
     requires whole { IsWhole telling.now spots.now }
     requires size { length reach.old.marks.items ≡ 3 * length spots.now }
     requires entry { Begins telling.now spots.now range entry }
     requires range { (program : Program) × IsRangeIn telling.now spots.now range program }
     requires none { nodes.old.items ≡ [] }
-    ensures reach { OnOk result (AreReachedIn telling.now spots.now range reach.new.places.items) }
-    ensures made { OnOk result
-        (AreMade telling.now spots.now range reach.new.places.items nodes.new.items) }
+    ensures reach { IfOk result (λ all. all ≡ true →
+        AreReachedIn telling.now spots.now range reach.new.places.items) }
+    ensures made { IfOk result (λ all. all ≡ true →
+        AreMade telling.now spots.now range reach.new.places.items nodes.new.items) }
+    ensures within { IfOk result (λ all. all ≡ true →
+        CountsWithin telling.now spots.now range reach.new.places.items most) }
+    ensures larger { IfOk result (λ all. all ≡ false →
+        IsLargerIn telling.now spots.now range most) }
     ensures marked { IsMarked reach.new.places.items reach.new.marks.items }
     ensures size { length reach.new.marks.items ≡ length reach.old.marks.items }
 {
     reach.clear();
     reach.visit(entry)?;
+    let mut count = 0u64;
     for at in 0..reach.marks.len() {
         if at >= reach.places.len() {
-            return Ok(());
+            return Ok(true);
         }
         let label = reach.places[at];
-        visit_node(alloc, reach, nodes, spots, label, range, telling)?;
+        let size = visit_node(alloc, reach, nodes, spots, label, range, telling)?;
+        count = count.saturating_add(size).saturating_add(1);
+        if count > most {
+            return Ok(false);
+        }
     }
-    Ok(())
+    Ok(true)
 }

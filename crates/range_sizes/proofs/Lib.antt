@@ -4,7 +4,5 @@ pub mod Alike
 pub mod PartRows
 -- the parts that are kept
 pub mod KeptRows
--- the labels of a range, counted one after the other
-pub mod CountRows
 -- the count as the size of a graph
 pub mod GraphSums

@@ -4,6 +4,7 @@ use Rattle.cob_tree.specs.declared.program.Range as code
 use Rattle.control.specs.Graph as graph
 use Rattle.branch_tree.specs.Trees.{seen_tree}
 use Rattle.branch_tree.specs.declared.tree.Tree.{Tree}
+use Rattle.flow_graph.specs.Counts.{IsSizeAt}
 use Rattle.flow_graph.specs.Jumps.{AddsJumps, AddsThose}
 use Rattle.flow_graph.specs.Reaching.{AddsNodeJumps, NodeJumpsBelow}
 use Rattle.flow_graph.proofs.JumpRows.{adds_same}
@@ -14,7 +15,7 @@ use Rattle.range_trees.specs.Nodes.{IsNodeAlike}
 use Rattle.range_trees.proofs.NodeSteps.{goes_same}
 use Rattle.rest_table.specs.declared.spot.Spot.{Spot}
 use Rattle.range_sizes.specs.declared.parts.Part.{Part}
-use Rattle.range_sizes.specs.Parts.{IsPartAlike, IsPartIn, IsPartOf, IsSizeAt}
+use Rattle.range_sizes.specs.Parts.{IsPartAlike, IsPartIn, IsPartOf}
 
 -- the labels that are added to an empty list
 part-of : (t : graph.Tree) (part : Part) (old : List ℕ) → old ≡ [] →

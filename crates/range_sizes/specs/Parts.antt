@@ -27,8 +27,3 @@ abbrev pub IsPartAlike : Telling → List Spot → code.Range → ℕ → Part �
 IsPartAlike telling spots range label part =
     (other : code.Range) → GoAlikeFrom spots range other (label / 3) →
     IsPartIn telling spots other label part
-
--- how many statements that tree has
-abbrev pub IsSizeAt : Telling → List Spot → code.Range → ℕ → ℕ → Type 0
-IsSizeAt telling spots range label size = (program : Program) → IsTableOf telling spots program →
-    size ≡ min (tree_size (node_in telling program range label)) (2 ^ 64 - 1)

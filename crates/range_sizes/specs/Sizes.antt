@@ -1,5 +1,5 @@
 -- How large the graph of a range is.
-use Rattle.std.specs.Prelude.{ℕ, ◌≡◌, ◌+◌, ◌-◌, ◌^◌, min, Bool, List, sum_by}
+use Rattle.std.specs.Prelude.{ℕ, ◌≡◌, ◌-◌, ◌^◌, min, Bool, List}
 use Rattle.cob_tree.specs.declared.program.Program as source
 use Rattle.cob_tree.specs.declared.program.Range as code
 use Rattle.language.specs.Control.{control_of}
@@ -9,20 +9,11 @@ use Rattle.control_laws.specs.lowering.Told.{Told}
 use Rattle.control_laws.specs.lowering.WellFormed.{AreJustReached}
 use Rattle.flow_graph.specs.Lowered.{lowered_graph}
 use Rattle.flow_graph.specs.Reaching.{IsRangeIn}
-use Rattle.graph_sizes.specs.Sizes.{graph_size, tree_size}
+use Rattle.graph_sizes.specs.Sizes.{graph_size}
 use Rattle.lower_places.specs.Fall.{seen_range}
 use Rattle.lower_stmts.specs.Along.{told_by}
 use Rattle.lower_stmts.specs.declared.telling.Telling.{Telling}
-use Rattle.range_trees.specs.Nodes.{IsTableOf, node_in}
 use Rattle.rest_table.specs.declared.spot.Spot.{Spot}
-
--- so large are the labels with the trees there
-abbrev pub CountsTo : Telling → List Spot → code.Range → List ℕ → ℕ → Type 0
-CountsTo telling spots range labels count =
-    (program : source.Program) → IsTableOf telling spots program →
-    count
-    ≡ min (sum_by (λ (label : ℕ). 1 + tree_size (node_in telling program range label)) labels)
-    (2 ^ 64 - 1)
 
 -- so large is the graph of exactly the nodes that are reached in a range
 abbrev pub IsSizeOf : Told → Program → Range → ℕ → Type 0

@@ -1,11 +1,11 @@
 //! What is known of the trees at labels.
 
 ghost use Rattle.std.specs.Prelude.{◌≡◌, ◌*◌, ◌^◌, ◌<◌, length, IfOk, OnOk};
+ghost use Rattle.flow_graph.specs.Counts.{IsSizeAt};
 ghost use Rattle.flow_graph.specs.Reaching.{AddsNodeJumps, NodeJumpsBelow};
 ghost use Rattle.flow_levels.specs.Reaching.{IsMarked};
 ghost use Rattle.range_trees.specs.Nodes.{IsWhole};
 ghost use Rattle.range_sizes.specs.Known.{IsKnown, IsKnownAnyhow, Keeps, number_in, with_number};
-ghost use Rattle.range_sizes.specs.Parts.{IsSizeAt};
 
 use crate::going::{Passing, all_go_within, passing_of};
 use crate::parts::{Part, part_at, visit_labels};

@@ -2,11 +2,12 @@
 
 ghost use Rattle.std.specs.Prelude.{◌≡◌, ◌*◌, length, IfOk};
 ghost use Rattle.cob_tree.specs.declared.program.Program.{Program};
+ghost use Rattle.flow_graph.specs.Counts.{CountsTo};
 ghost use Rattle.flow_graph.specs.Reaching.{AreReachedIn, Begins, IsRangeIn};
 ghost use Rattle.flow_levels.specs.Reaching.{IsMarked};
 ghost use Rattle.range_trees.specs.Nodes.{IsWhole};
 ghost use Rattle.range_sizes.specs.Known.{IsKnown};
-ghost use Rattle.range_sizes.specs.Sizes.{CountsTo, IsSizeIn};
+ghost use Rattle.range_sizes.specs.Sizes.{IsSizeIn};
 
 use crate::known::{Known, visit_label};
 use cob_base::NoMemory;

@@ -24,6 +24,7 @@ use Rattle.branch_tree.specs.Graphs.{seen_graph}
 use Rattle.branch_tree.specs.declared.graph.Graph.{Graph}
 use Rattle.counter_cells.specs.Placed.{ClosesPlaced, NumbersPlaced}
 use Rattle.cut_lists.specs.Told.{told_of}
+use Rattle.flow_graph.specs.Counts.{IsLarger, IsLargerIn}
 use Rattle.flow_graph.specs.Lowered.{IsLoweredIn}
 use Rattle.flow_graph.specs.Reaching.{IsRangeIn}
 use Rattle.graph_sizes.specs.Sizes.{graph_size}
@@ -53,6 +54,19 @@ numbered-graph telling spots range old new lowered numbers = λ program is.
       is = numbers (told_by telling) (control_of program) (λ other. low.0) (seen_range range)
           is.table.source low.2;
     }
+
+-- numbering leaves it as large
+pub numbered-few : (telling : Telling) (spots : List Spot) (range : code.Range)
+    (old new : Graph) (most : ℕ) → ((program : Program) × IsRangeIn telling spots range program) →
+    IsLoweredIn telling spots range old → graph_size (seen_graph old) ≤ most →
+    NumbersPlaced (seen_graph old) (seen_graph new) → graph_size (seen_graph new) ≤ most
+numbered-few telling spots range old new most found lowered few numbers =
+    let low = lowered found.0 found.1 in
+    let same = ap graph_size (numbers (told_by telling) (control_of found.0) (λ other. low.0)
+    (seen_range range) found.1.table.source low.2)
+    ∙ numbered-size (told_by telling) (control_of found.0) low.0 (seen_range range) in
+    let was = ap graph_size low.2 in
+    omega (arith, same, was, few)
 
 pub closed-graph : (telling : Telling) (spots : List Spot) (range : code.Range)
     (old new : Graph) → ((program : Program) × IsRangeIn telling spots range program) →
@@ -142,7 +156,8 @@ module _ (telling : Telling) (spots : List Spot) (ranges : List code.Range) (ind
     (graphs : List Graph) (count next : ℕ) (range : code.Range) (graph : Graph)
     (so : SoFar telling spots ranges index graphs count)
     (there : slice_get ranges index ≡ Some range) (is : IsGraphIn telling spots range graph)
-    (adds : next ≡ min (count + min (graph_size (seen_graph graph)) last_number) last_number) where
+    (few : graph_size (seen_graph graph) ≤ node_limit - count)
+    (adds : next ≡ count + min (graph_size (seen_graph graph)) last_number) where
   abbrev more : List Graph
   more = graphs ++ graph ∷ []
 
@@ -157,9 +172,8 @@ module _ (telling : Telling) (spots : List Spot) (ranges : List code.Range) (ind
   more-count : node_count more ≡ node_count graphs + graph_size (seen_graph graph)
   more-count = sum_by_push (λ (g : Graph). graph_size (seen_graph g)) graphs graph
 
-  pub so-far-more : (new : List Graph) → new ≡ more → next ≤ node_limit →
-      SoFar telling spots ranges (index + 1) new next
-  so-far-more new same few = λ program are.
+  pub so-far-more : (new : List Graph) → new ≡ more → SoFar telling spots ranges (index + 1) new next
+  so-far-more new same = λ program are.
       let was = (so program are).count_is in
       let within = (so program are).within in
       subst (λ g. Counted (told_by telling) (control_of program) (take (index + 1) ranges) g next)
@@ -169,60 +183,106 @@ module _ (telling : Telling) (spots : List Spot) (ranges : List code.Range) (ind
         within = omega (arith, adds, was, within, few, more-count);
       })
 
-  drop-own : (program : Program) → AreRangesIn telling spots program ranges →
-      AreRangesIn telling spots program (drop (index + 1) ranges)
-  drop-own program are = record {
-    table = are.table;
-    own = λ at one here. are.own (index + 1 + at) one (further (index + 1) ranges at one here);
-  }
-    where
-      further : (n : ℕ) (ranges : List code.Range) (at : ℕ) (one : code.Range) →
-          slice_get (drop n ranges) at ≡ Some one → slice_get ranges (n + at) ≡ Some one
-      further zero ranges at one here =
-          let none : at ≡ 0 + at = omega arith in
-          subst (λ (n : ℕ). slice_get ranges n ≡ Some one) none here
-      further (suc n) [] at one here = cc
-      further (suc n) (first ∷ ranges) at one here =
-          let later : suc (n + at) ≡ suc n + at = omega arith in
-          subst (λ (m : ℕ). slice_get (first ∷ ranges) m ≡ Some one) later
-          (further n ranges at one here)
+pub few-yet : (telling : Telling) (spots : List Spot) (ranges : List code.Range) (index : ℕ)
+    (graphs : List Graph) (count : ℕ) → SoFar telling spots ranges index graphs count →
+    ((program : Program) × AreRangesIn telling spots program ranges) → count ≤ node_limit
+few-yet telling spots ranges index graphs count so found =
+    let was = (so found.0 found.1).count_is in
+    let within = (so found.0 found.1).within in
+    omega (arith, was, within)
 
-  -- and all others are counted alone, since they are past the limit
-  pub past-limit : node_limit < next → (counted : Result ℕ NoMemory) →
-      IfOk counted (IsCountedOn telling spots (drop (index + 1) ranges) next) →
+-- the first one that is larger than what is left
+
+first-larger : (told : Told) (program : language.Program) (range : code.Range)
+    (ranges : List code.Range) (graphs : List reduced.Graph) (most : ℕ) →
+    HaveGraphs told program (range ∷ ranges) graphs → IsLarger told program (seen_range range) most →
+    most < total_size graphs
+first-larger told program range ranges [] most have larger = absurd have
+first-larger told program range ranges (graph ∷ graphs) most have larger =
+    let own = have.0 in
+    let size = ap graph_size own.is ∙ numbered-size told program own.keep (seen_range range) in
+    let past = larger own.keep own.just in
+    omega (arith, sum_by-cons graph_size graph graphs, size, past)
+
+drop-next : (ranges : List code.Range) (index : ℕ) (range : code.Range) →
+    slice_get ranges index ≡ Some range → drop index ranges ≡ range ∷ drop (suc index) ranges
+drop-next [] index range is = cc
+drop-next (first ∷ ranges) zero range is =
+    let same : first ≡ range = cc in ap (λ r. r ∷ ranges) same
+drop-next (first ∷ ranges) (suc index) range is = drop-next ranges index range is
+
+pub drop-own : (telling : Telling) (spots : List Spot) (ranges : List code.Range) (index : ℕ)
+    (program : Program) → AreRangesIn telling spots program ranges →
+    AreRangesIn telling spots program (drop index ranges)
+drop-own telling spots ranges index program are = record {
+  table = are.table;
+  own = λ at one here. are.own (index + at) one (further index ranges at one here);
+}
+  where
+    further : (n : ℕ) (ranges : List code.Range) (at : ℕ) (one : code.Range) →
+        slice_get (drop n ranges) at ≡ Some one → slice_get ranges (n + at) ≡ Some one
+    further zero ranges at one here =
+        let none : at ≡ 0 + at = omega arith in
+        subst (λ (n : ℕ). slice_get ranges n ≡ Some one) none here
+    further (suc n) [] at one here = cc
+    further (suc n) (first ∷ ranges) at one here =
+        let later : suc (n + at) ≡ suc n + at = omega arith in
+        subst (λ (m : ℕ). slice_get (first ∷ ranges) m ≡ Some one) later
+        (further n ranges at one here)
+
+-- it and all others are counted alone, since they are past the limit
+module _ (telling : Telling) (spots : List Spot) (ranges : List code.Range) (index : ℕ)
+    (graphs : List Graph) (count : ℕ) (range : code.Range)
+    (so : SoFar telling spots ranges index graphs count)
+    (there : slice_get ranges index ≡ Some range)
+    (larger : IsLargerIn telling spots range (node_limit - count)) where
+  behind-larger : (program : Program) → AreRangesIn telling spots program ranges →
+      (others : List reduced.Graph) →
+      HaveGraphs (told_by telling) (control_of program) (drop index ranges) others →
+      node_limit - count < total_size others
+  behind-larger program are others have =
+      first-larger (told_by telling) (control_of program) range (drop (suc index) ranges) others
+      (node_limit - count)
+      (subst (λ l. HaveGraphs (told_by telling) (control_of program) l others)
+      (drop-next ranges index range there) have)
+      (larger program (record { table = are.table; own = are.own index range there }))
+
+  pub past-limit : (counted : Result ℕ NoMemory) →
+      IfOk counted (IsCountedOn telling spots (drop index ranges) count) →
       (fault : SplitFault) → IsPastBy counted fault →
       IsLoweringFaultIn telling spots ranges fault
-  past-limit past counted on (faults.Limit limit) by = λ program are.
-      let rest = ok-at counted by.0 by.1 on program (drop-own program are) in
-      let seen = map seen_graph more in
+  past-limit counted on (faults.Limit limit) by = λ program are.
+      let rest = ok-at counted by.0 by.1 on program (drop-own telling spots ranges index program are)
+      in
+      let seen = map seen_graph graphs in
       let all = seen ++ rest.0 in
-      let total : total_size all ≡ node_count more + total_size rest.0 =
+      let total : total_size all ≡ node_count graphs + total_size rest.0 =
       sum_by-append graph_size seen rest.0
-      ∙ ap (λ (n : ℕ). n + total_size rest.0) (sym (count-seen more)) in
+      ∙ ap (λ (n : ℕ). n + total_size rest.0) (sym (count-seen graphs)) in
+      let past = behind-larger program are rest.0 rest.1 in
       let was = (so program are).count_is in
       let within = (so program are).within in
       let less = by.2 in
       let count_is = rest.2 in
-      let same : by.0 ≡ total_size all =
-      omega (arith, total, was, within, adds, count_is, less, past, more-count) in
+      let same : by.0 ≡ total_size all = omega (arith, total, was, count_is, less) in
       record {
         graphs = all;
         have = subst (λ l. HaveGraphs (told_by telling) (control_of program) l all)
-            (take-append-drop (index + 1) ranges)
-            (have-both (told_by telling) (control_of program) (take (index + 1) ranges)
-            (drop (index + 1) ranges) seen rest.0
-            (have-seen (told_by telling) (control_of program) (take (index + 1) ranges) more
-            (more-are program are)) rest.1);
-        past = omega (arith, total, was, within, adds, past, more-count);
+            (take-append-drop index ranges)
+            (have-both (told_by telling) (control_of program) (take index ranges)
+            (drop index ranges) seen rest.0
+            (have-seen (told_by telling) (control_of program) (take index ranges) graphs
+            (so program are).are) rest.1);
+        past = omega (arith, total, was, within, past);
         is = by.3 ∙ ap nodes_passed same;
       }
     where
-      ok-at : (counted : Result ℕ NoMemory) (count : ℕ) → counted ≡ Ok count →
-          IfOk counted (IsCountedOn telling spots (drop (index + 1) ranges) next) →
-          IsCountedOn telling spots (drop (index + 1) ranges) next count
-      ok-at counted count at on =
-          subst (λ r. IfOk r (IsCountedOn telling spots (drop (index + 1) ranges) next)) at on
-  past-limit past counted on faults.NoMemory by = λ program are. tt
+      ok-at : (counted : Result ℕ NoMemory) (last : ℕ) → counted ≡ Ok last →
+          IfOk counted (IsCountedOn telling spots (drop index ranges) count) →
+          IsCountedOn telling spots (drop index ranges) count last
+      ok-at counted last at on =
+          subst (λ r. IfOk r (IsCountedOn telling spots (drop index ranges) count)) at on
+  past-limit counted on faults.NoMemory by = λ program are. tt
 
 take-all : (ranges : List code.Range) (index : ℕ) → length ranges ≤ index →
     take index ranges ≡ ranges

@@ -1,5 +1,5 @@
 -- What the steps of lowering give, whatever the program.
-use Rattle.std.specs.Prelude.{ℕ, ◌≡◌, ◌<◌, ◌+◌, ◌-◌, ◌^◌, min, List, Result, Ok, Some, slice_get}
+use Rattle.std.specs.Prelude.{ℕ, ◌≡◌, ◌<◌, ◌≤◌, ◌+◌, ◌-◌, ◌^◌, min, List, Option, Result, Ok, Some, None, slice_get}
 use Rattle.cob_base.specs.declared.memory.NoMemory.{NoMemory}
 use Rattle.cob_tree.specs.declared.fault.SplitFault.{SplitFault}
 use Rattle.cob_tree.specs.declared.fault.SplitFault.TheVariants as fault
@@ -16,7 +16,9 @@ use Rattle.lower_stmts.specs.Along.{told_by}
 use Rattle.lower_stmts.specs.declared.telling.Telling.{Telling}
 use Rattle.rest_table.specs.declared.spot.Spot.{Spot}
 use Rattle.range_trees.specs.Nodes.{IsTableOf}
+use Rattle.flow_graph.specs.Counts.{IsLargerIn}
 use Rattle.flow_graph.specs.Reaching.{IsRangeIn}
+use Rattle.graph_sizes.specs.Sizes.{graph_size}
 use Rattle.procedure_split.specs.shaped_ranges.Graphs.{HaveGraphs, IsGraphOf, total_size}
 use Rattle.procedure_split.specs.shaped_ranges.Limit.{AreLowered, IsLoweringFault, nodes_passed}
 
@@ -34,6 +36,12 @@ abbrev pub IsGraphIn : Telling → List Spot → code.Range → Graph → Type 0
 IsGraphIn telling spots range graph = (program : Program) →
     IsRangeIn telling spots range program →
     IsGraphOf (told_by telling) (control_of program) (seen_range range) (seen_graph graph)
+
+-- and it is no larger than this; none where it is larger
+abbrev pub IsGraphWithin : Telling → List Spot → code.Range → (most : ℕ) → Option Graph → Type 0
+IsGraphWithin telling spots range most (Some graph) =
+    IsGraphIn telling spots range graph × (graph_size (seen_graph graph) ≤ most)
+IsGraphWithin telling spots range most None = IsLargerIn telling spots range most
 
 abbrev pub AreLoweredIn : Telling → List Spot → List code.Range → List Graph → Type 0
 AreLoweredIn telling spots ranges graphs = (program : Program) →

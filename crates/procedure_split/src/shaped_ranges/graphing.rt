@@ -1,6 +1,6 @@
 //! The graphs of the ranges of a plan.
 
-ghost use Rattle.std.specs.Prelude.{[], ◌∷◌, ◌++◌, ◌≡◌, ◌*◌, length, IfOk, OnOk, MatchResult};
+ghost use Rattle.std.specs.Prelude.{[], ◌∷◌, ◌++◌, ◌≡◌, ◌<◌, ◌-◌, ◌*◌, ◌^◌, length, IfOk, IfSome, OnOk, MatchResult};
 ghost use Rattle.cob_tree.specs.declared.program.Program.{Program};
 ghost use Rattle.language.specs.Control.{control_of};
 ghost use Rattle.language.specs.OwnItems.{NamesOwnItems};
@@ -13,13 +13,13 @@ ghost use Rattle.range_trees.specs.Nodes.{IsWhole};
 ghost use Rattle.flow_graph.specs.Reaching.{IsRangeIn};
 ghost use Rattle.procedure_split.specs.shaped_ranges.Limit.{AreLowered, IsLoweringFault, nodes_passed};
 ghost use Rattle.procedure_split.specs.shaped_ranges.Shaped.{AllClosed};
-ghost use Rattle.procedure_split.specs.shaped_ranges.Steps.{AreLoweredIn, AreRangesIn, AreRangesOf, IsCountedOn, IsGraphIn, IsLoweringFaultIn, IsPastBy};
+ghost use Rattle.procedure_split.specs.shaped_ranges.Steps.{AreLoweredIn, AreRangesIn, AreRangesOf, IsCountedOn, IsGraphWithin, IsLoweringFaultIn, IsPastBy};
 
 use branch_tree::Graph;
 use cob_base::{Limit, LimitKind, NoMemory};
 use cob_tree::{Program, Range, SplitFault};
 use counter_cells::number_counters;
-use flow_graph::lower;
+use flow_graph::lower_within;
 use flow_levels::Reach;
 use graph_sizes::graph_size;
 use lower_places::layout_of;
@@ -46,29 +46,37 @@ fn nodes_passed(counted: u64) -> Limit
     }
 }
 
-/// The graph of a range, its counters numbered.
+/// The graph of a range, its counters numbered. None where it has more than `most` labels and
+/// statements.
 fn graph_of(
     alloc: Global,
     reach: &mut Reach,
     spots: &[Spot<'_>],
     range: Range,
     telling: &Telling<'_>,
-) -> Result<Graph, NoMemory>
+    most: u64,
+) -> Result<Option<Graph>, NoMemory>
     requires marked { IsMarked reach.old.places.items reach.old.marks.items }
     requires whole { IsWhole telling.now spots.now }
     requires size { length reach.old.marks.items ≡ 3 * length spots.now }
     requires range { (program : Program) × IsRangeIn telling.now spots.now range program }
-    ensures graph { IfOk result (IsGraphIn telling.now spots.now range) }
-    ensures closed { IfOk result (λ graph. IsClosed (seen_graph graph)) }
+    requires small { most < 2 ^ 64 - 1 }
+    ensures graph { IfOk result (IsGraphWithin telling.now spots.now range most) }
+    ensures closed { IfOk result (λ found. IfSome found (λ graph. IsClosed (seen_graph graph))) }
     ensures marked { IsMarked reach.new.places.items reach.new.marks.items }
     ensures size { length reach.new.marks.items ≡ length reach.old.marks.items }
 {
-    let mut graph = lower(alloc, reach, spots, range, telling)?;
-    match number_counters(alloc, &mut graph) {
-        Ok(()) => Ok(graph),
-        Err(fault) => {
-            drop(graph);
-            Err(fault)
+    match lower_within(alloc, reach, spots, range, telling, most)? {
+        None => Ok(None),
+        Some(graph) => {
+            let mut graph = graph;
+            match number_counters(alloc, &mut graph) {
+                Ok(()) => Ok(Some(graph)),
+                Err(fault) => {
+                    drop(graph);
+                    Err(fault)
+                }
+            }
         }
     }
 }
@@ -122,7 +130,7 @@ fn past_limit(counted: Result<u64, NoMemory>) -> SplitFault
 }
 
 /// The graphs of these ranges. From the first one on with which they pass the limit they are
-/// counted without being made.
+/// counted without being made: that one's own is let go as soon as it passes what is left.
 fn graphs_of(
     alloc: Global,
     reach: &mut Reach,
@@ -142,20 +150,18 @@ fn graphs_of(
     let mut graphs = Vec::new(alloc);
     let mut count = 0u64;
     for at in 0..ranges.len() {
-        match graph_of(alloc, reach, spots, ranges[at], telling) {
+        match graph_of(alloc, reach, spots, ranges[at], telling, NODE_LIMIT - count) {
             Err(_) => {
                 drop(graphs);
                 return Err(SplitFault::NoMemory);
             }
-            Ok(graph) => {
-                count = count.saturating_add(graph_size(&graph));
-                if count > NODE_LIMIT {
-                    drop(graph);
-                    drop(graphs);
-                    let others = &ranges[at + 1..];
-                    let counted = counted_on(alloc, reach, spots, others, telling, count);
-                    return Err(past_limit(counted));
-                }
+            Ok(None) => {
+                drop(graphs);
+                let counted = counted_on(alloc, reach, spots, &ranges[at..], telling, count);
+                return Err(past_limit(counted));
+            }
+            Ok(Some(graph)) => {
+                count += graph_size(&graph);
                 match keep_graph(&mut graphs, graph) {
                     Ok(()) => {}
                     Err(_) => {

@@ -1,8 +1,8 @@
 use Rattle.std.proofs.Common.{◌<◌, ◌≤◌, ◌+◌, ◌-◌, ◌^◌, min, length, true, refl, sym, ap, ◌∙◌, arith}
 use Rattle.std.proofs.lemmas.Option.{slice_get_within, slice_get_read}
 use Rattle.flow_levels.proofs.Searching.{few}
+use Rattle.flow_graph.proofs.CountRows.{counts-all, counts-more, counts-none}
 use Rattle.flow_graph.proofs.Reached.{entry_below, jumps_below, reach_all, reach_begin, reach_more}
-use Rattle.range_sizes.proofs.CountRows.{counts-all, counts-more, counts-none}
 use Rattle.range_sizes.proofs.sizing.size_from.Goals as goal
 
 pub visit-requires-clause-room : goal.visit-requires-clause-room

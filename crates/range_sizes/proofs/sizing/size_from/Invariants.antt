@@ -1,7 +1,7 @@
 use Rattle.std.proofs.Common.{take}
+use Rattle.flow_graph.specs.Counts.{CountsTo}
 use Rattle.flow_graph.proofs.Reached.{ReachSoFar}
 use Rattle.range_sizes.specs.Known.{IsKnown}
-use Rattle.range_sizes.specs.Sizes.{CountsTo}
 use Rattle.range_sizes.proofs.sizing.size_from.Given as goal
 
 abbrev pub invariant-loop-at : goal.invariant-loop-at

@@ -1,12 +1,27 @@
-use Rattle.procedure_split.proofs.shaped_ranges_lemmas.GraphRows.{closed-graph, numbered-graph}
+use Rattle.std.proofs.Common.{subst}
+use Rattle.flow_graph.specs.Counts.{IsLoweredWithin}
+use Rattle.procedure_split.proofs.shaped_ranges_lemmas.GraphRows.{closed-graph, numbered-few, numbered-graph}
 use Rattle.procedure_split.proofs.shaped_ranges.graphing.graph_of.Goals as goal
 
 pub returns-in-Ok-clause-graph : goal.returns-in-Ok-clause-graph
 returns-in-Ok-clause-graph c =
-    numbered-graph c.args.telling.now c.args.spots.now c.args.range c.in_ok-graph.graph
-    c.number_counters.new.graph c.in_ok-graph.ensures.graph c.in-Ok.ensures.placed
+    let telling = c.args.telling.now in
+    let spots = c.args.spots.now in
+    let range = c.args.range in
+    let new = c.number_counters.new.graph in
+    let within = subst (IsLoweredWithin telling spots range c.args.most) c.in-Some.is
+    c.in_ok-lower_within.ensures.graph in (
+      numbered-graph telling spots range c.in-Some.graph new within.0 c.in-Ok.ensures.placed,
+      numbered-few telling spots range c.in-Some.graph new c.args.most c.requires.range within.0
+          within.1 c.in-Ok.ensures.placed,
+    )
 
 pub returns-in-Ok-clause-closed : goal.returns-in-Ok-clause-closed
 returns-in-Ok-clause-closed c =
-    closed-graph c.args.telling.now c.args.spots.now c.args.range c.in_ok-graph.graph
-    c.number_counters.new.graph c.requires.range c.in_ok-graph.ensures.graph c.in-Ok.ensures.closed
+    let telling = c.args.telling.now in
+    let spots = c.args.spots.now in
+    let range = c.args.range in
+    let within = subst (IsLoweredWithin telling spots range c.args.most) c.in-Some.is
+    c.in_ok-lower_within.ensures.graph in
+    closed-graph telling spots range c.in-Some.graph c.number_counters.new.graph c.requires.range
+    within.0 c.in-Ok.ensures.closed

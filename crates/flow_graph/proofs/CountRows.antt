@@ -8,8 +8,7 @@ use Rattle.graph_sizes.specs.Sizes.{tree_size}
 use Rattle.lower_stmts.specs.declared.telling.Telling.{Telling}
 use Rattle.range_trees.specs.Nodes.{node_in}
 use Rattle.rest_table.specs.declared.spot.Spot.{Spot}
-use Rattle.range_sizes.specs.Parts.{IsSizeAt}
-use Rattle.range_sizes.specs.Sizes.{CountsTo}
+use Rattle.flow_graph.specs.Counts.{CountsTo, IsSizeAt}
 
 module _ (telling : Telling) (spots : List Spot) (range : code.Range) where
   pub counts-none : (places : List ℕ) → CountsTo telling spots range (take 0 places) 0
