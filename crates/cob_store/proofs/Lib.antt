@@ -4,3 +4,5 @@ pub mod Signed
 pub mod Occurrence
 -- the starting bytes of one entry over those of the later ones
 pub mod Overlaid
+-- places of numbers alone
+pub mod KnownLemmas

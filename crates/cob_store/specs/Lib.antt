@@ -12,5 +12,7 @@ pub mod Laying
 pub mod Store
 -- where places are, and what operands and expressions are worth
 pub mod Place
+-- places of numbers alone, whose spots are known before a run
+pub mod Known
 -- the store at the start of a run
 pub mod Starting

@@ -3,6 +3,7 @@
 ghost use Rattle.std.specs.Prelude.{◌≡◌, ◌^◌, ◌-◌, min, sum, option_copied, slice_get};
 ghost use Rattle.cob_store.specs.Area.{root_of, size_of, start_of};
 
+use crate::known::Dims;
 use cob_base::Items;
 use cob_tree::Sign;
 
@@ -32,7 +33,7 @@ pub enum Form {
 }
 
 /// Where an item lies, and the form of its bytes. A level 88 lies where its item lies.
-#[derive(Debug, Drop, PartialEq, Eq)]
+#[derive(Debug, Drop)]
 pub struct Area {
     /// The root that it lies in.
     pub root: u32,
@@ -42,11 +43,11 @@ pub struct Area {
     pub size: u32,
     pub form: Form,
     /// The OCCURS clauses that it stands under, the outermost first.
-    pub dims: Items<Dim>,
+    pub dims: Dims,
 }
 
 /// Where each entry of a program lies, and how long each root is.
-#[derive(Debug, Drop, PartialEq, Eq)]
+#[derive(Debug, Drop)]
 pub struct Areas {
     /// An area for each entry.
     pub items: Items<Area>,

@@ -5,6 +5,7 @@ ghost use Rattle.cob_base.specs.Answers.{Answers, Makes};
 ghost use Rattle.cob_store.specs.Laying.{alone_laid, apart_laid, below_laid, condition_laid, dims_of, form_by, groups_of, item_laid, laid_by, last_area, layout_of, lengthened, next_by, root_by, same_file, start_by};
 
 use crate::area::{Area, Areas, Dim, Form, area_at};
+use crate::known::Dims;
 use crate::size::{is_apart, is_condition, sizes_of, times};
 use crate::stack::Stack;
 use cob_base::{Items, NoMemory};
@@ -165,7 +166,7 @@ fn lay_root(alloc: Global, laid: &mut Laid, entry: &Entry, size: u32) -> Result<
         start: 0,
         size,
         form: form_by(entry.sign, entry.picture),
-        dims,
+        dims: Dims::new(alloc, dims),
     })?;
     lengthen(&mut laid.roots, root, size)?;
     laid.groups.push(Open {
@@ -197,7 +198,7 @@ fn lay_inner(
         start,
         size,
         form: form_by(entry.sign, entry.picture),
-        dims,
+        dims: Dims::new(alloc, dims),
     })?;
     laid.groups.push(Open { next, ..group })?;
     laid.groups.push(Open {
@@ -251,7 +252,7 @@ fn copy_area(alloc: Global, area: &Area) -> Result<Area, NoMemory>
         start: area.start,
         size: area.size,
         form: area.form,
-        dims: Items::from_slice(alloc, area.dims.as_slice())?,
+        dims: Dims::new(alloc, Items::from_slice(alloc, area.dims.as_slice())?),
     })
 }
 

@@ -1,9 +1,12 @@
 //! Where places are, and what operands and expressions are worth.
 
-ghost use Rattle.std.specs.Prelude.{◌≡◌, ◌<◌, ◌^◌, map, unsigned_abs};
-ghost use Rattle.cob_store.specs.Place.{calculated, expr_value, kept, kept_behind, literal_value, memory_of, negated, number_at, occurrence, occurrence_at, offset_in, operand_value, place_value, reached, signed_by, sub_value, subscripted, sum_by, window_of, with_kept};
+ghost use Rattle.std.specs.Prelude.{◌≡◌, ◌<◌, ◌^◌, IfSome, Some, map, slice_get, unsigned_abs};
+ghost use Rattle.cob_tree.specs.declared.place.Place.{out-Place};
+ghost use Rattle.cob_store.specs.Known.{LeadsTo};
+ghost use Rattle.cob_store.specs.Place.{calculated, expr_value, kept, kept_behind, literal_value, memory_of, negated, number_at, occurrence, occurrence_at, offset_in, operand_value, place_value, reached, signed_by, spot_of, sub_value, subscripted, sum_by, window_of, with_kept};
 
 use crate::area::{Area, Dim, Form, area_at};
+use crate::known::{expr_number, known_spot};
 use crate::spot::{Reached, Spot};
 use crate::store::Store;
 use cob_num::{Dec, Stored, add, mul, quotient, store, sub};
@@ -140,6 +143,43 @@ pub fn number_at(store: &Store, spot: Spot, form: Form) -> Result<Option<Dec>, A
     }
 }
 
+/// The whole of an item's first occurrence.
+pub fn whole_of(area: &Area) -> Spot
+    ensures { result ≡ spot_of area.now area.now.start }
+{
+    Spot {
+        root: area.root,
+        start: area.start,
+        length: area.size,
+    }
+}
+
+// Whether no subscript is an item's value, and a window begins at a number.
+fn has_numbers(place: &Place) -> bool {
+    if !place.subs.as_slice().iter().all(|sub| sub.base.is_none()) {
+        return false;
+    }
+    match &place.window {
+        None => true,
+        Some(window) => expr_number(&window.get().from).is_some(),
+    }
+}
+
+// What is reached at a place whose spot is known.
+fn reached_before(area: &Area, place: &Place) -> Option<Reached>
+    ensures { IfSome result (λ reached. LeadsTo area.now place.now reached) }
+{
+    if !has_numbers(place) {
+        return None;
+    }
+    let spot = known_spot(&area.dims, whole_of(area), place)?;
+    let form = match &place.window {
+        None => area.form,
+        Some(_) => Form::Text,
+    };
+    Some(Reached { spot, form })
+}
+
 /// The spot of a place with its form, or the first fault on the way there.
 #[cycle(reach)]
 pub fn reached(areas: &[Area], store: &Store, place: &Place) -> Result<Reached, Abend>
@@ -148,6 +188,23 @@ pub fn reached(areas: &[Area], store: &Store, place: &Place) -> Result<Reached, 
     let Some(area) = area_at(areas, place.item) else {
         return Err(Abend::OutOfRange);
     };
+    if place.subs.len() == 0 && place.window.is_none() {
+        return Ok(Reached {
+            spot: whole_of(area),
+            form: area.form,
+        });
+    }
+    match reached_before(area, place) {
+        Some(reached) => Ok(reached),
+        None => worked_out(areas, store, area, place),
+    }
+}
+
+#[cycle(reach)]
+fn worked_out(areas: &[Area], store: &Store, area: &Area, place: &Place) -> Result<Reached, Abend>
+    requires { slice_get areas.now (out-Place place.now).item ≡ Some area.now }
+    ensures { result ≡ reached place.now (memory_of areas.now store.now) }
+{
     let start = subscripted(
         areas,
         store,

@@ -31,6 +31,7 @@ use cob_tree::{Entry, Program};
 use file_acts::close_left;
 use file_desk::Watched;
 use file_model::{Bench, Device, FileTable};
+use known_places::with_known;
 use sink_giving::give_all;
 use std::alloc::Global;
 
@@ -88,6 +89,7 @@ pub fn start<'a>(alloc: Global, program: &'a Program) -> Result<Machine<'a>, NoM
     let table = table_of(alloc, program)?;
     let areas = areas_of(alloc, program.entries.as_slice())?;
     let store = Store::initial(alloc, &areas, program.entries.as_slice())?;
+    let areas = with_known(program, areas, &store)?;
     let mut machine = Machine {
         plan: Plan { program, areas },
         frames: Stack::new(alloc),

@@ -1,4 +1,5 @@
-//! Tests of what runs: files at a desk, the folder's device, plain programs, and whole sources.
+//! Tests of what runs: files at a desk, the folder's device, plain programs, places by numbers, and
+//! whole sources.
 //!
 //! They stand here, over the crates as these are, since a crate with tests of its own is proved
 //! twice. A module names the part that it tests.
@@ -8,6 +9,8 @@
 mod desk;
 #[cfg(test)]
 mod folder;
+#[cfg(test)]
+mod places;
 #[cfg(test)]
 mod plain;
 #[cfg(test)]

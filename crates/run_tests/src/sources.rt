@@ -83,8 +83,8 @@ const READING: &str = "       IDENTIFICATION DIVISION.
        A. OPEN INPUT F.
 ";
 
-// What an answer is, in a word.
-fn word_of(came: &Came) -> &'static str {
+/// What an answer is, in a word.
+pub fn word_of(came: &Came) -> &'static str {
     match came {
         Came::Ran(_, Ran::Ended(Ending::Stopped)) => "stopped",
         Came::Ran(_, Ran::Ended(Ending::Abended(Abend::BadDigits))) => "bad digits",
