@@ -55,7 +55,7 @@ Exit statuses: 0 done, 1 USAGE, 2 NOT SUBSET, 3 FLOW, 4 LIMIT, 5 READ FAULT,
 ";
 
 const VERSION: &str = "restructure_tool 0.1.0
-proved with rattle-kit-13b logic dac8208d650f15bf
+proved with rattle-kit-13f logic dac8208d650f15bf
 ";
 
 /// Does what the command line asks, over any source, sinks and bench: `--help` and `--version` show a

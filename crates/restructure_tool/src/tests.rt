@@ -373,7 +373,7 @@ fn each_answer_comes_with_its_line(rt: HostRuntime) -> Result<(), Fail> {
         },
         Case {
             words: &["--version"],
-            out: "restructure_tool 0.1.0\nproved with rattle-kit-13b logic dac8208d650f15bf\n",
+            out: "restructure_tool 0.1.0\nproved with rattle-kit-13f logic dac8208d650f15bf\n",
             ..PLAIN
         },
         Case {
