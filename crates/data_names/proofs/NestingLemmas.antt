@@ -211,3 +211,6 @@ found_nesting entries nestings n x m t s f =
 
 pub found_within : (entries : List Entry) (nestings : List Nesting) (n : ℕ) (x : Entry) → nestings ≡ nestings_of entries → slice_get entries n ≡ Some x → n < length nestings
 found_within entries nestings n x t s = rw (table_length entries nestings t) (slice_get_within entries n x s)
+
+-- what the row of an entry tells
+pub ruleset own_rows = (own_nesting, own_groups, own_within)

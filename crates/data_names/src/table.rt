@@ -161,7 +161,7 @@ fn add_file(words: &mut Items<Word>, files: &[FileEntry], file: Option<u32>) -> 
     }
 }
 
-#[tactic(auto, using(crate::proofs::NestingLemmas::own_nesting, crate::proofs::NestingLemmas::own_groups, crate::proofs::NestingLemmas::own_within))]
+#[tactic(auto, using(crate::proofs::NestingLemmas::own_rows))]
 fn name_of(
     alloc: Global,
     files: &[FileEntry],

@@ -20,3 +20,6 @@ name_is_read name (t ∷ ts) p h = ap (λ o. taken_as (with_position (position_o
 pub none_is_read : (rest : List Token) (p : Input) → name_next (next rest) ≡ None → reads_name rest p ≡ Stop Syntax rest
 none_is_read [] p h = refl
 none_is_read (t ∷ ts) p h = ap (λ o. taken_as (with_position (position_of p t) o) t ts p) h
+
+-- a name is read, or none
+pub ruleset names_read = (name_is_read, none_is_read)

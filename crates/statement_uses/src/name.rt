@@ -143,7 +143,7 @@ fn next_name(cursor: &Cursor<'_>) -> Option<Word>
 }
 
 /// Takes the name that a paragraph or section is given, with its position.
-#[tactic(auto, unfolding(statement_grammar::specs::Name::header_name), using(crate::proofs::HeaderLemmas::name_is_read, crate::proofs::HeaderLemmas::none_is_read))]
+#[tactic(auto, unfolding(statement_grammar::specs::Name::header_name), using(crate::proofs::HeaderLemmas::names_read))]
 pub fn header_name(cursor: &mut Cursor<'_>) -> Result<(Word, Position), Unread>
     ensures { Reads (words.header_name.reads cursor.old) result cursor.new }
 {
