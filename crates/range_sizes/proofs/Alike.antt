@@ -1,12 +1,14 @@
 -- Ranges that go on so from a rest go on alike from there.
-use Rattle.std.proofs.Common.{◌≡◌, ℕ, ◌==◌, Bool, true, false, if◌then◌else◌, List, Option, Some, None, slice_get, refl, ap, sym, ◌∙◌, eqb-true, eq-eqb}
+use Rattle.std.proofs.Common.{◌≡◌, ℕ, zero, suc, ◌<◌, ◌==◌, Bool, true, false, if◌then◌else◌, List, [], ◌∷◌, get_or, length, Option, Some, None, slice_get, refl, ap, sym, ◌∙◌, arith, eqb-true, eq-eqb}
+use Rattle.std.proofs.lemmas.Option.{slice_get-get_or}
 use Rattle.cob_tree.specs.declared.program.Range as code
 use Rattle.rest_table.specs.declared.spot.Onward.{Onward}
 use Rattle.rest_table.specs.declared.spot.Spot.{Spot}
 use Rattle.range_trees.specs.Nodes.{GoAlike, GoAlikeFrom, returns_at}
+use Rattle.range_trees.specs.Runs.{IsBehind}
 use Rattle.range_sizes.specs.declared.going.Passing.{Passing}
 use Rattle.range_sizes.specs.declared.going.Passing.TheVariants.{Falls, Returns, Leaves}
-use Rattle.range_sizes.specs.Going.{AllGoWithin, found_within, stands_within, passing_of}
+use Rattle.range_sizes.specs.Going.{AllGoWithin, GoesSo, found_within, stands_within, passing_of}
 
 exit-is : (exit : Option ℕ) (number : ℕ) → returns_at exit number ≡ true → exit ≡ Some number
 exit-is None number is = absurd (let k : ⊥ = cc in k)
@@ -26,7 +28,7 @@ same-passings false false true d e = absurd (let k : ⊥ = cc in k)
 same-passings false false false true e = absurd (let k : ⊥ = cc in k)
 same-passings false false false false e = (refl, λ not. refl)
 
-go-alike : (range other : code.Range) (onward : Onward) →
+pub go-alike : (range other : code.Range) (onward : Onward) →
     passing_of range.exit onward ≡ passing_of other.exit onward → GoAlike range other onward
 go-alike range other onward same =
     let a = returns_at range.exit onward.paragraph in
@@ -100,3 +102,61 @@ alike-from spots range other place spot within there same =
                 ∙ sym (ap (returns_at other.exit) parts.1);
           };
     }
+
+-- A range goes on behind a rest as from it.
+
+same-spot : (one spot : Spot) → Some one ≡ Some spot → one ≡ spot
+same-spot one spot e = cc
+
+pub goes-there : (spots : List Spot) (range : code.Range) (place : ℕ) (passing : Passing)
+    (spot : Spot) → GoesSo spots range place passing → slice_get spots place ≡ Some spot →
+    passing_of range.exit spot.onward ≡ passing
+goes-there spots range place passing spot so there =
+    sym (ap (λ (s : Spot). passing_of range.exit s.onward)
+    (same-spot so.spot spot (sym so.there ∙ there)))
+    ∙ so.goes
+
+pub alike-so : (spots : List Spot) (range other : code.Range) (place : ℕ) (passing : Passing)
+    (spot : Spot) → GoesSo spots range place passing → GoesSo spots other place passing →
+    slice_get spots place ≡ Some spot → GoAlike range other spot.onward
+alike-so spots range other place passing spot one two there =
+    go-alike range other spot.onward
+    (goes-there spots range place passing spot one there
+    ∙ sym (goes-there spots other place passing spot two there))
+
+some-there : (spots : List Spot) (at : ℕ) → at < length spots →
+    (spot : Spot) × (slice_get spots at ≡ Some spot)
+some-there [] at lt = absurd (omega (arith, lt))
+some-there (spot ∷ spots) zero lt = (spot, refl)
+some-there (spot ∷ spots) (suc at) lt = some-there spots at (omega (arith, lt))
+
+passes-so : (exit : Option ℕ) (onward behind : Onward) → stands_within onward behind ≡ true →
+    passing_of exit behind ≡ passing_of exit onward
+passes-so exit onward behind stands =
+    let parts = stands-parts onward behind stands in
+    ap (λ (n : ℕ). passing_by (returns_at exit n) (returns_at exit behind.last)) parts.0
+    ∙ ap (λ (n : ℕ). passing_by (returns_at exit onward.paragraph) (returns_at exit n)) parts.1
+
+pub goes-behind : (spots : List Spot) (range : code.Range) (place next : ℕ) (passing : Passing) →
+    AllGoWithin spots → IsBehind spots place next → GoesSo spots range place passing →
+    GoesSo spots range next passing
+goes-behind spots range place next passing within behind so =
+    let one = some-there spots next behind.within in
+    let found = within place next so.spot so.there (behind.behind so.spot so.there) in
+    let stands : stands_within so.spot.onward one.0.onward ≡ true =
+    sym (ap (found_within so.spot.onward) one.1) ∙ found in
+    record {
+      spot = one.0;
+      there = one.1;
+      goes = passes-so range.exit so.spot.onward one.0.onward stands ∙ so.goes;
+    }
+
+pub goes-read : (spots : List Spot) (range : code.Range) (place : ℕ) (passing : Passing)
+    (read : Spot) → place < length spots →
+    passing ≡ passing_of range.exit (get_or spots place read).onward →
+    GoesSo spots range place passing
+goes-read spots range place passing read lt is = record {
+  spot = get_or spots place read;
+  there = slice_get-get_or spots place read lt;
+  goes = sym is;
+}

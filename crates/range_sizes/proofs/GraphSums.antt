@@ -1,5 +1,5 @@
 -- What the labels that are reached come to is the size of the graph.
-use Rattle.std.proofs.Common.{◌≡◌, ℕ, ◌-◌, ◌^◌, min, Bool, List, ap, sym, ◌∙◌}
+use Rattle.std.proofs.Common.{ℕ, ◌-◌, ◌^◌, min, Bool, List, ap, sym, ◌∙◌}
 use Rattle.cob_tree.specs.declared.program.Range as code
 use Rattle.flow_graph.specs.Counts.{CountsTo}
 use Rattle.flow_graph.specs.Reaching.{AreReachedIn}

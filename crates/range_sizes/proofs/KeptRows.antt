@@ -1,21 +1,24 @@
 -- The parts that are kept, with one more.
-use Rattle.std.proofs.Common.{◌≡◌, ℕ, zero, suc, ◌*◌, ◌<◌, ◌/◌, ◌⊎◌, inl, inr, true, List, [], ◌∷◌, ◌++◌, get_or, length, set, Some, None, slice_get, refl, ap, sym, ◌∙◌, subst, arith}
+use Rattle.std.proofs.Common.{◌≡◌, ℕ, zero, suc, ◌*◌, ◌<◌, ◌/◌, ◌⊎◌, inl, inr, true, List, [], ◌∷◌, ◌++◌, get_or, length, set, Option, Some, None, slice_get, refl, ap, sym, ◌∙◌, subst, arith}
 use Rattle.std.proofs.lemmas.Bool.Decides.{eqb_tells}
 use Rattle.std.proofs.lemmas.List.{length-set}
 use Rattle.std.proofs.lemmas.Option.{slice_get_read, slice_get_within}
+use Rattle.cob_tree.specs.declared.program.Program.{Program}
 use Rattle.cob_tree.specs.declared.program.Range as code
+use Rattle.control.specs.Graph as graph
 use Rattle.flow_levels.specs.Reaching.{IsMarked}
 use Rattle.lower_stmts.specs.declared.telling.Telling.{Telling}
+use Rattle.range_trees.specs.Nodes.{IsTableOf, node_in}
 use Rattle.rest_table.specs.declared.spot.Spot.{Spot}
 use Rattle.range_sizes.specs.declared.going.Passing.{Passing}
 use Rattle.range_sizes.specs.declared.going.Passing.TheVariants.{Falls, Returns, Leaves}
 use Rattle.range_sizes.specs.declared.known.Known.{Known}
 use Rattle.range_sizes.specs.declared.known.Row.{Row}
+use Rattle.range_sizes.specs.declared.parts.Jumps.{Jumps}
 use Rattle.range_sizes.specs.declared.parts.Part.{Part}
-use Rattle.range_sizes.specs.Going.{AllGoWithin, passing_of}
-use Rattle.range_sizes.specs.Known.{IsKept, IsKnown, IsPartBy, Keeps, number_in, with_number}
-use Rattle.range_sizes.specs.Parts.{IsPartAlike, IsPartIn}
-use Rattle.range_sizes.proofs.Alike.{alike-from}
+use Rattle.range_sizes.specs.Going.{AllGoWithin, GoesSo}
+use Rattle.range_sizes.specs.Known.{Counts, IsKept, IsKnown, IsPartAt, Keeps, kept_in, number_in, part_at, part_in, with_number}
+use Rattle.range_sizes.specs.Parts.{IsPartIn, IsPartOf}
 
 module _ {A : Type 0} where
   get-front : (xs ys : List A) (at : ℕ) (x : A) → slice_get xs at ≡ Some x →
@@ -59,33 +62,40 @@ number-with row Leaves Falls number found e = inr e
 number-with row Leaves Returns number found e = inr e
 number-with row Leaves Leaves number found e = inl (refl, one-of number found e)
 
--- it is the part of each range that goes on so
-pub part-by : (telling : Telling) (spots : List Spot) (range : code.Range) (label : ℕ) (passing : Passing)
-    (spot : Spot) (part : Part) → AllGoWithin spots → slice_get spots (label / 3) ≡ Some spot →
-    passing ≡ passing_of range.exit spot.onward → IsPartAlike telling spots range label part →
-    IsPartBy telling spots label passing part
-part-by telling spots range label passing spot part within here is alike = λ other one there goes.
-    let both : Some one ≡ Some spot = sym there ∙ here in
-    let same : one ≡ spot = one-of one spot both in
-    let so : passing_of range.exit spot.onward ≡ passing_of other.exit spot.onward =
-    sym is ∙ sym goes ∙ ap (λ (s : Spot). passing_of other.exit s.onward) same in
-    alike other (alike-from spots range other (label / 3) spot within here so)
+-- the part that is kept of a label
+pub kept-part : (telling : Telling) (spots : List Spot) (known : Known) (label : ℕ)
+    (passing : Passing) (part : Part) → IsKnown telling spots known →
+    Some part ≡ kept_in known label passing →
+    IsPartAt telling spots known.jumps.items label passing part
+kept-part telling spots known label passing part was found = by-row (slice_get known.rows.items label) refl found
+  where
+    Is : Part → Type 0
+    Is one = IsPartAt telling spots known.jumps.items label passing one
 
--- the part that is kept for a range
-pub kept-part : (telling : Telling) (spots : List Spot) (known : Known) (range : code.Range)
-    (label number : ℕ) (row : Row) (passing : Passing) (spot : Spot) (part : Part) →
-    IsKnown telling spots known → slice_get known.rows.items label ≡ Some row →
-    number_in row passing ≡ Some number → slice_get spots (label / 3) ≡ Some spot →
-    passing ≡ passing_of range.exit spot.onward →
-    part ≡ get_or known.parts.items number part → IsPartIn telling spots range label part
-kept-part telling spots known range label number row passing spot part was there found here is at =
-    let parts = known.parts.items in
-    let one = was.parts label number row passing there found in
-    let lt = slice_get_within parts number one.0 one.1 in
-    let both : Some one.0 ≡ Some part =
-    sym one.1 ∙ slice_get_read parts (length parts) number part refl lt at in
-    subst (λ p. IsPartIn telling spots range label p) (one-of one.0 part both)
-    (one.2 range spot here (sym is))
+    by-number : (row : Row) (number : Option ℕ) → slice_get known.rows.items label ≡ Some row →
+        number_in row passing ≡ number → Some part ≡ part_at known.parts.items number → Is part
+    by-number row None there is e = absurd (let k : ⊥ = cc in k)
+    by-number row (Some number) there is e =
+        let one = was.parts label number row passing there is in
+        subst Is (one-of one.0 part (sym one.1 ∙ sym e)) one.2
+
+    by-row : (found : Option Row) → slice_get known.rows.items label ≡ found →
+        Some part ≡ part_in known.parts.items found passing → Is part
+    by-row None there e = absurd (let k : ⊥ = cc in k)
+    by-row (Some row) there e = by-number row (number_in row passing) there refl e
+
+-- the jumps of a part, where they were read
+pub own-part : (telling : Telling) (spots : List Spot) (lists : List Jumps) (range : code.Range)
+    (label : ℕ) (passing : Passing) (part : Part) (read : Jumps) →
+    IsPartAt telling spots lists label passing part → GoesSo spots range (label / 3) passing →
+    read ≡ get_or lists part.jumps read →
+    IsPartIn telling spots range label part.size read.labels.items
+own-part telling spots lists range label passing part read is goes at =
+    let lt = slice_get_within lists part.jumps is.jumps is.there in
+    let both : Some is.jumps ≡ Some read =
+    sym is.there ∙ slice_get_read lists (length lists) part.jumps read refl lt at in
+    subst (λ (j : Jumps). IsPartIn telling spots range label part.size j.labels.items)
+    (one-of is.jumps read both) (is.is range goes)
 
 -- no part yet
 pub known-none : (telling : Telling) (spots : List Spot) (known : Known) (none : Row) →
@@ -107,69 +117,118 @@ known-none telling spots known none rows all empty marked size shared = record {
   shared = shared;
 }
 
-module _ (telling : Telling) (spots : List Spot) (label : ℕ) (passing : Passing) (part : Part)
-    (old new : Known) (was : IsKnown telling spots old) where
-  abbrev Found : List Part → ℕ → ℕ → Passing → Type 0
-  Found parts at number by = (one : Part) × (slice_get parts number ≡ Some one)
-      × IsPartBy telling spots at by one
+module _ (telling : Telling) (spots : List Spot) (old new : Known)
+    (was : IsKnown telling spots old) where
+  abbrev Found : List Jumps → List Part → ℕ → ℕ → Passing → Type 0
+  Found lists parts at number by = (one : Part) × (slice_get parts number ≡ Some one)
+      × IsPartAt telling spots lists at by one
 
-  one-kept : IsPartBy telling spots label passing part → IsKept label passing part old new →
-      (at number : ℕ) (row : Row) (by : Passing) → slice_get new.rows.items at ≡ Some row →
-      number_in row by ≡ Some number → Found new.parts.items at number by
-  one-kept is kept at number row by there found =
-      let more : List Part = old.parts.items ++ part ∷ [] in
-      let later : (row : Row) → slice_get old.rows.items at ≡ Some row →
-      number_in row by ≡ Some number → Found new.parts.items at number by =
-      λ row old_there old_found.
-      let one = was.parts at number row by old_there old_found in
-      subst (λ ps. Found ps at number by) (sym kept.parts)
-      (one.0, get-front old.parts.items (part ∷ []) number one.0 one.1, one.2) in
-      let set_row = with_number kept.row passing (length old.parts.items) in
-      let there_now : slice_get (set old.rows.items label set_row) at ≡ Some row =
-      ap (λ (rs : List Row). slice_get rs at) (sym kept.rows) ∙ there in
-      elim (eqb_tells label at) [
-        | inl same ↦
-            let here : slice_get (set old.rows.items label set_row) at ≡ Some set_row =
-            subst (λ (n : ℕ). slice_get (set old.rows.items label set_row) n ≡ Some set_row)
-            same.1 (set-here old.rows.items label set_row
-            (slice_get_within old.rows.items label kept.row kept.there)) in
-            let both : Some set_row ≡ Some row = sym here ∙ there_now in
-            let is_row : set_row ≡ row = one-of set_row row both in
-            elim (number-with kept.row passing by (length old.parts.items) number
-            (ap (λ r. number_in r by) is_row ∙ found)) [
-              | inl new_one ↦ subst (λ ps. Found ps at number by) (sym kept.parts) (
-                part,
-                subst (λ (n : ℕ). slice_get more n ≡ Some part) new_one.1
-                    (get-last old.parts.items part),
-                subst (λ w. IsPartBy telling spots at w part) new_one.0
-                    (subst (λ (n : ℕ). IsPartBy telling spots n passing part) same.1 is),
-              )
-              | inr old_one ↦ later kept.row
-                  (subst (λ (n : ℕ). slice_get old.rows.items n ≡ Some kept.row) same.1 kept.there)
-                  old_one
-            ]
-        | inr apart ↦ later row
-            (sym (set-other old.rows.items label at set_row apart.1) ∙ there_now) found
-      ]
+  module _ (label : ℕ) (passing : Passing) (part : Part) where
+    one-kept : IsPartAt telling spots old.jumps.items label passing part →
+        IsKept label passing part old new → (at number : ℕ) (row : Row) (by : Passing) →
+        slice_get new.rows.items at ≡ Some row → number_in row by ≡ Some number →
+        Found old.jumps.items new.parts.items at number by
+    one-kept is kept at number row by there found =
+        let lists = old.jumps.items in
+        let more : List Part = old.parts.items ++ part ∷ [] in
+        let later : (row : Row) → slice_get old.rows.items at ≡ Some row →
+        number_in row by ≡ Some number → Found lists new.parts.items at number by =
+        λ row old_there old_found.
+        let one = was.parts at number row by old_there old_found in
+        subst (λ ps. Found lists ps at number by) (sym kept.parts)
+        (one.0, get-front old.parts.items (part ∷ []) number one.0 one.1, one.2) in
+        let set_row = with_number kept.row passing (length old.parts.items) in
+        let there_now : slice_get (set old.rows.items label set_row) at ≡ Some row =
+        ap (λ (rs : List Row). slice_get rs at) (sym kept.rows) ∙ there in
+        elim (eqb_tells label at) [
+          | inl same ↦
+              let here : slice_get (set old.rows.items label set_row) at ≡ Some set_row =
+              subst (λ (n : ℕ). slice_get (set old.rows.items label set_row) n ≡ Some set_row)
+              same.1 (set-here old.rows.items label set_row
+              (slice_get_within old.rows.items label kept.row kept.there)) in
+              let both : Some set_row ≡ Some row = sym here ∙ there_now in
+              let is_row : set_row ≡ row = one-of set_row row both in
+              elim (number-with kept.row passing by (length old.parts.items) number
+              (ap (λ r. number_in r by) is_row ∙ found)) [
+                | inl new_one ↦ subst (λ ps. Found lists ps at number by) (sym kept.parts) (
+                  part,
+                  subst (λ (n : ℕ). slice_get more n ≡ Some part) new_one.1
+                      (get-last old.parts.items part),
+                  subst (λ w. IsPartAt telling spots lists at w part) new_one.0
+                      (subst (λ (n : ℕ). IsPartAt telling spots lists n passing part) same.1 is),
+                )
+                | inr old_one ↦ later kept.row
+                    (subst (λ (n : ℕ). slice_get old.rows.items n ≡ Some kept.row) same.1 kept.there)
+                    old_one
+              ]
+          | inr apart ↦ later row
+              (sym (set-other old.rows.items label at set_row apart.1) ∙ there_now) found
+        ]
 
-  pub known-kept : Keeps label passing part old new → new.seen ≡ old.seen →
-      new.shared ≡ old.shared → (old.shared ≡ true → IsPartBy telling spots label passing part) →
-      IsKnown telling spots new
-  known-kept keeps seen shared is = record {
-    rows = elim keeps [
-      | inl same ↦ ap (λ (rs : List Row). length rs) same.0 ∙ was.rows
-      | inr one ↦ ap (λ (rs : List Row). length rs) one.1.rows
-          ∙ length-set old.rows.items label (with_number one.1.row passing (length old.parts.items))
-          ∙ was.rows
-    ];
-    parts = elim keeps [
-      | inl same ↦ λ at number row by there found.
-          subst (λ ps. Found ps at number by) (sym same.1)
-          (was.parts at number row by
-          (ap (λ (rs : List Row). slice_get rs at) (sym same.0) ∙ there) found)
-      | inr one ↦ one-kept (is one.0) one.1
-    ];
-    marked = subst (λ s. IsMarked s.places.items s.marks.items) (sym seen) was.marked;
-    size = ap (λ s. length s.marks.items) seen ∙ was.size;
-    shared = λ holds. was.shared (sym shared ∙ holds);
+    pub known-kept : Keeps label passing part old new → new.jumps ≡ old.jumps →
+        new.seen ≡ old.seen → new.shared ≡ old.shared →
+        IsPartAt telling spots old.jumps.items label passing part → IsKnown telling spots new
+    known-kept keeps jumps seen shared is = record {
+      rows = elim keeps [
+        | inl same ↦ ap (λ (rs : List Row). length rs) same.0 ∙ was.rows
+        | inr one ↦ ap (λ (rs : List Row). length rs) one.rows
+            ∙ length-set old.rows.items label (with_number one.row passing (length old.parts.items))
+            ∙ was.rows
+      ];
+      parts = λ at number row by there found.
+          subst (λ js. Found js.items new.parts.items at number by) (sym jumps) (
+          elim keeps [
+            | inl same ↦ subst (λ ps. Found old.jumps.items ps at number by) (sym same.1)
+                (was.parts at number row by
+                (ap (λ (rs : List Row). slice_get rs at) (sym same.0) ∙ there) found)
+            | inr one ↦ one-kept is one at number row by there found
+          ]
+          );
+      marked = subst (λ s. IsMarked s.places.items s.marks.items) (sym seen) was.marked;
+      size = ap (λ s. length s.marks.items) seen ∙ was.size;
+      shared = λ holds. was.shared (sym shared ∙ holds);
+    }
+
+  -- the jumps of a tree more
+  pub part-longer : (label : ℕ) (passing : Passing) (part : Part) (jumps : Jumps) →
+      IsPartAt telling spots old.jumps.items label passing part →
+      IsPartAt telling spots (old.jumps.items ++ jumps ∷ []) label passing part
+  part-longer label passing part jumps is = record {
+    jumps = is.jumps;
+    there = get-front old.jumps.items (jumps ∷ []) part.jumps is.jumps is.there;
+    is = is.is;
   }
+
+  module _ (tree : graph.Tree) (part : Part) (counts : Counts tree part old new) where
+    pub known-counted : IsKnown telling spots new
+    known-counted = record {
+      rows = ap (λ rs. length rs.items) counts.rows ∙ was.rows;
+      parts = λ at number row by there found.
+          let one = was.parts at number row by
+          (ap (λ rs. slice_get rs.items at) (sym counts.rows) ∙ there) found in
+          subst (λ ps. Found new.jumps.items ps.items at number by) (sym counts.parts) (
+            one.0,
+            one.1,
+            subst (λ ls. IsPartAt telling spots ls at by one.0) (sym counts.lists)
+                (part-longer at by one.0 counts.jumps one.2),
+          );
+      marked = counts.marked;
+      size = counts.size ∙ was.size;
+      shared = λ holds. was.shared (sym counts.shared ∙ holds);
+    }
+
+    -- it is the part at each label at which this is the tree
+    pub part-counted : (label : ℕ) (passing : Passing) →
+        ((range : code.Range) → GoesSo spots range (label / 3) passing → (program : Program) →
+        IsTableOf telling spots program → tree ≡ node_in telling program range label) →
+        IsPartAt telling spots new.jumps.items label passing part
+    part-counted label passing same = record {
+      jumps = counts.jumps;
+      there =
+          subst (λ ls. slice_get ls part.jumps ≡ Some counts.jumps) (sym counts.lists)
+          (subst (λ (n : ℕ). slice_get (old.jumps.items ++ counts.jumps ∷ []) n ≡ Some counts.jumps)
+          (sym counts.number) (get-last old.jumps.items counts.jumps));
+      is = λ range goes program table.
+          subst (λ t. IsPartOf t part.size counts.jumps.labels.items)
+          (same range goes program table) counts.is;
+    }

@@ -1,27 +1,24 @@
 -- What is counted of a tree, and the labels that it adds.
-use Rattle.std.proofs.Common.{◌≡◌, ℕ, zero, suc, ◌+◌, ◌-◌, ◌^◌, ◌/◌, ◌≤◌, ◌⊎◌, inl, inr, min, List, [], ◌∷◌, take, length, Some, slice_get, refl, ap, sym, ◌∙◌, subst, arith}
+use Rattle.std.proofs.Common.{◌≡◌, ℕ, zero, suc, ◌+◌, ◌-◌, ◌^◌, ◌≤◌, ◌⊎◌, inl, inr, min, List, [], ◌∷◌, take, length, Some, slice_get, refl, ap, sym, ◌∙◌, subst, arith}
+use Rattle.cob_tree.specs.declared.program.Program.{Program}
 use Rattle.cob_tree.specs.declared.program.Range as code
 use Rattle.control.specs.Graph as graph
-use Rattle.branch_tree.specs.Trees.{seen_tree}
-use Rattle.branch_tree.specs.declared.tree.Tree.{Tree}
 use Rattle.flow_graph.specs.Counts.{IsSizeAt}
-use Rattle.flow_graph.specs.Jumps.{AddsJumps, AddsThose}
+use Rattle.flow_graph.specs.Jumps.{AddsJumps, AddsThose, JumpBelow}
 use Rattle.flow_graph.specs.Reaching.{AddsNodeJumps, NodeJumpsBelow}
 use Rattle.flow_graph.proofs.JumpRows.{adds_same}
 use Rattle.flow_levels.specs.Reaching.{Adds, AllPlaces, Holds}
 use Rattle.graph_sizes.specs.Sizes.{tree_size}
 use Rattle.lower_stmts.specs.declared.telling.Telling.{Telling}
-use Rattle.range_trees.specs.Nodes.{IsNodeAlike}
-use Rattle.range_trees.proofs.NodeSteps.{goes_same}
+use Rattle.range_trees.specs.Nodes.{IsTableOf, node_in}
 use Rattle.rest_table.specs.declared.spot.Spot.{Spot}
-use Rattle.range_sizes.specs.declared.parts.Part.{Part}
-use Rattle.range_sizes.specs.Parts.{IsPartAlike, IsPartIn, IsPartOf}
+use Rattle.range_sizes.specs.Parts.{IsPartIn, IsPartOf}
 
 -- the labels that are added to an empty list
-part-of : (t : graph.Tree) (part : Part) (old : List ℕ) → old ≡ [] →
-    AddsJumps (graph.end_of t) old part.jumps.items →
-    part.size ≡ min (tree_size t) (2 ^ 64 - 1) → IsPartOf t part
-part-of t part old none adds size = record {
+pub part-of : (t : graph.Tree) (count : ℕ) (old jumps : List ℕ) → old ≡ [] →
+    AddsJumps (graph.end_of t) old jumps → count ≡ min (tree_size t) (2 ^ 64 - 1) →
+    IsPartOf t count jumps
+part-of t count old jumps none adds size = record {
   size = size;
   sound = λ label holds. elim (adds.only label holds) [
     | inl before ↦ absurd (
@@ -34,40 +31,32 @@ part-of t part old none adds size = record {
   all = adds.added;
 }
 
-pub part-alike : (telling : Telling) (spots : List Spot) (range : code.Range) (label : ℕ)
-    (tree : Tree) (part : Part) (old : List ℕ) →
-    IsNodeAlike telling spots range (label / 3) label tree → old ≡ [] →
-    AddsJumps (graph.end_of (seen_tree tree)) old part.jumps.items →
-    part.size ≡ min (tree_size (seen_tree tree)) (2 ^ 64 - 1) →
-    IsPartAlike telling spots range label part
-part-alike telling spots range label tree part old is none adds size =
-    λ other alike program table.
-    subst (λ t. IsPartOf t part) (is other alike program table)
-    (part-of (seen_tree tree) part old none adds size)
-
-pub part-own : (telling : Telling) (spots : List Spot) (range : code.Range) (label : ℕ)
-    (part : Part) → IsPartAlike telling spots range label part →
-    IsPartIn telling spots range label part
-part-own telling spots range label part is = is range (goes_same spots range (label / 3))
-
-pub part-adds : (telling : Telling) (spots : List Spot) (range : code.Range) (label : ℕ)
-    (part : Part) (old new : List ℕ) → IsPartIn telling spots range label part →
-    AddsThose (Holds part.jumps.items) old new →
-    AddsNodeJumps telling spots range label old new
-part-adds telling spots range label part old new is adds = λ program table.
+pub part-adds : (telling : Telling) (spots : List Spot) (range : code.Range) (label count : ℕ)
+    (jumps old new : List ℕ) → IsPartIn telling spots range label count jumps →
+    AddsThose (Holds jumps) old new → AddsNodeJumps telling spots range label old new
+part-adds telling spots range label count jumps old new is adds = λ program table.
     let one = is program table in
-    adds_same (Holds part.jumps.items) _ old new one.sound one.all adds
+    adds_same (Holds jumps) _ old new one.sound one.all adds
 
-pub part-below : (telling : Telling) (spots : List Spot) (range : code.Range) (label end : ℕ)
-    (part : Part) → IsPartIn telling spots range label part →
-    NodeJumpsBelow telling spots range label end → AllPlaces end part.jumps.items
-part-below telling spots range label end part is below = λ to holds.
+pub part-below : (telling : Telling) (spots : List Spot) (range : code.Range) (label end count : ℕ)
+    (jumps : List ℕ) → IsPartIn telling spots range label count jumps →
+    NodeJumpsBelow telling spots range label end → AllPlaces end jumps
+part-below telling spots range label end count jumps is below = λ to holds.
     below.2 to ((is below.0 below.1).sound to holds)
 
-pub part-size : (telling : Telling) (spots : List Spot) (range : code.Range) (label : ℕ)
-    (part : Part) → IsPartIn telling spots range label part →
-    IsSizeAt telling spots range label part.size
-part-size telling spots range label part is = λ program table. (is program table).size
+pub part-size : (telling : Telling) (spots : List Spot) (range : code.Range) (label count : ℕ)
+    (jumps : List ℕ) → IsPartIn telling spots range label count jumps →
+    IsSizeAt telling spots range label count
+part-size telling spots range label count jumps is = λ program table. (is program table).size
+
+-- the tree at a label jumps below, where the node there does
+pub tree-below : (telling : Telling) (spots : List Spot) (range : code.Range) (label end room : ℕ)
+    (t : graph.Tree) → NodeJumpsBelow telling spots range label end → room ≡ end →
+    ((program : Program) → IsTableOf telling spots program →
+    t ≡ node_in telling program range label) → JumpBelow room (graph.end_of t)
+tree-below telling spots range label end room t below size is =
+    subst (λ (n : ℕ). JumpBelow n (graph.end_of t)) (sym size)
+    (subst (λ x. JumpBelow end (graph.end_of x)) (sym (is below.0 below.1)) below.2)
 
 -- labels that are added one after the other
 

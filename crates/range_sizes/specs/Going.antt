@@ -1,5 +1,6 @@
 -- How ranges go on from a rest.
 use Rattle.std.specs.Prelude.{ℕ, ◌≡◌, ◌==◌, Bool, true, false, if◌then◌else◌, List, Option, Some, None, slice_get}
+use Rattle.cob_tree.specs.declared.program.Range as code
 use Rattle.rest_table.specs.declared.spot.Onward.{Onward}
 use Rattle.rest_table.specs.declared.spot.Spot.{Spot}
 use Rattle.range_trees.specs.Nodes.{returns_at}
@@ -11,6 +12,13 @@ abbrev pub passing_of : Option ℕ → Onward → Passing
 passing_of exit onward =
     if returns_at exit onward.paragraph then Returns
     else if returns_at exit onward.last then Leaves else Falls
+
+-- a range does from the rest at a place
+pub record GoesSo (spots : List Spot) (range : code.Range) (place : ℕ) (passing : Passing) : Type 0
+  where
+    pub spot : Spot
+    pub there : slice_get spots place ≡ Some spot
+    pub goes : passing_of range.exit spot.onward ≡ passing
 
 -- a rest stands in the paragraph and section of another one
 abbrev pub stands_within : Onward → Onward → Bool

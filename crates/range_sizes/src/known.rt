@@ -1,18 +1,19 @@
 //! What is known of the trees at labels.
 
-ghost use Rattle.std.specs.Prelude.{◌≡◌, ◌*◌, ◌^◌, ◌<◌, length, IfOk, OnOk};
-ghost use Rattle.flow_graph.specs.Counts.{IsSizeAt};
-ghost use Rattle.flow_graph.specs.Reaching.{AddsNodeJumps, NodeJumpsBelow};
+ghost use Rattle.std.specs.Prelude.{◌≡◌, ◌^◌, ◌<◌, ◌≤◌, length, IfOk, OnOk};
+ghost use Rattle.control.specs.Graph.{end_of};
+ghost use Rattle.branch_tree.specs.Trees.{seen_tree};
+ghost use Rattle.flow_graph.specs.Jumps.{JumpBelow};
 ghost use Rattle.flow_levels.specs.Reaching.{IsMarked};
-ghost use Rattle.range_trees.specs.Nodes.{IsWhole};
-ghost use Rattle.range_sizes.specs.Known.{IsKnown, IsKnownAnyhow, Keeps, number_in, with_number};
+ghost use Rattle.range_sizes.specs.Known.{Counts, IsKnownAnyhow, Keeps, kept_in, number_in, with_number};
 
-use crate::going::{Passing, all_go_within, passing_of};
-use crate::parts::{Part, part_at, visit_labels};
+use crate::going::{Passing, all_go_within};
+use crate::parts::{Jumps, Part};
+use branch_tree::Tree;
 use cob_base::NoMemory;
-use cob_tree::Range;
+use flow_graph::visit_tree;
 use flow_levels::Reach;
-use lower_stmts::Telling;
+use graph_sizes::tree_size;
 use rest_table::Spot;
 use std::alloc::Global;
 
@@ -29,9 +30,11 @@ struct Row {
 pub struct Known {
     rows: Vec<Row>,
     parts: Vec<Part>,
+    pub jumps: Vec<Jumps>,
+    /// Serves to have each label to which a tree jumps once.
     seen: Reach,
     /// Whether ranges that go on alike from a rest have one tree there.
-    shared: bool,
+    pub shared: bool,
 }
 
 fn number_in(row: Row, passing: Passing) -> Option<u32>
@@ -72,79 +75,68 @@ impl Known {
         Ok(Known {
             rows,
             parts: Vec::new(alloc),
+            jumps: Vec::new(alloc),
             seen,
             shared: all_go_within(spots),
         })
     }
 
-    /// Keeps the part of the tree at a label.
-    fn keep(&mut self, label: u32, passing: Passing, part: Part) -> Result<(), NoMemory>
+    /// The part that is kept of the tree at a label.
+    pub fn kept(&self, label: u32, passing: Passing) -> Option<Part>
+        ensures { result ≡ kept_in self.now label passing }
+    {
+        match self.rows.get(label as usize) {
+            None => None,
+            Some(row) => match number_in(*row, passing) {
+                None => None,
+                Some(number) => match self.parts.get(number as usize) {
+                    None => None,
+                    Some(part) => Some(*part),
+                },
+            },
+        }
+    }
+
+    /// Keeps the part of the tree at a label, while parts can be numbered.
+    pub fn keep(&mut self, label: u32, passing: Passing, part: Part) -> Result<(), NoMemory>
         requires there { label < length self.old.rows.items }
         ensures kept { OnOk result (Keeps label passing part self.old self.new) }
+        ensures jumps { self.new.jumps ≡ self.old.jumps }
         ensures seen { self.new.seen ≡ self.old.seen }
         ensures shared { self.new.shared ≡ self.old.shared }
     {
         let number = self.parts.len();
-        if !self.shared || number >= u32::MAX as usize {
-            drop(part);
+        if number >= u32::MAX as usize {
             return Ok(());
         }
-        match self.parts.push(part) {
+        self.parts.push(part)?;
+        let row = self.rows[label as usize];
+        self.rows[label as usize] = with_number(row, passing, number as u32);
+        Ok(())
+    }
+
+    /// What is counted of a tree; its jumps are kept.
+    pub fn count(&mut self, alloc: Global, tree: &Tree) -> Result<Part, NoMemory>
+        requires marked { IsMarked self.old.seen.places.items self.old.seen.marks.items }
+        requires below { JumpBelow (length self.old.seen.marks.items) (end_of (seen_tree tree.now)) }
+        requires small { length self.old.seen.marks.items ≤ 2 ^ 32 }
+        ensures { IfOk result (λ part. Counts (seen_tree tree.now) part self.old self.new) }
+    {
+        self.seen.clear();
+        visit_tree(&mut self.seen, tree)?;
+        let mut labels = Vec::new(alloc);
+        labels.extend_from_slice(self.seen.places.as_slice())?;
+        let number = self.jumps.len();
+        match self.jumps.push(Jumps { labels }) {
             Ok(()) => {}
             Err(left) => {
                 drop(left);
                 return Err(NoMemory);
             }
         }
-        let row = self.rows[label as usize];
-        self.rows[label as usize] = with_number(row, passing, number as u32);
-        Ok(())
-    }
-}
-
-/// The statements of the tree at a label; the labels to which it jumps are added.
-pub fn visit_label(
-    alloc: Global,
-    reach: &mut Reach,
-    known: &mut Known,
-    spots: &[Spot<'_>],
-    label: u32,
-    range: Range,
-    telling: &Telling<'_>,
-) -> Result<u64, NoMemory>
-    requires marked { IsMarked reach.old.places.items reach.old.marks.items }
-    requires whole { IsWhole telling.now spots.now }
-    requires known { IsKnown telling.now spots.now known.old }
-    requires size { length reach.old.marks.items ≡ 3 * length spots.now }
-    requires there { label < 3 * length spots.now }
-    requires below { NodeJumpsBelow telling.now spots.now range label
-        (length reach.old.marks.items) }
-    ensures adds { IfOk result (λ size. AddsNodeJumps telling.now spots.now range label
-        reach.old.places.items reach.new.places.items) }
-    ensures size { IfOk result (IsSizeAt telling.now spots.now range label) }
-    ensures known { IfOk result (λ size. IsKnown telling.now spots.now known.new) }
-    ensures marked { IsMarked reach.new.places.items reach.new.marks.items }
-    ensures marks { length reach.new.marks.items ≡ length reach.old.marks.items }
-{
-    let passing = passing_of(range, &spots[(label / 3) as usize].onward);
-    match number_in(known.rows[label as usize], passing) {
-        Some(number) => {
-            let part = &known.parts[number as usize];
-            visit_labels(reach, part.jumps.as_slice())?;
-            Ok(part.size)
-        }
-        None => {
-            let part = part_at(alloc, &mut known.seen, spots, label, range, telling)?;
-            let size = part.size;
-            match visit_labels(reach, part.jumps.as_slice()) {
-                Ok(()) => {}
-                Err(fault) => {
-                    drop(part);
-                    return Err(fault);
-                }
-            }
-            known.keep(label, passing, part)?;
-            Ok(size)
-        }
+        Ok(Part {
+            size: tree_size(tree),
+            jumps: number,
+        })
     }
 }

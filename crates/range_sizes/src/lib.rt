@@ -1,15 +1,19 @@
 //! How large the lowered graphs of ranges are, without these graphs.
 //!
 //! The tree at a label is one for all ranges but for those that return at the end of its paragraph,
-//! or of the last paragraph of its section. So of each tree it is kept, once it was made, how large
-//! it is and to which labels it jumps (`Known`), and `range_size` goes over the labels that are
-//! reached in a range by these alone. Hold it against `IsSizeIn` of `specs/Sizes`.
+//! or of the last paragraph of its section. So of each tree it is kept, once it was counted, how
+//! large it is and to which labels it jumps (`Known`), and `range_size` goes over the labels that
+//! are reached in a range by these alone. A tree that runs on as another is counted by that one
+//! (`stretch`), so no statement is gone along once for each label behind which it stands. Hold it
+//! against `IsSizeIn` of `specs/Sizes`.
 #![tactic(auto)]
 
 mod going;
 mod known;
 mod parts;
 mod sizing;
+mod stretch;
+mod visiting;
 
 pub use known::Known;
 pub use sizing::range_size;

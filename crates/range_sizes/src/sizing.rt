@@ -9,7 +9,8 @@ ghost use Rattle.range_trees.specs.Nodes.{IsWhole};
 ghost use Rattle.range_sizes.specs.Known.{IsKnown};
 ghost use Rattle.range_sizes.specs.Sizes.{IsSizeIn};
 
-use crate::known::{Known, visit_label};
+use crate::known::Known;
+use crate::visiting::visit_label;
 use cob_base::NoMemory;
 use cob_tree::Range;
 use flow_graph::first_of;

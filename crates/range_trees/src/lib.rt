@@ -2,9 +2,12 @@
 //!
 //! `label_tree` gives the tree at any label in any range: it goes along the rests from there on.
 //! Hold it against `nodes_of` of `control_laws/specs/lowering/Lowered`: each tree is the one that
-//! is found there.
+//! is found there. `own_run` gives the tree before a place only up to where it goes on as the tree
+//! at another place (`specs/Runs`).
 #![tactic(auto)]
 
 mod node;
+mod run;
 
 pub use node::label_tree;
+pub use run::{OwnRun, own_run};

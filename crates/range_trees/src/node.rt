@@ -16,7 +16,7 @@ use rest_table::{Onward, Spot, ended_by};
 use std::alloc::Global;
 
 /// Where what leaves a rest goes on in a range.
-fn leaving_of(onward: &Onward, range: Range, telling: &Telling<'_>) -> Leaving
+pub fn leaving_of(onward: &Onward, range: Range, telling: &Telling<'_>) -> Leaving
     ensures { LeavesIn telling.now range onward.now result }
 {
     let end = end_leaf(telling.layout, range, onward.paragraph);
@@ -30,7 +30,7 @@ fn leaving_of(onward: &Onward, range: Range, telling: &Telling<'_>) -> Leaving
 }
 
 /// The continuation behind a rest's list in a range.
-fn after_of(onward: &Onward, range: Range, telling: &Telling<'_>) -> Leaf
+pub fn after_of(onward: &Onward, range: Range, telling: &Telling<'_>) -> Leaf
     ensures { GoesOnIn telling.now range onward.now result }
 {
     let end = end_leaf(telling.layout, range, onward.paragraph);
