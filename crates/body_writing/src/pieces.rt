@@ -80,7 +80,7 @@ fn add_arm(
 ) -> Result<(), NoMemory>
     ensures { OnOk result (AddsStmts cells.now places.now (within_arm arm.old) made.old made.new) }
 {
-    add_pieces(alloc, arm.body.as_mut_slice(), made, cells, places)?;
+    add_pieces(alloc, arm.body.make_contiguous(), made, cells, places)?;
     add_last(made, &arm.end)
 }
 
@@ -163,7 +163,7 @@ fn add_stated(
     ensures { OnOk result
         (AddsStmts cells.now places.now (within_loop leaves.now tree.old) made.old made.new) }
 {
-    add_pieces(alloc, tree.body.as_mut_slice(), made, cells, places)?;
+    add_pieces(alloc, tree.body.make_contiguous(), made, cells, places)?;
     add_end(alloc, &mut tree.end, made, leaves, cells, places)
 }
 

@@ -45,7 +45,7 @@ fn add_closed(
     ensures { OnOk result (AddsStmts cells.now places.now (closed_stmts is_main (seen_tree tree.old))
         made.old made.new) }
 {
-    add_body(alloc, made, tree.body.as_mut_slice(), cells, places)?;
+    add_body(alloc, made, tree.body.make_contiguous(), cells, places)?;
     if ends_run(is_main, &tree.end) {
         add_stop(made)
     } else {

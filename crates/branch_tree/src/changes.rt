@@ -1,6 +1,7 @@
 //! Changes of trees, in which something is dropped, and what lets parts of graphs go.
 
-ghost use Rattle.std.specs.Prelude.{◌≡◌};
+ghost use Rattle.std.specs.Prelude.{◌≡◌, ◌+◌, ◌≤◌, ◌++◌, IfNone, IfSome};
+ghost use Rattle.std.specs.VecDeque.{deque_len, deque_capacity};
 ghost use Rattle.branch_tree.specs.Changes.{GoesOn};
 ghost use Rattle.branch_tree.specs.Trees.{seen_tree};
 
@@ -11,6 +12,45 @@ use crate::work::Work;
 use cob_base::Items;
 use slab::Slab;
 use std::alloc::AllocFailed;
+use std::collections::VecDeque;
+use std::mem;
+
+/// Puts the pieces of the first body before the other's, and leaves none there.
+fn move_before(first: &mut VecDeque<Piece>, body: &mut VecDeque<Piece>)
+    requires { deque_len first.old + deque_len body.old ≤ deque_capacity body.old }
+    ensures { body.new.items ≡ first.old.items ++ body.old.items }
+{
+    while let Some(piece) = first.pop_back() {
+        body.push_front_reserved(piece);
+    }
+}
+
+/// Puts the other body behind the first: the shorter one moves. Without memory it comes back, and
+/// the first one stays.
+fn join_bodies(first: &mut VecDeque<Piece>, other: VecDeque<Piece>) -> Option<VecDeque<Piece>>
+    ensures joined { IfNone result (first.new.items ≡ first.old.items ++ other.items) }
+    ensures stays { IfSome result (λ back. first.new.items ≡ first.old.items) }
+    ensures back { IfSome result (λ back. back.items ≡ other.items) }
+{
+    let mut other = other;
+    if first.len() >= other.len() {
+        return match first.append(&mut other) {
+            Ok(()) => {
+                drop_body(other);
+                None
+            }
+            Err(_) => Some(other),
+        };
+    }
+    match other.reserve(first.len()) {
+        Ok(()) => {
+            move_before(first, &mut other);
+            drop_body(mem::replace(first, other));
+            None
+        }
+        Err(_) => Some(other),
+    }
+}
 
 impl Tree {
     /// Gives the tree another end.
@@ -21,19 +61,18 @@ impl Tree {
         self.end = end;
     }
 
-    /// Puts the other tree in the place of this one's end. Without memory it comes back, and this
-    /// one stays.
+    /// Puts the other tree in the place of this one's end: the shorter body moves. Without memory it
+    /// comes back, and this one stays.
     pub fn go_on(&mut self, by: Tree) -> Option<Tree>
         ensures { GoesOn result (seen_tree by) (seen_tree self.old) (seen_tree self.new) }
     {
         let Tree { body, end } = by;
-        let mut body = body;
-        match self.body.append(&mut body) {
-            Ok(()) => {
+        match join_bodies(&mut self.body, body) {
+            None => {
                 self.end_by(end);
                 None
             }
-            Err(_) => Some(Tree { body, end }),
+            Some(body) => Some(Tree { body, end }),
         }
     }
 }
@@ -43,6 +82,9 @@ pub fn drop_trees(_trees: Items<Tree>) {}
 
 /// Lets pieces go.
 pub fn drop_pieces(_pieces: Vec<Piece>) {}
+
+/// Lets a body go.
+pub fn drop_body(_body: VecDeque<Piece>) {}
 
 /// Lets a tree go.
 pub fn drop_tree(_tree: Tree) {}

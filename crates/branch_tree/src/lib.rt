@@ -22,7 +22,7 @@ mod tree;
 mod work;
 mod work_graphs;
 
-pub use changes::{drop_nodes, drop_pieces, drop_tree, drop_trees, drop_work};
+pub use changes::{drop_body, drop_nodes, drop_pieces, drop_tree, drop_trees, drop_work};
 pub use chooser::{Chooser, Picker, Test};
 pub use graph::{Added, Graph, Node};
 pub use kept::Kept;

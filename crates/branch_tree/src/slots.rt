@@ -10,6 +10,7 @@ use crate::kept::Kept;
 use crate::tree::{End, Tree};
 use slab::Slab;
 use std::alloc::Global;
+use std::collections::VecDeque;
 use std::mem;
 
 /// A tree without a piece, which is dead.
@@ -17,7 +18,7 @@ pub fn bare_tree(alloc: Global) -> Tree
     ensures { seen_tree result ≡ bare }
 {
     Tree {
-        body: Vec::new(alloc),
+        body: VecDeque::new(alloc),
         end: End::Dead,
     }
 }

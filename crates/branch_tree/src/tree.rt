@@ -4,6 +4,7 @@ use crate::chooser::{Picker, Test};
 use crate::label::Label;
 use cob_base::Items;
 use cob_tree::{Operand, Stmt};
+use std::collections::VecDeque;
 
 /// What the live leaves of a tree are where it stands within a loop.
 #[derive(Drop)]
@@ -64,11 +65,11 @@ pub enum Piece {
     },
 }
 
-/// Pieces, and then an end.
+/// Pieces, and then an end. A body grows at both ends, as trees are put into one another.
 #[cycle(tree)]
 #[derive(Drop)]
 pub struct Tree {
-    pub body: Vec<Piece>,
+    pub body: VecDeque<Piece>,
     pub end: End,
 }
 

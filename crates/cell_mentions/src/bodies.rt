@@ -14,6 +14,7 @@ use cob_base::{Items, NoMemory};
 use cob_tree::Stmt;
 use own_stmts::is_own_stmt;
 use std::alloc::Global;
+use std::collections::VecDeque;
 
 /// The program's own statement names no cell.
 #[tactic(auto, using(crate::proofs::MentionRows::own_none))]
@@ -56,11 +57,11 @@ fn add_piece(made: &mut Items<Mention>, piece: &Piece) -> Result<(), NoMemory>
 
 /// Adds what the pieces of a body name.
 #[cycle(add)]
-fn add_body(made: &mut Items<Mention>, body: &[Piece]) -> Result<(), NoMemory>
-    ensures { OnOk result (made.new ≡ made.old ++ mentions (seen_body body.now)) }
+fn add_body(made: &mut Items<Mention>, body: &VecDeque<Piece>) -> Result<(), NoMemory>
+    ensures { OnOk result (made.new ≡ made.old ++ mentions (seen_body body.now.items)) }
 {
-    for piece in body {
-        add_piece(made, piece)?;
+    for at in 0..body.len() {
+        add_piece(made, &body[at])?;
     }
     Ok(())
 }
@@ -82,7 +83,7 @@ fn add_arms(made: &mut Items<Mention>, arms: &[Tree]) -> Result<(), NoMemory>
 fn add_arm(made: &mut Items<Mention>, arm: &Tree) -> Result<(), NoMemory>
     ensures { OnOk result (made.new ≡ made.old ++ mentions (arm_stmts (seen_tree arm.now))) }
 {
-    add_body(made, arm.body.as_slice())
+    add_body(made, &arm.body)
 }
 
 /// Adds what a tree within a loop names.
@@ -92,7 +93,7 @@ fn add_tree(made: &mut Items<Mention>, leaves: &Leaves, tree: &Tree) -> Result<(
     ensures { OnOk result
         (made.new ≡ made.old ++ mentions (stated leaves.now (seen_tree tree.now))) }
 {
-    add_body(made, tree.body.as_slice())?;
+    add_body(made, &tree.body)?;
     add_end(made, leaves, &tree.end)
 }
 
@@ -127,8 +128,8 @@ fn add_within(made: &mut Items<Mention>, leaves: &Leaves, arms: &[Tree]) -> Resu
 
 /// Where the body names cells, in the order of its text. Err where memory is wanted, and where a
 /// statement of the program has a word on an added item.
-pub fn mentions(alloc: Global, body: &[Piece]) -> Result<Items<Mention>, NoMemory>
-    ensures { Makes (mentions (seen_body body.now)) result }
+pub fn mentions(alloc: Global, body: &VecDeque<Piece>) -> Result<Items<Mention>, NoMemory>
+    ensures { Makes (mentions (seen_body body.now.items)) result }
 {
     let mut made = Items::new(alloc);
     match add_body(&mut made, body) {

@@ -43,7 +43,7 @@ by-arms number first before added arms others items same are = record {
 }
 
 pub all-more : (number : ℕ → ℕ) (first : ℕ) (ranges : List ShapedRange) (lists : List (List CellItem)) (made : List CellItem) (at : ℕ)
-    (one : ShapedRange) (told : List Mention) → slice_get ranges at ≡ Some one → told ≡ mentions (seen_body one.body.now) →
+    (one : ShapedRange) (told : List Mention) → slice_get ranges at ≡ Some one → told ≡ mentions (seen_body one.body.now.items) →
     length lists ≡ at → EachAsked number first ranges lists →
     AreAsked number first (length (kinds_of_row (take at (seen_ranges ranges)))) (map seen_added one.added.now) (λ cell. first_arms cell told) made →
     EachAsked number first ranges (lists ++ made ∷ [])
@@ -56,8 +56,8 @@ all-more number first ranges lists made at one told is tells size each last = λ
           let same : seen_cells one ≡ other =
           some-same (seen_cells one) other (sym found ∙ ap (slice_get (seen_ranges ranges)) (sym here) ∙ stands) in
           let mine : AreAsked number first (length (kinds_of_row (take at (seen_ranges ranges)))) (seen_cells one).added (λ cell. stmts_arms cell (seen_cells one).body) made =
-          by-arms number first _ _ (λ cell. first_arms cell told) (λ cell. stmts_arms cell (seen_body one.body.now)) made
-          (λ cell. ap (first_arms cell) tells ∙ choices-agree cell (seen_body one.body.now)) last in
+          by-arms number first _ _ (λ cell. first_arms cell told) (λ cell. stmts_arms cell (seen_body one.body.now.items)) made
+          (λ cell. ap (first_arms cell) tells ∙ choices-agree cell (seen_body one.body.now.items)) last in
           subst (λ (r : CellRange). AreAsked number first (length (kinds_of_row (take k (seen_ranges ranges)))) r.added (λ cell. stmts_arms cell r.body) items) same
           (subst (λ n. AreAsked number first (length (kinds_of_row (take n (seen_ranges ranges)))) (seen_cells one).added (λ cell. stmts_arms cell (seen_cells one).body) items) (sym here)
           (subst (AreAsked number first (length (kinds_of_row (take at (seen_ranges ranges)))) (seen_cells one).added (λ cell. stmts_arms cell (seen_cells one).body)) end.1 mine))

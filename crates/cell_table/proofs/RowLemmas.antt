@@ -201,7 +201,7 @@ range-at (first ∷ ranges) zero d within = refl
 range-at (first ∷ ranges) (suc at) d within = range-at ranges at d (omega (arith, within))
 
 pub told-at : (ranges : List ShapedRange) (at : ℕ) (d : ShapedRange) (told : List Mention) → at < length ranges →
-    get_or (told_of ranges) at told ≡ mentions (seen_body (get_or ranges at d).body.now)
+    get_or (told_of ranges) at told ≡ mentions (seen_body (get_or ranges at d).body.now.items)
 told-at [] at d told within = absurd (omega (arith, within))
 told-at (first ∷ ranges) zero d told within = refl
 told-at (first ∷ ranges) (suc at) d told within = told-at ranges at d told (omega (arith, within))

@@ -12,7 +12,7 @@ abbrev pub seen_cells : ShapedRange → CellRange
 seen_cells one = record {
   range = seen_range one.range;
   added = map seen_added one.added.now;
-  body = seen_body one.body.now;
+  body = seen_body one.body.now.items;
 }
 
 abbrev pub seen_ranges : List ShapedRange → List CellRange
@@ -23,4 +23,4 @@ cells_of told = map (λ (mention : Mention). mention.cell) told
 
 -- where each body names cells
 abbrev pub told_of : List ShapedRange → List (List Mention)
-told_of ranges = map (λ (one : ShapedRange). mentions (seen_body one.body.now)) ranges
+told_of ranges = map (λ (one : ShapedRange). mentions (seen_body one.body.now.items)) ranges

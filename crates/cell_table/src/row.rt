@@ -12,12 +12,13 @@ use cell_mentions::{Mention, mentions};
 use cob_base::{Items, NoMemory};
 use cob_tree::Range;
 use std::alloc::Global;
+use std::collections::VecDeque;
 
 /// A range that was shaped: its body, and what its cells are for.
 #[derive(Clone, Copy)]
 pub struct ShapedRange<'a> {
     pub range: Range,
-    pub body: &'a [Piece],
+    pub body: &'a VecDeque<Piece>,
     pub added: &'a [Added],
 }
 

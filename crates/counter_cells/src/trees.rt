@@ -107,7 +107,7 @@ fn number_tree(alloc: Global, tree: &mut Tree, cells: &[u32]) -> Result<(), NoMe
     ensures { OnOk result (seen_tree tree.new
         ≡ tree_anew (place_among cells.now) (seen_tree tree.old)) }
 {
-    number_pieces(alloc, tree.body.as_mut_slice(), cells)?;
+    number_pieces(alloc, tree.body.make_contiguous(), cells)?;
     match &mut tree.end {
         End::Pick { by, arms } => {
             number_picker(by, cells)?;

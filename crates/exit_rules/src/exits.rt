@@ -18,6 +18,7 @@ use cob_base::{Items, NoMemory};
 use loop_rules::{Turning, looped};
 use state_dispatch::tree_returns;
 use std::alloc::Global;
+use std::collections::VecDeque;
 use tree_rules::{Targets, other_targets};
 
 /// A bare return behind the other trees, where there is to be one, in room that is there.
@@ -28,7 +29,7 @@ fn push_return(alloc: Global, trees: &mut Vec<Tree>, returns: bool)
 {
     if returns {
         trees.push_reserved(Tree {
-            body: Vec::new(alloc),
+            body: VecDeque::new(alloc),
             end: End::Return,
         });
     }
@@ -43,7 +44,7 @@ fn bare(alloc: Global, targets: &[Label], returns: bool, room: Vec<Tree>) -> Ite
     let mut trees = room;
     for target in targets {
         trees.push_reserved(Tree {
-            body: Vec::new(alloc),
+            body: VecDeque::new(alloc),
             end: End::Jump(*target),
         });
     }

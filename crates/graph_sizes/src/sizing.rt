@@ -11,6 +11,7 @@ ghost use Rattle.graph_sizes.specs.Sizes.{tree_size, end_size, node_size, graph_
 
 use branch_tree::{End, Graph, Label, Leaves, Node, Piece, Tree};
 use lower_places::stmt_size;
+use std::collections::VecDeque;
 
 /// The statements of a jump within the loop.
 #[tactic(auto, using(crate::proofs::SizeRows::flag_size, crate::proofs::SizeRows::exit_size))]
@@ -59,12 +60,12 @@ fn last_size(end: &End) -> u64
 
 /// The statements of a body; past the last number of the type that number, as all these counts.
 #[cycle(sizing)]
-fn body_size(body: &[Piece]) -> u64
-    ensures { result ≡ min (sum_by piece_size body.now) (2 ^ 64 - 1) }
+fn body_size(body: &VecDeque<Piece>) -> u64
+    ensures { result ≡ min (sum_by piece_size body.now.items) (2 ^ 64 - 1) }
 {
     let mut count = 0u64;
-    for piece in body {
-        count = count.saturating_add(piece_size(piece));
+    for at in 0..body.len() {
+        count = count.saturating_add(piece_size(&body[at]));
     }
     count
 }
@@ -101,7 +102,7 @@ fn chosen_size(arms: &[Tree]) -> u64
 fn arm_size(arm: &Tree) -> u64
     ensures { result ≡ min (arm_size arm.now) (2 ^ 64 - 1) }
 {
-    body_size(arm.body.as_slice()).saturating_add(last_size(&arm.end))
+    body_size(&arm.body).saturating_add(last_size(&arm.end))
 }
 
 /// The statements of a tree within a loop.
@@ -110,7 +111,7 @@ fn arm_size(arm: &Tree) -> u64
 fn within_size(leaves: &Leaves, tree: &Tree) -> u64
     ensures { result ≡ min (within_size leaves.now tree.now) (2 ^ 64 - 1) }
 {
-    body_size(tree.body.as_slice()).saturating_add(end_within_size(leaves, &tree.end))
+    body_size(&tree.body).saturating_add(end_within_size(leaves, &tree.end))
 }
 
 #[cycle(sizing)]
@@ -143,7 +144,7 @@ fn arms_within_size(leaves: &Leaves, arms: &[Tree]) -> u64
 pub fn tree_size(tree: &Tree) -> u64
     ensures { result ≡ min (tree_size (seen_tree tree.now)) (2 ^ 64 - 1) }
 {
-    body_size(tree.body.as_slice()).saturating_add(end_size(&tree.end))
+    body_size(&tree.body).saturating_add(end_size(&tree.end))
 }
 
 #[cycle(tree)]

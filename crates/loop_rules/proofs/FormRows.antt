@@ -137,9 +137,18 @@ ways_other targets label empty (a ∷ []) h = refl
 ways_other targets label empty (a ∷ b ∷ []) h = absurd (h refl)
 ways_other targets label empty (a ∷ b ∷ c ∷ arms) h = refl
 
-pub some_body : (pieces : List Piece) → 1 ≤ length pieces → false ≡ is_nothing (seen_body pieces)
-some_body [] h = let no : ⊥ = omega (arith, h) in absurd no
-some_body (p ∷ pieces) h = refl
+some_left : (n : ℕ) → 1 ≤ n → (n == 0) ≡ false
+some_left n many =
+    elim (eqb_tells n 0) [
+      | inl e ↦ let none = e.1 in let no : ⊥ = omega (arith, many, none) in absurd no
+      | inr e ↦ e.0
+    ]
+
+pub none_left : (pieces : List Piece) → (length pieces == 0) ≡ is_nothing (seen_body pieces)
+none_left [] = refl
+none_left (p ∷ pieces) =
+    let some : false ≡ is_nothing (seen_body (p ∷ pieces)) = refl in
+    some_left (length (p ∷ pieces)) (omega arith) ∙ some
 
 apart : (z : Bool) → z ≡ true → z ≡ false → ⊥
 apart true h k = let no : ⊥ = cc in no

@@ -2,6 +2,7 @@
 
 ghost use Rattle.std.specs.Prelude.{◌≡◌, ◌<◌, true, false, ◌&&◌, is_some, Some, length, slice_get, OnOk, OnErr};
 ghost use Rattle.std.specs.Vec.{vec_len, vec_capacity};
+ghost use Rattle.std.specs.VecDeque.{deque_len, deque_capacity};
 ghost use Rattle.control.specs.Graph as graph;
 ghost use Rattle.language.specs.Language.{Until, Loop, Nested};
 ghost use Rattle.control_laws.specs.graph_rules.Reduced.{stays};
@@ -15,6 +16,7 @@ ghost use Rattle.branch_tree.specs.Trees.{seen_tree, seen_trees, seen_body, seen
 use branch_tree::{End, Label, Leaves, Picker, Piece, Test, Tree, drop_pieces, drop_trees};
 use cob_base::{Items, NoMemory};
 use std::alloc::Global;
+use std::collections::VecDeque;
 use std::mem;
 use tree_rules::Targets;
 
@@ -37,8 +39,8 @@ pub struct Turning {
 }
 
 /// A loop behind the other pieces, in room that is there.
-fn put_loop(pieces: &mut Vec<Piece>, turning: Turning, body: Tree)
-    requires { vec_len pieces.old < vec_capacity pieces.old }
+fn put_loop(pieces: &mut VecDeque<Piece>, turning: Turning, body: Tree)
+    requires { deque_len pieces.old < deque_capacity pieces.old }
     ensures { seen_body pieces.new.items
         ≡ followed (seen_body pieces.old.items) (alone (loop_by turning (seen_tree body))) }
 {
@@ -48,7 +50,7 @@ fn put_loop(pieces: &mut Vec<Piece>, turning: Turning, body: Tree)
         test,
         leaves,
     } = turning;
-    pieces.push_reserved(Piece::Loop {
+    pieces.push_back_reserved(Piece::Loop {
         after,
         turned,
         test,
@@ -63,17 +65,18 @@ pub fn looped(tree: &mut Tree, before: Vec<Piece>, turning: Turning, end: End)
     ensures { seen_tree tree.new ≡ looped_by turning (seen_body before.items) (seen_tree tree.old)
         (seen_end end) }
 {
-    let body = mem::replace(tree, Tree { body: before, end });
+    let empty = Tree {
+        body: VecDeque::from_vec(before),
+        end,
+    };
+    let body = mem::replace(tree, empty);
     put_loop(&mut tree.body, turning, body);
 }
 
-fn is_nothing(body: &[Piece]) -> bool
-    ensures { result ≡ is_nothing (seen_body body.now) }
+fn is_nothing(body: &VecDeque<Piece>) -> bool
+    ensures { result ≡ is_nothing (seen_body body.now.items) }
 {
-    match body {
-        [] => true,
-        _ => false,
-    }
+    body.is_empty()
 }
 
 fn both(one: bool, other: bool) -> bool
@@ -86,7 +89,7 @@ fn both(one: bool, other: bool) -> bool
 fn is_bare(tree: &Tree, live: &Targets) -> bool
     ensures { result ≡ bare_by (seen_targets live.now) (seen_tree tree.now) }
 {
-    both(is_nothing(tree.body.as_slice()), is_leaf(&tree.end, live))
+    both(is_nothing(&tree.body), is_leaf(&tree.end, live))
 }
 
 fn is_leaf(end: &End, live: &Targets) -> bool
@@ -139,8 +142,8 @@ fn way(after: bool, first: bool, second: bool) -> Form
 }
 
 /// The form of a loop that ends in two arms by a test.
-fn form_two(body: &[Piece], one: &Tree, two: &Tree, label: Label, live: &Targets) -> Form
-    ensures { result ≡ two_ways (seen_targets live.now) label (is_nothing (seen_body body.now))
+fn form_two(body: &VecDeque<Piece>, one: &Tree, two: &Tree, label: Label, live: &Targets) -> Form
+    ensures { result ≡ two_ways (seen_targets live.now) label (is_nothing (seen_body body.now.items))
         (seen_tree one.now) (seen_tree two.now) }
 {
     if is_nothing(body) {
@@ -153,8 +156,8 @@ fn form_two(body: &[Piece], one: &Tree, two: &Tree, label: Label, live: &Targets
     }
 }
 
-fn form_arms(body: &[Piece], arms: &[Tree], label: Label, live: &Targets) -> Form
-    ensures { result ≡ ways (seen_targets live.now) label (is_nothing (seen_body body.now))
+fn form_arms(body: &VecDeque<Piece>, arms: &[Tree], label: Label, live: &Targets) -> Form
+    ensures { result ≡ ways (seen_targets live.now) label (is_nothing (seen_body body.now.items))
         (seen_trees arms.now) }
 {
     if arms.len() == 2 {
@@ -170,7 +173,7 @@ pub fn form_of(tree: &Tree, label: Label, live: &Targets) -> Form
 {
     match &tree.end {
         End::Pick { by, arms } => match by {
-            Picker::If(_) => form_arms(tree.body.as_slice(), arms.as_slice(), label, live),
+            Picker::If(_) => form_arms(&tree.body, arms.as_slice(), label, live),
             Picker::By(_) => Form::Flag,
             Picker::ByCell { .. } => Form::Flag,
         },

@@ -13,6 +13,7 @@ use cob_base::{Copied, Items, NoMemory};
 use cob_tree::Place;
 use lower_places::{Layout, Leaf, point};
 use std::alloc::Global;
+use std::collections::VecDeque;
 
 pub fn end_at(leaf: Leaf) -> End
     ensures { seen_end result ≡ seen_leaf leaf }
@@ -29,7 +30,7 @@ pub fn only(alloc: Global, end: End) -> Tree
     ensures { seen_tree result ≡ only (seen_end end) }
 {
     Tree {
-        body: Vec::new(alloc),
+        body: VecDeque::new(alloc),
         end,
     }
 }

@@ -14,6 +14,7 @@ use cob_base::{Copied, NoMemory};
 use cob_tree::{Cond, Control, Operand, Place};
 use lower_places::Leaf;
 use std::alloc::Global;
+use std::collections::VecDeque;
 
 /// The choice between what follows where the condition holds, and this tree.
 pub fn leave_or(alloc: Global, cond: &Cond, after: Leaf, other: Tree) -> Result<Tree, NoMemory>
@@ -35,7 +36,10 @@ pub fn leave_or(alloc: Global, cond: &Cond, after: Leaf, other: Tree) -> Result<
 pub fn ended(body: Vec<Piece>, end: End) -> Tree
     ensures { seen_tree result ≡ tree (seen_body body.items) (seen_end end) }
 {
-    Tree { body, end }
+    Tree {
+        body: VecDeque::from_vec(body),
+        end,
+    }
 }
 
 /// The step of VARYING, and then the head.

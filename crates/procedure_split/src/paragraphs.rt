@@ -16,6 +16,7 @@ use choice_writing::Placed;
 use cob_base::{Items, NoMemory, Word};
 use cob_tree::{Paragraph, Range, Sentence};
 use std::alloc::Global;
+use std::collections::VecDeque;
 use std::mem;
 
 fn is_main(range: Range) -> bool
@@ -68,7 +69,7 @@ fn take_tree(alloc: Global, closed: &mut Closed) -> Tree
     ensures { result ≡ closed.old.tree }
 {
     let empty = Tree {
-        body: Vec::new(alloc),
+        body: VecDeque::new(alloc),
         end: End::Dead,
     };
     mem::replace(&mut closed.tree, empty)

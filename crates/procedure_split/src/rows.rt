@@ -15,7 +15,7 @@ fn row_of<'a>(range: Range, closed: &'a Closed) -> ShapedRange<'a>
 {
     ShapedRange {
         range,
-        body: closed.tree.body.as_slice(),
+        body: &closed.tree.body,
         added: closed.added.as_slice(),
     }
 }

@@ -12,13 +12,14 @@ use branch_tree::{Added, End, Graph, Node, Piece, Tree};
 use cob_base::{Limit, LimitKind};
 use cob_tree::SplitFault;
 use std::alloc::Global;
+use std::collections::VecDeque;
 use tree_nesting::body_nesting;
 
 /// What a graph becomes: a body, an end behind which nothing comes, and the added items in the
 /// order in which they were made.
 #[derive(Drop)]
 pub struct Shaped {
-    pub body: Vec<Piece>,
+    pub body: VecDeque<Piece>,
     pub end: End,
     pub added: Vec<Added>,
 }
@@ -53,7 +54,7 @@ fn one_node(graph: Graph) -> Result<Shaped, SplitFault>
         Some(node) => {
             let Node { label: _, tree } = node;
             let Tree { body, end } = tree;
-            if body_nesting(body.as_slice()) > MAX_NESTING {
+            if body_nesting(&body) > MAX_NESTING {
                 return Err(SplitFault::Limit(nesting_passed()));
             }
             Ok(Shaped { body, end, added })

@@ -18,6 +18,7 @@ use branch_tree::{Added, End, Label, Leaves, Picker, Piece, Test, Tree, Work, dr
 use cob_base::{Items, NoMemory};
 use loop_rules::{Turning, looped};
 use std::alloc::Global;
+use std::collections::VecDeque;
 
 /// Takes the trees at the labels, in their order, into room that is there.
 fn take_trees(alloc: Global, work: &mut Work, labels: &[Label], room: Vec<Tree>) -> Vec<Tree>
@@ -70,7 +71,7 @@ fn gathered(
         (choice_of state (seen_trees arms.items)) (return_if returns) }
 {
     let mut tree = Tree {
-        body: Vec::new(alloc),
+        body: VecDeque::new(alloc),
         end: End::Pick {
             by: Picker::ByCell { cell: state },
             arms: Items::from_vec(arms),

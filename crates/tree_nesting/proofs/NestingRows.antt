@@ -1,5 +1,6 @@
 -- How deep pieces nest, row by row.
-use Rattle.std.proofs.Common.{◌≡◌, ◌<◌, ◌≤◌, ℕ, zero, suc, ◌-◌, ◌^◌, min, max, Bool, true, false, if◌then◌else◌, ◌==◌, ◌&&◌, List, [], ◌∷◌, length, drop, get_or, refl, ap, sym, ◌∙◌, arith}
+use Rattle.std.proofs.Common.{◌≡◌, ◌<◌, ◌≤◌, ℕ, zero, suc, ◌-◌, ◌^◌, min, max, Bool, true, false, if◌then◌else◌, ◌==◌, ◌&&◌, List, [], ◌∷◌, length, drop, get_or, refl, ap, sym, ◌∙◌, arith, inl, inr}
+use Rattle.std.proofs.lemmas.Bool.Decides.{eqb_tells}
 use Rattle.language.specs.Language.{Picker, Stmts, none, also}
 use Rattle.control.specs.Graph.{Label, End, Pick, Jump, Return, Stop, Dead}
 use Rattle.control_laws.specs.graph_rules.Shapes.{followed, arm_stmts, arms_stmts, last_stmts}
@@ -64,9 +65,18 @@ arm_nothing t =
     sym (ap (λ x. is_nothing (arm_stmts x)) (seen_tree_is t)
     ∙ followed_nothing (seen_body t.body.items) (last_stmts (seen_end t.end)))
 
-pub some_body : (pieces : List Piece) → 1 ≤ length pieces → false ≡ is_nothing (seen_body pieces)
-some_body [] h = let no : ⊥ = omega (arith, h) in absurd no
-some_body (p ∷ pieces) h = refl
+some_left : (n : ℕ) → 1 ≤ n → (n == 0) ≡ false
+some_left n more =
+    elim (eqb_tells n 0) [
+      | inl e ↦ let none = e.1 in let no : ⊥ = omega (arith, more, none) in absurd no
+      | inr e ↦ e.0
+    ]
+
+pub none_left : (pieces : List Piece) → (length pieces == 0) ≡ is_nothing (seen_body pieces)
+none_left [] = refl
+none_left (p ∷ pieces) =
+    let some : false ≡ is_nothing (seen_body (p ∷ pieces)) = refl in
+    some_left (length (p ∷ pieces)) (omega arith) ∙ some
 
 -- A tree within a loop.
 

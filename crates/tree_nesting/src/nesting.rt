@@ -10,6 +10,7 @@ ghost use Rattle.tree_nesting.specs.Within.{end_within, arms_within};
 
 use crate::own::own_nesting;
 use branch_tree::{Chooser, End, Label, Leaves, Picker, Piece, Tree};
+use std::collections::VecDeque;
 
 /// Whether the arm, the first or a later one, is left out where it is empty.
 fn leaves_out(by: &Picker, first: bool) -> bool
@@ -88,23 +89,17 @@ fn both(one: bool, other: bool) -> bool
     one && other
 }
 
-fn is_nothing(body: &[Piece]) -> bool
-    ensures { result ≡ is_nothing (seen_body body.now) }
+fn is_nothing(body: &VecDeque<Piece>) -> bool
+    ensures { result ≡ is_nothing (seen_body body.now.items) }
 {
-    match body {
-        [] => true,
-        _ => false,
-    }
+    body.is_empty()
 }
 
 /// Whether there is nothing in the tree within the loop.
 fn tree_is_nothing(leaves: &Leaves, tree: &Tree) -> bool
     ensures { result ≡ is_nothing (stated leaves.now (seen_tree tree.now)) }
 {
-    both(
-        is_nothing(tree.body.as_slice()),
-        end_is_nothing(leaves, &tree.end),
-    )
+    both(is_nothing(&tree.body), end_is_nothing(leaves, &tree.end))
 }
 
 /// Whether an end is nothing within a statement.
@@ -124,18 +119,18 @@ fn last_is_nothing(end: &End) -> bool
 fn arm_is_nothing(tree: &Tree) -> bool
     ensures { result ≡ is_nothing (arm_stmts (seen_tree tree.now)) }
 {
-    both(is_nothing(tree.body.as_slice()), last_is_nothing(&tree.end))
+    both(is_nothing(&tree.body), last_is_nothing(&tree.end))
 }
 
 /// How deep the statements of a body nest as they are written, 0 where none holds statements; past
 /// the last number of the type that number.
 #[cycle(nesting)]
-pub fn body_nesting(body: &[Piece]) -> u32
-    ensures { result ≡ min (nesting (seen_body body.now)) (2 ^ 32 - 1) }
+pub fn body_nesting(body: &VecDeque<Piece>) -> u32
+    ensures { result ≡ min (nesting (seen_body body.now.items)) (2 ^ 32 - 1) }
 {
     let mut deep = 0u32;
-    for piece in body {
-        deep = deep.max(piece_nesting(piece));
+    for at in 0..body.len() {
+        deep = deep.max(piece_nesting(&body[at]));
     }
     deep
 }
@@ -177,11 +172,7 @@ fn arm_nesting(out: bool, tree: &Tree) -> u32
     ensures { result ≡ min (arm_level out (is_nothing (arm_stmts (seen_tree tree.now)))
         (nesting (arm_stmts (seen_tree tree.now)))) (2 ^ 32 - 1) }
 {
-    level(
-        out,
-        arm_is_nothing(tree),
-        body_nesting(tree.body.as_slice()),
-    )
+    level(out, arm_is_nothing(tree), body_nesting(&tree.body))
 }
 
 /// How deep the statements of a tree nest within a loop.
@@ -190,7 +181,7 @@ fn arm_nesting(out: bool, tree: &Tree) -> u32
 fn tree_nesting(leaves: &Leaves, tree: &Tree) -> u32
     ensures { result ≡ min (nesting (stated leaves.now (seen_tree tree.now))) (2 ^ 32 - 1) }
 {
-    body_nesting(tree.body.as_slice()).max(end_nesting(leaves, &tree.end))
+    body_nesting(&tree.body).max(end_nesting(leaves, &tree.end))
 }
 
 #[cycle(nesting)]

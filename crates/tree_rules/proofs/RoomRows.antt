@@ -3,7 +3,7 @@ use Rattle.std.proofs.Common.{◌≡◌, ◌<◌, ℕ, zero, suc, ◌&&◌, Bool
 use Rattle.std.proofs.lemmas.Bool.{ltb-true, lt-ltb}
 use Rattle.std.proofs.Math.Seq.{take-append_seam}
 use Rattle.std.specs.Prelude.{All, nat_lt}
-use Rattle.std.specs.Vec.{vec_len, vec_capacity}
+use Rattle.std.specs.VecDeque.{deque_len, deque_capacity}
 use Rattle.branch_tree.specs.declared.chooser.Picker.{Picker}
 use Rattle.branch_tree.specs.declared.tree.Tree.{Tree, fold_out-Tree}
 use Rattle.branch_tree.specs.declared.tree.End.{fold-roll-End}
@@ -12,7 +12,7 @@ use Rattle.branch_tree.specs.declared.tree.End.TheVariants as end
 use Rattle.tree_rules.specs.Rooms.{HasRoom, has_room, end_has_room, all_true, end_room_step, piece_room_step, tree_room_step}
 
 abbrev body_room : Tree → Bool
-body_room t = nat_lt (vec_len t.body) (vec_capacity t.body)
+body_room t = nat_lt (deque_len t.body) (deque_capacity t.body)
 
 room_is : (t : Tree) → has_room t ≡ end_has_room t.end (body_room t)
 room_is t = fold_out-Tree (Bool → Bool) Bool Bool end_room_step piece_room_step tree_room_step t
@@ -78,18 +78,18 @@ have_all (first ∷ others) h =
 
 -- a tree with a choice, in which there is room
 pub room_in_pick : (t : Tree) (by : Picker) (arms : List Tree) → t.end ≡ end.Pick by arms →
-    HasRoom t → (vec_len t.body < vec_capacity t.body) × All HasRoom arms
+    HasRoom t → (deque_len t.body < deque_capacity t.body) × All HasRoom arms
 room_in_pick t by arms is h =
     let both = both_true (body_room t) (all_true (map has_room arms))
     (sym (room_is t ∙ ap (λ e. end_has_room e (body_room t)) is ∙ pick_room by arms (body_room t)) ∙ h) in
-    (ltb-true (vec_len t.body) (vec_capacity t.body) both.0, all_have arms both.1)
+    (ltb-true (deque_len t.body) (deque_capacity t.body) both.0, all_have arms both.1)
 
 pub room_by_pick : (t : Tree) (by : Picker) (arms : List Tree) → t.end ≡ end.Pick by arms →
-    vec_len t.body < vec_capacity t.body → All HasRoom arms → HasRoom t
+    deque_len t.body < deque_capacity t.body → All HasRoom arms → HasRoom t
 room_by_pick t by arms is h k =
     room_is t ∙ ap (λ e. end_has_room e (body_room t)) is ∙ pick_room by arms (body_room t)
     ∙ and_true (body_room t) (all_true (map has_room arms))
-    (lt-ltb (vec_len t.body) (vec_capacity t.body) h) (have_all arms k)
+    (lt-ltb (deque_len t.body) (deque_capacity t.body) h) (have_all arms k)
 
 -- a leaf needs none
 pub room_by_jump : (t : Tree) (to : ℕ) → t.end ≡ end.Jump to → HasRoom t

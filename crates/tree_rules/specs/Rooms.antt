@@ -1,6 +1,6 @@
 -- Room for one more piece in each tree that ends in a choice.
 use Rattle.std.specs.Prelude.{◌≡◌, ◌&&◌, Bool, true, List, [], ◌∷◌, nat_lt}
-use Rattle.std.specs.Vec.{vec_len, vec_capacity}
+use Rattle.std.specs.VecDeque.{deque_len, deque_capacity}
 use Rattle.branch_tree.specs.declared.tree.Tree.{Tree, fold-Tree}
 use Rattle.branch_tree.specs.declared.tree.End.{End, fold-End}
 use Rattle.branch_tree.specs.declared.tree.End.TheOpen.{Tree-F, End-F, Piece-F}
@@ -22,7 +22,7 @@ abbrev pub piece_room_step : Piece-F (Bool → Bool) Bool Bool → Bool
 piece_room_step piece = true
 
 abbrev pub tree_room_step : Tree-F (Bool → Bool) Bool Bool → Bool
-tree_room_step t = t.end (nat_lt (vec_len t.body) (vec_capacity t.body))
+tree_room_step t = t.end (nat_lt (deque_len t.body) (deque_capacity t.body))
 
 abbrev pub has_room : Tree → Bool
 has_room = fold-Tree (Bool → Bool) Bool Bool end_room_step piece_room_step tree_room_step

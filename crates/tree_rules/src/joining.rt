@@ -1,7 +1,7 @@
 //! Join.
 
 ghost use Rattle.std.specs.Prelude.{◌≡◌, ◌<◌, ◌||◌, All, OnOk};
-ghost use Rattle.std.specs.Vec.{vec_len, vec_capacity};
+ghost use Rattle.std.specs.VecDeque.{deque_len, deque_capacity};
 ghost use Rattle.control_laws.specs.graph_rules.Shapes.{join_by, joined, joined_arms, arms_targets};
 ghost use Rattle.control_laws.specs.graph_rules.Reduced.{at_most_one};
 ghost use Rattle.tree_rules.specs.Joins.{choice_then, may_join, arms_may_join, JoinsAll, JoinsAt};
@@ -50,18 +50,18 @@ fn make_room_in(arms: &mut [Tree]) -> Result<(), NoMemory>
 
 /// The choice as a statement behind the tree's body, for which there is room, and then the end.
 fn join_then(tree: &mut Tree, by: Picker, arms: Items<Tree>, end: End)
-    requires { vec_len tree.old.body < vec_capacity tree.old.body }
+    requires { deque_len tree.old.body < deque_capacity tree.old.body }
     ensures { seen_tree tree.new ≡ choice_then (seen_body tree.old.body.items) (seen_picker by)
         (seen_trees arms) (seen_end end) }
 {
-    tree.body.push_reserved(Piece::Choose { by, arms });
+    tree.body.push_back_reserved(Piece::Choose { by, arms });
     tree.end_by(end);
 }
 
 /// The choice behind the tree's body, for which there is room: as a statement, where its arms have
 /// at most one target, which is told.
 fn join_pick(tree: &mut Tree, by: Picker, arms: Items<Tree>) -> bool
-    requires { vec_len tree.old.body < vec_capacity tree.old.body }
+    requires { deque_len tree.old.body < deque_capacity tree.old.body }
     ensures tree { seen_tree tree.new ≡ join_by (seen_body tree.old.body.items) (seen_picker by)
         (seen_trees arms) (arms_targets (seen_trees arms)) }
     ensures joins { result ≡ at_most_one (arms_targets (seen_trees arms)) }

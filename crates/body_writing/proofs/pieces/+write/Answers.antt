@@ -86,13 +86,13 @@ add_stated_arms-returns t c = λ way are placed.
 pub add_arm-returns : goal.add_arm-returns
 add_arm-returns t c =
     on_ok_weaker c.add_last.result
-    (λ e. arm_row c.args.cells.now c.args.places.now c.args.arm.now c.as_mut_slice.result.now c.args.made.now c.add_pieces.new.made c.add_last.new.made c.as_mut_slice.ensures.value c.in_ok-add_pieces.ensures e)
+    (λ e. arm_row c.args.cells.now c.args.places.now c.args.arm.now c.make_contiguous.result.now c.args.made.now c.add_pieces.new.made c.add_last.new.made c.make_contiguous.ensures.value c.in_ok-add_pieces.ensures e)
     c.add_last.ensures
 
 pub add_stated-returns : goal.add_stated-returns
 add_stated-returns t c =
     on_ok_weaker c.add_end.result
-    (λ g. stated_both c.args.cells.now c.args.places.now c.args.leaves.now c.args.tree.now c.as_mut_slice.result.now c.args.made.now c.add_pieces.new.made c.add_end.new.made c.as_mut_slice.ensures.value c.in_ok-add_pieces.ensures g)
+    (λ g. stated_both c.args.cells.now c.args.places.now c.args.leaves.now c.args.tree.now c.make_contiguous.result.now c.args.made.now c.add_pieces.new.made c.add_end.new.made c.make_contiguous.ensures.value c.in_ok-add_pieces.ensures g)
     c.add_end.ensures
 
 pub add_choice-returns : goal.add_choice-returns

@@ -45,6 +45,6 @@ add_tree-returns t c =
     let tree = c.args.tree.now in
     both_added c.add_end.result c.args.made.now c.add_body.new.made c.add_end.new.made
     (mentions (seen_body tree.body.items)) (mentions (end_within leaves (seen_end tree.end))) _
-    (c.in_ok-add_body.ensures ∙ ap (λ b. c.args.made.now ++ mentions (seen_body b)) c.as_slice.ensures.value)
+    c.in_ok-add_body.ensures
     (sym (tree_names leaves tree))
     c.add_end.ensures

@@ -5,9 +5,9 @@ use Rattle.cell_mentions.specs.Mentions.{mentions, arms_mentions}
 use Rattle.cell_mentions.specs.Within.{trees_within}
 use Rattle.cell_mentions.proofs.bodies.+add.Given as goal
 
-abbrev pub invariant-add_body-loop-piece : goal.invariant-add_body-loop-piece
-invariant-add_body-loop-piece l =
-    l.made ++ mentions (seen_body (drop l.piece-index l.body)) ≡ l.fn.made ++ mentions (seen_body l.body)
+abbrev pub invariant-add_body-loop-at : goal.invariant-add_body-loop-at
+invariant-add_body-loop-at l =
+    l.made ++ mentions (seen_body (drop l.at l.body.items)) ≡ l.fn.made ++ mentions (seen_body l.body.items)
 
 abbrev pub invariant-add_arms-loop-arm : goal.invariant-add_arms-loop-arm
 invariant-add_arms-loop-arm l =

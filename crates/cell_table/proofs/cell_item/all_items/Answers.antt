@@ -43,7 +43,7 @@ loop-at-preserved c =
     let made = c.in_ok-range_items.field-0 in
     let told = c.as_slice.result.now in
     let next = row-next ranges at c.index-ranges-at.result c.loop-at-test.true in
-    let tells : told ≡ mentions (seen_body one.body.now) =
+    let tells : told ≡ mentions (seen_body one.body.now.items) =
     c.as_slice.ensures ∙ c.index-told-at.is ∙ ap (λ ts. get_or ts at c.index-told-at.result) c.requires.told
     ∙ told-at ranges at c.index-ranges-at.result c.index-told-at.result c.loop-at-test.true in
     let last : AreAsked number c.args.first (length (kinds_of_row (take at seen))) (map seen_added one.added.now) (λ cell. first_arms cell told) made =

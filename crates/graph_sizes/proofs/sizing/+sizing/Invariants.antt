@@ -2,9 +2,9 @@ use Rattle.std.proofs.Common.{◌≡◌, ◌-◌, ◌^◌, min, take, sum_by}
 use Rattle.graph_sizes.specs.Parts.{arm_size, piece_size, within_size}
 use Rattle.graph_sizes.proofs.sizing.+sizing.Given as goal
 
-abbrev pub invariant-body_size-loop-piece : goal.invariant-body_size-loop-piece
-invariant-body_size-loop-piece l =
-    l.count ≡ min (sum_by piece_size (take l.piece-index l.body)) (2 ^ 64 - 1)
+abbrev pub invariant-body_size-loop-at : goal.invariant-body_size-loop-at
+invariant-body_size-loop-at l =
+    l.count ≡ min (sum_by piece_size (take l.at l.body.items)) (2 ^ 64 - 1)
 
 abbrev pub invariant-chosen_size-loop-arm : goal.invariant-chosen_size-loop-arm
 invariant-chosen_size-loop-arm l =

@@ -6,5 +6,5 @@ use Rattle.loop_rules.proofs.forms.form_arms.Goals as goal
 
 pub returns-else-arms-eq2 : goal.returns-else-arms-eq2
 returns-else-arms-eq2 c =
-    ways_other (seen_targets c.args.live.now) c.args.label (is_nothing (seen_body c.args.body.now)) c.args.arms.now
+    ways_other (seen_targets c.args.live.now) c.args.label (is_nothing (seen_body c.args.body.now.items)) c.args.arms.now
     c.if-arms-eq2.false

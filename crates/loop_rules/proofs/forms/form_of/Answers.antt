@@ -21,7 +21,6 @@ returns-in-If c =
     ∙ ap (tree body) (seen_pick c.in-Pick.by c.in-Pick.arms)
     ∙ ap (λ p. tree body (Pick (seen_picker p) arms)) c.in-If.is in
     c.form_arms.ensures
-    ∙ ap (λ b. ways targets label (is_nothing (seen_body b)) (seen_trees c.as_slice-in-If.result.now)) c.as_slice.ensures.value
-    ∙ ap (λ a. ways targets label (is_nothing body) (seen_trees a)) c.as_slice-in-If.ensures
+    ∙ ap (λ a. ways targets label (is_nothing body) (seen_trees a)) c.as_slice.ensures
     ∙ ways_are label targets body (seen_test c.in-If.field-0) arms
     ∙ ap (λ x. form_at (form_for label targets x)) (sym row)

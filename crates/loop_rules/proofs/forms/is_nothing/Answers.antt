@@ -1,6 +1,10 @@
-use Rattle.std.proofs.Common.{arith}
-use Rattle.loop_rules.proofs.FormRows.{some_body}
+use Rattle.std.proofs.Common.{◌≡◌, ◌==◌, length, ap, ◌∙◌, rules}
+use Rattle.std.specs.VecDeque.{deque_len}
+use Rattle.loop_rules.proofs.FormRows.{none_left}
 use Rattle.loop_rules.proofs.forms.is_nothing.Goals as goal
 
-pub returns-in_default : goal.returns-in_default
-returns-in_default c = some_body c.args.body.now (omega (arith, c.in_default.len_at_least))
+pub returns : goal.returns
+returns c =
+    let body = c.args.body.now in
+    let long : deque_len body ≡ length body.items = search rules in
+    c.is_empty.ensures ∙ ap (λ n. n == 0) long ∙ none_left body.items

@@ -13,4 +13,5 @@ returns c =
     ∙ ap (λ b. graph.tree b (seen_end c.args.end))
     (c.put_loop.ensures
     ∙ ap (λ x. followed (seen_body x.body.items) (alone (loop_by c.args.turning (seen_tree c.replace-body.result)))) c.replace-body.ensures.after
+    ∙ ap (λ l. followed (seen_body l) (alone (loop_by c.args.turning (seen_tree c.replace-body.result)))) c.from_vec.ensures.items
     ∙ ap (λ b. followed (seen_body c.args.before.items) (alone (loop_by c.args.turning (seen_tree b)))) c.replace-body.ensures.value)

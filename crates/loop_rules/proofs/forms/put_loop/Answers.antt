@@ -10,6 +10,6 @@ returns c =
     let old = c.args.pieces.now.items in
     let t = c.args.turning in
     let p = piece.Loop t.after t.turned t.test t.leaves c.args.body in
-    ap seen_body c.push_reserved.ensures.items
+    ap seen_body c.push_back_reserved.ensures.items
     ∙ seen_body-append old (p ∷ [])
     ∙ ap (λ s. followed (seen_body old) (alone s)) (seen_loop t.after t.turned t.test t.leaves c.args.body)

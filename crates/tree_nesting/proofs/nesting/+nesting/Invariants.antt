@@ -6,10 +6,10 @@ use Rattle.tree_nesting.specs.Nesting.{nesting, arms_nesting}
 use Rattle.tree_nesting.specs.Within.{arms_within}
 use Rattle.tree_nesting.proofs.nesting.+nesting.Given as goal
 
-abbrev pub invariant-body_nesting-loop-piece : goal.invariant-body_nesting-loop-piece
-invariant-body_nesting-loop-piece l =
-    max l.deep (min (nesting (seen_body (drop l.piece-index l.body))) (2 ^ 32 - 1))
-    ≡ min (nesting (seen_body l.body)) (2 ^ 32 - 1)
+abbrev pub invariant-body_nesting-loop-at : goal.invariant-body_nesting-loop-at
+invariant-body_nesting-loop-at l =
+    max l.deep (min (nesting (seen_body (drop l.at l.body.items))) (2 ^ 32 - 1))
+    ≡ min (nesting (seen_body l.body.items)) (2 ^ 32 - 1)
 
 abbrev pub invariant-chosen_nesting-loop-left : goal.invariant-chosen_nesting-loop-left
 invariant-chosen_nesting-loop-left l = record {

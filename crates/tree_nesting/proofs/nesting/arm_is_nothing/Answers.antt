@@ -7,5 +7,5 @@ use Rattle.tree_nesting.proofs.nesting.arm_is_nothing.Goals as goal
 pub returns : goal.returns
 returns c =
     c.both.ensures
-    ∙ ap₂ (λ a b. a && b) (c.is_nothing.ensures ∙ ap (λ l. is_nothing (seen_body l)) c.as_slice.ensures.value) c.last_is_nothing.ensures
+    ∙ ap₂ (λ a b. a && b) c.is_nothing.ensures c.last_is_nothing.ensures
     ∙ arm_nothing c.args.tree.now

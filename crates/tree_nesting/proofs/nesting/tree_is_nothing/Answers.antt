@@ -7,5 +7,5 @@ use Rattle.tree_nesting.proofs.nesting.tree_is_nothing.Goals as goal
 pub returns : goal.returns
 returns c =
     c.both.ensures
-    ∙ ap₂ (λ a b. a && b) (c.is_nothing.ensures ∙ ap (λ l. is_nothing (seen_body l)) c.as_slice.ensures.value) c.end_is_nothing.ensures
+    ∙ ap₂ (λ a b. a && b) c.is_nothing.ensures c.end_is_nothing.ensures
     ∙ tree_nothing c.args.leaves.now c.args.tree.now

@@ -12,6 +12,6 @@ returns c =
     ∙ ap (λ e. graph.tree (seen_body c.end_by.new.self.body.items) (seen_end e)) c.end_by.ensures.end
     ∙ ap (λ b. graph.tree b (seen_end c.args.end))
     (ap (λ v. seen_body v.items) c.end_by.ensures.body
-    ∙ ap seen_body c.push_reserved.ensures.items
+    ∙ ap seen_body c.push_back_reserved.ensures.items
     ∙ seen_body-append c.args.tree.now.body.items _
     ∙ ap (λ s. followed body (alone s)) (seen_choose c.args.by c.args.arms))

@@ -14,6 +14,11 @@ invariant_of-self-in-Some-take_out c =
     (sym c.get.ensures.value ∙ ap option_copied c.in-Some.is) t c.take_out.new.slots c.count_tree.new.slots
     c.in-Some-take_out.ensures c.count_tree.ensures).whole
 
+pub invariant_of-self : goal.invariant_of-self
+invariant_of-self c =
+    absurd (no_slot c.self.inside c.self.invariant c.args.label c.in-Some.key.now
+    (sym c.get.ensures.value ∙ ap option_copied c.in-Some.is) c.in-None-take_out.ensures.0)
+
 pub returns-in-None : goal.returns-in-None
 returns-in-None c = (
   ap (λ held. has_node (seen_work held).nodes c.args.label) (sym c.self.view_is)
