@@ -22,7 +22,7 @@ pub struct OwnRun {
 }
 
 /// The own run of the tree at the point before a place: it goes along the statements of this place's
-/// list alone. So all places together take no longer than the program, however long their trees are.
+/// list alone, however long the tree is.
 pub fn own_run(
     alloc: Global,
     spots: &[Spot<'_>],
