@@ -18,3 +18,5 @@ pub mod Countings
 pub mod Works
 -- nodes into slots, and back
 pub mod Fillings
+-- what trees within a loop are stated as
+pub mod Within

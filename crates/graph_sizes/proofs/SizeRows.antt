@@ -22,7 +22,7 @@ use Rattle.branch_tree.specs.declared.tree.Tree.{Tree}
 use Rattle.branch_tree.specs.Graphs.{seen_node, seen_nodes}
 use Rattle.branch_tree.specs.Trees.{seen_piece, seen_tree, seen_trees, seen_body, seen_end, jump_within, stated}
 use Rattle.branch_tree.proofs.TreeRows.{seen_tree_is, seen_own, seen_choose, seen_loop, seen_pick}
-use Rattle.tree_nesting.specs.Within.{end_within, arms_within}
+use Rattle.branch_tree.specs.Within.{end_within, arms_within}
 use Rattle.graph_sizes.specs.Parts.{arm_size, piece_size, unless, within_size}
 use Rattle.graph_sizes.specs.Sizes.{tree_size, end_size, trees_size, node_size}
 

@@ -5,7 +5,7 @@ ghost use Rattle.control_laws.specs.lowering.Completes.{sizes};
 ghost use Rattle.control_laws.specs.graph_rules.Shapes.{last_stmts};
 ghost use Rattle.branch_tree.specs.Graphs.{seen_graph, seen_node};
 ghost use Rattle.branch_tree.specs.Trees.{seen_end, seen_tree, jump_within, return_within};
-ghost use Rattle.tree_nesting.specs.Within.{end_within};
+ghost use Rattle.branch_tree.specs.Within.{end_within};
 ghost use Rattle.graph_sizes.specs.Parts.{arm_size, piece_size, unless, within_size};
 ghost use Rattle.graph_sizes.specs.Sizes.{tree_size, end_size, node_size, graph_size};
 

@@ -9,7 +9,7 @@ use Rattle.printable_programs.proofs.display_programs_lemmas.Free.{LabelIs, A_wo
 use Rattle.named_forms.specs.Giving.{Each}
 use Rattle.printable_programs.specs.Whole.{IfNamed, IsPrintableParagraph}
 use Rattle.procedure_names.specs.Procedures.{header_name, is_digit, is_number}
-use Rattle.statement_uses.proofs.WordLemmas.{word_is_capital}
+use Rattle.statement_grammar.proofs.WordLemmas.{word_is_capital}
 use Rattle.readable_procedures.specs.Names.{IsTitle, IfTitle, AreTitled}
 
 -- ---- digits are a word in capitals

@@ -1,3 +1,5 @@
+-- When a name is a word in capitals.
+pub mod WordLemmas
 -- The parts of statements are lawful.
 pub mod PartLaws
 -- A subject is compared as a side of a relation is.

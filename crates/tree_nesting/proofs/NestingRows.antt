@@ -16,7 +16,7 @@ use Rattle.tree_nesting.proofs.OwnAgrees.{stmt-agrees}
 use Rattle.control_laws.specs.closing.Dispatches.{set_to, number_in}
 use Rattle.branch_tree.specs.declared.tree.Piece.{Piece}
 use Rattle.tree_nesting.specs.Nesting.{leaves_out, is_nothing, arm_level, nesting, stmt_nesting, arms_nesting}
-use Rattle.tree_nesting.specs.Within.{end_within, arms_within}
+use Rattle.branch_tree.specs.Within.{end_within, arms_within}
 
 max_joined : (a b c : ℕ) → max a (max b c) ≡ max (max a b) c
 max_joined a b c = omega (arith)

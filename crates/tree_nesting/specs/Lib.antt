@@ -2,5 +2,3 @@
 pub mod Nesting
 -- the same of a statement of the program
 pub mod Own
--- what trees within a loop are stated as
-pub mod Within

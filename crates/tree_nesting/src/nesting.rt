@@ -6,7 +6,7 @@ ghost use Rattle.control_laws.specs.graph_rules.Shapes.{arms_stmts, arm_stmts, l
 ghost use Rattle.branch_tree.specs.Choosers.{seen_picker, seen_chooser};
 ghost use Rattle.branch_tree.specs.Trees.{seen_piece, seen_body, seen_end, seen_tree, seen_trees, jump_within, return_within, stated};
 ghost use Rattle.tree_nesting.specs.Nesting.{nesting, stmt_nesting, arms_nesting, arm_level, leaves_out, is_nothing};
-ghost use Rattle.tree_nesting.specs.Within.{end_within, arms_within};
+ghost use Rattle.branch_tree.specs.Within.{end_within, arms_within};
 
 use crate::own::own_nesting;
 use branch_tree::{Chooser, End, Label, Leaves, Picker, Piece, Tree};

@@ -1,7 +1,7 @@
 use Rattle.std.proofs.Common.{◌≡◌, ◌+◌, ◌-◌, ◌^◌, min, sum_by, ap, sym, ◌∙◌, arith}
 use Rattle.control_laws.specs.lowering.Completes.{sizes}
 use Rattle.branch_tree.specs.Trees.{seen_end}
-use Rattle.tree_nesting.specs.Within.{end_within}
+use Rattle.branch_tree.specs.Within.{end_within}
 use Rattle.graph_sizes.specs.Parts.{arm_size, piece_size, within_size}
 use Rattle.graph_sizes.proofs.SizeRows.{own_size, chosen_size, pick_within}
 use Rattle.graph_sizes.proofs.sizing.+sizing.Goals as goal

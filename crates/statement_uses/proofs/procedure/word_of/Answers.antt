@@ -1,6 +1,6 @@
 use Rattle.std.proofs.Common.{sym, ◌∙◌}
 use Rattle.std.proofs.lemmas.Slice.Eq.{bytes_eq-Decides}
-use Rattle.statement_uses.proofs.WordLemmas.{no_word, the_word}
+use Rattle.statement_grammar.proofs.WordLemmas.{no_word, the_word}
 use Rattle.statement_uses.proofs.procedure.word_of.Goals as goal
 
 pub returns-in-None : goal.returns-in-None

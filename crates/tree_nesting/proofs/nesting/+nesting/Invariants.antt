@@ -3,7 +3,7 @@ use Rattle.control_laws.specs.graph_rules.Shapes.{arms_stmts}
 use Rattle.branch_tree.specs.Choosers.{seen_picker}
 use Rattle.branch_tree.specs.Trees.{seen_body, seen_trees}
 use Rattle.tree_nesting.specs.Nesting.{nesting, arms_nesting}
-use Rattle.tree_nesting.specs.Within.{arms_within}
+use Rattle.branch_tree.specs.Within.{arms_within}
 use Rattle.tree_nesting.proofs.nesting.+nesting.Given as goal
 
 abbrev pub invariant-body_nesting-loop-at : goal.invariant-body_nesting-loop-at
