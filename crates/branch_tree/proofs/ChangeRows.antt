@@ -6,13 +6,13 @@ use Rattle.std.specs.BTreeMap as map
 use Rattle.std.proofs.lemmas.Bool.Decides.{eqb_tells}
 use Rattle.slab.specs.Slab.{Slab, get}
 use Rattle.slab.specs.Slab as slab
-use Rattle.control.specs.Doing.{is_above}
-use Rattle.control.specs.Graph.{Label, Tree}
-use Rattle.control_laws.specs.graph_rules.Shapes.{leaves_to}
-use Rattle.control_laws.specs.graph_rules.Reduced.{Node, Graph, tree_in, has_node, without, with_tree, all_leaves_to}
-use Rattle.control_laws.specs.closing.Dispatches.{Rising, labels_of}
-use Rattle.control_laws.proofs.closing_lemmas.closing.Closes.{rising-above}
-use Rattle.control_laws.proofs.graph_rules_lemmas.shapes.Reducing.{with-other, without-in}
+use Rattle.control_flow_theory.specs.semantics.Doing.{is_above}
+use Rattle.control_flow_theory.specs.semantics.Graph.{Label, Tree}
+use Rattle.control_flow_theory.specs.graph_rules.Shapes.{leaves_to}
+use Rattle.control_flow_theory.specs.graph_rules.Reduced.{Node, Graph, tree_in, has_node, without, with_tree, all_leaves_to}
+use Rattle.control_flow_theory.specs.closing.Dispatches.{Rising, labels_of}
+use Rattle.control_flow_theory.proofs.closing_lemmas.closing.Closes.{rising-above}
+use Rattle.control_flow_theory.proofs.graph_rules_lemmas.shapes.Reducing.{with-other, without-in}
 use Rattle.branch_tree.specs.Trees.{seen_tree}
 use Rattle.branch_tree.specs.Sounds.{IsSound, bare, Fits}
 use Rattle.branch_tree.specs.Countings.{Stands, Holds, turned, Rewrites}

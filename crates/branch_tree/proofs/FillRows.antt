@@ -11,14 +11,14 @@ use Rattle.std.proofs.lemmas.List.{map-append, take_all}
 use Rattle.std.proofs.lemmas.Bool.Decides.{eqb_tells}
 use Rattle.slab.specs.Slab.{Slab, get}
 use Rattle.slab.specs.Slab as slab
-use Rattle.control.specs.Doing.{is_above}
-use Rattle.control.specs.Graph.{Label, Tree, tree, End, Pick, Jump, Return, Stop, Dead, Trees, no_more, more}
-use Rattle.control_laws.specs.graph_rules.Shapes.{leaves_to, end_leaves_to, arms_leaves_to}
-use Rattle.control_laws.specs.graph_rules.Reduced.{Node, Graph, has_node, tree_in, all_leaves_to}
-use Rattle.control_laws.specs.closing.Dispatches.{Rising, labels_of, Numbered, LeavesTree, LeavesEnd, LeavesTrees}
-use Rattle.control_laws.specs.closing.Closes.{AllNumbered, IsClosed}
-use Rattle.control_laws.proofs.closing_lemmas.closing.Closes.{AllAbove, rising-above}
-use Rattle.control_laws.proofs.closing_lemmas.gathering.Targets.{numbered-cases}
+use Rattle.control_flow_theory.specs.semantics.Doing.{is_above}
+use Rattle.control_flow_theory.specs.semantics.Graph.{Label, Tree, tree, End, Pick, Jump, Return, Stop, Dead, Trees, no_more, more}
+use Rattle.control_flow_theory.specs.graph_rules.Shapes.{leaves_to, end_leaves_to, arms_leaves_to}
+use Rattle.control_flow_theory.specs.graph_rules.Reduced.{Node, Graph, has_node, tree_in, all_leaves_to}
+use Rattle.control_flow_theory.specs.closing.Dispatches.{Rising, labels_of, Numbered, LeavesTree, LeavesEnd, LeavesTrees}
+use Rattle.control_flow_theory.specs.closing.Closes.{AllNumbered, IsClosed}
+use Rattle.control_flow_theory.proofs.closing_lemmas.closing.Closes.{AllAbove, rising-above}
+use Rattle.control_flow_theory.proofs.closing_lemmas.gathering.Targets.{numbered-cases}
 use Rattle.branch_tree.specs.Trees.{seen_tree}
 use Rattle.branch_tree.specs.Graphs.{seen_node, seen_nodes}
 use Rattle.branch_tree.specs.Sounds.{IsSound, bare}

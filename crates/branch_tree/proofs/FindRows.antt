@@ -2,11 +2,11 @@
 use Rattle.std.proofs.Common.{◌≡◌, suc, List, [], ◌∷◌, length, Option, Some, None, Result, Ok, Err, IfOk, refl, ap, sym, ◌∙◌, subst}
 use Rattle.std.specs.Map.{keys_of}
 use Rattle.std.proofs.lemmas.List.{length-map}
-use Rattle.control.specs.Doing.{is_above}
-use Rattle.control.specs.Graph.{Label}
-use Rattle.control_laws.specs.graph_rules.Shapes.{leaves_to}
-use Rattle.control_laws.specs.graph_rules.Reduced.{Node, size}
-use Rattle.control_laws.specs.closing.Dispatches.{labels_of}
+use Rattle.control_flow_theory.specs.semantics.Doing.{is_above}
+use Rattle.control_flow_theory.specs.semantics.Graph.{Label}
+use Rattle.control_flow_theory.specs.graph_rules.Shapes.{leaves_to}
+use Rattle.control_flow_theory.specs.graph_rules.Reduced.{Node, size}
+use Rattle.control_flow_theory.specs.closing.Dispatches.{labels_of}
 use Rattle.branch_tree.specs.Helds.{Held, seen_work}
 use Rattle.branch_tree.specs.Sounds.{Source}
 use Rattle.branch_tree.specs.Works.{held_of, IsWhole, JumpsFrom, AnySource}

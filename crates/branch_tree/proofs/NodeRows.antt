@@ -2,14 +2,14 @@
 use Rattle.std.proofs.Common.{◌≡◌, ◌≢◌, ◌<◌, ◌+◌, true, false, if◌then◌else◌, ◌==◌, List, [], ◌∷◌, refl, ap, sym, ◌∙◌, subst, arith, inl, inr}
 use Rattle.std.proofs.lemmas.Bool.{eq-eqb}
 use Rattle.std.proofs.lemmas.Bool.Decides.{eqb_tells}
-use Rattle.language.specs.Language.{none}
-use Rattle.control.specs.Graph.{Label, Tree, tree, Dead}
-use Rattle.control_laws.specs.graph_rules.Shapes.{leaves_to}
-use Rattle.control_laws.specs.graph_rules.Reduced.{Node, tree_in, has_node, without, with_tree, all_leaves_to}
-use Rattle.control_laws.specs.closing.Dispatches.{Rising, labels_of}
-use Rattle.control_laws.specs.closing.Targets.{RisingLabels}
-use Rattle.control_laws.proofs.closing_lemmas.closing.Closes.{AllAbove, rising-above}
-use Rattle.control_laws.proofs.closing_lemmas.closing.StayClosed.{with-labels, by-labels, from-labels}
+use Rattle.control_flow_theory.specs.language.Language.{none}
+use Rattle.control_flow_theory.specs.semantics.Graph.{Label, Tree, tree, Dead}
+use Rattle.control_flow_theory.specs.graph_rules.Shapes.{leaves_to}
+use Rattle.control_flow_theory.specs.graph_rules.Reduced.{Node, tree_in, has_node, without, with_tree, all_leaves_to}
+use Rattle.control_flow_theory.specs.closing.Dispatches.{Rising, labels_of}
+use Rattle.control_flow_theory.specs.closing.Targets.{RisingLabels}
+use Rattle.control_flow_theory.proofs.closing_lemmas.closing.Closes.{AllAbove, rising-above}
+use Rattle.control_flow_theory.proofs.closing_lemmas.closing.StayClosed.{with-labels, by-labels, from-labels}
 
 same : (label : Label) → (label == label) ≡ true
 same label = eq-eqb label label refl

@@ -5,16 +5,16 @@ use Rattle.std.specs.BTreeMap.{BTreeMap, IsOrdered, is_at, Updates}
 use Rattle.std.specs.BTreeMap as map
 use Rattle.slab.specs.Slab.{Slab, get}
 use Rattle.slab.specs.Slab as slab
-use Rattle.control.specs.Graph.{Label, Tree}
-use Rattle.control_laws.specs.graph_rules.Shapes.{leaves_to}
-use Rattle.control_laws.specs.graph_rules.Reduced.{Node, Graph, tree_in, has_node, without, with_tree, all_leaves_to}
-use Rattle.control_laws.specs.closing.Dispatches.{labels_of}
-use Rattle.control_laws.proofs.closing_lemmas.closing.StayClosed.{with-labels}
+use Rattle.control_flow_theory.specs.semantics.Graph.{Label, Tree}
+use Rattle.control_flow_theory.specs.graph_rules.Shapes.{leaves_to}
+use Rattle.control_flow_theory.specs.graph_rules.Reduced.{Node, Graph, tree_in, has_node, without, with_tree, all_leaves_to}
+use Rattle.control_flow_theory.specs.closing.Dispatches.{labels_of}
+use Rattle.control_flow_theory.proofs.closing_lemmas.closing.StayClosed.{with-labels}
 use Rattle.branch_tree.specs.Trees.{seen_tree}
 use Rattle.branch_tree.specs.Helds.{Held, seen_work}
 use Rattle.branch_tree.specs.Sounds.{IsSound, bare, Fits, WithNodes}
 use Rattle.branch_tree.specs.Countings.{Holds, turned, Counts, TakesOut, PutsIn}
-use Rattle.control_laws.specs.closing.Closes.{IsClosed}
+use Rattle.control_flow_theory.specs.closing.Closes.{IsClosed}
 use Rattle.branch_tree.specs.Fillings.{Filled, NoneFull}
 use Rattle.branch_tree.proofs.FillRows.{sound_filled, exact}
 use Rattle.branch_tree.specs.Works.{held_of, IsWhole}

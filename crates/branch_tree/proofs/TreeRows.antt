@@ -1,12 +1,12 @@
 -- Trees, seen row by row.
 use Rattle.std.proofs.Common.{◌≡◌, ℕ, Bool, List, [], ◌∷◌, ◌++◌, refl, ap, sym, ◌∙◌}
 use Rattle.cob_tree.specs.declared.stmt.Stmt.{Stmt}
-use Rattle.language.specs.Control.{stmts_of}
-use Rattle.language.specs.Control as seen_as
-use Rattle.language.specs.Language as language
-use Rattle.control.specs.Graph as graph
-use Rattle.control_laws.specs.graph_rules.Loops.{turned_test}
-use Rattle.control_laws.specs.graph_rules.Shapes.{followed, arms_stmts}
+use Rattle.control_flow_theory.specs.language.Control.{stmts_of}
+use Rattle.control_flow_theory.specs.language.Control as seen_as
+use Rattle.control_flow_theory.specs.language.Language as language
+use Rattle.control_flow_theory.specs.semantics.Graph as graph
+use Rattle.control_flow_theory.specs.graph_rules.Loops.{turned_test}
+use Rattle.control_flow_theory.specs.graph_rules.Shapes.{followed, arms_stmts}
 use Rattle.branch_tree.specs.Choosers.{seen_test, seen_picker}
 use Rattle.branch_tree.specs.declared.chooser.Picker.{Picker}
 use Rattle.branch_tree.specs.declared.chooser.Test.{Test}

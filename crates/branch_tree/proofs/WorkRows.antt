@@ -11,10 +11,10 @@ use Rattle.std.proofs.lemmas.Bool.{cases_lt}
 use Rattle.std.proofs.lemmas.Bool.Decides.{eqb_tells}
 use Rattle.std.proofs.lemmas.Map.Views.{All-found}
 use Rattle.slab.specs.Slab.{Slab, get}
-use Rattle.control.specs.Doing.{is_above}
-use Rattle.control.specs.Graph.{Label, Tree}
-use Rattle.control_laws.specs.graph_rules.Reduced.{Node, Graph, tree_in, has_node, all_leaves_to}
-use Rattle.control_laws.specs.closing.Dispatches.{Rising, labels_of}
+use Rattle.control_flow_theory.specs.semantics.Doing.{is_above}
+use Rattle.control_flow_theory.specs.semantics.Graph.{Label, Tree}
+use Rattle.control_flow_theory.specs.graph_rules.Reduced.{Node, Graph, tree_in, has_node, all_leaves_to}
+use Rattle.control_flow_theory.specs.closing.Dispatches.{Rising, labels_of}
 use Rattle.branch_tree.specs.Trees.{seen_tree}
 use Rattle.branch_tree.specs.Graphs.{seen_nodes}
 use Rattle.branch_tree.specs.Sounds.{IsSound}

@@ -1,7 +1,7 @@
 -- What calls make of trees.
 use Rattle.std.specs.Prelude.{◌≡◌, Option, Some, None}
-use Rattle.control.specs.Graph.{Tree, tree, body_of, end_of}
-use Rattle.control_laws.specs.graph_rules.Shapes.{followed}
+use Rattle.control_flow_theory.specs.semantics.Graph.{Tree, tree, body_of, end_of}
+use Rattle.control_flow_theory.specs.graph_rules.Shapes.{followed}
 use Rattle.branch_tree.specs.Trees.{seen_tree}
 use Rattle.branch_tree.specs.declared.tree.Tree as code
 

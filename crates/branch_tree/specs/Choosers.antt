@@ -1,6 +1,6 @@
 -- What trees choose and loops test by, as the theory has it.
-use Rattle.language.specs.Control.{test_of}
-use Rattle.language.specs.Language as language
+use Rattle.control_flow_theory.specs.language.Control.{test_of}
+use Rattle.control_flow_theory.specs.language.Language as language
 use Rattle.branch_tree.specs.declared.chooser.Test.{Test}
 use Rattle.branch_tree.specs.declared.chooser.Test.TheVariants as test
 use Rattle.branch_tree.specs.declared.chooser.Chooser.{Chooser}

@@ -4,7 +4,7 @@ use Rattle.std.specs.Ordering.{nat_cmp}
 use Rattle.std.specs.BTreeMap.{BTreeMap}
 use Rattle.std.specs.BTreeMap as map
 use Rattle.slab.specs.Slab.{Slab, get}
-use Rattle.control.specs.Graph.{Label, Tree}
+use Rattle.control_flow_theory.specs.semantics.Graph.{Label, Tree}
 use Rattle.branch_tree.specs.Trees.{seen_tree}
 use Rattle.branch_tree.specs.Sounds.{bare}
 use Rattle.branch_tree.specs.declared.tree.Tree as code

@@ -5,10 +5,10 @@ use Rattle.std.specs.Map.{keys_of}
 use Rattle.std.specs.BTreeMap.{BTreeMap, IsOrdered, insert_entry, Updates}
 use Rattle.slab.specs.Slab.{Slab, get}
 use Rattle.slab.specs.Slab as slab
-use Rattle.control.specs.Graph.{Label, Tree}
-use Rattle.control_laws.specs.graph_rules.Shapes.{leaves_to}
-use Rattle.control_laws.specs.graph_rules.Reduced.{Node, has_node, tree_in, all_leaves_to}
-use Rattle.control_laws.specs.closing.Dispatches.{labels_of}
+use Rattle.control_flow_theory.specs.semantics.Graph.{Label, Tree}
+use Rattle.control_flow_theory.specs.graph_rules.Shapes.{leaves_to}
+use Rattle.control_flow_theory.specs.graph_rules.Reduced.{Node, has_node, tree_in, all_leaves_to}
+use Rattle.control_flow_theory.specs.closing.Dispatches.{labels_of}
 use Rattle.branch_tree.specs.Trees.{seen_tree}
 use Rattle.branch_tree.specs.Sounds.{bare}
 use Rattle.branch_tree.specs.Countings.{Holds, turned}

@@ -1,7 +1,7 @@
 -- Graphs, seen as the graphs of the theory of control.
 use Rattle.std.specs.Prelude.{List, map}
-use Rattle.control_laws.specs.graph_rules.Families as families
-use Rattle.control_laws.specs.graph_rules.Reduced as reduced
+use Rattle.control_flow_theory.specs.graph_rules.Families as families
+use Rattle.control_flow_theory.specs.graph_rules.Reduced as reduced
 use Rattle.branch_tree.specs.Trees.{seen_tree}
 use Rattle.branch_tree.specs.declared.graph.Node.{Node}
 use Rattle.branch_tree.specs.declared.graph.Graph.{Graph}

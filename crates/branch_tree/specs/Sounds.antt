@@ -1,12 +1,12 @@
 -- What holds of a graph while it is rewritten, and how it changes.
 use Rattle.std.specs.Prelude.{◌≡◌, ◌+◌, ◌<◌, ◌^◌, true, false, List, Option, Some, None}
 use Rattle.std.specs.Borrow.{Bor}
-use Rattle.language.specs.Language.{none}
-use Rattle.control.specs.Doing.{is_above}
-use Rattle.control.specs.Graph.{Label, Tree, tree, Dead}
-use Rattle.control_laws.specs.closing.Dispatches.{Rising}
-use Rattle.control_laws.specs.graph_rules.Shapes.{leaves_to}
-use Rattle.control_laws.specs.graph_rules.Reduced.{Node, Graph, has_node, tree_in, with_tree, all_leaves_to}
+use Rattle.control_flow_theory.specs.language.Language.{none}
+use Rattle.control_flow_theory.specs.semantics.Doing.{is_above}
+use Rattle.control_flow_theory.specs.semantics.Graph.{Label, Tree, tree, Dead}
+use Rattle.control_flow_theory.specs.closing.Dispatches.{Rising}
+use Rattle.control_flow_theory.specs.graph_rules.Shapes.{leaves_to}
+use Rattle.control_flow_theory.specs.graph_rules.Reduced.{Node, Graph, has_node, tree_in, with_tree, all_leaves_to}
 use Rattle.branch_tree.specs.Trees.{seen_tree}
 use Rattle.branch_tree.specs.Graphs.{seen_nodes}
 use Rattle.branch_tree.specs.Helds.{Held}

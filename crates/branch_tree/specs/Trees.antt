@@ -1,14 +1,14 @@
 -- Trees, seen as the trees of the theory of control.
 use Rattle.std.specs.Prelude.{suc, List, [], ◌∷◌, map}
-use Rattle.language.specs.Control.{seen, stmts_of}
-use Rattle.language.specs.Language.{Set, Take, Lower, Do, Choose, Loop, Until, Nested, Stmts, none}
-use Rattle.language.specs.Language as language
-use Rattle.control.specs.Graph.{Label}
-use Rattle.control.specs.Graph as graph
-use Rattle.control_laws.specs.graph_rules.Loops.{turned_test}
-use Rattle.control_laws.specs.graph_rules.Shapes.{arms_stmts}
-use Rattle.control_laws.specs.closing.Closes.{none_left_out}
-use Rattle.control_laws.specs.closing.Dispatches.{stated_tree, flag_jump, exit_jump, state_jump, set_to, length_of}
+use Rattle.control_flow_theory.specs.language.Control.{seen, stmts_of}
+use Rattle.control_flow_theory.specs.language.Language.{Set, Take, Lower, Do, Choose, Loop, Until, Nested, Stmts, none}
+use Rattle.control_flow_theory.specs.language.Language as language
+use Rattle.control_flow_theory.specs.semantics.Graph.{Label}
+use Rattle.control_flow_theory.specs.semantics.Graph as graph
+use Rattle.control_flow_theory.specs.graph_rules.Loops.{turned_test}
+use Rattle.control_flow_theory.specs.graph_rules.Shapes.{arms_stmts}
+use Rattle.control_flow_theory.specs.closing.Closes.{none_left_out}
+use Rattle.control_flow_theory.specs.closing.Dispatches.{stated_tree, flag_jump, exit_jump, state_jump, set_to, length_of}
 use Rattle.branch_tree.specs.Choosers.{seen_test, seen_picker}
 use Rattle.branch_tree.specs.declared.tree.Leaves.{Leaves}
 use Rattle.branch_tree.specs.declared.tree.Leaves.TheVariants as leaves

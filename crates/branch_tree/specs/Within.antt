@@ -1,9 +1,9 @@
 -- What trees within a loop are stated as.
 use Rattle.std.specs.Prelude.{ℕ}
-use Rattle.language.specs.Language.{Picker, Stmts, Arms}
-use Rattle.control.specs.Graph.{End, Trees}
-use Rattle.control_laws.specs.closing.Closes.{none_left_out}
-use Rattle.control_laws.specs.closing.Dispatches.{stated_end, stated_arms}
+use Rattle.control_flow_theory.specs.language.Language.{Picker, Stmts, Arms}
+use Rattle.control_flow_theory.specs.semantics.Graph.{End, Trees}
+use Rattle.control_flow_theory.specs.closing.Closes.{none_left_out}
+use Rattle.control_flow_theory.specs.closing.Dispatches.{stated_end, stated_arms}
 use Rattle.branch_tree.specs.declared.tree.Leaves.{Leaves}
 use Rattle.branch_tree.specs.Trees.{jump_within, return_within}
 

@@ -1,7 +1,7 @@
 //! The counts of the leaves that jump to nodes, as trees come and go.
 
 ghost use Rattle.std.specs.Prelude.{◌≡◌};
-ghost use Rattle.control_laws.specs.graph_rules.Shapes.{leaves_to, arms_leaves_to};
+ghost use Rattle.control_flow_theory.specs.graph_rules.Shapes.{leaves_to, arms_leaves_to};
 ghost use Rattle.branch_tree.specs.Trees.{seen_tree, seen_trees};
 ghost use Rattle.branch_tree.specs.Countings.{turned, once_at, Counts};
 

@@ -4,7 +4,7 @@ ghost use Rattle.std.specs.Prelude.{◌≡◌, [], OnOk, IfOk};
 ghost use Rattle.std.specs.Bool.{OnTrue};
 ghost use Rattle.std.specs.Ordering.{nat_cmp};
 ghost use Rattle.std.specs.BTreeMap.{IsOrdered};
-ghost use Rattle.control_laws.specs.closing.Dispatches.{Rising};
+ghost use Rattle.control_flow_theory.specs.closing.Dispatches.{Rising};
 ghost use Rattle.branch_tree.specs.Trees.{seen_tree};
 ghost use Rattle.branch_tree.specs.Graphs.{seen_nodes};
 ghost use Rattle.branch_tree.specs.Works.{nodes_by};

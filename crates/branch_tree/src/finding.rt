@@ -2,8 +2,8 @@
 
 ghost use Rattle.std.specs.Prelude.{◌≡◌, length, IfOk, IfSome};
 ghost use Rattle.std.specs.Map.{keys_of};
-ghost use Rattle.control_laws.specs.graph_rules.Reduced.{size};
-ghost use Rattle.control_laws.specs.closing.Dispatches.{labels_of};
+ghost use Rattle.control_flow_theory.specs.graph_rules.Reduced.{size};
+ghost use Rattle.control_flow_theory.specs.closing.Dispatches.{labels_of};
 ghost use Rattle.branch_tree.specs.Graphs.{seen_nodes};
 ghost use Rattle.branch_tree.specs.Sounds.{Source};
 ghost use Rattle.branch_tree.specs.Works.{JumpsFrom, AnySource};

@@ -1,9 +1,9 @@
 //! Which labels a tree jumps to.
 
 ghost use Rattle.std.specs.Prelude.{◌≡◌, ◌-◌, ◌^◌, min};
-ghost use Rattle.control.specs.Doing.{is_above};
-ghost use Rattle.control_laws.specs.graph_rules.Shapes.{leaves_to, arms_leaves_to};
-ghost use Rattle.control_laws.specs.graph_rules.Reduced.{all_leaves_to};
+ghost use Rattle.control_flow_theory.specs.semantics.Doing.{is_above};
+ghost use Rattle.control_flow_theory.specs.graph_rules.Shapes.{leaves_to, arms_leaves_to};
+ghost use Rattle.control_flow_theory.specs.graph_rules.Reduced.{all_leaves_to};
 ghost use Rattle.branch_tree.specs.Trees.{seen_tree, seen_trees};
 ghost use Rattle.branch_tree.specs.Graphs.{seen_nodes};
 

@@ -2,7 +2,7 @@
 
 ghost use Rattle.std.specs.Prelude.{◌≡◌, ◌≢◌, ◌<◌, ◌++◌, ◌∷◌, [], true, OnOk};
 ghost use Rattle.std.specs.Vec.{vec_len, vec_capacity};
-ghost use Rattle.control_laws.specs.graph_rules.Reduced.{has_node, tree_in, without, with_tree, all_leaves_to};
+ghost use Rattle.control_flow_theory.specs.graph_rules.Reduced.{has_node, tree_in, without, with_tree, all_leaves_to};
 ghost use Rattle.branch_tree.specs.Trees.{seen_tree};
 ghost use Rattle.branch_tree.specs.Graphs.{seen_nodes};
 ghost use Rattle.branch_tree.specs.Helds.{seen_work};

@@ -1,7 +1,7 @@
 //! Graphs while the rules rewrite them.
 
 ghost use Rattle.std.specs.Prelude.{◌≡◌};
-ghost use Rattle.control_laws.specs.graph_rules.Reduced.{all_leaves_to};
+ghost use Rattle.control_flow_theory.specs.graph_rules.Reduced.{all_leaves_to};
 ghost use Rattle.branch_tree.specs.Helds.{seen_work};
 ghost use Rattle.branch_tree.specs.Sounds.{IsSound, NodeAt};
 

@@ -1,7 +1,7 @@
 //! A graph that is to be rewritten, and that was.
 
 ghost use Rattle.std.specs.Prelude.{◌≡◌, IfOk};
-ghost use Rattle.control_laws.specs.closing.Closes.{IsClosed};
+ghost use Rattle.control_flow_theory.specs.closing.Closes.{IsClosed};
 ghost use Rattle.branch_tree.specs.Graphs.{seen_graph};
 ghost use Rattle.branch_tree.specs.Helds.{seen_work};
 

@@ -4,7 +4,7 @@ use Rattle.cob_tree.specs.declared.stmt.Stmt.{Stmt, out-Stmt}
 use Rattle.cob_tree.specs.declared.stmt.Stmt.TheOpen.{Stmt-F}
 use Rattle.cob_store.specs.Store.{Roots}
 use Rattle.file_model.specs.World.{World, Display}
-use Rattle.statements.specs.Filing as files
+use Rattle.meanings.specs.statements.Filing as files
 use Rattle.cob_act.specs.declared.acting.Done.{Done}
 use Rattle.cob_act.specs.declared.acting.Done.TheVariants.{Went, Shown, Chose, Abended}
 

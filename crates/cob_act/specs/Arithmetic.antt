@@ -1,7 +1,7 @@
 -- What is worked out before the receivers, as the code holds it.
 use Rattle.std.specs.Prelude.{Ok, Err}
 use Rattle.cob_store.specs.Answer.{Answer}
-use Rattle.statements.specs.Arithmetic as sums
+use Rattle.meanings.specs.statements.Arithmetic as sums
 use Rattle.cob_act.specs.declared.arithmetic.Basis.{Basis}
 use Rattle.cob_act.specs.declared.arithmetic.Basis.TheVariants.{Given, Quotient, Plus, Less, Times, Over}
 

@@ -1,7 +1,7 @@
 -- What is asked of the arms of EVALUATE, as the code holds it.
 use Rattle.std.specs.Prelude.{Ok, Err}
 use Rattle.cob_store.specs.Answer.{Answer}
-use Rattle.statements.specs.Choice as choices
+use Rattle.meanings.specs.statements.Choice as choices
 use Rattle.cob_act.specs.declared.choice.Asked.{Asked}
 use Rattle.cob_act.specs.declared.choice.Asked.TheVariants.{Truth, Beside}
 use Rattle.cob_act.specs.Side.{seen}

@@ -10,3 +10,5 @@ pub mod Arithmetic
 pub mod Choice
 -- what a statement did
 pub mod Acting
+-- Statements on files, done over devices (ISO 1989:1985, Sequential I-O).
+pub mod files

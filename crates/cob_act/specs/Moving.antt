@@ -2,8 +2,8 @@
 use Rattle.std.specs.Prelude.{Ok, Err}
 use Rattle.cob_store.specs.Answer.{Answer}
 use Rattle.cob_store.specs.Store.{Roots}
-use Rattle.statements.specs.Outcome.{Outcome}
-use Rattle.statements.specs.Moving as moves
+use Rattle.meanings.specs.statements.Outcome.{Outcome}
+use Rattle.meanings.specs.statements.Moving as moves
 use Rattle.cob_act.specs.declared.moving.Sender.{Sender}
 use Rattle.cob_act.specs.declared.moving.Sender.TheVariants.{Figured, Grouped, Spelled, Written, Counted}
 

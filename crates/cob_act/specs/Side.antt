@@ -1,7 +1,7 @@
 -- Sides of a comparison as the code holds them.
 use Rattle.std.specs.Prelude.{Ok, Err}
 use Rattle.cob_store.specs.Answer.{Answer}
-use Rattle.statements.specs.Side as sides
+use Rattle.meanings.specs.statements.Side as sides
 use Rattle.cob_act.specs.declared.side.Side.{Side}
 use Rattle.cob_act.specs.declared.side.Side.TheVariants.{Amount, Literal, Item, Nought, Bytes, Filler}
 

@@ -2,7 +2,7 @@
 
 ghost use Rattle.std.specs.Prelude.{◌≡◌, ℕ, List, [], IfOk, IsTrue};
 ghost use Rattle.file_model.specs.World.{World};
-ghost use Rattle.statements.specs.Does.{chooses, declared_with, does, has_arms, of_moves, of_sum, shows};
+ghost use Rattle.meanings.specs.statements.Does.{chooses, declared_with, does, has_arms, of_moves, of_sum, shows};
 ghost use Rattle.cob_act.specs.Acting.{effect_by, is_inner};
 ghost use Rattle.cob_act.specs.Display.{with_bytes};
 ghost use Rattle.cob_act.specs.Moving.{outcome_of};

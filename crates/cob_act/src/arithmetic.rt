@@ -4,7 +4,7 @@ ghost use Rattle.std.specs.Prelude.{◌≡◌, ◌∷◌, [], false, Ok};
 ghost use Rattle.cob_tree.specs.declared.calc.Calc.TheVariants.{Add};
 ghost use Rattle.cob_num.specs.Exact.{difference_of, product_of, sum_of};
 ghost use Rattle.cob_store.specs.Place.{memory_of, number_at};
-ghost use Rattle.statements.specs.Arithmetic.{basis_of, both, calculated, divided, given, part_of, stored_in, summed, targeted, value_for};
+ghost use Rattle.meanings.specs.statements.Arithmetic.{basis_of, both, calculated, divided, given, part_of, stored_in, summed, targeted, value_for};
 ghost use Rattle.cob_act.specs.Arithmetic.{seen_basis, seen_read};
 ghost use Rattle.cob_act.specs.Moving.{outcome_of};
 

@@ -3,7 +3,7 @@
 ghost use Rattle.std.specs.Prelude.{◌≡◌, map};
 ghost use Rattle.cob_tree.specs.declared.stmt.When.{out-When};
 ghost use Rattle.cob_store.specs.Place.{memory_of};
-ghost use Rattle.statements.specs.Choice.{asked, evaluated, if_chosen, in_range, one_holds, same_truth, test_holds};
+ghost use Rattle.meanings.specs.statements.Choice.{asked, evaluated, if_chosen, in_range, one_holds, same_truth, test_holds};
 ghost use Rattle.cob_act.specs.Choice.{seen_asked, seen_subject};
 ghost use Rattle.cob_act.specs.Side.{seen};
 

@@ -4,7 +4,7 @@ ghost use Rattle.std.specs.Prelude.{◌≡◌, option_copied, slice_get};
 ghost use Rattle.std.specs.List.{list_all};
 ghost use Rattle.cob_tree.specs.Digits.{is_digit};
 ghost use Rattle.cob_store.specs.Place.{memory_of};
-ghost use Rattle.statements.specs.Condition.{has_sign, holds, in_span, in_spans, is_alphabetic, is_number, is_of_class, named, rel_holds, relation, spans_of, turned};
+ghost use Rattle.meanings.specs.statements.Condition.{has_sign, holds, in_span, in_spans, is_alphabetic, is_number, is_of_class, named, rel_holds, relation, spans_of, turned};
 ghost use Rattle.cob_act.specs.Side.{seen};
 
 use crate::side::{Side, compared, expr_side, operand_side, place_side, side_bytes, valued};

@@ -3,8 +3,8 @@
 ghost use Rattle.std.specs.Prelude.{◌≡◌, ◌++◌, IfOk, OnOk, [], Ok};
 ghost use Rattle.cob_store.specs.Answer.{and_then};
 ghost use Rattle.cob_store.specs.Place.{memory_of};
-ghost use Rattle.statements.specs.Display.{displayed, operand_shown};
-ghost use Rattle.statements.specs.Text.{pointed, printed_number};
+ghost use Rattle.meanings.specs.statements.Display.{displayed, operand_shown};
+ghost use Rattle.meanings.specs.statements.Text.{pointed, printed_number};
 ghost use Rattle.cob_act.specs.Display.{with_bytes};
 
 use cob_base::{NoMemory, Text};

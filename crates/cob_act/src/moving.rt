@@ -3,8 +3,8 @@
 ghost use Rattle.std.specs.Prelude.{◌≡◌, ◌-◌, IfOk, length};
 ghost use Rattle.cob_store.specs.Store.{fitted, put_at};
 ghost use Rattle.cob_store.specs.Place.{reached};
-ghost use Rattle.statements.specs.Moving.{all_groups, moved, form_of, is_group, digits_of, none_is_bad, number_received, put_answer, receive, received, sender_bytes, sender_number, sender_text, sent, set, text_number};
-ghost use Rattle.statements.specs.Outcome.{each};
+ghost use Rattle.meanings.specs.statements.Moving.{all_groups, moved, form_of, is_group, digits_of, none_is_bad, number_received, put_answer, receive, received, sender_bytes, sender_number, sender_text, sent, set, text_number};
+ghost use Rattle.meanings.specs.statements.Outcome.{each};
 ghost use Rattle.cob_act.specs.Moving.{outcome_of, seen_sender, seen_sent};
 
 use crate::condition::spans_at;

@@ -2,7 +2,7 @@
 
 ghost use Rattle.std.specs.Prelude.{◌≡◌};
 ghost use Rattle.cob_store.specs.Place.{memory_of};
-ghost use Rattle.statements.specs.Side.{bytes_compared, compared, expr_side, filler_of, is_numeric, numbers_compared, operand_side, side_bytes, texts_compared, place_side, side_number, valued};
+ghost use Rattle.meanings.specs.statements.Side.{bytes_compared, compared, expr_side, filler_of, is_numeric, numbers_compared, operand_side, side_bytes, texts_compared, place_side, side_number, valued};
 ghost use Rattle.cob_act.specs.Side.{seen, seen_answer};
 
 use crate::text::{byte_order, filler_order, literal_order, order_filler, text_order};

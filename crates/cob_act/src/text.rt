@@ -1,7 +1,7 @@
 //! Texts beside one another.
 
 ghost use Rattle.std.specs.Prelude.{◌≡◌, ◌++◌, drop, length, replicate, take};
-ghost use Rattle.statements.specs.Text.{beside_spaces, byte_order, is_letter, pointed, printed_number, spaces_beside, text_order};
+ghost use Rattle.meanings.specs.statements.Text.{beside_spaces, byte_order, is_letter, pointed, printed_number, spaces_beside, text_order};
 
 use cob_tree::Number;
 use std::cmp::Ordering;

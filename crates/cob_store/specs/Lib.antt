@@ -16,3 +16,6 @@ pub mod Place
 pub mod Known
 -- the store at the start of a run
 pub mod Starting
+-- How long a program's items are, in bytes (ISO 1989:1985, PICTURE, OCCURS and REDEFINES
+-- clauses).
+pub mod sizes

@@ -14,6 +14,7 @@ mod laying;
 mod number;
 mod place;
 mod size;
+pub mod sizes;
 mod spot;
 mod stack;
 mod starting;

@@ -5,7 +5,9 @@
 //! that were added before it.
 #![tactic(auto)]
 
+pub mod first_places;
 mod lists;
+pub mod numbered;
 mod table;
 
 pub use lists::{left_out, reserved};

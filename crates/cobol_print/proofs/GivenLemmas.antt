@@ -26,16 +26,16 @@ use Rattle.cobol_lex.specs.Written.{written, sign_of, pointed, IsPlainToken}
 use Rattle.cobol_lex.specs.declared.awaits.Awaits.TheVariants as awaits
 use Rattle.cobol_lex.specs.declared.token.TokenKind.{TokenKind}
 use Rattle.cobol_lex.specs.declared.token.TokenKind.TheVariants as kind
-use Rattle.part_tokens.specs.Token.{Tokens, is_capital, is_reserved_shape, procedure_token}
-use Rattle.part_tokens.specs.File.{name_tokens, file_tokens}
-use Rattle.part_tokens.specs.Place.{entry_name}
-use Rattle.part_tokens.proofs.TokenLemmas.{HasShape, has_shape, reserved-folded, reserved-is_word}
-use Rattle.program_units.specs.declared.unit.PrintUnit.{PrintUnit}
-use Rattle.program_units.specs.Unit.{unit_at, header, ended}
-use Rattle.program_units.specs.Picture.{picture_text}
-use Rattle.program_units.specs.Entry.{level_text, level_column, redefines_tokens, picture_tokens, sign_tokens, occurs_tokens, value_tokens, ranges_tokens, entry_unit}
-use Rattle.program_units.specs.Division.{program_id, select_tokens, status_tokens, file_units, environment_units, fd_unit, file_section, headers_between, entries_units, data_units, section_line, named_line, sentence_lines, sentence_units, paragraph_units, paragraphs_units, procedure_units, program_units}
-use Rattle.program_units.proofs.LineLemmas.{Begins, IsIn, AreIn, sentence-lines-in}
+use Rattle.unparser.specs.Token.{Tokens, is_capital, is_reserved_shape, procedure_token}
+use Rattle.unparser.specs.File.{name_tokens, file_tokens}
+use Rattle.unparser.specs.Place.{entry_name}
+use Rattle.unparser.proofs.TokenLemmas.{HasShape, has_shape, reserved-folded, reserved-is_word}
+use Rattle.cobol_print.specs.declared.units.unit.PrintUnit.{PrintUnit}
+use Rattle.cobol_print.specs.units.Unit.{unit_at, header, ended}
+use Rattle.cobol_print.specs.units.Picture.{picture_text}
+use Rattle.cobol_print.specs.units.Entry.{level_text, level_column, redefines_tokens, picture_tokens, sign_tokens, occurs_tokens, value_tokens, ranges_tokens, entry_unit}
+use Rattle.cobol_print.specs.units.Division.{program_id, select_tokens, status_tokens, file_units, environment_units, fd_unit, file_section, headers_between, entries_units, data_units, section_line, named_line, sentence_lines, sentence_units, paragraph_units, paragraphs_units, procedure_units, program_units}
+use Rattle.cobol_print.proofs.units_lemmas.LineLemmas.{Begins, IsIn, AreIn, sentence-lines-in}
 use Rattle.cobol_print.specs.Given.{IsFree, AreFree, IsGivenFile, IsPrintable, IsGivenPicture, file_of, IsGivenEntry, IsGivenLine, IsGivenSentence, IsGivenParagraph, IsGiven}
 use Rattle.cobol_print.specs.Unit.{all_tokens, AreLawfulKinds, IsSized, may_meet, MayMeet, BeginsWell, IsUnit}
 

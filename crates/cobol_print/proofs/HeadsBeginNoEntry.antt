@@ -7,11 +7,11 @@ use Rattle.ref_format.specs.Entry.{is_comment_header, is_division, division_head
 use Rattle.ref_format.specs.Row.{Begins, Row, row_line}
 use Rattle.cobol_print.specs.Spacing.{fits, start_of}
 use Rattle.cobol_print.specs.Line.{NoEntryRow, Rest, turned, next_column, onto, column_behind, begun, rest_of, lines_of}
-use Rattle.program_units.specs.Unit.{header}
-use Rattle.program_units.specs.Division.{program_id}
+use Rattle.cobol_print.specs.units.Unit.{header}
+use Rattle.cobol_print.specs.units.Division.{program_id}
 use Rattle.cobol_print.specs.Laws.{HeadsBeginNoEntry}
 use Rattle.cobol_lex.specs.declared.token.TokenKind.TheVariants as kind
-use Rattle.program_units.specs.declared.unit.PrintUnit.{PrintUnit}
+use Rattle.cobol_print.specs.declared.units.unit.PrintUnit.{PrintUnit}
 use Rattle.cobol_print.proofs.PlacedLemmas.{in_line, next_is}
 
 and-false : (x : Bool) → (x && false) ≡ false

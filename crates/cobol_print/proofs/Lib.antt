@@ -10,3 +10,5 @@ pub mod HeadsBeginNoEntry
 -- Programs: their units are lawful, and what is printed of them unfolds.
 pub mod GivenLemmas
 pub mod ProgramsUnfold
+-- A program as units: the tokens of each of its lines, with the column from which they stand.
+pub mod units_lemmas

@@ -28,7 +28,7 @@ use Rattle.cobol_lex.specs.declared.awaits.Awaits.TheVariants as awaits
 use Rattle.cobol_lex.specs.declared.token.TokenKind.{TokenKind}
 use Rattle.cobol_lex.specs.declared.token.TokenKind.TheVariants as kind
 use Rattle.cobol_print.specs.declared.spacing.Start.{Start}
-use Rattle.program_units.specs.declared.unit.PrintUnit.{PrintUnit}
+use Rattle.cobol_print.specs.declared.units.unit.PrintUnit.{PrintUnit}
 use Rattle.std.specs.Prelude.{if◌then◌else◌}
 use Rattle.cobol_print.proofs.PlacedLemmas.{Reads, piece, within, next_within, in_line, literal_reads, word_reads, new_line_reads, line_plain, line_below, line_reads}
 

@@ -27,7 +27,7 @@ use Rattle.cobol_lex.specs.declared.token.Token.{Token}
 use Rattle.cobol_lex.specs.declared.token.TokenKind.{TokenKind}
 use Rattle.cobol_lex.specs.declared.token.TokenKind.TheVariants as kind
 use Rattle.cobol_print.specs.declared.spacing.Start.{Start}
-use Rattle.program_units.specs.declared.unit.PrintUnit.{PrintUnit}
+use Rattle.cobol_print.specs.declared.units.unit.PrintUnit.{PrintUnit}
 use Rattle.cobol_print.proofs.PlacedLemmas.{piece}
 use Rattle.cobol_print.proofs.LineLemmas.{both_true, first_true, rest_true, start_cases, broken_room, fits_is, written_some, sized_width, HasRoom, pad, gap_placed, rest_placed, unit_placed, units_placed, begins_plain, IsFirst, unit_reads, lawful_behind, AreRead, units_read}
 

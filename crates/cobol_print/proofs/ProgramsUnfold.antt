@@ -9,8 +9,8 @@ use Rattle.ref_format.specs.Laws.{RowsAreRead}
 use Rattle.cobol_lex.specs.Laws.{LaidReadsBack}
 use Rattle.cobol_lex.specs.declared.awaits.Awaits.TheVariants as awaits
 use Rattle.cobol_lex.specs.declared.token.TokenKind.TheVariants as kind
-use Rattle.program_units.specs.Unit.{unit_at, header}
-use Rattle.program_units.specs.Division.{program_id, file_units, environment_units, entries_units, data_units, paragraphs_units, procedure_units, program_units}
+use Rattle.cobol_print.specs.units.Unit.{unit_at, header}
+use Rattle.cobol_print.specs.units.Division.{program_id, file_units, environment_units, entries_units, data_units, paragraphs_units, procedure_units, program_units}
 use Rattle.cobol_print.specs.Line.{lines_of, NoEntryRow}
 use Rattle.cobol_print.specs.Unit.{all_tokens, AreLawfulKinds}
 use Rattle.cobol_print.specs.Laws.{ProgramsUnfold}

@@ -8,7 +8,7 @@ use Rattle.cobol_print.specs.Line.{bytes_of_lines, Rest, in_front, on_new_line, 
 use Rattle.cobol_print.specs.Stream.{continuation, byte_bytes, spread, start_bytes, rest_bytes, unit_bytes, units_bytes}
 use Rattle.cobol_lex.specs.declared.token.TokenKind.{TokenKind}
 use Rattle.cobol_print.specs.declared.spacing.Start.{Start}
-use Rattle.program_units.specs.declared.unit.PrintUnit.{PrintUnit}
+use Rattle.cobol_print.specs.declared.units.unit.PrintUnit.{PrintUnit}
 
 -- the bytes of what stands from some column on
 abbrev pub bytes_from : Rest → List ℕ

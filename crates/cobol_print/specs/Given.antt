@@ -13,13 +13,13 @@ use Rattle.cobol_lex.specs.Word.{spells, word_run}
 use Rattle.cobol_lex.specs.Written.{IsPlainToken, IsPicture}
 use Rattle.cobol_lex.specs.declared.token.TokenKind.{TokenKind}
 use Rattle.cobol_lex.specs.declared.token.TokenKind.TheVariants as kind
-use Rattle.part_tokens.specs.Token.{Tokens}
-use Rattle.part_tokens.specs.File.{name_tokens, file_tokens}
-use Rattle.part_tokens.specs.Place.{entry_name}
-use Rattle.program_units.specs.declared.unit.PrintUnit.{PrintUnit}
-use Rattle.program_units.specs.Picture.{picture_text}
-use Rattle.program_units.specs.Entry.{level_text, redefines_tokens, sign_tokens, occurs_tokens, value_tokens, ranges_tokens}
-use Rattle.program_units.specs.Division.{select_tokens, status_tokens, sentence_lines}
+use Rattle.unparser.specs.Token.{Tokens}
+use Rattle.unparser.specs.File.{name_tokens, file_tokens}
+use Rattle.unparser.specs.Place.{entry_name}
+use Rattle.cobol_print.specs.declared.units.unit.PrintUnit.{PrintUnit}
+use Rattle.cobol_print.specs.units.Picture.{picture_text}
+use Rattle.cobol_print.specs.units.Entry.{level_text, redefines_tokens, sign_tokens, occurs_tokens, value_tokens, ranges_tokens}
+use Rattle.cobol_print.specs.units.Division.{select_tokens, status_tokens, sentence_lines}
 use Rattle.cobol_print.specs.Unit.{is_ink}
 
 -- no word behind which a picture comes, no literal with control characters, and no period

@@ -6,9 +6,9 @@ use Rattle.cobol_lex.specs.Token.{tokens_of}
 use Rattle.cobol_lex.specs.declared.awaits.Awaits.TheVariants as awaits
 use Rattle.cobol_lex.specs.declared.token.Token.{Token}
 use Rattle.cob_tree.specs.declared.program.Program.{Program}
-use Rattle.program_units.specs.declared.unit.PrintUnit.{PrintUnit}
-use Rattle.program_units.specs.Unit.{header}
-use Rattle.program_units.specs.Division.{program_id, program_units}
+use Rattle.cobol_print.specs.declared.units.unit.PrintUnit.{PrintUnit}
+use Rattle.cobol_print.specs.units.Unit.{header}
+use Rattle.cobol_print.specs.units.Division.{program_id, program_units}
 use Rattle.cobol_print.specs.Line.{lines_of, bytes_of_lines, NoEntryRow}
 use Rattle.cobol_print.specs.Printed.{printed_tokens}
 use Rattle.cobol_print.specs.Unit.{all_tokens, AreLawfulKinds, IsUnit}

@@ -12,3 +12,5 @@ pub mod Unit
 pub mod Given
 -- What holds of all that is printed.
 pub mod Laws
+-- A program as units: the tokens of each of its lines, with the column from which they stand.
+pub mod units

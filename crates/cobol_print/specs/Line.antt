@@ -7,7 +7,7 @@ use Rattle.ref_format.specs.Row.{Row, Begins, GoesOn, row_line}
 use Rattle.cobol_lex.specs.Written.{written}
 use Rattle.cobol_lex.specs.declared.token.TokenKind.{TokenKind}
 use Rattle.cobol_print.specs.declared.spacing.Start.{Start}
-use Rattle.program_units.specs.declared.unit.PrintUnit.{PrintUnit}
+use Rattle.cobol_print.specs.declared.units.unit.PrintUnit.{PrintUnit}
 use Rattle.cobol_print.specs.Spacing.{clings, start_of}
 
 -- what stands on a line from some column on, and the lines below it

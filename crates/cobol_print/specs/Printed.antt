@@ -4,7 +4,7 @@ use Rattle.cobol_lex.specs.Written.{written}
 use Rattle.cobol_lex.specs.declared.token.Token.{Token}
 use Rattle.cobol_lex.specs.declared.token.TokenKind.{TokenKind}
 use Rattle.cobol_print.specs.declared.spacing.Start.{Start}
-use Rattle.program_units.specs.declared.unit.PrintUnit.{PrintUnit}
+use Rattle.cobol_print.specs.declared.units.unit.PrintUnit.{PrintUnit}
 use Rattle.cobol_print.specs.Spacing.{clings, start_of}
 use Rattle.cobol_print.specs.Line.{turned, next_column, column_behind}
 

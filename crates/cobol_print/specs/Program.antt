@@ -1,7 +1,7 @@
 -- What is printed of a program.
 use Rattle.std.specs.Prelude.{ℕ, List}
 use Rattle.cob_tree.specs.declared.program.Program.{Program}
-use Rattle.program_units.specs.Division.{program_units}
+use Rattle.cobol_print.specs.units.Division.{program_units}
 use Rattle.cobol_print.specs.Line.{lines_of, bytes_of_lines}
 
 -- a program as bytes: its units, as lines

@@ -4,7 +4,7 @@ use Rattle.cob_base.specs.Bytes.{line_feed, space}
 use Rattle.cobol_lex.specs.Written.{written}
 use Rattle.cobol_lex.specs.declared.token.TokenKind.{TokenKind}
 use Rattle.cobol_print.specs.declared.spacing.Start.{Start}
-use Rattle.program_units.specs.declared.unit.PrintUnit.{PrintUnit}
+use Rattle.cobol_print.specs.declared.units.unit.PrintUnit.{PrintUnit}
 use Rattle.cobol_print.specs.Spacing.{clings, start_of}
 use Rattle.cobol_print.specs.Line.{mark_again, next_column, turned, column_behind}
 

@@ -8,7 +8,7 @@ use Rattle.cobol_lex.specs.Written.{written, IsLawful}
 use Rattle.cobol_lex.specs.declared.awaits.Awaits.{Awaits}
 use Rattle.cobol_lex.specs.declared.token.TokenKind.{TokenKind}
 use Rattle.cobol_lex.specs.declared.token.TokenKind.TheVariants as kind
-use Rattle.program_units.specs.declared.unit.PrintUnit.{PrintUnit}
+use Rattle.cobol_print.specs.declared.units.unit.PrintUnit.{PrintUnit}
 use Rattle.cobol_print.specs.Spacing.{hugs}
 
 abbrev pub all_tokens : List PrintUnit → List TokenKind

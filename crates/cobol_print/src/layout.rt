@@ -7,9 +7,9 @@ ghost use Rattle.cobol_print.specs.Stream.{byte_bytes, column_after, spread, sta
 
 use crate::spacing::{BEHIND, Start, clings, start_of};
 use crate::spelling::{plain, spelled};
+use crate::units::PrintUnit;
 use cob_base::{NoMemory, Text};
 use cobol_lex::TokenKind;
-use program_units::PrintUnit;
 use std::alloc::Global;
 
 /// The lines so far, and the column at which the next byte stands.

@@ -13,18 +13,19 @@ mod laws;
 mod layout;
 mod spacing;
 mod spelling;
+pub mod units;
 
 ghost use Rattle.std.specs.Prelude.{◌≤◌, All};
 ghost use Rattle.cob_base.specs.Answers.{Makes};
 ghost use Rattle.cobol_print.specs.Line.{lines_of, bytes_of_lines};
 ghost use Rattle.cobol_print.specs.Program.{printed};
 
+pub use crate::units::PrintUnit;
+use crate::units::program_units;
 use cob_base::{NoMemory, Text};
 use cob_tree::Program;
 pub use laws::{heads_begin_no_entry, printed_reads_back, prints_all, programs_unfold};
 use layout::Layout;
-pub use program_units::PrintUnit;
-use program_units::program_units;
 use std::alloc::Global;
 
 /// The bytes of a program.

@@ -19,13 +19,13 @@ use Rattle.cobol_lex.specs.declared.token.Token.{Token}
 use Rattle.cobol_lex.specs.declared.token.TokenKind.{TokenKind}
 use Rattle.cobol_lex.specs.declared.token.TokenKind.TheVariants as kinds
 use Rattle.cobol_lex.specs.Token.{tokens_of}
-use Rattle.grammar_forms.specs.declared.note.Note.{Note}
-use Rattle.grammar_forms.specs.declared.why.Why.{Why}
-use Rattle.grammar_forms.specs.declared.why.Why.TheVariants as whys
-use Rattle.grammar_forms.specs.Form.{Input, Outcome, Got, Stop}
-use Rattle.grammar_forms.specs.Reading.{IsReader, start, fault_line}
-use Rattle.grammar_forms.proofs.Reader.{reader}
-use Rattle.data_sizes.specs.Storage.{storage_limit, storage_of}
+use Rattle.parser_combinators.specs.declared.note.Note.{Note}
+use Rattle.parser_combinators.specs.declared.why.Why.{Why}
+use Rattle.parser_combinators.specs.declared.why.Why.TheVariants as whys
+use Rattle.parser_combinators.specs.Form.{Input, Outcome, Got, Stop}
+use Rattle.parser_combinators.specs.Reading.{IsReader, start, fault_line}
+use Rattle.parser_combinators.proofs.Reader.{reader}
+use Rattle.cob_store.specs.sizes.Storage.{storage_limit, storage_of}
 use Rattle.cobol_read.specs.declared.program.Declarations.{Declarations}
 use Rattle.cobol_read.specs.declared.program.ProgramDraft.{ProgramDraft}
 use Rattle.cobol_read.specs.declared.refusal.ReadRefusal.{ReadRefusal}

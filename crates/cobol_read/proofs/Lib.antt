@@ -6,3 +6,6 @@ pub mod ProgramEnds
 pub mod AnswerLemmas
 -- A source is read one way.
 pub mod OneWay
+-- Uses of operands in statements, and names of files, records and procedures: each function does
+-- what the definition of its name in `cobol_grammar` says.
+pub mod operand_uses_lemmas

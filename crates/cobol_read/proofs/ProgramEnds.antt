@@ -1,14 +1,14 @@
 -- No token is left behind a program.
 use Rattle.std.proofs.Common.{◌≡◌, List, [], sym, ap, ◌∙◌}
 use Rattle.cob_tree.specs.declared.program.Paragraph.{Paragraph}
-use Rattle.grammar_forms.specs.Form.{Input, Got}
-use Rattle.grammar_forms.specs.Part.{ended}
-use Rattle.grammar_forms.proofs.Lawful.{then_got, got_is}
-use Rattle.grammar_forms.proofs.Reader.{ended_rest}
-use Rattle.statement_grammar.specs.data_forms.Divisions.{divisions}
-use Rattle.statement_grammar.specs.stmt_forms.Part.{Parts}
-use Rattle.statement_grammar.specs.stmt_forms.Paragraph as paragraphs
-use Rattle.statement_grammar.specs.Whole.{parts_of}
+use Rattle.parser_combinators.specs.Form.{Input, Got}
+use Rattle.parser_combinators.specs.Part.{ended}
+use Rattle.parser_combinators.proofs.Lawful.{then_got, got_is}
+use Rattle.parser_combinators.proofs.Reader.{ended_rest}
+use Rattle.cobol_grammar.specs.data_forms.Divisions.{divisions}
+use Rattle.cobol_grammar.specs.stmt_forms.Part.{Parts}
+use Rattle.cobol_grammar.specs.stmt_forms.Paragraph as paragraphs
+use Rattle.cobol_grammar.specs.Whole.{parts_of}
 use Rattle.cobol_read.specs.declared.program.Declarations.{Declarations}
 use Rattle.cobol_read.specs.declared.program.ProgramDraft.{ProgramDraft}
 use Rattle.cobol_read.specs.Program as forms

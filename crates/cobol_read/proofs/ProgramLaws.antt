@@ -1,10 +1,10 @@
 -- The form of a whole program is lawful.
 use Rattle.std.proofs.Common.{true}
 use Rattle.std.specs.Prelude.{codes}
-use Rattle.grammar_forms.proofs.MakerLaws.{Law, pure, key, period, ◌>>=◌, ◌>>◌}
-use Rattle.statement_grammar.proofs.data_forms_lemmas.DivisionLaws.{divisions}
-use Rattle.statement_grammar.proofs.stmt_forms_lemmas.ParagraphLaws.{division}
-use Rattle.statement_grammar.proofs.PartLaws.{parts}
+use Rattle.parser_combinators.proofs.MakerLaws.{Law, pure, key, period, ◌>>=◌, ◌>>◌}
+use Rattle.cobol_grammar.proofs.data_forms_lemmas.DivisionLaws.{divisions}
+use Rattle.cobol_grammar.proofs.stmt_forms_lemmas.ParagraphLaws.{division}
+use Rattle.cobol_grammar.proofs.PartLaws.{parts}
 use Rattle.cobol_read.specs.declared.program.Declarations.{Declarations}
 use Rattle.cobol_read.specs.Program as forms
 use Rattle.cobol_read.specs.StatusLaws.{status}

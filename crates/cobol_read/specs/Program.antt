@@ -3,19 +3,19 @@ use Rattle.std.specs.Prelude.{ℕ, ◌+◌, min, codes, drop, List, [], length, 
 use Rattle.cob_tree.specs.declared.program.Paragraph.{Paragraph}
 use Rattle.cob_tree.specs.declared.program.Program.{Program}
 use Rattle.cobol_lex.specs.declared.token.Token.{Token}
-use Rattle.grammar_forms.specs.declared.note.Note.{Note}
-use Rattle.grammar_forms.specs.Note.{earliest}
-use Rattle.grammar_forms.specs.Form.{Form, Outcome, Got, Stop, pure, ◌>>=◌, ◌>>◌}
-use Rattle.grammar_forms.specs.Part.{key, period}
-use Rattle.grammar_forms.specs.Reading.{start}
-use Rattle.statement_grammar.specs.declared.data_forms.draft.Divisions.{Divisions}
-use Rattle.statement_grammar.specs.data_forms.Divisions.{divisions}
-use Rattle.data_names.specs.Names.{names_of}
-use Rattle.data_rules.specs.declared.declaring.Declared.{Declared}
-use Rattle.data_rules.specs.Declaring.{declared_of}
-use Rattle.procedure_names.specs.Procedures.{procedures_of}
-use Rattle.statement_grammar.specs.stmt_forms.Paragraph as forms
-use Rattle.statement_grammar.specs.Whole.{parts_of}
+use Rattle.parser_combinators.specs.declared.note.Note.{Note}
+use Rattle.parser_combinators.specs.Note.{earliest}
+use Rattle.parser_combinators.specs.Form.{Form, Outcome, Got, Stop, pure, ◌>>=◌, ◌>>◌}
+use Rattle.parser_combinators.specs.Part.{key, period}
+use Rattle.parser_combinators.specs.Reading.{start}
+use Rattle.cobol_grammar.specs.declared.data_forms.draft.Divisions.{Divisions}
+use Rattle.cobol_grammar.specs.data_forms.Divisions.{divisions}
+use Rattle.symbol_tables.specs.data_names.Names.{names_of}
+use Rattle.declaration_checks.specs.declared.declaring.Declared.{Declared}
+use Rattle.declaration_checks.specs.Declaring.{declared_of}
+use Rattle.symbol_tables.specs.procedure_names.Procedures.{procedures_of}
+use Rattle.cobol_grammar.specs.stmt_forms.Paragraph as forms
+use Rattle.cobol_grammar.specs.Whole.{parts_of}
 use Rattle.cobol_read.specs.declared.program.Declarations.{Declarations}
 use Rattle.cobol_read.specs.declared.declarations.Preamble.{Preamble}
 use Rattle.cobol_read.specs.declared.program.ProgramDraft.{ProgramDraft}

@@ -13,12 +13,12 @@ use Rattle.ref_format.specs.Joining.{program_text}
 use Rattle.cobol_lex.specs.declared.fault.LexFault.TheVariants as lex
 use Rattle.cobol_lex.specs.declared.token.Token.{Token}
 use Rattle.cobol_lex.specs.Token.{tokens_of}
-use Rattle.grammar_forms.specs.declared.note.Note.{Note}
-use Rattle.grammar_forms.specs.declared.why.Why.{Why}
-use Rattle.grammar_forms.specs.declared.why.Why.TheVariants as whys
-use Rattle.grammar_forms.specs.Reading.{AllSpell, Stops, start, fault_line}
-use Rattle.data_sizes.specs.Storage.{storage_limit, storage_of}
-use Rattle.read_faults.specs.Fault.{passed, name_fault}
+use Rattle.parser_combinators.specs.declared.note.Note.{Note}
+use Rattle.parser_combinators.specs.declared.why.Why.{Why}
+use Rattle.parser_combinators.specs.declared.why.Why.TheVariants as whys
+use Rattle.parser_combinators.specs.Reading.{AllSpell, Stops, start, fault_line}
+use Rattle.cob_store.specs.sizes.Storage.{storage_limit, storage_of}
+use Rattle.parser_combinators.specs.faults.Fault.{passed, name_fault}
 use Rattle.cobol_read.specs.declared.program.ProgramDraft.{ProgramDraft}
 use Rattle.cobol_read.specs.declared.refusal.ReadRefusal.{ReadRefusal}
 use Rattle.cobol_read.specs.declared.refusal.ReadRefusal.TheVariants as refusals

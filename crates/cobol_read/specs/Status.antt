@@ -5,16 +5,16 @@ use Rattle.cob_tree.specs.declared.entry.Entry.{Entry}
 use Rattle.cob_tree.specs.declared.picture.Picture.{Picture}
 use Rattle.cob_tree.specs.declared.picture.Picture.TheVariants as pictures
 use Rattle.cob_tree.specs.declared.place.Place.{Place, out-Place}
-use Rattle.grammar_forms.specs.declared.note.Note.{Note}
-use Rattle.grammar_forms.specs.declared.note.Position.{Position}
-use Rattle.grammar_forms.specs.Form.{Form, pure, note, ◌>>=◌, ◌>>◌}
-use Rattle.data_names.specs.Names.{Names}
-use Rattle.statement_grammar.specs.declared.expr_forms.side.Side.{Side}
-use Rattle.statement_grammar.specs.declared.expr_forms.side.ValueKind.{ValueKind}
-use Rattle.statement_grammar.specs.declared.expr_forms.side.ValueKind.TheVariants as kinds
-use Rattle.statement_grammar.specs.expr_forms.Fault.{usage}
-use Rattle.statement_grammar.specs.expr_forms.Levels.{data_reference}
-use Rattle.statement_grammar.specs.Use.{place_of}
+use Rattle.parser_combinators.specs.declared.note.Note.{Note}
+use Rattle.parser_combinators.specs.declared.note.Position.{Position}
+use Rattle.parser_combinators.specs.Form.{Form, pure, note, ◌>>=◌, ◌>>◌}
+use Rattle.symbol_tables.specs.data_names.Names.{Names}
+use Rattle.cobol_grammar.specs.declared.expr_forms.side.Side.{Side}
+use Rattle.cobol_grammar.specs.declared.expr_forms.side.ValueKind.{ValueKind}
+use Rattle.cobol_grammar.specs.declared.expr_forms.side.ValueKind.TheVariants as kinds
+use Rattle.cobol_grammar.specs.expr_forms.Fault.{usage}
+use Rattle.cobol_grammar.specs.expr_forms.Levels.{data_reference}
+use Rattle.cobol_grammar.specs.Use.{place_of}
 
 abbrev pub is_two : Option Picture → Bool
 is_two (Some (pictures.Any length)) = length == 2

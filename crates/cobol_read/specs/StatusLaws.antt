@@ -1,9 +1,9 @@
 -- The form of status items is lawful.
 use Rattle.std.proofs.Common.{true, List}
 use Rattle.cob_tree.specs.declared.entry.Entry.{Entry}
-use Rattle.grammar_forms.proofs.MakerLaws.{Law, pure, note, ◌>>=◌, ◌>>◌}
-use Rattle.data_names.specs.Names.{Names}
-use Rattle.statement_grammar.proofs.expr_forms_lemmas.ExpressionLaws.{data_reference}
+use Rattle.parser_combinators.proofs.MakerLaws.{Law, pure, note, ◌>>=◌, ◌>>◌}
+use Rattle.symbol_tables.specs.data_names.Names.{Names}
+use Rattle.cobol_grammar.proofs.expr_forms_lemmas.ExpressionLaws.{data_reference}
 use Rattle.cobol_read.specs.Status as statuses
 
 pub status : (names : Names) (entries : List Entry) → Law true (statuses.status names entries)

@@ -3,9 +3,9 @@
 ghost use Rattle.std.specs.Prelude.{◌≡◌, ◌≤◌, None, length};
 ghost use Rattle.cob_base.specs.Answers.{Answers, Makes};
 ghost use Rattle.cobol_lex.specs.Token as lexing;
-ghost use Rattle.data_rules.specs.Declaring as declaring;
-ghost use Rattle.grammar_forms.specs.Note as notes;
-ghost use Rattle.grammar_forms.specs.Reading.{start};
+ghost use Rattle.declaration_checks.specs.Declaring as declaring;
+ghost use Rattle.parser_combinators.specs.Note as notes;
+ghost use Rattle.parser_combinators.specs.Reading.{start};
 ghost use Rattle.cobol_read.specs.declared.refusal.ReadRefusal.TheVariants.{NoMemory as Memory};
 ghost use Rattle.cobol_read.specs.Answer as answers;
 ghost use Rattle.cobol_read.specs.LeftOut as words;
@@ -20,14 +20,14 @@ use crate::limit::{
 use crate::program::{Declarations, ProgramDraft, program};
 use crate::refusal::ReadRefusal;
 use cob_base::{Items, Limit, LimitKind, NoMemory};
+use cob_store::sizes::{storage_limit, storage_of};
 use cob_tree::{Entry, FileEntry, ParseFault, Program};
+use cobol_grammar::data_forms::Divisions;
 use cobol_lex::{LexFault, Token, tokens};
-use data_rules::{Declared, declared_of};
-use data_sizes::{storage_limit, storage_of};
-use grammar_forms::{Cursor, Note, Unread, Why};
-use read_faults::{name_fault, passed};
+use declaration_checks::{Declared, declared_of};
+use parser_combinators::faults::{name_fault, passed};
+use parser_combinators::{Cursor, Note, Unread, Why};
 use ref_format::{FormatFault, Placed, unfold};
-use statement_grammar::data_forms::Divisions;
 use std::alloc::Global;
 
 // ---- behind the syntax

@@ -2,22 +2,22 @@
 
 ghost use Rattle.std.specs.Prelude.{◌≡◌, ◌+◌, ◌≤◌, ◌<◌, ◌^◌, [], drop, length, min};
 ghost use Rattle.cob_base.specs.Answers.{Makes};
-ghost use Rattle.data_names.specs.Names.{names_of};
-ghost use Rattle.data_rules.specs.Declaring as declaring;
-ghost use Rattle.procedure_names.specs.Procedures.{procedures_of};
+ghost use Rattle.symbol_tables.specs.data_names.Names.{names_of};
+ghost use Rattle.declaration_checks.specs.Declaring as declaring;
+ghost use Rattle.symbol_tables.specs.procedure_names.Procedures.{procedures_of};
 ghost use Rattle.cobol_read.specs.Program as forms;
 
 use crate::program::Declarations;
 use crate::status::StatusOf;
 use cob_base::{Items, NoMemory};
+use cobol_grammar::data_forms::Divisions;
 use cobol_lex::Token;
-use data_names::NameTable;
 use data_parse::divisions;
-use data_rules::{Declared, declared_of};
-use grammar_forms::{Cursor, Unread};
-use procedure_names::{ProcedureTable, procedures_of};
-use statement_grammar::data_forms::Divisions;
+use declaration_checks::{Declared, declared_of};
+use parser_combinators::{Cursor, Unread};
 use std::alloc::Global;
+use symbol_tables::data_names::NameTable;
+use symbol_tables::procedure_names::{ProcedureTable, procedures_of};
 
 /// The files and entries that are declared, and how many tokens stand before the statements.
 #[derive(Drop)]

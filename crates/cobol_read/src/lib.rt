@@ -12,6 +12,8 @@ mod declarations;
 mod laws;
 mod left_out;
 mod limit;
+pub mod operand_reader;
+pub mod operand_uses;
 mod program;
 mod refusal;
 mod status;

@@ -1,20 +1,20 @@
 //! The whole program, over the names that it declares.
 
-ghost use Rattle.grammar_forms.specs.Reading.{Reads};
+ghost use Rattle.parser_combinators.specs.Reading.{Reads};
 ghost use Rattle.cobol_read.specs.Program as forms;
 
+use crate::operand_reader::PartReader;
+use crate::operand_uses::Records;
 use crate::status::StatusOf;
 use cob_base::Items;
 use cob_tree::{Entry, Paragraph};
-use data_names::NameTable;
+use cobol_grammar::data_forms::Divisions;
 use data_parse::divisions;
-use grammar_forms::{Cursor, Note, Unread};
-use procedure_names::ProcedureTable;
+use parser_combinators::{Cursor, Note, Unread};
 use procedure_parse::division;
-use statement_grammar::data_forms::Divisions;
-use statement_parts::PartReader;
-use statement_uses::Records;
 use std::alloc::Global;
+use symbol_tables::data_names::NameTable;
+use symbol_tables::procedure_names::ProcedureTable;
 
 /// What a program declares: names of data and files, entries with the first fault of their rules
 /// and those on files, paragraphs and sections.

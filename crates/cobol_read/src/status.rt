@@ -1,19 +1,19 @@
 //! The item of a FILE STATUS clause.
 
 ghost use Rattle.std.specs.Prelude.{◌≡◌, None, slice_get, if◌then◌else◌};
-ghost use Rattle.grammar_forms.specs.Reading.{Reads};
-ghost use Rattle.statement_grammar.specs.expr_forms.Fault.{usage};
+ghost use Rattle.parser_combinators.specs.Reading.{Reads};
+ghost use Rattle.cobol_grammar.specs.expr_forms.Fault.{usage};
 ghost use Rattle.cobol_read.specs.Status as statuses;
 ghost use Rattle.cobol_read.specs.StatusLaws as laws;
 
+use crate::operand_uses::place_of;
 use cob_tree::{Entry, Picture, Place};
-use data_names::NameTable;
+use cobol_grammar::expr_forms::ValueKind;
 use data_parse::StatusReader;
 use expr_parse::data_reference;
-use grammar_forms::{Cursor, NameKind, Note, Position, Unread};
-use statement_grammar::expr_forms::ValueKind;
-use statement_uses::place_of;
+use parser_combinators::{Cursor, NameKind, Note, Position, Unread};
 use std::alloc::Global;
+use symbol_tables::data_names::NameTable;
 
 /// Reads references to status items of a program with these names and entries.
 #[derive(Drop)]

@@ -13,14 +13,14 @@ use Rattle.cob_tree.specs.declared.place.Figure.TheVariants.{Zero}
 use Rattle.cob_tree.specs.declared.place.Operand.{out-roll-Operand, roll-Operand}
 use Rattle.cob_store.specs.Answer.{Answer, and_then}
 use Rattle.cob_store.specs.Place.{Memory}
-use Rattle.statements.specs.Condition.{Tests, cond_step, holds, rel_holds, relation}
-use Rattle.statements.specs.Does.{memory_in}
-use Rattle.statements.specs.Filing.{Declared}
-use Rattle.statements.specs.Side.{Nought, Side, compared, expr_side, operand_side, valued}
-use Rattle.control.specs.Outcome.{Got}
-use Rattle.language.specs.Control.{always, zero_side}
-use Rattle.cobol_laws.specs.cobol_meaning.Acting as acting
-use Rattle.cobol_laws.specs.cobol_meaning.Acting.{answered, tests_in}
+use Rattle.meanings.specs.statements.Condition.{Tests, cond_step, holds, rel_holds, relation}
+use Rattle.meanings.specs.statements.Does.{memory_in}
+use Rattle.meanings.specs.statements.Filing.{Declared}
+use Rattle.meanings.specs.statements.Side.{Nought, Side, compared, expr_side, operand_side, valued}
+use Rattle.control_flow_theory.specs.semantics.Outcome.{Got}
+use Rattle.control_flow_theory.specs.language.Control.{always, zero_side}
+use Rattle.cobol_theory.specs.cobol_meaning.Acting as acting
+use Rattle.cobol_theory.specs.cobol_meaning.Acting.{answered, tests_in}
 
 -- each side is the figure
 word_nought : (memory : Memory) → operand_side memory (roll-Operand (Operand-F.Figure Zero)) ≡ Ok Nought

@@ -10,9 +10,9 @@ use Rattle.cob_tree.specs.declared.place.Place.{Place}
 use Rattle.file_model.specs.Attempts.{Address, Attempt, read_at, rewritten_at, written_at}
 use Rattle.file_model.specs.World.{Verb, World}
 use Rattle.file_model.specs.World as verbs
-use Rattle.statements.specs.Filing.{Abended, Chose, Declared, Effect, Ended, Operation, Went, address_at, after, each_file, file_of, from_by, into_by, no_effect, of_outcome, opened, operated_to, put_out, read, record_put, record_spot, rewritten, settled, shut, status_place, status_spot, then_by, written}
-use Rattle.control.specs.Outcome.{Trace}
-use Rattle.cobol_laws.specs.cobol_meaning.Acting.{event_seen, events_of}
+use Rattle.meanings.specs.statements.Filing.{Abended, Chose, Declared, Effect, Ended, Operation, Went, address_at, after, each_file, file_of, from_by, into_by, no_effect, of_outcome, opened, operated_to, put_out, read, record_put, record_spot, rewritten, settled, shut, status_place, status_spot, then_by, written}
+use Rattle.control_flow_theory.specs.semantics.Outcome.{Trace}
+use Rattle.cobol_theory.specs.cobol_meaning.Acting.{event_seen, events_of}
 use Rattle.cobol_run.specs.Running.{displayed, shown_by}
 
 pub displayed_both : (first second : Trace) → displayed (first ++ second) ≡ displayed first ++ displayed second

@@ -3,12 +3,12 @@ use Rattle.std.proofs.Common.{◌≡◌, ◌∙◌, sym, subst, ℕ, ◌-◌, Bo
 use Rattle.cob_base.specs.declared.memory.NoMemory.{NoMemory}
 use Rattle.cob_act.specs.declared.acting.Done.{Done}
 use Rattle.cob_act.specs.declared.acting.Done.TheVariants as dones
-use Rattle.file_acts.specs.Ends.{DoneOver}
-use Rattle.file_acts.specs.declared.fault.Fault.{Fault}
-use Rattle.file_acts.specs.declared.fault.Fault.TheVariants as faults
-use Rattle.file_desk.specs.Seen.{Seen}
-use Rattle.file_desk.specs.Falling.{FallsIf, FellOff, SameBench}
-use Rattle.file_desk.proofs.FallLemmas.{falls_on, same_bench, same_fell, same_same}
+use Rattle.cob_act.specs.files.Ends.{DoneOver}
+use Rattle.cob_act.specs.declared.files.fault.Fault.{Fault}
+use Rattle.cob_act.specs.declared.files.fault.Fault.TheVariants as faults
+use Rattle.file_model.specs.operations.Seen.{Seen}
+use Rattle.file_model.specs.operations.Falling.{FallsIf, FellOff, SameBench}
+use Rattle.file_model.proofs.operations_lemmas.FallLemmas.{falls_on, same_bench, same_fell, same_same}
 use Rattle.cobol_run.specs.declared.machine.Step.{Step}
 use Rattle.cobol_run.specs.declared.machine.Step.TheVariants as step
 use Rattle.cobol_run.specs.declared.running.Turned.{Turned}

@@ -11,23 +11,23 @@ use Rattle.cob_tree.specs.declared.stmt.Stmt.TheOpen.{Stmt-F}
 use Rattle.cob_tree.specs.declared.stmt.Stmt.TheVariants as stmts
 use Rattle.file_model.specs.declared.table.FileRow.{FileRow}
 use Rattle.file_model.specs.World.{World}
-use Rattle.file_desk.specs.Seen.{Seen}
-use Rattle.file_acts.specs.declared.fault.Fault.{Fault}
-use Rattle.file_acts.specs.Ends.{ended_as}
-use Rattle.file_acts.specs.Over.{Did}
-use Rattle.statements.specs.Does.{does}
-use Rattle.statements.specs.Filing.{Declared, Effect, each_file, last_world, opened, rewritten, shut, written}
-use Rattle.control.specs.Doing.{Doing}
-use Rattle.control.specs.Items.{item_way, tried}
-use Rattle.control.specs.Items as ways
-use Rattle.control.specs.Outcome.{Trace}
-use Rattle.language.specs.Control.{seen}
-use Rattle.language.specs.Items.{Item}
-use Rattle.language.specs.Items as items
-use Rattle.language.specs.Language as language
-use Rattle.language.proofs.Rows.{seen_closes, seen_opens, seen_rewrite, seen_write}
-use Rattle.cobol_laws.specs.cobol_meaning.Acting.{Memory, acted, acted_by, events_of}
-use Rattle.cobol_laws.specs.cobol_meaning.Runs.{doing_in}
+use Rattle.file_model.specs.operations.Seen.{Seen}
+use Rattle.cob_act.specs.declared.files.fault.Fault.{Fault}
+use Rattle.cob_act.specs.files.Ends.{ended_as}
+use Rattle.cob_act.specs.files.Over.{Did}
+use Rattle.meanings.specs.statements.Does.{does}
+use Rattle.meanings.specs.statements.Filing.{Declared, Effect, each_file, last_world, opened, rewritten, shut, written}
+use Rattle.control_flow_theory.specs.semantics.Doing.{Doing}
+use Rattle.control_flow_theory.specs.semantics.Items.{item_way, tried}
+use Rattle.control_flow_theory.specs.semantics.Items as ways
+use Rattle.control_flow_theory.specs.semantics.Outcome.{Trace}
+use Rattle.control_flow_theory.specs.language.Control.{seen}
+use Rattle.control_flow_theory.specs.language.Items.{Item}
+use Rattle.control_flow_theory.specs.language.Items as items
+use Rattle.control_flow_theory.specs.language.Language as language
+use Rattle.control_flow_theory.proofs.language_lemmas.Rows.{seen_closes, seen_opens, seen_rewrite, seen_write}
+use Rattle.cobol_theory.specs.cobol_meaning.Acting.{Memory, acted, acted_by, events_of}
+use Rattle.cobol_theory.specs.cobol_meaning.Runs.{doing_in}
 use Rattle.cobol_run.specs.declared.frame.Frame.{Frame}
 use Rattle.cobol_run.specs.Frames.{rest_of}
 use Rattle.cobol_run.specs.Over.{FiledOver, filed_way}

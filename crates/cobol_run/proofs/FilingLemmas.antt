@@ -11,12 +11,12 @@ use Rattle.cob_tree.specs.declared.stmt.Stmt.TheOpen.{Stmt-F}
 use Rattle.cob_tree.specs.declared.stmt.Stmt.TheVariants as stmts
 use Rattle.cob_act.specs.Acting.{is_inner}
 use Rattle.file_model.specs.World.{World}
-use Rattle.control.specs.Outcome.{Trace}
-use Rattle.language.specs.Control.{seen}
-use Rattle.language.specs.Items.{Do, Item}
-use Rattle.language.specs.Language as language
-use Rattle.language.specs.Own.{OwnTest}
-use Rattle.language.proofs.Rows.{seen_closes, seen_opens, seen_read, seen_rewrite, seen_write}
+use Rattle.control_flow_theory.specs.semantics.Outcome.{Trace}
+use Rattle.control_flow_theory.specs.language.Control.{seen}
+use Rattle.control_flow_theory.specs.language.Items.{Do, Item}
+use Rattle.control_flow_theory.specs.language.Language as language
+use Rattle.control_flow_theory.specs.language.Own.{OwnTest}
+use Rattle.control_flow_theory.proofs.language_lemmas.Rows.{seen_closes, seen_opens, seen_read, seen_rewrite, seen_write}
 use Rattle.cobol_run.specs.declared.machine.Machine.{Machine}
 use Rattle.cobol_run.specs.declared.machine.Step.{Step}
 use Rattle.cobol_run.specs.Filing.{StandsInNone}

@@ -5,9 +5,9 @@ use Rattle.std.specs.List.{list_any}
 use Rattle.std.proofs.lemmas.List.Sorted.{IsPermutation-reverse, list_any-IsPermutation}
 use Rattle.cob_tree.specs.declared.program.Program.{Program}
 use Rattle.cob_tree.specs.declared.program.Sentence.{Sentence}
-use Rattle.language.specs.Control.{seen_sentence}
-use Rattle.language.specs.Language.{Stmts, none, also}
-use Rattle.language.specs.Items.{Item, SentenceEnd, before, ends_at, from_loop, items_of, past_sentence}
+use Rattle.control_flow_theory.specs.language.Control.{seen_sentence}
+use Rattle.control_flow_theory.specs.language.Language.{Stmts, none, also}
+use Rattle.control_flow_theory.specs.language.Items.{Item, SentenceEnd, before, ends_at, from_loop, items_of, past_sentence}
 use Rattle.cobol_run.specs.declared.frame.Frame.{Frame}
 use Rattle.cobol_run.specs.declared.frame.Frame.TheVariants as frame
 use Rattle.cobol_run.specs.Frames.{ends_here, pending_of, sentences_before}

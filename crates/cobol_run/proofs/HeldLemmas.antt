@@ -15,13 +15,13 @@ use Rattle.cob_store.specs.declared.area.Area.{Area}
 use Rattle.cob_store.specs.Answer.{Answer, and_then}
 use Rattle.cob_store.specs.Store.{Roots}
 use Rattle.file_model.specs.World.{World}
-use Rattle.statements.specs.Arithmetic.{calculated}
-use Rattle.statements.specs.Does.{calculates, does, has_arms, of_moves, of_sum}
-use Rattle.statements.specs.Filing.{Declared}
-use Rattle.statements.specs.Moving.{moved}
+use Rattle.meanings.specs.statements.Arithmetic.{calculated}
+use Rattle.meanings.specs.statements.Does.{calculates, does, has_arms, of_moves, of_sum}
+use Rattle.meanings.specs.statements.Filing.{Declared}
+use Rattle.meanings.specs.statements.Moving.{moved}
 use Rattle.cob_act.specs.Moving.{outcome_of}
-use Rattle.language.specs.Control.{augmenting, bare}
-use Rattle.cobol_laws.specs.cobol_meaning.Acting.{acted, answered, does_to}
+use Rattle.control_flow_theory.specs.language.Control.{augmenting, bare}
+use Rattle.cobol_theory.specs.cobol_meaning.Acting.{acted, answered, does_to}
 use Rattle.cobol_run.specs.Plan.{memory_in}
 
 module _ (declared : Declared) where

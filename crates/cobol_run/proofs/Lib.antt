@@ -34,3 +34,5 @@ pub mod OverRunLemmas
 pub mod FallLemmas
 -- where no file is open, nothing is left to close
 pub mod ShutLemmas
+-- What a run of a structured program shows is what its nested statements show.
+pub mod structured_runs_lemmas

@@ -7,31 +7,31 @@ use Rattle.cob_base.specs.declared.memory.NoMemory.{NoMemory}
 use Rattle.cob_tree.specs.declared.program.Paragraph.{Paragraph}
 use Rattle.cob_tree.specs.declared.program.Program.{Program}
 use Rattle.file_model.specs.World.{World}
-use Rattle.control.specs.Outcome.{Trace}
-use Rattle.control.specs.Source as source
+use Rattle.control_flow_theory.specs.semantics.Outcome.{Trace}
+use Rattle.control_flow_theory.specs.semantics.Source as source
 use Rattle.cob_act.specs.Acting.{is_inner}
 use Rattle.cob_tree.specs.declared.stmt.Stmt.{Stmt}
-use Rattle.language.specs.Control.{control_of, section_last, seen, seen_paragraph, seen_paragraphs}
-use Rattle.language.specs.Items.{Item, Pending, ends_at, items_of}
-use Rattle.language.specs.Items as items
-use Rattle.language.specs.Language as language
-use Rattle.cobol_laws.specs.cobol_meaning.Acting.{Memory}
-use Rattle.cobol_laws.specs.cobol_meaning.Runs.{State, doing_in, files_left}
+use Rattle.control_flow_theory.specs.language.Control.{control_of, section_last, seen, seen_paragraph, seen_paragraphs}
+use Rattle.control_flow_theory.specs.language.Items.{Item, Pending, ends_at, items_of}
+use Rattle.control_flow_theory.specs.language.Items as items
+use Rattle.control_flow_theory.specs.language.Language as language
+use Rattle.cobol_theory.specs.cobol_meaning.Acting.{Memory}
+use Rattle.cobol_theory.specs.cobol_meaning.Runs.{State, doing_in, files_left}
 use Rattle.cobol_run.specs.declared.frame.Frame.{Frame}
 use Rattle.cobol_run.specs.declared.held.Plan.{Plan}
 use Rattle.cobol_run.specs.declared.machine.Machine.{Machine}
 use Rattle.cobol_run.specs.declared.machine.Step.{Step}
 use Rattle.cobol_run.specs.declared.frames.Head.{Head}
 use Rattle.cobol_run.specs.Frames.{heads, last_in, last_of, pending_of, rest_of, sentences_before}
-use Rattle.control.specs.Items.{item_way}
+use Rattle.control_flow_theory.specs.semantics.Items.{item_way}
 use Rattle.cobol_run.specs.declared.held.Held.{Held}
 use Rattle.cobol_run.specs.declared.way.Way as ways
 use Rattle.cobol_run.specs.Machine.{Follows, ends_by, falls_by, goes_by, rest_in, rests_by, state_in, state_with, steps_by}
 use Rattle.cobol_run.specs.Over.{FollowsOver, StandsOver, stmt_meant}
 use Rattle.cobol_run.specs.Own.{NoFiling, OwnState, StandsAlone}
 use Rattle.cobol_run.specs.Plain.{PlainAct, PlainPicker, PlainState}
-use Rattle.file_desk.specs.Seen.{Seen}
-use Rattle.language.specs.Own.{OwnAct, OwnPicker, OwnTest}
+use Rattle.file_model.specs.operations.Seen.{Seen}
+use Rattle.control_flow_theory.specs.language.Own.{OwnAct, OwnPicker, OwnTest}
 use Rattle.cobol_run.specs.Standing as standing
 use Rattle.cobol_run.specs.Plan.{declared_by, memory_in}
 use Rattle.cobol_run.specs.Ways.{KeepsPending, way_seen}

@@ -3,13 +3,13 @@ use Rattle.std.proofs.Common.{◌≡◌, List, ◌++◌, [], refl, sym, subst}
 use Rattle.cob_act.specs.declared.acting.Done.{Done}
 use Rattle.cob_act.specs.declared.acting.Done.TheVariants as done
 use Rattle.cob_tree.specs.declared.stmt.Stmt.{Stmt}
-use Rattle.file_desk.specs.Seen.{Seen}
+use Rattle.file_model.specs.operations.Seen.{Seen}
 use Rattle.file_model.specs.World.{World}
-use Rattle.control.specs.Items.{Way}
-use Rattle.control.specs.Outcome.{Trace}
-use Rattle.language.specs.Items.{Item}
-use Rattle.cobol_laws.specs.cobol_meaning.Acting.{Memory}
-use Rattle.cobol_laws.specs.cobol_meaning.Runs.{State}
+use Rattle.control_flow_theory.specs.semantics.Items.{Way}
+use Rattle.control_flow_theory.specs.semantics.Outcome.{Trace}
+use Rattle.control_flow_theory.specs.language.Items.{Item}
+use Rattle.cobol_theory.specs.cobol_meaning.Acting.{Memory}
+use Rattle.cobol_theory.specs.cobol_meaning.Runs.{State}
 use Rattle.cobol_run.specs.declared.machine.Machine.{Machine}
 use Rattle.cobol_run.specs.declared.machine.Step.{Step}
 use Rattle.cobol_run.specs.declared.machine.Step.TheVariants as step

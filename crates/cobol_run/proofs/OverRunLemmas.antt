@@ -9,19 +9,19 @@ use Rattle.file_model.specs.declared.table.FileRow.{FileRow}
 use Rattle.file_model.specs.Attempts.{Address, closed}
 use Rattle.file_model.specs.Status.{closed_row}
 use Rattle.file_model.specs.World.{FileState, World, shelf_found}
-use Rattle.file_desk.specs.Calls.{addresses_of}
-use Rattle.file_desk.specs.Seen.{Seen, device_found}
-use Rattle.file_desk.specs.Falling.{FallsIf}
-use Rattle.file_desk.specs.Shutting.{ShutsOnShelves}
-use Rattle.file_desk.specs.Standing as standing
-use Rattle.file_desk.specs.Standing.{SameShelf, StandsOn, TellAll, row_of}
-use Rattle.file_acts.specs.Over.{IsOver}
-use Rattle.statements.specs.Does.{declared_in}
-use Rattle.control.specs.Outcome.{Trace}
-use Rattle.language.specs.Control.{control_of}
-use Rattle.language.specs.Own.{OwnAct, OwnPicker, OwnTest}
-use Rattle.cobol_laws.specs.cobol_meaning.Runs.{Files, State, begun_in, doing_in, files_left, first_memory, source_run, step_in, world_with}
-use Rattle.sink_giving.specs.Giving.{Gained, Takes}
+use Rattle.file_model.specs.operations.Calls.{addresses_of}
+use Rattle.file_model.specs.operations.Seen.{Seen, device_found}
+use Rattle.file_model.specs.operations.Falling.{FallsIf}
+use Rattle.file_model.specs.operations.Shutting.{ShutsOnShelves}
+use Rattle.file_model.specs.operations.Standing as standing
+use Rattle.file_model.specs.operations.Standing.{SameShelf, StandsOn, TellAll, row_of}
+use Rattle.cob_act.specs.files.Over.{IsOver}
+use Rattle.meanings.specs.statements.Does.{declared_in}
+use Rattle.control_flow_theory.specs.semantics.Outcome.{Trace}
+use Rattle.control_flow_theory.specs.language.Control.{control_of}
+use Rattle.control_flow_theory.specs.language.Own.{OwnAct, OwnPicker, OwnTest}
+use Rattle.cobol_theory.specs.cobol_meaning.Runs.{Files, State, begun_in, doing_in, files_left, first_memory, source_run, step_in, world_with}
+use Rattle.cob_base.specs.giving.Giving.{Gained, Takes}
 use Rattle.cobol_run.specs.declared.machine.Ending.{Ending}
 use Rattle.cobol_run.specs.declared.machine.Machine.{Machine}
 use Rattle.cobol_run.specs.declared.machine.Step.{Step}

@@ -1,9 +1,9 @@
 -- Programs in which no word on an added item stands: what is still to do, and what is next.
 use Rattle.std.proofs.Common.{List, [], ◌∷◌, ℕ}
-use Rattle.language.specs.Language as language
-use Rattle.language.specs.Items.{Item}
-use Rattle.language.specs.Items as items
-use Rattle.language.specs.Own.{OwnAct, OwnArms, OwnBody, OwnControl, OwnParagraph, OwnParagraphs, OwnPicker, OwnStmt, OwnStmts, OwnTest}
+use Rattle.control_flow_theory.specs.language.Language as language
+use Rattle.control_flow_theory.specs.language.Items.{Item}
+use Rattle.control_flow_theory.specs.language.Items as items
+use Rattle.control_flow_theory.specs.language.Own.{OwnAct, OwnArms, OwnBody, OwnControl, OwnParagraph, OwnParagraphs, OwnPicker, OwnStmt, OwnStmts, OwnTest}
 use Rattle.cobol_run.specs.declared.frames.Head.{Head}
 use Rattle.cobol_run.specs.declared.frames.Head.TheVariants as head
 use Rattle.cobol_run.specs.Frames.{heads, turning_seen}

@@ -29,12 +29,12 @@ use Rattle.cob_tree.specs.declared.stmt.Stmt.{Stmt, ind-Stmt, map-Stmt, roll-Stm
 use Rattle.cob_tree.specs.declared.stmt.Stmt.TheOpen.{Stmt-F, Arms-F, When-F}
 use Rattle.cob_tree.specs.declared.stmt.Stmt.TheVariants as stmts
 use Rattle.cob_act.specs.Acting.{is_inner}
-use Rattle.language.specs.Language as language
-use Rattle.language.specs.All.{all}
-use Rattle.language.specs.Own.{OwnTest}
-use Rattle.language.specs.Control.{always, bare, cell_chosen, cell_in, cell_of, is_number, number_in, number_written, relation_of, test_of, tested, Tested, tested_step, zero_side, move_of, move_to, lowered_cell, arith_act, arith_of, arith_stmt, count_from, evaluate_of, picker_by, arm_before, else_of, control_in, loop_of, perform_of, Branch, branches_before, Both, both_arms, both_step, branch_step, seen_step, seen, seen_when, seen_both, seen_stmts, seen_sentence, section_last, seen_paragraphs}
-use Rattle.language.proofs.Conditions.{cond-back}
-use Rattle.language.proofs.Unseen.{cond_of}
+use Rattle.control_flow_theory.specs.language.Language as language
+use Rattle.control_flow_theory.specs.language.All.{all}
+use Rattle.control_flow_theory.specs.language.Own.{OwnTest}
+use Rattle.control_flow_theory.specs.language.Control.{always, bare, cell_chosen, cell_in, cell_of, is_number, number_in, number_written, relation_of, test_of, tested, Tested, tested_step, zero_side, move_of, move_to, lowered_cell, arith_act, arith_of, arith_stmt, count_from, evaluate_of, picker_by, arm_before, else_of, control_in, loop_of, perform_of, Branch, branches_before, Both, both_arms, both_step, branch_step, seen_step, seen, seen_when, seen_both, seen_stmts, seen_sentence, section_last, seen_paragraphs}
+use Rattle.control_flow_theory.proofs.language_lemmas.Conditions.{cond-back}
+use Rattle.control_flow_theory.proofs.language_lemmas.Unseen.{cond_of}
 use Rattle.cobol_run.specs.Standing as standing
 use Rattle.cobol_run.specs.Plain.{IsPlain, PlainAct, PlainPicker, PlainStmt}
 use Rattle.cobol_run.specs.PlainTests.{arms_step, are_plain_arms, are_plain_stmts, are_plain_whens, is_always, is_equal, is_own_subject, is_own_test, is_plain, is_plain_control, is_plain_paragraph, is_plain_stmt, is_plain_when, is_zero, is_zero_side, is_zero_word, own_step, plain_step, receives_own, targets_own, turns, when_step}

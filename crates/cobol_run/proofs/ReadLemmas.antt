@@ -15,22 +15,22 @@ use Rattle.file_model.specs.declared.table.FileRow.{FileRow}
 use Rattle.file_model.specs.Attempts.{Attempt, read_at}
 use Rattle.file_model.specs.World.{World}
 use Rattle.file_model.specs.World as verbs
-use Rattle.file_desk.specs.Seen.{Seen}
-use Rattle.file_acts.specs.declared.fault.Fault.{Fault}
-use Rattle.file_acts.specs.Ends.{ended_as}
-use Rattle.file_acts.specs.Over.{Did, IsOver}
-use Rattle.statements.specs.Does.{has_arms}
-use Rattle.statements.specs.Filing.{Abended, Chose, Declared, Effect, Ended, Operation, Went, address_at, after, into_by, last_world, no_effect, of_outcome, operated_to, read, record_put, record_spot, then_by}
-use Rattle.control.specs.Items.{Way, item_way, tried}
-use Rattle.control.specs.Items as ways
-use Rattle.control.specs.Outcome.{Trace}
-use Rattle.language.specs.Control.{both_arms, Both, seen}
-use Rattle.language.specs.Items.{Item, before_arm}
-use Rattle.language.specs.Items as items
-use Rattle.language.specs.Language as language
-use Rattle.language.proofs.Rows.{seen_both_is, seen_if_any, seen_read}
-use Rattle.cobol_laws.specs.cobol_meaning.Acting.{Memory, chosen, chosen_by, events_of}
-use Rattle.cobol_laws.specs.cobol_meaning.Runs.{doing_in}
+use Rattle.file_model.specs.operations.Seen.{Seen}
+use Rattle.cob_act.specs.declared.files.fault.Fault.{Fault}
+use Rattle.cob_act.specs.files.Ends.{ended_as}
+use Rattle.cob_act.specs.files.Over.{Did, IsOver}
+use Rattle.meanings.specs.statements.Does.{has_arms}
+use Rattle.meanings.specs.statements.Filing.{Abended, Chose, Declared, Effect, Ended, Operation, Went, address_at, after, into_by, last_world, no_effect, of_outcome, operated_to, read, record_put, record_spot, then_by}
+use Rattle.control_flow_theory.specs.semantics.Items.{Way, item_way, tried}
+use Rattle.control_flow_theory.specs.semantics.Items as ways
+use Rattle.control_flow_theory.specs.semantics.Outcome.{Trace}
+use Rattle.control_flow_theory.specs.language.Control.{both_arms, Both, seen}
+use Rattle.control_flow_theory.specs.language.Items.{Item, before_arm}
+use Rattle.control_flow_theory.specs.language.Items as items
+use Rattle.control_flow_theory.specs.language.Language as language
+use Rattle.control_flow_theory.proofs.language_lemmas.Rows.{seen_both_is, seen_if_any, seen_read}
+use Rattle.cobol_theory.specs.cobol_meaning.Acting.{Memory, chosen, chosen_by, events_of}
+use Rattle.cobol_theory.specs.cobol_meaning.Runs.{doing_in}
 use Rattle.cobol_run.specs.declared.frame.Frame.{Frame}
 use Rattle.cobol_run.specs.Frames.{rest_of}
 use Rattle.cobol_run.specs.Over.{FiledOver, armed_rest, filed_way}

@@ -4,16 +4,16 @@ use Rattle.cob_base.specs.Sink.{SinkCall}
 use Rattle.cob_tree.specs.declared.program.Program.{Program}
 use Rattle.file_model.specs.World.{World}
 use Rattle.file_model.specs.Status.{closed_row}
-use Rattle.statements.specs.Does.{declared_in}
-use Rattle.runs.specs.Run.{Over}
-use Rattle.runs.specs.Machine.{iterate}
-use Rattle.control.specs.Outcome.{Trace}
-use Rattle.control.specs.Outcome as outcome
-use Rattle.control.specs.Source as source
-use Rattle.language.specs.Control.{control_of}
-use Rattle.language.specs.Own.{OwnTest}
-use Rattle.cobol_laws.specs.cobol_meaning.Runs.{Files, State, begun_in, doing_in, files_left, first_memory, source_run, step_in, world_with}
-use Rattle.sink_giving.specs.Giving.{Gained, Takes}
+use Rattle.meanings.specs.statements.Does.{declared_in}
+use Rattle.control_flow_theory.specs.runs.Run.{Over}
+use Rattle.control_flow_theory.specs.runs.Machine.{iterate}
+use Rattle.control_flow_theory.specs.semantics.Outcome.{Trace}
+use Rattle.control_flow_theory.specs.semantics.Outcome as outcome
+use Rattle.control_flow_theory.specs.semantics.Source as source
+use Rattle.control_flow_theory.specs.language.Control.{control_of}
+use Rattle.control_flow_theory.specs.language.Own.{OwnTest}
+use Rattle.cobol_theory.specs.cobol_meaning.Runs.{Files, State, begun_in, doing_in, files_left, first_memory, source_run, step_in, world_with}
+use Rattle.cob_base.specs.giving.Giving.{Gained, Takes}
 use Rattle.cobol_run.specs.declared.machine.Machine.{Machine}
 use Rattle.cobol_run.specs.declared.machine.Ending.{Ending}
 use Rattle.cobol_run.specs.declared.machine.Step.{Step}

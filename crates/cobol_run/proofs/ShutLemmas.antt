@@ -5,9 +5,9 @@ use Rattle.std.specs.Option.{option_map}
 use Rattle.file_model.specs.declared.table.FileRow.{FileRow}
 use Rattle.file_model.specs.Attempts.{Address, closed, state_of, with_state}
 use Rattle.file_model.specs.World.{FileState, World}
-use Rattle.file_desk.specs.Seen.{Seen}
-use Rattle.file_desk.specs.Shutting.{Shut, ShutsAll, shut_at}
-use Rattle.file_desk.specs.Standing.{Stands, row_of}
+use Rattle.file_model.specs.operations.Seen.{Seen}
+use Rattle.file_model.specs.operations.Shutting.{Shut, ShutsAll, shut_at}
+use Rattle.file_model.specs.operations.Standing.{Stands, row_of}
 use Rattle.cobol_run.specs.Filing.{is_open, some_open}
 
 neither : (a b : Bool) → (a || b) ≡ false → (a ≡ false) × (b ≡ false)

@@ -1,15 +1,15 @@
 -- What holds of each part that stands in a program holds of what is still to do, at each step.
 use Rattle.std.proofs.Common.{◌≡◌, ℕ, zero, suc, Bool, true, false, ◌==◌, List, [], ◌∷◌, Option, Some, None, slice_get, refl}
-use Rattle.runs.specs.Run.{Going, Over}
-use Rattle.runs.specs.Machine.{iterate}
-use Rattle.control.specs.Outcome.{Trace, Tried, Got, Ends}
-use Rattle.control.specs.Outcome as outcome
-use Rattle.language.specs.Language.{Act, Test, Picker, By, Control, Times, Until, Varying, Stmt, Do, Choose, Loop, Perform, Go, GoDepending, NextSentence, ExitParagraph, ExitSection, ExitPerform, StopRun, Stmts, none, also, Arms, done, given, missing, Body, Nested, Performed, Paragraph, Program, unless_absent}
-use Rattle.language.specs.Items.{Turning, Counted, Tests, Steps, StepsAfter, Item, SentenceEnd, Turn, Pending, before, before_arm, before_body, ends_at, from_loop, items_of, past_sentence}
-use Rattle.language.specs.Items as items
-use Rattle.control.specs.Doing.{Doing}
-use Rattle.control.specs.Items.{Way, On, Halts, Into, To, ToEnd, way_after, tried, first_turn, varying, loop_begins, turns, tests, steps_on, turn_way, to_one, stmt_way, item_way, on}
-use Rattle.control.specs.Source.{SourceState, goes_to, performs, goes, falls, end_step, rest_step, step_by, source_step, source_begun}
+use Rattle.control_flow_theory.specs.runs.Run.{Going, Over}
+use Rattle.control_flow_theory.specs.runs.Machine.{iterate}
+use Rattle.control_flow_theory.specs.semantics.Outcome.{Trace, Tried, Got, Ends}
+use Rattle.control_flow_theory.specs.semantics.Outcome as outcome
+use Rattle.control_flow_theory.specs.language.Language.{Act, Test, Picker, By, Control, Times, Until, Varying, Stmt, Do, Choose, Loop, Perform, Go, GoDepending, NextSentence, ExitParagraph, ExitSection, ExitPerform, StopRun, Stmts, none, also, Arms, done, given, missing, Body, Nested, Performed, Paragraph, Program, unless_absent}
+use Rattle.control_flow_theory.specs.language.Items.{Turning, Counted, Tests, Steps, StepsAfter, Item, SentenceEnd, Turn, Pending, before, before_arm, before_body, ends_at, from_loop, items_of, past_sentence}
+use Rattle.control_flow_theory.specs.language.Items as items
+use Rattle.control_flow_theory.specs.semantics.Doing.{Doing}
+use Rattle.control_flow_theory.specs.semantics.Items.{Way, On, Halts, Into, To, ToEnd, way_after, tried, first_turn, varying, loop_begins, turns, tests, steps_on, turn_way, to_one, stmt_way, item_way, on}
+use Rattle.control_flow_theory.specs.semantics.Source.{SourceState, goes_to, performs, goes, falls, end_step, rest_step, step_by, source_step, source_begun}
 use Rattle.cobol_run.specs.Standing as standing
 
 module _ (ActHas : Act → Type 0) (TestHas : Test → Type 0) (PickerHas : Picker → Type 0) where

@@ -19,20 +19,20 @@ use Rattle.cob_tree.specs.declared.stmt.Stmt.TheVariants as stmts
 use Rattle.cob_store.specs.Answer.{Answer}
 use Rattle.cob_store.specs.Store.{Roots}
 use Rattle.file_model.specs.World.{World}
-use Rattle.statements.specs.Arithmetic.{calculated}
-use Rattle.statements.specs.Does.{has_arms, of_sum}
-use Rattle.statements.specs.Filing.{Declared}
-use Rattle.control.specs.Outcome.{Tried, Got, Ends}
-use Rattle.control.specs.Items.{Way, item_way, loop_begins, steps_on, stmt_way, tried, turn_way, way_after}
-use Rattle.control.specs.Doing.{Doing, arm_of, giving}
-use Rattle.language.specs.Language as language
-use Rattle.language.specs.Control.{arith_of, arith_stmt, augmented, augmenting, arm_before, Branch, both_arms, branches_before, cell_chosen, control_in, count_from, evaluate_of, loop_of, perform_of, picker_by, seen, seen_stmts, seen_when, test_of, tests_of}
-use Rattle.language.specs.Items.{Item, before, before_arm}
-use Rattle.language.specs.Items as items
-use Rattle.language.specs.Own.{OwnAct, OwnPicker, OwnTest}
-use Rattle.language.proofs.Rows.{seen_arith, seen_both_is, seen_evaluate, seen_if, seen_if_any, seen_loop, seen_perform, seen_when_is}
-use Rattle.cobol_laws.specs.cobol_meaning.Acting.{Memory, chooses_in, chosen, does_to, tests_in}
-use Rattle.cobol_laws.specs.cobol_meaning.Runs.{doing_in}
+use Rattle.meanings.specs.statements.Arithmetic.{calculated}
+use Rattle.meanings.specs.statements.Does.{has_arms, of_sum}
+use Rattle.meanings.specs.statements.Filing.{Declared}
+use Rattle.control_flow_theory.specs.semantics.Outcome.{Tried, Got, Ends}
+use Rattle.control_flow_theory.specs.semantics.Items.{Way, item_way, loop_begins, steps_on, stmt_way, tried, turn_way, way_after}
+use Rattle.control_flow_theory.specs.semantics.Doing.{Doing, arm_of, giving}
+use Rattle.control_flow_theory.specs.language.Language as language
+use Rattle.control_flow_theory.specs.language.Control.{arith_of, arith_stmt, augmented, augmenting, arm_before, Branch, both_arms, branches_before, cell_chosen, control_in, count_from, evaluate_of, loop_of, perform_of, picker_by, seen, seen_stmts, seen_when, test_of, tests_of}
+use Rattle.control_flow_theory.specs.language.Items.{Item, before, before_arm}
+use Rattle.control_flow_theory.specs.language.Items as items
+use Rattle.control_flow_theory.specs.language.Own.{OwnAct, OwnPicker, OwnTest}
+use Rattle.control_flow_theory.proofs.language_lemmas.Rows.{seen_arith, seen_both_is, seen_evaluate, seen_if, seen_if_any, seen_loop, seen_perform, seen_when_is}
+use Rattle.cobol_theory.specs.cobol_meaning.Acting.{Memory, chooses_in, chosen, does_to, tests_in}
+use Rattle.cobol_theory.specs.cobol_meaning.Runs.{doing_in}
 use Rattle.cobol_run.specs.declared.frame.Frame.{Frame}
 use Rattle.cobol_run.specs.declared.frame.Turning.{Turning}
 use Rattle.cobol_run.specs.declared.frame.Turning.TheVariants as turning

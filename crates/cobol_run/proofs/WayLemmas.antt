@@ -8,23 +8,23 @@ use Rattle.cob_tree.specs.declared.cond.Cond.TheVariants.{rolls-Not}
 use Rattle.cob_tree.specs.declared.stmt.Stmt.{Stmt}
 use Rattle.cob_tree.specs.declared.stmt.Stmt.TheVariants as stmts
 use Rattle.cob_store.specs.Answer.{Answer, and_then}
-use Rattle.statements.specs.Condition.{Tests, cond_step, holds}
-use Rattle.statements.specs.Filing.{Declared}
-use Rattle.statements.specs.Does.{memory_in}
-use Rattle.control.specs.Outcome.{Tried, Got, Ends}
-use Rattle.control.specs.Doing.{Doing, alone_act, alone_test, arm_of, giving}
-use Rattle.control.specs.Items.{item_way, tried}
-use Rattle.language.specs.Language as language
-use Rattle.language.specs.Control.{arm_before, else_of, seen, seen_stmts, test_of}
-use Rattle.language.specs.Items.{Item, before, before_arm}
-use Rattle.language.specs.Items as items
-use Rattle.language.specs.Own.{OwnAct, OwnStmt, OwnTest}
-use Rattle.language.proofs.Conditions.{cond-back}
-use Rattle.language.proofs.ReadBack.{stmt-back}
-use Rattle.language.proofs.Rows.{seen_if}
-use Rattle.language.proofs.Unseen.{cond_of, simple_of, unseen}
-use Rattle.cobol_laws.specs.cobol_meaning.Acting.{Memory, acting, answered, does_to, tests_in}
-use Rattle.cobol_laws.specs.cobol_meaning.Runs.{doing_in}
+use Rattle.meanings.specs.statements.Condition.{Tests, cond_step, holds}
+use Rattle.meanings.specs.statements.Filing.{Declared}
+use Rattle.meanings.specs.statements.Does.{memory_in}
+use Rattle.control_flow_theory.specs.semantics.Outcome.{Tried, Got, Ends}
+use Rattle.control_flow_theory.specs.semantics.Doing.{Doing, alone_act, alone_test, arm_of, giving}
+use Rattle.control_flow_theory.specs.semantics.Items.{item_way, tried}
+use Rattle.control_flow_theory.specs.language.Language as language
+use Rattle.control_flow_theory.specs.language.Control.{arm_before, else_of, seen, seen_stmts, test_of}
+use Rattle.control_flow_theory.specs.language.Items.{Item, before, before_arm}
+use Rattle.control_flow_theory.specs.language.Items as items
+use Rattle.control_flow_theory.specs.language.Own.{OwnAct, OwnStmt, OwnTest}
+use Rattle.control_flow_theory.proofs.language_lemmas.Conditions.{cond-back}
+use Rattle.control_flow_theory.proofs.language_lemmas.ReadBack.{stmt-back}
+use Rattle.control_flow_theory.proofs.language_lemmas.Rows.{seen_if}
+use Rattle.control_flow_theory.proofs.language_lemmas.Unseen.{cond_of, simple_of, unseen}
+use Rattle.cobol_theory.specs.cobol_meaning.Acting.{Memory, acting, answered, does_to, tests_in}
+use Rattle.cobol_theory.specs.cobol_meaning.Runs.{doing_in}
 use Rattle.cobol_run.specs.Own.{HeadOwn}
 use Rattle.cobol_run.specs.Ways.{on}
 

@@ -3,9 +3,9 @@ use Rattle.std.specs.Prelude.{ℕ, ◌≡◌, Bool, true, false, List, Option, I
 use Rattle.file_model.specs.declared.table.FileRow.{FileRow}
 use Rattle.file_model.specs.Attempts.{Address}
 use Rattle.file_model.specs.World.{World}
-use Rattle.file_desk.specs.Seen.{Seen}
-use Rattle.file_desk.specs.Shutting.{ShutsAll}
-use Rattle.file_desk.specs.Falling.{FellOff, SameBench}
+use Rattle.file_model.specs.operations.Seen.{Seen}
+use Rattle.file_model.specs.operations.Shutting.{ShutsAll}
+use Rattle.file_model.specs.operations.Falling.{FellOff, SameBench}
 use Rattle.cobol_run.specs.declared.machine.Step.{Step}
 use Rattle.cobol_run.specs.declared.machine.Step.TheVariants as step
 use Rattle.cobol_run.specs.declared.running.Turned.{Turned}

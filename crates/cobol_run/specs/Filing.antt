@@ -3,7 +3,7 @@ use Rattle.std.specs.Prelude.{ℕ, Bool, List, is_some}
 use Rattle.std.specs.List.{list_any}
 use Rattle.cob_tree.specs.declared.stmt.Stmt.{Stmt}
 use Rattle.file_model.specs.declared.table.FileRow.{FileRow}
-use Rattle.language.specs.Control.{seen}
+use Rattle.control_flow_theory.specs.language.Control.{seen}
 use Rattle.cobol_run.specs.Plain.{PlainStmt}
 
 -- a statement that stands in no plain program

@@ -3,10 +3,10 @@ use Rattle.std.specs.Prelude.{ℕ, ◌≡◌, suc, Bool, false, ◌==◌, List, 
 use Rattle.cob_tree.specs.declared.program.Sentence.{Sentence}
 use Rattle.cob_tree.specs.declared.program.Paragraph.{Paragraph}
 use Rattle.cob_tree.specs.declared.program.Program.{Program}
-use Rattle.language.specs.Control.{augmented, section_last, seen, seen_sentence, seen_stmts, test_of}
-use Rattle.language.specs.Items.{Item, Do, SentenceEnd, Turn, Pending, before}
-use Rattle.language.specs.Items as items
-use Rattle.language.specs.Language as language
+use Rattle.control_flow_theory.specs.language.Control.{augmented, section_last, seen, seen_sentence, seen_stmts, test_of}
+use Rattle.control_flow_theory.specs.language.Items.{Item, Do, SentenceEnd, Turn, Pending, before}
+use Rattle.control_flow_theory.specs.language.Items as items
+use Rattle.control_flow_theory.specs.language.Language as language
 use Rattle.cobol_run.specs.declared.frame.Body.{Body}
 use Rattle.cobol_run.specs.declared.frame.Body.TheVariants.{Nested, Performed}
 use Rattle.cobol_run.specs.declared.frame.Turning.{Turning}

@@ -22,3 +22,5 @@ pub mod Running
 pub mod Over
 -- what a run leaves of the devices of its bench
 pub mod Falling
+-- What a run of a structured program shows is what its nested statements show.
+pub mod structured_runs

@@ -1,17 +1,17 @@
 -- The machine as a state of the source machine.
 use Rattle.std.specs.Prelude.{ℕ, suc, ◌≡◌, ◌<◌, ◌^◌, List, [], ◌∷◌, ◌++◌, length, slice_get}
 use Rattle.file_model.specs.World.{World}
-use Rattle.runs.specs.Run.{Going, Over}
-use Rattle.control.specs.Outcome.{Trace, Normally, Overlap, Reentry, Stopped, Faulted}
-use Rattle.control.specs.Outcome as outcome
-use Rattle.control.specs.Items as control
-use Rattle.control.specs.Source.{end_step, falls, goes, performs, rest_step}
+use Rattle.control_flow_theory.specs.runs.Run.{Going, Over}
+use Rattle.control_flow_theory.specs.semantics.Outcome.{Trace, Normally, Overlap, Reentry, Stopped, Faulted}
+use Rattle.control_flow_theory.specs.semantics.Outcome as outcome
+use Rattle.control_flow_theory.specs.semantics.Items as control
+use Rattle.control_flow_theory.specs.semantics.Source.{end_step, falls, goes, performs, rest_step}
 use Rattle.cob_tree.specs.declared.ending.FlowFault.{FlowFault}
 use Rattle.cob_tree.specs.declared.ending.FlowFault.TheVariants as flow
-use Rattle.language.specs.Control.{control_of}
-use Rattle.language.specs.Items.{Item, Pending}
-use Rattle.cobol_laws.specs.cobol_meaning.Acting.{Memory, abend_number}
-use Rattle.cobol_laws.specs.cobol_meaning.Runs.{Files, State, doing_in, files_left, step_in}
+use Rattle.control_flow_theory.specs.language.Control.{control_of}
+use Rattle.control_flow_theory.specs.language.Items.{Item, Pending}
+use Rattle.cobol_theory.specs.cobol_meaning.Acting.{Memory, abend_number}
+use Rattle.cobol_theory.specs.cobol_meaning.Runs.{Files, State, doing_in, files_left, step_in}
 use Rattle.cobol_run.specs.declared.held.Plan.{Plan}
 use Rattle.cobol_run.specs.declared.machine.Ending.{Ending}
 use Rattle.cobol_run.specs.declared.machine.Ending.TheVariants as ending

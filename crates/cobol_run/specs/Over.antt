@@ -10,20 +10,20 @@ use Rattle.cob_tree.specs.declared.stmt.Arms.{Arms}
 use Rattle.cob_tree.specs.declared.stmt.Stmt.{Stmt}
 use Rattle.file_model.specs.declared.table.FileRow.{FileRow}
 use Rattle.file_model.specs.World.{World, shelf_found}
-use Rattle.file_desk.specs.Seen.{Seen, device_found}
-use Rattle.file_desk.specs.Standing.{SameShelf, TellAll}
-use Rattle.file_acts.specs.declared.fault.Fault.{Fault}
-use Rattle.file_acts.specs.Over.{BrokeIn, IsOver}
-use Rattle.runs.specs.Run.{Going, Over}
-use Rattle.control.specs.Items as control
-use Rattle.control.specs.Items.{item_way}
-use Rattle.control.specs.Outcome.{Abend, Trace}
-use Rattle.language.specs.Control.{seen, seen_stmts}
-use Rattle.language.specs.Items.{Do, Item, before}
-use Rattle.statements.specs.Does.{declared_in}
-use Rattle.cobol_laws.specs.cobol_meaning.Acting.{Memory, abend_number}
-use Rattle.cobol_laws.specs.cobol_meaning.Runs.{Files, State, doing_in}
-use Rattle.sink_giving.specs.Giving.{Gained}
+use Rattle.file_model.specs.operations.Seen.{Seen, device_found}
+use Rattle.file_model.specs.operations.Standing.{SameShelf, TellAll}
+use Rattle.cob_act.specs.declared.files.fault.Fault.{Fault}
+use Rattle.cob_act.specs.files.Over.{BrokeIn, IsOver}
+use Rattle.control_flow_theory.specs.runs.Run.{Going, Over}
+use Rattle.control_flow_theory.specs.semantics.Items as control
+use Rattle.control_flow_theory.specs.semantics.Items.{item_way}
+use Rattle.control_flow_theory.specs.semantics.Outcome.{Abend, Trace}
+use Rattle.control_flow_theory.specs.language.Control.{seen, seen_stmts}
+use Rattle.control_flow_theory.specs.language.Items.{Do, Item, before}
+use Rattle.meanings.specs.statements.Does.{declared_in}
+use Rattle.cobol_theory.specs.cobol_meaning.Acting.{Memory, abend_number}
+use Rattle.cobol_theory.specs.cobol_meaning.Runs.{Files, State, doing_in}
+use Rattle.cob_base.specs.giving.Giving.{Gained}
 use Rattle.cobol_run.specs.declared.frame.Frame.{Frame}
 use Rattle.cobol_run.specs.declared.machine.Ending.{Ending}
 use Rattle.cobol_run.specs.declared.machine.Ending.TheVariants as ending

@@ -3,10 +3,10 @@ use Rattle.std.specs.Prelude.{◌≡◌, ℕ, true, None}
 use Rattle.cob_tree.specs.declared.program.Program.{Program}
 use Rattle.cob_tree.specs.declared.stmt.Stmt.{Stmt}
 use Rattle.cob_act.specs.Acting.{is_inner}
-use Rattle.language.specs.Control.{control_of, seen}
-use Rattle.language.specs.Language as language
-use Rattle.language.specs.Own.{OwnAct, OwnParagraphs, OwnPicker, OwnTest}
-use Rattle.cobol_laws.specs.cobol_meaning.Runs.{State}
+use Rattle.control_flow_theory.specs.language.Control.{control_of, seen}
+use Rattle.control_flow_theory.specs.language.Language as language
+use Rattle.control_flow_theory.specs.language.Own.{OwnAct, OwnParagraphs, OwnPicker, OwnTest}
+use Rattle.cobol_theory.specs.cobol_meaning.Runs.{State}
 use Rattle.cobol_run.specs.declared.frames.Head.{Head}
 use Rattle.cobol_run.specs.declared.frames.Head.TheVariants as head
 use Rattle.cobol_run.specs.Frames.{turning_seen}

@@ -4,15 +4,15 @@ use Rattle.cob_tree.specs.declared.program.Program.{Program}
 use Rattle.cob_tree.specs.declared.stmt.Stmt.{Stmt, out-Stmt}
 use Rattle.cob_tree.specs.declared.stmt.Stmt.TheOpen.{Stmt-F}
 use Rattle.cob_act.specs.Acting.{is_inner}
-use Rattle.language.specs.Control.{always, control_of}
+use Rattle.control_flow_theory.specs.language.Control.{always, control_of}
 use Rattle.cob_tree.specs.declared.control.Control.{Control}
 use Rattle.cob_tree.specs.declared.control.Control.TheVariants.{Once, Times, Until, Varying}
 use Rattle.cobol_run.specs.declared.statement.Entered.{Entered}
-use Rattle.language.specs.Own.{OwnTest}
-use Rattle.language.specs.Language.{Act, Own, Holds, Picker, If, By, ByCell, Chooser, Read}
-use Rattle.language.specs.Language as language
+use Rattle.control_flow_theory.specs.language.Own.{OwnTest}
+use Rattle.control_flow_theory.specs.language.Language.{Act, Own, Holds, Picker, If, By, ByCell, Chooser, Read}
+use Rattle.control_flow_theory.specs.language.Language as language
 use Rattle.cobol_run.specs.Standing as standing
-use Rattle.cobol_laws.specs.cobol_meaning.Runs.{State}
+use Rattle.cobol_theory.specs.cobol_meaning.Runs.{State}
 
 -- an act of the program's own, that needs no device
 abbrev pub PlainAct : Act → Type 0

@@ -22,8 +22,8 @@ use Rattle.cob_tree.specs.declared.stmt.When.{When, fold-When}
 use Rattle.cob_tree.specs.declared.program.Sentence.{Sentence}
 use Rattle.cob_tree.specs.declared.program.Paragraph.{Paragraph}
 use Rattle.cob_tree.specs.declared.program.Program.{Program}
-use Rattle.language.specs.All.{all, all_if}
-use Rattle.language.specs.Control.{cell_chosen, cell_in, cell_named, cell_of}
+use Rattle.control_flow_theory.specs.language.All.{all, all_if}
+use Rattle.control_flow_theory.specs.language.Control.{cell_chosen, cell_in, cell_named, cell_of}
 
 -- Added items.
 

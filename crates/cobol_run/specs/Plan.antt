@@ -3,12 +3,12 @@ use Rattle.std.specs.Prelude.{ℕ, List, [], Ok, Err}
 use Rattle.cob_store.specs.Answer.{Answer}
 use Rattle.cob_store.specs.Store.{Roots}
 use Rattle.file_model.specs.World.{World}
-use Rattle.statements.specs.Filing.{Declared}
-use Rattle.statements.specs.Does.{declared_with}
+use Rattle.meanings.specs.statements.Filing.{Declared}
+use Rattle.meanings.specs.statements.Does.{declared_with}
 use Rattle.cob_act.specs.declared.acting.Done.{Done}
 use Rattle.cob_act.specs.Acting.{effect_by}
-use Rattle.control.specs.Outcome.{Tried, Got, Ends}
-use Rattle.cobol_laws.specs.cobol_meaning.Acting.{Memory, acted, abend_number}
+use Rattle.control_flow_theory.specs.semantics.Outcome.{Tried, Got, Ends}
+use Rattle.cobol_theory.specs.cobol_meaning.Acting.{Memory, acted, abend_number}
 use Rattle.cobol_run.specs.declared.held.Plan.{Plan}
 
 abbrev pub declared_by : Plan → Declared

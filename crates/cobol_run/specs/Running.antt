@@ -2,13 +2,13 @@
 use Rattle.std.specs.Prelude.{ℕ, zero, suc, ◌≡◌, ◌<◌, ◌≤◌, List, [], ◌∷◌, ◌++◌, take, Option}
 use Rattle.cob_base.specs.Sink.{SinkCall}
 use Rattle.cob_tree.specs.declared.program.Program.{Program}
-use Rattle.runs.specs.Run.{Going, Over}
-use Rattle.control.specs.Outcome.{Event, Trace}
-use Rattle.control.specs.Outcome as outcome
-use Rattle.runs.specs.Machine.{iterate}
-use Rattle.statements.specs.Does.{declared_in}
-use Rattle.cobol_laws.specs.cobol_meaning.Runs.{Files, State, begun_in, source_run, step_in, world_with}
-use Rattle.sink_giving.specs.Giving.{Gained, Gains}
+use Rattle.control_flow_theory.specs.runs.Run.{Going, Over}
+use Rattle.control_flow_theory.specs.semantics.Outcome.{Event, Trace}
+use Rattle.control_flow_theory.specs.semantics.Outcome as outcome
+use Rattle.control_flow_theory.specs.runs.Machine.{iterate}
+use Rattle.meanings.specs.statements.Does.{declared_in}
+use Rattle.cobol_theory.specs.cobol_meaning.Runs.{Files, State, begun_in, source_run, step_in, world_with}
+use Rattle.cob_base.specs.giving.Giving.{Gained, Gains}
 use Rattle.cobol_run.specs.declared.running.Ran.{Ran}
 use Rattle.cobol_run.specs.declared.running.Ran.TheVariants as ran
 use Rattle.cobol_run.specs.declared.machine.Machine.{Machine}

@@ -1,9 +1,9 @@
 -- What holds of each part that stands in a program, and in what is still to do.
 use Rattle.std.specs.Prelude.{List, [], ◌∷◌}
-use Rattle.language.specs.Language.{Act, Test, Picker, Control, Times, Until, Varying, Stmt, Do, Choose, Loop, Stmts, none, also, Arms, done, given, missing, Body, Nested, Performed, Paragraph}
-use Rattle.language.specs.Items.{Turning, Counted, Tests, Steps, StepsAfter, Item, SentenceEnd, Turn, Pending}
-use Rattle.language.specs.Items as items
-use Rattle.control.specs.Source.{SourceState}
+use Rattle.control_flow_theory.specs.language.Language.{Act, Test, Picker, Control, Times, Until, Varying, Stmt, Do, Choose, Loop, Stmts, none, also, Arms, done, given, missing, Body, Nested, Performed, Paragraph}
+use Rattle.control_flow_theory.specs.language.Items.{Turning, Counted, Tests, Steps, StepsAfter, Item, SentenceEnd, Turn, Pending}
+use Rattle.control_flow_theory.specs.language.Items as items
+use Rattle.control_flow_theory.specs.semantics.Source.{SourceState}
 
 module _ (ActHas : Act → Type 0) (TestHas : Test → Type 0) (PickerHas : Picker → Type 0) where
   abbrev pub ControlHas : Control → Type 0

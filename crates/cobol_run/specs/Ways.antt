@@ -6,17 +6,17 @@ use Rattle.cob_tree.specs.declared.stmt.Arms.{Arms, out-Arms}
 use Rattle.cob_tree.specs.declared.stmt.When.{When, out-When}
 use Rattle.cob_store.specs.Answer.{Answer}
 use Rattle.file_model.specs.World.{World}
-use Rattle.control.specs.Outcome.{Normally, Abend}
-use Rattle.control.specs.Doing.{Doing}
-use Rattle.control.specs.Items as control
-use Rattle.control.specs.Items.{loop_begins, tried, turn_way, turns}
-use Rattle.language.specs.Control.{augmented, augmenting, test_of}
-use Rattle.language.specs.Items.{Item, Turn, before_body}
-use Rattle.language.specs.Items as items
-use Rattle.language.specs.Language as language
-use Rattle.cobol_laws.specs.cobol_meaning.Acting.{Memory, abend_number, does_to, tests_in}
-use Rattle.cobol_laws.specs.cobol_meaning.Runs.{doing_in}
-use Rattle.statements.specs.Filing.{Declared}
+use Rattle.control_flow_theory.specs.semantics.Outcome.{Normally, Abend}
+use Rattle.control_flow_theory.specs.semantics.Doing.{Doing}
+use Rattle.control_flow_theory.specs.semantics.Items as control
+use Rattle.control_flow_theory.specs.semantics.Items.{loop_begins, tried, turn_way, turns}
+use Rattle.control_flow_theory.specs.language.Control.{augmented, augmenting, test_of}
+use Rattle.control_flow_theory.specs.language.Items.{Item, Turn, before_body}
+use Rattle.control_flow_theory.specs.language.Items as items
+use Rattle.control_flow_theory.specs.language.Language as language
+use Rattle.cobol_theory.specs.cobol_meaning.Acting.{Memory, abend_number, does_to, tests_in}
+use Rattle.cobol_theory.specs.cobol_meaning.Runs.{doing_in}
+use Rattle.meanings.specs.statements.Filing.{Declared}
 use Rattle.cob_tree.specs.declared.cond.Cond.{Cond}
 use Rattle.cob_tree.specs.declared.control.Control.{Control}
 use Rattle.cob_tree.specs.declared.control.Control.TheVariants.{Once, Times, Until, Varying}

@@ -2,13 +2,13 @@
 
 ghost use Rattle.std.specs.Prelude.{◌≡◌, ℕ, IfErr, IfOk, IsTrue, false, map, not, option_copied, take};
 ghost use Rattle.cob_act.specs.Acting.{is_inner};
-ghost use Rattle.control.specs.Items.{item_way};
-ghost use Rattle.cobol_laws.specs.cobol_meaning.Runs.{doing_in};
-ghost use Rattle.file_acts.specs.Ends.{DoneOver};
-ghost use Rattle.file_acts.specs.Over.{IsOver};
+ghost use Rattle.control_flow_theory.specs.semantics.Items.{item_way};
+ghost use Rattle.cobol_theory.specs.cobol_meaning.Runs.{doing_in};
+ghost use Rattle.cob_act.specs.files.Ends.{DoneOver};
+ghost use Rattle.cob_act.specs.files.Over.{IsOver};
 ghost use Rattle.file_model.specs.World.{World};
-ghost use Rattle.language.specs.Control.{seen};
-ghost use Rattle.language.specs.Items.{Do};
+ghost use Rattle.control_flow_theory.specs.language.Control.{seen};
+ghost use Rattle.control_flow_theory.specs.language.Items.{Do};
 ghost use Rattle.cobol_run.specs.Filing.{StandsInNone};
 ghost use Rattle.cobol_run.specs.Frames.{rest_of};
 ghost use Rattle.cobol_run.specs.Over.{FiledOver, armed_rest};
@@ -19,11 +19,11 @@ use crate::frame::Frame;
 use crate::frames::push_stmts;
 use crate::held::{Held, Plan};
 use crate::way::stmts_or_none;
+use cob_act::files::{Fault, Reading, all_opened, all_shut, read_one, rewritten, written};
 use cob_act::{Done, has_arms};
 use cob_store::Stack;
 use cob_tree::{Arms, Place, Stmt};
-use file_acts::{Fault, Reading, all_opened, all_shut, read_one, rewritten, written};
-use file_desk::Watched;
+use file_model::operations::Watched;
 use file_model::{Bench, Device, FileTable};
 
 /// Whether a statement is one on files.

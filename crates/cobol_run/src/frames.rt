@@ -2,10 +2,10 @@
 
 ghost use Rattle.std.specs.Prelude.{◌≡◌, ℕ, ◌∷◌, [], IfOk};
 ghost use Rattle.cob_tree.specs.declared.program.Program.{Program};
-ghost use Rattle.language.specs.Items.{before, before_body, ends_at, from_loop, past_sentence, Turn};
+ghost use Rattle.control_flow_theory.specs.language.Items.{before, before_body, ends_at, from_loop, past_sentence, Turn};
 ghost use Rattle.std.specs.List.{list_any};
 ghost use Rattle.cobol_run.specs.Frames.{TakesReturn, body_seen, ends_here, heads, pending_of, rest_of, sentences_before, turning_seen};
-ghost use Rattle.language.specs.Control.{seen_stmts};
+ghost use Rattle.control_flow_theory.specs.language.Control.{seen_stmts};
 
 use crate::frame::{Body, Frame, Turning};
 use cob_base::NoMemory;

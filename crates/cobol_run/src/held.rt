@@ -4,11 +4,11 @@ ghost use Rattle.std.specs.Prelude.{◌≡◌, false, [], ◌∷◌, IfOk, IsTru
 ghost use Rattle.std.specs.Int.{is_positive};
 ghost use Rattle.file_model.specs.World.{World};
 ghost use Rattle.cob_tree.specs.declared.stmt.Stmt.TheVariants.{Move};
-ghost use Rattle.language.specs.Language.{Arith, Depending, Evaluate};
-ghost use Rattle.language.specs.Control.{augmenting};
+ghost use Rattle.control_flow_theory.specs.language.Language.{Arith, Depending, Evaluate};
+ghost use Rattle.control_flow_theory.specs.language.Control.{augmenting};
 ghost use Rattle.cob_act.specs.Acting.{is_inner};
 ghost use Rattle.cob_tree.specs.declared.stmt.When.{out-When};
-ghost use Rattle.cobol_laws.specs.cobol_meaning.Acting.{answered, chooses_in, counts_in, does_to, name_in, tests_in, turns_in};
+ghost use Rattle.cobol_theory.specs.cobol_meaning.Acting.{answered, chooses_in, counts_in, does_to, name_in, tests_in, turns_in};
 ghost use Rattle.cob_store.specs.Answer.{and_then};
 ghost use Rattle.cobol_run.specs.Plan.{declared_by, did, memory_in, picked};
 ghost use Rattle.cobol_run.specs.Ways.{arm_after};

@@ -10,6 +10,7 @@
 //! PROCEDURE DIVISION).
 #![tactic(auto)]
 
+pub mod constant_places;
 mod filing;
 mod frame;
 mod frames;
@@ -18,6 +19,7 @@ mod machine;
 mod plain;
 mod running;
 mod statement;
+pub mod structured_runs;
 mod way;
 
 pub use frame::{Body, Frame, Turning};

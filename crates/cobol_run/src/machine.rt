@@ -3,11 +3,11 @@
 ghost use Rattle.std.specs.Prelude.{◌≡◌, ◌≢◌, ◌<◌, ◌^◌, [], List, IfOk, IfSome, None, false, length, map, take};
 ghost use Rattle.file_model.specs.World.{World};
 ghost use Rattle.cob_act.specs.Acting.{is_inner};
-ghost use Rattle.control.specs.Outcome.{Trace};
-ghost use Rattle.control.specs.Source as source;
-ghost use Rattle.cobol_laws.specs.cobol_meaning.Acting.{Memory};
-ghost use Rattle.language.specs.Control.{control_of};
-ghost use Rattle.language.specs.Items.{Item};
+ghost use Rattle.control_flow_theory.specs.semantics.Outcome.{Trace};
+ghost use Rattle.control_flow_theory.specs.semantics.Source as source;
+ghost use Rattle.cobol_theory.specs.cobol_meaning.Acting.{Memory};
+ghost use Rattle.control_flow_theory.specs.language.Control.{control_of};
+ghost use Rattle.control_flow_theory.specs.language.Items.{Item};
 ghost use Rattle.cobol_run.specs.Falling.{StepFalls};
 ghost use Rattle.cobol_run.specs.Filing.{StandsInNone};
 ghost use Rattle.cobol_run.specs.Frames.{heads, last_in, last_of, pending_of, rest_of};
@@ -25,11 +25,11 @@ use crate::held::{Held, Plan};
 use crate::statement::{performed_once, stmt_way};
 use crate::way::{Way, turning_way};
 use cob_act::Done;
+use cob_act::files::Fault;
 use cob_base::{NoMemory, Text};
 use cob_store::Stack;
 use cob_tree::{Abend, FlowFault, Paragraph, Stmt};
-use file_acts::Fault;
-use file_desk::Watched;
+use file_model::operations::Watched;
 use file_model::{Bench, Device, FileTable};
 
 /// How a run ends by itself.

@@ -1,11 +1,11 @@
 //! What a statement comes to.
 
 ghost use Rattle.std.specs.Prelude.{◌≡◌, [], ℕ, None, IfOk, IfSome};
-ghost use Rattle.control.specs.Items.{item_way};
-ghost use Rattle.cobol_laws.specs.cobol_meaning.Runs.{doing_in};
-ghost use Rattle.language.specs.Control.{seen};
-ghost use Rattle.language.specs.Items.{Do};
-ghost use Rattle.language.specs.Language.{Perform};
+ghost use Rattle.control_flow_theory.specs.semantics.Items.{item_way};
+ghost use Rattle.cobol_theory.specs.cobol_meaning.Runs.{doing_in};
+ghost use Rattle.control_flow_theory.specs.language.Control.{seen};
+ghost use Rattle.control_flow_theory.specs.language.Items.{Do};
+ghost use Rattle.control_flow_theory.specs.language.Language.{Perform};
 ghost use Rattle.cobol_run.specs.Own.{ActsAlone};
 ghost use Rattle.cobol_run.specs.Plain.{once_of};
 ghost use Rattle.cobol_run.specs.Plan.{declared_by};

@@ -1,25 +1,25 @@
 //! Conditions.
 
-ghost use Rattle.grammar_forms.specs.Reading.{Reads};
-ghost use Rattle.statement_grammar.specs.expr_forms.Levels.{inner};
-ghost use Rattle.statement_grammar.specs.cond_forms.Condition as conditions;
-ghost use Rattle.statement_grammar.specs.cond_forms.Condition.{content};
+ghost use Rattle.parser_combinators.specs.Reading.{Reads};
+ghost use Rattle.cobol_grammar.specs.expr_forms.Levels.{inner};
+ghost use Rattle.cobol_grammar.specs.cond_forms.Condition as conditions;
+ghost use Rattle.cobol_grammar.specs.cond_forms.Condition.{content};
 
 use crate::neg::{neg, prim};
-use cob_tree::Cond;
-use cond_tests::{
+use crate::test_words::{
     alone_part, and_joined, at_join, close_cond, close_side, joined_whole, or_joined, part_of,
 };
-use data_names::NameTable;
-use expr_sides::MAX_PARENS;
-use grammar_forms::{Cursor, Position, Unread, Why};
-use statement_grammar::cond_forms::{Joined, Part, Primary, Read, Setting};
-use statement_grammar::expr_forms::Side;
+use cob_tree::Cond;
+use cobol_grammar::cond_forms::{Joined, Part, Primary, Read, Setting};
+use cobol_grammar::expr_forms::Side;
+use expr_parse::actions::MAX_PARENS;
+use parser_combinators::{Cursor, Position, Unread, Why};
 use std::alloc::Global;
+use symbol_tables::data_names::NameTable;
 
 /// Goes on with a condition behind AND.
 #[cycle(conds)]
-#[tactic(auto, unfolding(statement_grammar::specs::cond_forms::Condition::and_part))]
+#[tactic(auto, unfolding(cobol_grammar::specs::cond_forms::Condition::and_part))]
 fn and_part(
     alloc: Global,
     cursor: &mut Cursor<'_>,
@@ -51,7 +51,7 @@ fn and_part(
 
 /// Goes on with a condition behind OR.
 #[cycle(conds)]
-#[tactic(auto, unfolding(statement_grammar::specs::cond_forms::Condition::or_part))]
+#[tactic(auto, unfolding(cobol_grammar::specs::cond_forms::Condition::or_part))]
 fn or_part(
     alloc: Global,
     cursor: &mut Cursor<'_>,
@@ -83,7 +83,7 @@ fn or_part(
 
 /// One more part behind AND or OR.
 #[cycle(conds)]
-#[tactic(auto, unfolding(statement_grammar::specs::cond_forms::Condition::join))]
+#[tactic(auto, unfolding(cobol_grammar::specs::cond_forms::Condition::join))]
 fn join(
     alloc: Global,
     cursor: &mut Cursor<'_>,
@@ -134,7 +134,7 @@ fn joins_from(
 
 /// Goes on behind the first part of a condition.
 #[cycle(conds)]
-#[tactic(auto, unfolding(statement_grammar::specs::cond_forms::Condition::conds_from))]
+#[tactic(auto, unfolding(cobol_grammar::specs::cond_forms::Condition::conds_from))]
 fn conds_from(
     alloc: Global,
     cursor: &mut Cursor<'_>,
@@ -154,7 +154,7 @@ fn conds_from(
 }
 
 #[cycle(conds)]
-#[tactic(auto, unfolding(statement_grammar::specs::cond_forms::Condition::content_from))]
+#[tactic(auto, unfolding(cobol_grammar::specs::cond_forms::Condition::content_from))]
 fn content_from(
     alloc: Global,
     cursor: &mut Cursor<'_>,
@@ -170,7 +170,7 @@ fn content_from(
 }
 
 #[cycle(conds)]
-#[tactic(auto, unfolding(statement_grammar::specs::cond_forms::Condition::alone_content))]
+#[tactic(auto, unfolding(cobol_grammar::specs::cond_forms::Condition::alone_content))]
 fn alone_content(
     alloc: Global,
     cursor: &mut Cursor<'_>,
@@ -188,7 +188,7 @@ fn alone_content(
 }
 
 #[cycle(conds)]
-#[tactic(auto, unfolding(statement_grammar::specs::cond_forms::Condition::content_by))]
+#[tactic(auto, unfolding(cobol_grammar::specs::cond_forms::Condition::content_by))]
 fn content_by(
     alloc: Global,
     cursor: &mut Cursor<'_>,
@@ -221,7 +221,7 @@ fn content_by(
 }
 
 #[cycle(conds)]
-#[tactic(auto, unfolding(statement_grammar::specs::cond_forms::Condition::neg_content))]
+#[tactic(auto, unfolding(cobol_grammar::specs::cond_forms::Condition::neg_content))]
 fn neg_content(
     alloc: Global,
     cursor: &mut Cursor<'_>,
@@ -237,7 +237,7 @@ fn neg_content(
 }
 
 #[cycle(conds)]
-#[tactic(auto, unfolding(statement_grammar::specs::cond_forms::Condition::prim_content))]
+#[tactic(auto, unfolding(cobol_grammar::specs::cond_forms::Condition::prim_content))]
 fn prim_content(
     alloc: Global,
     cursor: &mut Cursor<'_>,
@@ -260,7 +260,7 @@ fn prim_content(
 }
 
 #[cycle(conds)]
-#[tactic(auto, unfolding(statement_grammar::specs::cond_forms::Condition::in_content))]
+#[tactic(auto, unfolding(cobol_grammar::specs::cond_forms::Condition::in_content))]
 fn in_content(
     alloc: Global,
     cursor: &mut Cursor<'_>,
@@ -298,7 +298,7 @@ pub fn content(
 }
 
 /// Reads a condition with so many levels of parentheses.
-#[tactic(auto, unfolding(statement_grammar::specs::cond_forms::Condition::cond_with))]
+#[tactic(auto, unfolding(cobol_grammar::specs::cond_forms::Condition::cond_with))]
 fn cond_with(
     alloc: Global,
     cursor: &mut Cursor<'_>,
@@ -314,7 +314,7 @@ fn cond_with(
 }
 
 /// Reads a condition as far as it goes, with what is known of it.
-#[tactic(auto, unfolding(statement_grammar::specs::cond_forms::Condition::cond))]
+#[tactic(auto, unfolding(cobol_grammar::specs::cond_forms::Condition::cond))]
 pub fn cond(alloc: Global, cursor: &mut Cursor<'_>, names: &NameTable) -> Result<Part, Unread>
     ensures { Reads ((conditions.cond names.now).reads cursor.old) result cursor.new }
 {
@@ -323,7 +323,7 @@ pub fn cond(alloc: Global, cursor: &mut Cursor<'_>, names: &NameTable) -> Result
 
 /// Reads a condition, and whether a NOT stood behind it that isn't its own. That NOT is then read
 /// too.
-#[tactic(auto, unfolding(statement_grammar::specs::cond_forms::Condition::whole_cond))]
+#[tactic(auto, unfolding(cobol_grammar::specs::cond_forms::Condition::whole_cond))]
 pub fn whole_cond(
     alloc: Global,
     cursor: &mut Cursor<'_>,

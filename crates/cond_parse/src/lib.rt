@@ -9,8 +9,10 @@
 #![tactic(auto)]
 
 mod condition;
+pub mod from_tokens;
 mod neg;
 mod primary;
 mod test;
+pub mod test_words;
 
 pub use condition::{cond, whole_cond};

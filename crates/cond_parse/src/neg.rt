@@ -2,26 +2,26 @@
 
 ghost use Rattle.std.specs.Prelude.{Some, false};
 ghost use Rattle.cob_base.specs.Answers.{Makes};
-ghost use Rattle.grammar_forms.specs.Reading.{Reads};
-ghost use Rattle.statement_grammar.specs.expr_forms.Levels.{inner};
-ghost use Rattle.statement_grammar.specs.cond_forms.Test as tests;
-ghost use Rattle.statement_grammar.specs.cond_forms.Alone as alones;
-ghost use Rattle.statement_grammar.specs.cond_forms.Primary as primaries;
-ghost use Rattle.statement_grammar.specs.cond_forms.Neg as negs;
-ghost use Rattle.statement_grammar.specs.cond_forms.Condition.{content};
+ghost use Rattle.parser_combinators.specs.Reading.{Reads};
+ghost use Rattle.cobol_grammar.specs.expr_forms.Levels.{inner};
+ghost use Rattle.cobol_grammar.specs.cond_forms.Test as tests;
+ghost use Rattle.cobol_grammar.specs.cond_forms.Alone as alones;
+ghost use Rattle.cobol_grammar.specs.cond_forms.Primary as primaries;
+ghost use Rattle.cobol_grammar.specs.cond_forms.Neg as negs;
+ghost use Rattle.cobol_grammar.specs.cond_forms.Condition.{content};
 
 use crate::condition::content;
 use crate::primary::{expr_prim, prim_behind};
+use crate::test_words::{at_plain_rel, at_rel, part_by, part_of, rel, relation_of, with_rel};
 use cob_base::{Copied, NoMemory};
 use cob_tree::Rel;
-use cond_tests::{at_plain_rel, at_rel, part_by, part_of, rel, relation_of, with_rel};
-use data_names::NameTable;
+use cobol_grammar::cond_forms::{Part, Read, Setting};
+use cobol_grammar::expr_forms::Side;
+use expr_parse::actions::{relation_fault, tally, value_fault};
 use expr_parse::operand;
-use expr_sides::{relation_fault, tally, value_fault};
-use grammar_forms::{Cursor, Unread, Why};
-use statement_grammar::cond_forms::{Part, Read, Setting};
-use statement_grammar::expr_forms::Side;
+use parser_combinators::{Cursor, Unread, Why};
 use std::alloc::Global;
+use symbol_tables::data_names::NameTable;
 
 /// The relation of the left side that was set, with another sign.
 fn abbreviated_part(
@@ -47,7 +47,7 @@ fn abbreviated_part(
     }
 }
 
-#[tactic(auto, unfolding(statement_grammar::specs::cond_forms::Neg::abbreviated_by))]
+#[tactic(auto, unfolding(cobol_grammar::specs::cond_forms::Neg::abbreviated_by))]
 fn abbreviated_by(
     alloc: Global,
     cursor: &mut Cursor<'_>,
@@ -87,7 +87,7 @@ fn abbreviated_by(
 }
 
 /// A relation that begins with its sign.
-#[tactic(auto, unfolding(statement_grammar::specs::cond_forms::Neg::abbreviated))]
+#[tactic(auto, unfolding(cobol_grammar::specs::cond_forms::Neg::abbreviated))]
 pub fn abbreviated(
     alloc: Global,
     cursor: &mut Cursor<'_>,
@@ -107,7 +107,7 @@ pub fn abbreviated(
 }
 
 #[cycle(conds)]
-#[tactic(auto, unfolding(statement_grammar::specs::cond_forms::Primary::parens_prim))]
+#[tactic(auto, unfolding(cobol_grammar::specs::cond_forms::Primary::parens_prim))]
 fn parens_prim(
     alloc: Global,
     cursor: &mut Cursor<'_>,
@@ -128,7 +128,7 @@ fn parens_prim(
 
 /// Reads a condition without NOT, AND and OR.
 #[cycle(conds)]
-#[tactic(auto, unfolding(statement_grammar::specs::cond_forms::Primary::prim))]
+#[tactic(auto, unfolding(cobol_grammar::specs::cond_forms::Primary::prim))]
 pub fn prim(
     alloc: Global,
     cursor: &mut Cursor<'_>,
@@ -147,7 +147,7 @@ pub fn prim(
 }
 
 #[cycle(conds)]
-#[tactic(auto, unfolding(statement_grammar::specs::cond_forms::Neg::prim_part))]
+#[tactic(auto, unfolding(cobol_grammar::specs::cond_forms::Neg::prim_part))]
 fn prim_part(
     alloc: Global,
     cursor: &mut Cursor<'_>,
@@ -176,7 +176,7 @@ fn prim_part(
 }
 
 #[cycle(conds)]
-#[tactic(auto, unfolding(statement_grammar::specs::cond_forms::Neg::behind_not))]
+#[tactic(auto, unfolding(cobol_grammar::specs::cond_forms::Neg::behind_not))]
 fn behind_not(
     alloc: Global,
     cursor: &mut Cursor<'_>,
@@ -202,7 +202,7 @@ fn behind_not(
 }
 
 #[cycle(conds)]
-#[tactic(auto, unfolding(statement_grammar::specs::cond_forms::Neg::not_neg))]
+#[tactic(auto, unfolding(cobol_grammar::specs::cond_forms::Neg::not_neg))]
 fn not_neg(
     alloc: Global,
     cursor: &mut Cursor<'_>,
@@ -223,7 +223,7 @@ fn not_neg(
 
 /// Reads a condition without AND and OR.
 #[cycle(conds)]
-#[tactic(auto, unfolding(statement_grammar::specs::cond_forms::Neg::neg))]
+#[tactic(auto, unfolding(cobol_grammar::specs::cond_forms::Neg::neg))]
 pub fn neg(
     alloc: Global,
     cursor: &mut Cursor<'_>,

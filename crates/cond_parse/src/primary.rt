@@ -1,19 +1,19 @@
 //! Conditions without NOT, AND and OR.
 
-ghost use Rattle.grammar_forms.specs.Reading.{Reads};
-ghost use Rattle.statement_grammar.specs.expr_forms.Levels.{inner};
-ghost use Rattle.statement_grammar.specs.cond_forms.Primary as primaries;
+ghost use Rattle.parser_combinators.specs.Reading.{Reads};
+ghost use Rattle.cobol_grammar.specs.expr_forms.Levels.{inner};
+ghost use Rattle.cobol_grammar.specs.cond_forms.Primary as primaries;
 
 use crate::test::tested;
-use cond_tests::read_test;
-use data_names::NameTable;
+use crate::test_words::read_test;
+use cobol_grammar::cond_forms::{Primary, Read};
+use cobol_grammar::expr_forms::Side;
 use expr_parse::{sum, unary};
-use grammar_forms::{Cursor, Unread};
-use statement_grammar::cond_forms::{Primary, Read};
-use statement_grammar::expr_forms::Side;
+use parser_combinators::{Cursor, Unread};
 use std::alloc::Global;
+use symbol_tables::data_names::NameTable;
 
-#[tactic(auto, unfolding(statement_grammar::specs::cond_forms::Primary::side_prim))]
+#[tactic(auto, unfolding(cobol_grammar::specs::cond_forms::Primary::side_prim))]
 fn side_prim(
     alloc: Global,
     cursor: &mut Cursor<'_>,
@@ -31,7 +31,7 @@ fn side_prim(
 }
 
 /// Behind parentheses it is decided what stood in them.
-#[tactic(auto, unfolding(statement_grammar::specs::cond_forms::Primary::prim_behind))]
+#[tactic(auto, unfolding(cobol_grammar::specs::cond_forms::Primary::prim_behind))]
 pub fn prim_behind(
     alloc: Global,
     cursor: &mut Cursor<'_>,
@@ -54,7 +54,7 @@ pub fn prim_behind(
 }
 
 /// Reads a side and its test.
-#[tactic(auto, unfolding(statement_grammar::specs::cond_forms::Primary::expr_prim))]
+#[tactic(auto, unfolding(cobol_grammar::specs::cond_forms::Primary::expr_prim))]
 pub fn expr_prim(
     alloc: Global,
     cursor: &mut Cursor<'_>,

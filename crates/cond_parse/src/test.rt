@@ -2,20 +2,20 @@
 
 ghost use Rattle.std.specs.Prelude.{Some};
 ghost use Rattle.cob_base.specs.Answers.{Makes};
-ghost use Rattle.grammar_forms.specs.Reading.{Reads};
-ghost use Rattle.statement_grammar.specs.expr_forms.Levels.{inner};
-ghost use Rattle.statement_grammar.specs.cond_forms.Test as tests;
+ghost use Rattle.parser_combinators.specs.Reading.{Reads};
+ghost use Rattle.cobol_grammar.specs.expr_forms.Levels.{inner};
+ghost use Rattle.cobol_grammar.specs.cond_forms.Test as tests;
 
+use crate::test_words::{at_rel_behind, at_sign, class_or, read_test, rel, relation_of, sign_test};
 use cob_base::{Copied, NoMemory};
 use cob_tree::Rel;
-use cond_tests::{at_rel_behind, at_sign, class_or, read_test, rel, relation_of, sign_test};
-use data_names::NameTable;
+use cobol_grammar::cond_forms::{Read, Setting};
+use cobol_grammar::expr_forms::Side;
+use expr_parse::actions::{relation_fault, shape_of, value_fault};
 use expr_parse::expr;
-use expr_sides::{relation_fault, shape_of, value_fault};
-use grammar_forms::{Cursor, Unread};
-use statement_grammar::cond_forms::{Read, Setting};
-use statement_grammar::expr_forms::Side;
+use parser_combinators::{Cursor, Unread};
 use std::alloc::Global;
+use symbol_tables::data_names::NameTable;
 
 /// The relation of two sides, with what abbreviations behind it stand for.
 fn relation_read(
@@ -47,7 +47,7 @@ fn relation_read(
 }
 
 /// The relation that begins with this left side, before which so many terms stand.
-#[tactic(auto, unfolding(statement_grammar::specs::cond_forms::Test::relation))]
+#[tactic(auto, unfolding(cobol_grammar::specs::cond_forms::Test::relation))]
 fn relation(
     alloc: Global,
     cursor: &mut Cursor<'_>,
@@ -82,7 +82,7 @@ fn relation(
     Ok(relation_read(alloc, left, sign, right, terms, now)?)
 }
 
-#[tactic(auto, unfolding(statement_grammar::specs::cond_forms::Test::one_test))]
+#[tactic(auto, unfolding(cobol_grammar::specs::cond_forms::Test::one_test))]
 fn one_test(
     alloc: Global,
     cursor: &mut Cursor<'_>,
@@ -106,7 +106,7 @@ fn one_test(
     class_or(cursor, shape_of(&left), negated, end, left, count)
 }
 
-#[tactic(auto, unfolding(statement_grammar::specs::cond_forms::Test::not_test))]
+#[tactic(auto, unfolding(cobol_grammar::specs::cond_forms::Test::not_test))]
 fn not_test(
     alloc: Global,
     cursor: &mut Cursor<'_>,
@@ -127,7 +127,7 @@ fn not_test(
     one_test(alloc, cursor, names, levels, true, end, left, before, count)
 }
 
-#[tactic(auto, unfolding(statement_grammar::specs::cond_forms::Test::behind_is))]
+#[tactic(auto, unfolding(cobol_grammar::specs::cond_forms::Test::behind_is))]
 fn behind_is(
     alloc: Global,
     cursor: &mut Cursor<'_>,
@@ -154,7 +154,7 @@ fn behind_is(
 }
 
 /// The test of this left side, where one follows.
-#[tactic(auto, unfolding(statement_grammar::specs::cond_forms::Test::tested))]
+#[tactic(auto, unfolding(cobol_grammar::specs::cond_forms::Test::tested))]
 pub fn tested(
     alloc: Global,
     cursor: &mut Cursor<'_>,

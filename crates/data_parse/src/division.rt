@@ -1,20 +1,20 @@
 //! All that stands before the PROCEDURE DIVISION.
 
-ghost use Rattle.grammar_forms.specs.Reading.{Reads};
-ghost use Rattle.statement_grammar.specs.data_forms.Data as datas;
-ghost use Rattle.statement_grammar.specs.data_forms.Divisions as all;
+ghost use Rattle.parser_combinators.specs.Reading.{Reads};
+ghost use Rattle.cobol_grammar.specs.data_forms.Data as datas;
+ghost use Rattle.cobol_grammar.specs.data_forms.Divisions as all;
 
+use crate::entries::{either, headed, header};
 use crate::fd::{files, storage};
 use crate::file_control::environment;
 use crate::status::StatusReader;
 use cob_base::{Items, Word};
-use entry_parse::{either, headed, header};
-use grammar_forms::{Cursor, Unread};
-use statement_grammar::data_forms::{DataDraft, Divisions};
+use cobol_grammar::data_forms::{DataDraft, Divisions};
+use parser_combinators::words::name;
+use parser_combinators::{Cursor, Unread};
 use std::alloc::Global;
-use word_forms::name;
 
-#[tactic(auto, unfolding(statement_grammar::specs::data_forms::Data::data_division))]
+#[tactic(auto, unfolding(cobol_grammar::specs::data_forms::Data::data_division))]
 fn data_division(alloc: Global, cursor: &mut Cursor<'_>) -> Result<DataDraft, Unread>
     ensures { Reads (datas.data_division.reads cursor.old) result cursor.new }
 {
@@ -30,7 +30,7 @@ fn data_division(alloc: Global, cursor: &mut Cursor<'_>) -> Result<DataDraft, Un
 }
 
 /// Takes the DATA DIVISION, where there is one.
-#[tactic(auto, unfolding(statement_grammar::specs::data_forms::Data::data_part))]
+#[tactic(auto, unfolding(cobol_grammar::specs::data_forms::Data::data_part))]
 pub fn data_part(alloc: Global, cursor: &mut Cursor<'_>) -> Result<DataDraft, Unread>
     ensures { Reads (datas.data_part.reads cursor.old) result cursor.new }
 {
@@ -44,7 +44,7 @@ pub fn data_part(alloc: Global, cursor: &mut Cursor<'_>) -> Result<DataDraft, Un
     }
 }
 
-#[tactic(auto, unfolding(statement_grammar::specs::data_forms::Divisions::identification))]
+#[tactic(auto, unfolding(cobol_grammar::specs::data_forms::Divisions::identification))]
 fn identification(cursor: &mut Cursor<'_>) -> Result<Word, Unread>
     ensures { Reads (all.identification.reads cursor.old) result cursor.new }
 {
@@ -57,7 +57,7 @@ fn identification(cursor: &mut Cursor<'_>) -> Result<Word, Unread>
 }
 
 /// Takes all that stands before the PROCEDURE DIVISION.
-#[tactic(auto, unfolding(statement_grammar::specs::data_forms::Divisions::divisions))]
+#[tactic(auto, unfolding(cobol_grammar::specs::data_forms::Divisions::divisions))]
 pub fn divisions<S: StatusReader>(
     alloc: Global,
     cursor: &mut Cursor<'_>,

@@ -1,21 +1,21 @@
 //! FD and its records.
 
 ghost use Rattle.std.specs.Prelude.{◌≡◌, codes};
-ghost use Rattle.grammar_forms.specs.Form as form;
-ghost use Rattle.grammar_forms.specs.Part.{is_key};
-ghost use Rattle.grammar_forms.specs.Reading.{Reads};
-ghost use Rattle.word_forms.specs.Constant.{is_digits};
-ghost use Rattle.statement_grammar.specs.data_forms.Data as datas;
-ghost use Rattle.statement_grammar.specs.data_forms.Entry as entry_forms;
+ghost use Rattle.parser_combinators.specs.Form as form;
+ghost use Rattle.parser_combinators.specs.Part.{is_key};
+ghost use Rattle.parser_combinators.specs.Reading.{Reads};
+ghost use Rattle.parser_combinators.specs.words.Constant.{is_digits};
+ghost use Rattle.cobol_grammar.specs.data_forms.Data as datas;
+ghost use Rattle.cobol_grammar.specs.data_forms.Entry as entry_forms;
 
+use crate::entries::{either, entry, header, maybe_either, pushed};
 use cob_base::Items;
-use entry_parse::{either, entry, header, maybe_either, pushed};
-use grammar_forms::{Cursor, Unread};
-use statement_grammar::data_forms::{EntryDraft, FdDraft};
+use cobol_grammar::data_forms::{EntryDraft, FdDraft};
+use parser_combinators::words::{name, sees_digits, sees_name};
+use parser_combinators::{Cursor, Unread};
 use std::alloc::Global;
-use word_forms::{name, sees_digits, sees_name};
 
-#[tactic(auto, unfolding(statement_grammar::specs::data_forms::Data::maybe_to))]
+#[tactic(auto, unfolding(cobol_grammar::specs::data_forms::Data::maybe_to))]
 fn maybe_to(alloc: Global, cursor: &mut Cursor<'_>) -> Result<(), Unread>
     ensures { Reads (datas.maybe_to.reads cursor.old) result cursor.new }
 {
@@ -26,7 +26,7 @@ fn maybe_to(alloc: Global, cursor: &mut Cursor<'_>) -> Result<(), Unread>
     Ok(())
 }
 
-#[tactic(auto, unfolding(statement_grammar::specs::data_forms::Data::extent))]
+#[tactic(auto, unfolding(cobol_grammar::specs::data_forms::Data::extent))]
 fn extent(alloc: Global, cursor: &mut Cursor<'_>) -> Result<(), Unread>
     ensures { Reads (datas.extent.reads cursor.old) result cursor.new }
 {
@@ -35,7 +35,7 @@ fn extent(alloc: Global, cursor: &mut Cursor<'_>) -> Result<(), Unread>
     maybe_to(alloc, cursor)
 }
 
-#[tactic(auto, unfolding(statement_grammar::specs::data_forms::Data::block_clause))]
+#[tactic(auto, unfolding(cobol_grammar::specs::data_forms::Data::block_clause))]
 fn block_clause(alloc: Global, cursor: &mut Cursor<'_>) -> Result<(), Unread>
     ensures { Reads (datas.block_clause.reads cursor.old) result cursor.new }
 {
@@ -44,7 +44,7 @@ fn block_clause(alloc: Global, cursor: &mut Cursor<'_>) -> Result<(), Unread>
     maybe_either(cursor, b"RECORDS", b"CHARACTERS")
 }
 
-#[tactic(auto, unfolding(statement_grammar::specs::data_forms::Data::record_clause))]
+#[tactic(auto, unfolding(cobol_grammar::specs::data_forms::Data::record_clause))]
 fn record_clause(alloc: Global, cursor: &mut Cursor<'_>) -> Result<(), Unread>
     ensures { Reads (datas.record_clause.reads cursor.old) result cursor.new }
 {
@@ -54,7 +54,7 @@ fn record_clause(alloc: Global, cursor: &mut Cursor<'_>) -> Result<(), Unread>
     Ok(())
 }
 
-#[tactic(auto, unfolding(statement_grammar::specs::data_forms::Data::records_are))]
+#[tactic(auto, unfolding(cobol_grammar::specs::data_forms::Data::records_are))]
 fn records_are(cursor: &mut Cursor<'_>) -> Result<(), Unread>
     ensures { Reads (datas.records_are.reads cursor.old) result cursor.new }
 {
@@ -62,7 +62,7 @@ fn records_are(cursor: &mut Cursor<'_>) -> Result<(), Unread>
     maybe_either(cursor, b"IS", b"ARE")
 }
 
-#[tactic(auto, unfolding(statement_grammar::specs::data_forms::Data::label_clause))]
+#[tactic(auto, unfolding(cobol_grammar::specs::data_forms::Data::label_clause))]
 fn label_clause(cursor: &mut Cursor<'_>) -> Result<(), Unread>
     ensures { Reads (datas.label_clause.reads cursor.old) result cursor.new }
 {
@@ -72,7 +72,7 @@ fn label_clause(cursor: &mut Cursor<'_>) -> Result<(), Unread>
     Ok(())
 }
 
-#[tactic(auto, unfolding(statement_grammar::specs::data_forms::Data::next_name))]
+#[tactic(auto, unfolding(cobol_grammar::specs::data_forms::Data::next_name))]
 fn next_name(cursor: &mut Cursor<'_>) -> Result<(), Unread>
     ensures { Reads ((datas.next_name tt).reads cursor.old) result cursor.new }
 {
@@ -80,7 +80,7 @@ fn next_name(cursor: &mut Cursor<'_>) -> Result<(), Unread>
     Ok(())
 }
 
-#[tactic(auto, unfolding(statement_grammar::specs::data_forms::Data::more_names))]
+#[tactic(auto, unfolding(cobol_grammar::specs::data_forms::Data::more_names))]
 fn more_names(cursor: &mut Cursor<'_>) -> Result<(), Unread>
     ensures { Reads ((datas.more_names tt).reads cursor.old) result cursor.new }
 {
@@ -90,7 +90,7 @@ fn more_names(cursor: &mut Cursor<'_>) -> Result<(), Unread>
     Ok(())
 }
 
-#[tactic(auto, unfolding(statement_grammar::specs::data_forms::Data::records_clause))]
+#[tactic(auto, unfolding(cobol_grammar::specs::data_forms::Data::records_clause))]
 fn records_clause(cursor: &mut Cursor<'_>) -> Result<(), Unread>
     ensures { Reads (datas.records_clause.reads cursor.old) result cursor.new }
 {
@@ -100,7 +100,7 @@ fn records_clause(cursor: &mut Cursor<'_>) -> Result<(), Unread>
     more_names(cursor)
 }
 
-#[tactic(auto, unfolding(statement_grammar::specs::data_forms::Data::labelled_clause))]
+#[tactic(auto, unfolding(cobol_grammar::specs::data_forms::Data::labelled_clause))]
 fn labelled_clause(cursor: &mut Cursor<'_>) -> Result<(), Unread>
     ensures { Reads (datas.labelled_clause.reads cursor.old) result cursor.new }
 {
@@ -111,7 +111,7 @@ fn labelled_clause(cursor: &mut Cursor<'_>) -> Result<(), Unread>
     }
 }
 
-#[tactic(auto, unfolding(statement_grammar::specs::data_forms::Data::fd_clause))]
+#[tactic(auto, unfolding(cobol_grammar::specs::data_forms::Data::fd_clause))]
 fn fd_clause(alloc: Global, cursor: &mut Cursor<'_>) -> Result<(), Unread>
     ensures { Reads ((datas.fd_clause tt).reads cursor.old) result cursor.new }
 {
@@ -124,14 +124,14 @@ fn fd_clause(alloc: Global, cursor: &mut Cursor<'_>) -> Result<(), Unread>
     }
 }
 
-#[tactic(auto, unfolding(statement_grammar::specs::data_forms::Data::begins_fd_clause))]
+#[tactic(auto, unfolding(cobol_grammar::specs::data_forms::Data::begins_fd_clause))]
 fn sees_fd_clause(cursor: &Cursor<'_>) -> bool
     ensures { result ≡ form.is_next datas.begins_fd_clause cursor.now }
 {
     cursor.sees(b"BLOCK") || cursor.sees(b"RECORD") || cursor.sees(b"LABEL") || cursor.sees(b"DATA")
 }
 
-#[tactic(auto, unfolding(statement_grammar::specs::data_forms::Data::fd_clauses))]
+#[tactic(auto, unfolding(cobol_grammar::specs::data_forms::Data::fd_clauses))]
 fn fd_clauses(alloc: Global, cursor: &mut Cursor<'_>) -> Result<(), Unread>
     ensures { Reads ((datas.fd_clauses tt).reads cursor.old) result cursor.new }
 {
@@ -172,7 +172,7 @@ fn entries_from(
     Ok(found)
 }
 
-#[tactic(auto, unfolding(statement_grammar::specs::data_forms::Data::records))]
+#[tactic(auto, unfolding(cobol_grammar::specs::data_forms::Data::records))]
 fn records(alloc: Global, cursor: &mut Cursor<'_>) -> Result<Items<EntryDraft>, Unread>
     ensures { Reads (datas.records.reads cursor.old) result cursor.new }
 {
@@ -181,7 +181,7 @@ fn records(alloc: Global, cursor: &mut Cursor<'_>) -> Result<Items<EntryDraft>, 
     entries_from(alloc, cursor, found)
 }
 
-#[tactic(auto, unfolding(statement_grammar::specs::data_forms::Data::fd))]
+#[tactic(auto, unfolding(cobol_grammar::specs::data_forms::Data::fd))]
 fn fd(alloc: Global, cursor: &mut Cursor<'_>) -> Result<FdDraft, Unread>
     ensures { Reads (datas.fd.reads cursor.old) result cursor.new }
 {
@@ -224,14 +224,14 @@ fn fds_from(
     Ok(found)
 }
 
-#[tactic(auto, unfolding(statement_grammar::specs::data_forms::Data::fds))]
+#[tactic(auto, unfolding(cobol_grammar::specs::data_forms::Data::fds))]
 fn fds(alloc: Global, cursor: &mut Cursor<'_>) -> Result<Items<FdDraft>, Unread>
     ensures { Reads (datas.fds.reads cursor.old) result cursor.new }
 {
     fds_from(alloc, cursor, Items::new(alloc))
 }
 
-#[tactic(auto, unfolding(statement_grammar::specs::data_forms::Data::file_section))]
+#[tactic(auto, unfolding(cobol_grammar::specs::data_forms::Data::file_section))]
 fn file_section(alloc: Global, cursor: &mut Cursor<'_>) -> Result<Items<FdDraft>, Unread>
     ensures { Reads (datas.file_section.reads cursor.old) result cursor.new }
 {
@@ -240,7 +240,7 @@ fn file_section(alloc: Global, cursor: &mut Cursor<'_>) -> Result<Items<FdDraft>
 }
 
 /// Takes the FILE SECTION, where there is one.
-#[tactic(auto, unfolding(statement_grammar::specs::data_forms::Data::files))]
+#[tactic(auto, unfolding(cobol_grammar::specs::data_forms::Data::files))]
 pub fn files(alloc: Global, cursor: &mut Cursor<'_>) -> Result<Items<FdDraft>, Unread>
     ensures { Reads (datas.files.reads cursor.old) result cursor.new }
 {
@@ -251,14 +251,14 @@ pub fn files(alloc: Global, cursor: &mut Cursor<'_>) -> Result<Items<FdDraft>, U
     }
 }
 
-#[tactic(auto, unfolding(statement_grammar::specs::data_forms::Data::entries))]
+#[tactic(auto, unfolding(cobol_grammar::specs::data_forms::Data::entries))]
 fn entries(alloc: Global, cursor: &mut Cursor<'_>) -> Result<Items<EntryDraft>, Unread>
     ensures { Reads (datas.entries.reads cursor.old) result cursor.new }
 {
     entries_from(alloc, cursor, Items::new(alloc))
 }
 
-#[tactic(auto, unfolding(statement_grammar::specs::data_forms::Data::working_storage))]
+#[tactic(auto, unfolding(cobol_grammar::specs::data_forms::Data::working_storage))]
 fn working_storage(alloc: Global, cursor: &mut Cursor<'_>) -> Result<Items<EntryDraft>, Unread>
     ensures { Reads (datas.working_storage.reads cursor.old) result cursor.new }
 {
@@ -267,7 +267,7 @@ fn working_storage(alloc: Global, cursor: &mut Cursor<'_>) -> Result<Items<Entry
 }
 
 /// Takes the WORKING-STORAGE SECTION, where there is one.
-#[tactic(auto, unfolding(statement_grammar::specs::data_forms::Data::storage))]
+#[tactic(auto, unfolding(cobol_grammar::specs::data_forms::Data::storage))]
 pub fn storage(alloc: Global, cursor: &mut Cursor<'_>) -> Result<Items<EntryDraft>, Unread>
     ensures { Reads (datas.storage.reads cursor.old) result cursor.new }
 {

@@ -2,20 +2,20 @@
 
 ghost use Rattle.std.specs.Prelude.{◌≡◌, codes};
 ghost use Rattle.cob_base.specs.Answers.{Makes};
-ghost use Rattle.grammar_forms.specs.Form as form;
-ghost use Rattle.grammar_forms.specs.Part.{is_key};
-ghost use Rattle.grammar_forms.specs.Reading.{Reads};
-ghost use Rattle.statement_grammar.specs.data_forms.Environment as environments;
+ghost use Rattle.parser_combinators.specs.Form as form;
+ghost use Rattle.parser_combinators.specs.Part.{is_key};
+ghost use Rattle.parser_combinators.specs.Reading.{Reads};
+ghost use Rattle.cobol_grammar.specs.data_forms.Environment as environments;
 
+use crate::entries::{header, pushed, sees_either};
 use crate::status::StatusReader;
 use cob_base::{Items, NoMemory, Text};
-use entry_parse::{header, pushed, sees_either};
-use grammar_forms::{Cursor, Position, Unread};
-use statement_grammar::data_forms::{SelectDraft, StatusDraft};
+use cobol_grammar::data_forms::{SelectDraft, StatusDraft};
+use parser_combinators::words::{name, sees_text, user_word};
+use parser_combinators::{Cursor, Position, Unread};
 use std::alloc::Global;
-use word_forms::{name, sees_text, user_word};
 
-#[tactic(auto, unfolding(statement_grammar::specs::data_forms::Environment::assign))]
+#[tactic(auto, unfolding(cobol_grammar::specs::data_forms::Environment::assign))]
 fn assign(alloc: Global, cursor: &mut Cursor<'_>) -> Result<(Text, Position), Unread>
     ensures { Reads (environments.assign.reads cursor.old) result cursor.new }
 {
@@ -41,7 +41,7 @@ fn sees_organization(cursor: &Cursor<'_>) -> bool
     sees_either(cursor, b"ORGANIZATION", b"SEQUENTIAL")
 }
 
-#[tactic(auto, unfolding(statement_grammar::specs::data_forms::Environment::organization))]
+#[tactic(auto, unfolding(cobol_grammar::specs::data_forms::Environment::organization))]
 fn organization(cursor: &mut Cursor<'_>) -> Result<Position, Unread>
     ensures { Reads (environments.organization.reads cursor.old) result cursor.new }
 {
@@ -54,7 +54,7 @@ fn organization(cursor: &mut Cursor<'_>) -> Result<Position, Unread>
     }
 }
 
-#[tactic(auto, unfolding(statement_grammar::specs::data_forms::Environment::access))]
+#[tactic(auto, unfolding(cobol_grammar::specs::data_forms::Environment::access))]
 fn access(cursor: &mut Cursor<'_>) -> Result<Position, Unread>
     ensures { Reads (environments.access.reads cursor.old) result cursor.new }
 {
@@ -70,7 +70,7 @@ fn sees_status(cursor: &Cursor<'_>) -> bool
     sees_either(cursor, b"FILE", b"STATUS")
 }
 
-#[tactic(auto, unfolding(statement_grammar::specs::data_forms::Environment::file_status))]
+#[tactic(auto, unfolding(cobol_grammar::specs::data_forms::Environment::file_status))]
 fn file_status(cursor: &mut Cursor<'_>) -> Result<Position, Unread>
     ensures { Reads (environments.file_status.reads cursor.old) result cursor.new }
 {
@@ -79,7 +79,7 @@ fn file_status(cursor: &mut Cursor<'_>) -> Result<Position, Unread>
     Ok(at)
 }
 
-#[tactic(auto, unfolding(statement_grammar::specs::data_forms::Environment::status_word))]
+#[tactic(auto, unfolding(cobol_grammar::specs::data_forms::Environment::status_word))]
 fn status_word(cursor: &mut Cursor<'_>) -> Result<Position, Unread>
     ensures { Reads (environments.status_word.reads cursor.old) result cursor.new }
 {
@@ -90,7 +90,7 @@ fn status_word(cursor: &mut Cursor<'_>) -> Result<Position, Unread>
     }
 }
 
-#[tactic(auto, unfolding(statement_grammar::specs::data_forms::Environment::status_clause))]
+#[tactic(auto, unfolding(cobol_grammar::specs::data_forms::Environment::status_clause))]
 fn status_clause<S: StatusReader>(
     alloc: Global,
     cursor: &mut Cursor<'_>,
@@ -106,7 +106,7 @@ fn status_clause<S: StatusReader>(
 }
 
 // SEQUENTIAL says nothing.
-#[tactic(auto, unfolding(statement_grammar::specs::data_forms::Environment::storage_clause))]
+#[tactic(auto, unfolding(cobol_grammar::specs::data_forms::Environment::storage_clause))]
 fn storage_clause(
     cursor: &mut Cursor<'_>,
     before: Items<StatusDraft>,
@@ -132,7 +132,7 @@ fn storage_clause(
     }
 }
 
-#[tactic(auto, unfolding(statement_grammar::specs::data_forms::Environment::select_clause))]
+#[tactic(auto, unfolding(cobol_grammar::specs::data_forms::Environment::select_clause))]
 fn select_clause<S: StatusReader>(
     alloc: Global,
     cursor: &mut Cursor<'_>,
@@ -155,14 +155,14 @@ fn select_clause<S: StatusReader>(
     }
 }
 
-#[tactic(auto, unfolding(statement_grammar::specs::data_forms::Environment::begins_select_clause))]
+#[tactic(auto, unfolding(cobol_grammar::specs::data_forms::Environment::begins_select_clause))]
 fn sees_select_clause(cursor: &Cursor<'_>) -> bool
     ensures { result ≡ form.is_next environments.begins_select_clause cursor.now }
 {
     sees_organization(cursor) || cursor.sees(b"ACCESS") || sees_status(cursor)
 }
 
-#[tactic(auto, unfolding(statement_grammar::specs::data_forms::Environment::select_clauses))]
+#[tactic(auto, unfolding(cobol_grammar::specs::data_forms::Environment::select_clauses))]
 fn select_clauses<S: StatusReader>(
     alloc: Global,
     cursor: &mut Cursor<'_>,
@@ -178,7 +178,7 @@ fn select_clauses<S: StatusReader>(
     Ok(found)
 }
 
-#[tactic(auto, unfolding(statement_grammar::specs::data_forms::Environment::select))]
+#[tactic(auto, unfolding(cobol_grammar::specs::data_forms::Environment::select))]
 fn select<S: StatusReader>(
     alloc: Global,
     cursor: &mut Cursor<'_>,
@@ -206,7 +206,7 @@ fn select<S: StatusReader>(
     }
 }
 
-#[tactic(auto, unfolding(statement_grammar::specs::data_forms::Environment::computer_named))]
+#[tactic(auto, unfolding(cobol_grammar::specs::data_forms::Environment::computer_named))]
 fn computer_named(cursor: &mut Cursor<'_>, word: &[u8]) -> Result<(), Unread>
     ensures { Reads ((environments.computer_named word.now).reads cursor.old) result cursor.new }
 {
@@ -217,7 +217,7 @@ fn computer_named(cursor: &mut Cursor<'_>, word: &[u8]) -> Result<(), Unread>
     Ok(())
 }
 
-#[tactic(auto, unfolding(statement_grammar::specs::data_forms::Environment::computer))]
+#[tactic(auto, unfolding(cobol_grammar::specs::data_forms::Environment::computer))]
 fn computer(cursor: &mut Cursor<'_>, word: &[u8]) -> Result<(), Unread>
     ensures { Reads ((environments.computer word.now).reads cursor.old) result cursor.new }
 {
@@ -228,7 +228,7 @@ fn computer(cursor: &mut Cursor<'_>, word: &[u8]) -> Result<(), Unread>
     }
 }
 
-#[tactic(auto, unfolding(statement_grammar::specs::data_forms::Environment::configuration_section))]
+#[tactic(auto, unfolding(cobol_grammar::specs::data_forms::Environment::configuration_section))]
 fn configuration_section(cursor: &mut Cursor<'_>) -> Result<(), Unread>
     ensures { Reads (environments.configuration_section.reads cursor.old) result cursor.new }
 {
@@ -237,7 +237,7 @@ fn configuration_section(cursor: &mut Cursor<'_>) -> Result<(), Unread>
     computer(cursor, b"OBJECT-COMPUTER")
 }
 
-#[tactic(auto, unfolding(statement_grammar::specs::data_forms::Environment::configuration))]
+#[tactic(auto, unfolding(cobol_grammar::specs::data_forms::Environment::configuration))]
 fn configuration(cursor: &mut Cursor<'_>) -> Result<(), Unread>
     ensures { Reads (environments.configuration.reads cursor.old) result cursor.new }
 {
@@ -294,7 +294,7 @@ fn selects<S: StatusReader>(
     selects_from(alloc, cursor, reader, Items::new(alloc))
 }
 
-#[tactic(auto, unfolding(statement_grammar::specs::data_forms::Environment::input_output_section))]
+#[tactic(auto, unfolding(cobol_grammar::specs::data_forms::Environment::input_output_section))]
 fn input_output_section<S: StatusReader>(
     alloc: Global,
     cursor: &mut Cursor<'_>,
@@ -309,7 +309,7 @@ fn input_output_section<S: StatusReader>(
     selects(alloc, cursor, reader)
 }
 
-#[tactic(auto, unfolding(statement_grammar::specs::data_forms::Environment::input_output))]
+#[tactic(auto, unfolding(cobol_grammar::specs::data_forms::Environment::input_output))]
 fn input_output<S: StatusReader>(
     alloc: Global,
     cursor: &mut Cursor<'_>,
@@ -325,7 +325,7 @@ fn input_output<S: StatusReader>(
     }
 }
 
-#[tactic(auto, unfolding(statement_grammar::specs::data_forms::Environment::environment_division))]
+#[tactic(auto, unfolding(cobol_grammar::specs::data_forms::Environment::environment_division))]
 fn environment_division<S: StatusReader>(
     alloc: Global,
     cursor: &mut Cursor<'_>,
@@ -340,7 +340,7 @@ fn environment_division<S: StatusReader>(
 }
 
 /// Takes the ENVIRONMENT DIVISION, where there is one, and gives its SELECTs.
-#[tactic(auto, unfolding(statement_grammar::specs::data_forms::Environment::environment))]
+#[tactic(auto, unfolding(cobol_grammar::specs::data_forms::Environment::environment))]
 pub fn environment<S: StatusReader>(
     alloc: Global,
     cursor: &mut Cursor<'_>,

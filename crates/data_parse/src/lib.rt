@@ -6,6 +6,7 @@
 #![tactic(auto)]
 
 mod division;
+pub mod entries;
 mod fd;
 mod file_control;
 mod status;

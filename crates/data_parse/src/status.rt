@@ -2,12 +2,12 @@
 
 ghost use Rattle.std.specs.Prelude.{true};
 ghost use Rattle.cob_tree.specs.declared.place.Place.{Place as PlaceOf};
-ghost use Rattle.grammar_forms.specs.Form.{Form};
-ghost use Rattle.grammar_forms.specs.Reading.{Reads};
-ghost use Rattle.grammar_forms.proofs.MakerLaws.{Law};
+ghost use Rattle.parser_combinators.specs.Form.{Form};
+ghost use Rattle.parser_combinators.specs.Reading.{Reads};
+ghost use Rattle.parser_combinators.proofs.MakerLaws.{Law};
 
 use cob_tree::Place;
-use grammar_forms::{Cursor, Unread};
+use parser_combinators::{Cursor, Unread};
 use std::alloc::Global;
 
 /// A reader of references to status items, exact by a form of its own.

@@ -1,6 +1,6 @@
 -- Flags that are off.
 use Rattle.std.proofs.Common.{◌≡◌, ◌<◌, ℕ, zero, suc, Bool, true, false, not, List, [], ◌∷◌, map, length, Some, slice_get, refl, ap, sym, ◌∙◌, arith}
-use Rattle.language.specs.Language.{Chooser, Program}
+use Rattle.control_flow_theory.specs.language.Language.{Chooser, Program}
 use Rattle.pending_returns.specs.declared.facts.Summary.{Summary}
 use Rattle.pending_returns.specs.Summary.{IsSummary}
 use Rattle.pending_returns.specs.Tabled.{Lists}

@@ -1,8 +1,8 @@
 -- Paragraphs that are dropped.
 use Rattle.std.specs.Prelude.{ℕ, ◌<◌, ◌↔◌, Bool, List, length}
-use Rattle.language.specs.Language.{Chooser, Program}
-use Rattle.flow_paths.specs.Flow.{IsReached}
-use Rattle.flow_levels.specs.Reaching.{Holds}
+use Rattle.control_flow_theory.specs.language.Language.{Chooser, Program}
+use Rattle.program_points.specs.paths.Flow.{IsReached}
+use Rattle.pending_returns.specs.levels.Reaching.{Holds}
 use Rattle.pending_returns.specs.Summary.{Rises}
 
 -- the paragraphs to which no free flow path comes, rising

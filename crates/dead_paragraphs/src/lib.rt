@@ -5,7 +5,7 @@
 #![tactic(auto)]
 
 ghost use Rattle.std.specs.Prelude.{◌≡◌, Bool, not, map, IfOk};
-ghost use Rattle.language.specs.Language.{Chooser, Program};
+ghost use Rattle.control_flow_theory.specs.language.Language.{Chooser, Program};
 ghost use Rattle.pending_returns.specs.Summary.{IsSummary};
 ghost use Rattle.dead_paragraphs.specs.Dead.{AreDropped};
 

@@ -1,9 +1,9 @@
 -- The form of a name in front of what may be subscripts, in parts, is the whole form.
 use Rattle.std.proofs.Common.{◌≡◌, ℕ, refl}
-use Rattle.grammar_forms.specs.Form.{Input}
-use Rattle.data_names.specs.Names.{Names}
-use Rattle.statement_grammar.specs.expr_forms.Limit.{Inner}
-use Rattle.statement_grammar.specs.expr_forms.Front as whole
+use Rattle.parser_combinators.specs.Form.{Input}
+use Rattle.symbol_tables.specs.data_names.Names.{Names}
+use Rattle.cobol_grammar.specs.expr_forms.Limit.{Inner}
+use Rattle.cobol_grammar.specs.expr_forms.Front as whole
 use Rattle.expr_parse.specs.Front as in_parts
 
 pub same_front : (names : Names) (inner : Inner) (count : ℕ) (p : Input) →

@@ -1,21 +1,21 @@
 -- The form of a name in front of what may be subscripts, in parts; `name_front` of `expr_forms` is
 -- `named_front`.
 use Rattle.std.specs.Prelude.{ℕ, false, List}
-use Rattle.grammar_forms.specs.declared.note.Position.{Position}
-use Rattle.data_names.specs.declared.name.Found.{Found}
-use Rattle.statement_grammar.specs.declared.expr_forms.front.Front.{Front}
-use Rattle.statement_grammar.specs.declared.expr_forms.front.Front.TheVariants as fronts
-use Rattle.statement_grammar.specs.expr_forms.Fault.{found_fault}
-use Rattle.statement_grammar.specs.expr_forms.Either.{ref_either}
-use Rattle.statement_grammar.specs.expr_forms.Front.{sum_front}
-use Rattle.statement_grammar.specs.expr_forms.Limit.{Inner, tally}
-use Rattle.statement_grammar.specs.expr_forms.Reference.{qualifiers, ref_behind}
-use Rattle.data_names.specs.Names.{Names}
-use Rattle.data_names.specs.Look.{look}
-use Rattle.word_forms.specs.Word.{name}
+use Rattle.parser_combinators.specs.declared.note.Position.{Position}
+use Rattle.symbol_tables.specs.declared.data_names.name.Found.{Found}
+use Rattle.cobol_grammar.specs.declared.expr_forms.front.Front.{Front}
+use Rattle.cobol_grammar.specs.declared.expr_forms.front.Front.TheVariants as fronts
+use Rattle.cobol_grammar.specs.expr_forms.Fault.{found_fault}
+use Rattle.cobol_grammar.specs.expr_forms.Either.{ref_either}
+use Rattle.cobol_grammar.specs.expr_forms.Front.{sum_front}
+use Rattle.cobol_grammar.specs.expr_forms.Limit.{Inner, tally}
+use Rattle.cobol_grammar.specs.expr_forms.Reference.{qualifiers, ref_behind}
+use Rattle.symbol_tables.specs.data_names.Names.{Names}
+use Rattle.symbol_tables.specs.data_names.Look.{look}
+use Rattle.parser_combinators.specs.words.Word.{name}
 use Rattle.cob_base.specs.Bytes.{left_parenthesis}
-use Rattle.grammar_forms.specs.Form.{Form, pure, note, ◌>>=◌, ◌>>◌, where_next}
-use Rattle.grammar_forms.specs.Part.{is_mark}
+use Rattle.parser_combinators.specs.Form.{Form, pure, note, ◌>>=◌, ◌>>◌, where_next}
+use Rattle.parser_combinators.specs.Part.{is_mark}
 
 -- a name with subscripts or a window of its own
 unfoldable pub enclosing_front : Inner → Found → (of : List (List ℕ)) → Position → ℕ → Form Front

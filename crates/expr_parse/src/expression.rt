@@ -1,25 +1,25 @@
 //! Operands and expressions.
 
-ghost use Rattle.grammar_forms.specs.Reading.{Reads};
-ghost use Rattle.statement_grammar.specs.expr_forms.Operand as operands;
-ghost use Rattle.statement_grammar.specs.expr_forms.Expression as expressions;
-ghost use Rattle.statement_grammar.specs.expr_forms.Levels.{inner};
+ghost use Rattle.parser_combinators.specs.Reading.{Reads};
+ghost use Rattle.cobol_grammar.specs.expr_forms.Operand as operands;
+ghost use Rattle.cobol_grammar.specs.expr_forms.Expression as expressions;
+ghost use Rattle.cobol_grammar.specs.expr_forms.Levels.{inner};
 
-use crate::levels::nested;
-use crate::reference::reference;
-use cob_tree::Op;
-use data_names::NameTable;
-use expr_sides::{
+use crate::actions::{
     at_operand, at_turn, chain_of, drop_chain, drop_side, finish, joined, last_fault, literal_kind,
     literal_side, negated, number_fault, operator, sum_side, tally,
 };
-use grammar_forms::{Cursor, Unread, Why};
-use statement_grammar::expr_forms::{Chain, Side};
+use crate::levels::nested;
+use crate::reference::reference;
+use cob_tree::Op;
+use cobol_grammar::expr_forms::{Chain, Side};
+use parser_combinators::words::{literal, sees_name};
+use parser_combinators::{Cursor, Unread, Why};
 use std::alloc::Global;
-use word_forms::{literal, sees_name};
+use symbol_tables::data_names::NameTable;
 
 /// Reads a literal.
-#[tactic(auto, unfolding(statement_grammar::specs::expr_forms::Operand::literal_operand))]
+#[tactic(auto, unfolding(cobol_grammar::specs::expr_forms::Operand::literal_operand))]
 pub fn literal_operand(
     alloc: Global,
     cursor: &mut Cursor<'_>,
@@ -34,7 +34,7 @@ pub fn literal_operand(
 
 /// Reads a reference or a literal.
 #[cycle(exprs)]
-#[tactic(auto, unfolding(statement_grammar::specs::expr_forms::Operand::operand))]
+#[tactic(auto, unfolding(cobol_grammar::specs::expr_forms::Operand::operand))]
 pub fn operand(
     alloc: Global,
     cursor: &mut Cursor<'_>,
@@ -58,7 +58,7 @@ pub fn operand(
 
 /// Reads an operand, or an expression in parentheses.
 #[cycle(exprs)]
-#[tactic(auto, unfolding(statement_grammar::specs::expr_forms::Expression::unsigned))]
+#[tactic(auto, unfolding(cobol_grammar::specs::expr_forms::Expression::unsigned))]
 pub fn unsigned(
     alloc: Global,
     cursor: &mut Cursor<'_>,
@@ -77,7 +77,7 @@ pub fn unsigned(
 }
 
 #[cycle(exprs)]
-#[tactic(auto, unfolding(statement_grammar::specs::expr_forms::Expression::minussed))]
+#[tactic(auto, unfolding(cobol_grammar::specs::expr_forms::Expression::minussed))]
 fn minussed(
     alloc: Global,
     cursor: &mut Cursor<'_>,
@@ -96,7 +96,7 @@ fn minussed(
 }
 
 #[cycle(exprs)]
-#[tactic(auto, unfolding(statement_grammar::specs::expr_forms::Expression::plussed))]
+#[tactic(auto, unfolding(cobol_grammar::specs::expr_forms::Expression::plussed))]
 fn plussed(
     alloc: Global,
     cursor: &mut Cursor<'_>,
@@ -114,7 +114,7 @@ fn plussed(
 
 /// Reads an operand with its sign.
 #[cycle(exprs)]
-#[tactic(auto, unfolding(statement_grammar::specs::expr_forms::Expression::unary))]
+#[tactic(auto, unfolding(cobol_grammar::specs::expr_forms::Expression::unary))]
 pub fn unary(
     alloc: Global,
     cursor: &mut Cursor<'_>,
@@ -136,7 +136,7 @@ pub fn unary(
 
 /// Reads one more operand behind an operator.
 #[cycle(exprs)]
-#[tactic(auto, unfolding(statement_grammar::specs::expr_forms::Expression::operated))]
+#[tactic(auto, unfolding(cobol_grammar::specs::expr_forms::Expression::operated))]
 pub fn operated(
     alloc: Global,
     cursor: &mut Cursor<'_>,
@@ -164,7 +164,7 @@ pub fn operated(
 
 /// Reads an operator and one more operand.
 #[cycle(exprs)]
-#[tactic(auto, unfolding(statement_grammar::specs::expr_forms::Expression::turn))]
+#[tactic(auto, unfolding(cobol_grammar::specs::expr_forms::Expression::turn))]
 pub fn turn(
     alloc: Global,
     cursor: &mut Cursor<'_>,
@@ -205,7 +205,7 @@ fn turns(
 
 /// Goes on behind a first operand.
 #[cycle(exprs)]
-#[tactic(auto, unfolding(statement_grammar::specs::expr_forms::Expression::sum))]
+#[tactic(auto, unfolding(cobol_grammar::specs::expr_forms::Expression::sum))]
 pub fn sum(
     alloc: Global,
     cursor: &mut Cursor<'_>,
@@ -224,7 +224,7 @@ pub fn sum(
 
 /// Reads an expression.
 #[cycle(exprs)]
-#[tactic(auto, unfolding(statement_grammar::specs::expr_forms::Expression::expr))]
+#[tactic(auto, unfolding(cobol_grammar::specs::expr_forms::Expression::expr))]
 pub fn expr(
     alloc: Global,
     cursor: &mut Cursor<'_>,
@@ -241,7 +241,7 @@ pub fn expr(
 
 /// Reads an expression in parentheses.
 #[cycle(exprs)]
-#[tactic(auto, unfolding(statement_grammar::specs::expr_forms::Expression::in_nested))]
+#[tactic(auto, unfolding(cobol_grammar::specs::expr_forms::Expression::in_nested))]
 pub fn in_nested(
     alloc: Global,
     cursor: &mut Cursor<'_>,

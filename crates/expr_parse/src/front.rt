@@ -1,32 +1,32 @@
 //! Subscripts or a window behind a reference.
 
 ghost use Rattle.std.specs.Prelude.{◌≡◌};
-ghost use Rattle.grammar_forms.specs.Reading.{Reads};
-ghost use Rattle.statement_grammar.specs.expr_forms.Subscript as subscripts;
-ghost use Rattle.statement_grammar.specs.expr_forms.Chain.{finish as finished};
-ghost use Rattle.statement_grammar.specs.expr_forms.Front as fronts;
-ghost use Rattle.statement_grammar.specs.expr_forms.Levels.{inner};
+ghost use Rattle.parser_combinators.specs.Reading.{Reads};
+ghost use Rattle.cobol_grammar.specs.expr_forms.Subscript as subscripts;
+ghost use Rattle.cobol_grammar.specs.expr_forms.Chain.{finish as finished};
+ghost use Rattle.cobol_grammar.specs.expr_forms.Front as fronts;
+ghost use Rattle.cobol_grammar.specs.expr_forms.Levels.{inner};
 ghost use Rattle.expr_parse.specs.End as ends;
 ghost use Rattle.expr_parse.specs.Front as names_in_front;
 
+use crate::actions::{
+    at_colon, at_turn, chain_of, drop_chain, drop_either, drop_subs, either_fault, finish,
+    found_fault, number_either, operator, ref_either, subs_of, sum_of, sum_side, tally,
+    window_suffix, with_number,
+};
 use crate::expression::{operated, turn, unary, unsigned};
 use crate::reference::{qualifiers, ref_behind};
 use crate::subscript::more_subs;
 use crate::window::window_behind;
 use cob_base::{Items, Word};
 use cob_tree::Op;
-use data_names::{Found, NameTable};
-use expr_sides::{
-    at_colon, at_turn, chain_of, drop_chain, drop_either, drop_subs, either_fault, finish,
-    found_fault, number_either, operator, ref_either, subs_of, sum_of, sum_side, tally,
-    window_suffix, with_number,
-};
-use grammar_forms::{Cursor, Position, Unread};
-use statement_grammar::expr_forms::{Chain, Either, Front, Suffix};
+use cobol_grammar::expr_forms::{Chain, Either, Front, Suffix};
+use parser_combinators::words::{name, sees_digits, sees_name};
+use parser_combinators::{Cursor, Position, Unread};
 use std::alloc::Global;
-use word_forms::{name, sees_digits, sees_name};
+use symbol_tables::data_names::{Found, NameTable};
 
-#[tactic(auto, unfolding(statement_grammar::specs::expr_forms::Front::digits_front))]
+#[tactic(auto, unfolding(cobol_grammar::specs::expr_forms::Front::digits_front))]
 fn digits_front(alloc: Global, cursor: &mut Cursor<'_>) -> Result<Front, Unread>
     ensures { Reads (fronts.digits_front.reads cursor.old) result cursor.new }
 {
@@ -35,7 +35,7 @@ fn digits_front(alloc: Global, cursor: &mut Cursor<'_>) -> Result<Front, Unread>
 }
 
 #[cycle(exprs)]
-#[tactic(auto, unfolding(statement_grammar::specs::expr_forms::Front::plus_front))]
+#[tactic(auto, unfolding(cobol_grammar::specs::expr_forms::Front::plus_front))]
 fn plus_front(
     alloc: Global,
     cursor: &mut Cursor<'_>,
@@ -147,7 +147,7 @@ fn name_front(
 }
 
 #[cycle(exprs)]
-#[tactic(auto, unfolding(statement_grammar::specs::expr_forms::Front::unary_front))]
+#[tactic(auto, unfolding(cobol_grammar::specs::expr_forms::Front::unary_front))]
 fn unary_front(
     alloc: Global,
     cursor: &mut Cursor<'_>,
@@ -163,7 +163,7 @@ fn unary_front(
 }
 
 #[cycle(exprs)]
-#[tactic(auto, unfolding(statement_grammar::specs::expr_forms::Front::other_front))]
+#[tactic(auto, unfolding(cobol_grammar::specs::expr_forms::Front::other_front))]
 fn other_front(
     alloc: Global,
     cursor: &mut Cursor<'_>,
@@ -182,7 +182,7 @@ fn other_front(
 }
 
 #[cycle(exprs)]
-#[tactic(auto, unfolding(statement_grammar::specs::expr_forms::Front::first_front))]
+#[tactic(auto, unfolding(cobol_grammar::specs::expr_forms::Front::first_front))]
 pub fn first_front(
     alloc: Global,
     cursor: &mut Cursor<'_>,
@@ -204,7 +204,7 @@ pub fn first_front(
 
 /// Goes on behind an operator after which it is no subscripts.
 #[cycle(exprs)]
-#[tactic(auto, unfolding(statement_grammar::specs::expr_forms::Front::decided))]
+#[tactic(auto, unfolding(cobol_grammar::specs::expr_forms::Front::decided))]
 fn decided(
     alloc: Global,
     cursor: &mut Cursor<'_>,
@@ -230,7 +230,7 @@ fn decided(
     }
 }
 
-#[tactic(auto, unfolding(statement_grammar::specs::expr_forms::Front::number_turn))]
+#[tactic(auto, unfolding(cobol_grammar::specs::expr_forms::Front::number_turn))]
 fn number_turn(
     alloc: Global,
     cursor: &mut Cursor<'_>,
@@ -254,7 +254,7 @@ fn number_turn(
 }
 
 #[cycle(exprs)]
-#[tactic(auto, unfolding(statement_grammar::specs::expr_forms::Front::number_or_decided))]
+#[tactic(auto, unfolding(cobol_grammar::specs::expr_forms::Front::number_or_decided))]
 fn number_or_decided(
     alloc: Global,
     cursor: &mut Cursor<'_>,
@@ -276,7 +276,7 @@ fn number_or_decided(
 }
 
 #[cycle(exprs)]
-#[tactic(auto, unfolding(statement_grammar::specs::expr_forms::Front::plus_turn))]
+#[tactic(auto, unfolding(cobol_grammar::specs::expr_forms::Front::plus_turn))]
 fn plus_turn(
     alloc: Global,
     cursor: &mut Cursor<'_>,
@@ -305,7 +305,7 @@ fn takes_minus(either: &Either) -> bool
 }
 
 #[cycle(exprs)]
-#[tactic(auto, unfolding(statement_grammar::specs::expr_forms::Front::minus_behind))]
+#[tactic(auto, unfolding(cobol_grammar::specs::expr_forms::Front::minus_behind))]
 fn minus_behind(
     alloc: Global,
     cursor: &mut Cursor<'_>,
@@ -325,7 +325,7 @@ fn minus_behind(
 }
 
 #[cycle(exprs)]
-#[tactic(auto, unfolding(statement_grammar::specs::expr_forms::Front::minus_turn))]
+#[tactic(auto, unfolding(cobol_grammar::specs::expr_forms::Front::minus_turn))]
 fn minus_turn(
     alloc: Global,
     cursor: &mut Cursor<'_>,
@@ -347,7 +347,7 @@ fn minus_turn(
 }
 
 #[cycle(exprs)]
-#[tactic(auto, unfolding(statement_grammar::specs::expr_forms::Front::factor_turn))]
+#[tactic(auto, unfolding(cobol_grammar::specs::expr_forms::Front::factor_turn))]
 fn factor_turn(
     alloc: Global,
     cursor: &mut Cursor<'_>,
@@ -369,7 +369,7 @@ fn factor_turn(
 }
 
 #[cycle(exprs)]
-#[tactic(auto, unfolding(statement_grammar::specs::expr_forms::Front::front_turn))]
+#[tactic(auto, unfolding(cobol_grammar::specs::expr_forms::Front::front_turn))]
 fn front_turn(
     alloc: Global,
     cursor: &mut Cursor<'_>,
@@ -417,7 +417,7 @@ pub fn front_turns(
     Ok(front)
 }
 
-#[tactic(auto, unfolding(statement_grammar::specs::expr_forms::Front::subs_suffix))]
+#[tactic(auto, unfolding(cobol_grammar::specs::expr_forms::Front::subs_suffix))]
 fn subs_suffix(
     alloc: Global,
     cursor: &mut Cursor<'_>,
@@ -484,7 +484,7 @@ fn colon_end(
 }
 
 #[cycle(exprs)]
-#[tactic(auto, unfolding(statement_grammar::specs::expr_forms::Front::front_end))]
+#[tactic(auto, unfolding(cobol_grammar::specs::expr_forms::Front::front_end))]
 pub fn front_end(
     alloc: Global,
     cursor: &mut Cursor<'_>,
@@ -511,7 +511,7 @@ pub fn front_end(
 
 /// Reads subscripts or a window.
 #[cycle(exprs)]
-#[tactic(auto, unfolding(statement_grammar::specs::expr_forms::Front::in_suffix))]
+#[tactic(auto, unfolding(cobol_grammar::specs::expr_forms::Front::in_suffix))]
 pub fn in_suffix(
     alloc: Global,
     cursor: &mut Cursor<'_>,

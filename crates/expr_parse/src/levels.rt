@@ -1,23 +1,25 @@
 //! What stands in parentheses, with so many levels of them.
 
-ghost use Rattle.grammar_forms.specs.Reading.{Reads};
-ghost use Rattle.statement_grammar.specs.expr_forms.Reference as references;
-ghost use Rattle.statement_grammar.specs.expr_forms.Operand as operands;
-ghost use Rattle.statement_grammar.specs.expr_forms.Levels as knots;
-ghost use Rattle.statement_grammar.specs.expr_forms.Levels.{inner};
+ghost use Rattle.parser_combinators.specs.Reading.{Reads};
+ghost use Rattle.cobol_grammar.specs.expr_forms.Reference as references;
+ghost use Rattle.cobol_grammar.specs.expr_forms.Operand as operands;
+ghost use Rattle.cobol_grammar.specs.expr_forms.Levels as knots;
+ghost use Rattle.cobol_grammar.specs.expr_forms.Levels.{inner};
 
+use crate::actions::{
+    MAX_PARENS, at_operand, both_behind, drop_subs, found_fault, ref_side, tally,
+};
 use crate::expression::{expr, in_nested, literal_operand};
 use crate::front::in_suffix;
 use crate::reference::qualifiers;
 use crate::window::in_window;
 use cob_base::{Items, Word};
 use cob_tree::Window;
-use data_names::{Found, NameTable};
-use expr_sides::{MAX_PARENS, at_operand, both_behind, drop_subs, found_fault, ref_side, tally};
-use grammar_forms::{Cursor, Position, Unread, Why};
-use statement_grammar::expr_forms::{Behind, Side, Suffix};
+use cobol_grammar::expr_forms::{Behind, Side, Suffix};
+use parser_combinators::words::{name, sees_name};
+use parser_combinators::{Cursor, Position, Unread, Why};
 use std::alloc::Global;
-use word_forms::{name, sees_name};
+use symbol_tables::data_names::{Found, NameTable};
 
 /// Reads an expression in parentheses, where a level is left.
 #[cycle(exprs)]
@@ -73,7 +75,7 @@ pub fn window(
     in_window(alloc, cursor, names, levels - 1, false, count)
 }
 
-#[tactic(auto, unfolding(statement_grammar::specs::expr_forms::Reference::behind))]
+#[tactic(auto, unfolding(cobol_grammar::specs::expr_forms::Reference::behind))]
 fn data_behind(
     alloc: Global,
     cursor: &mut Cursor<'_>,
@@ -117,7 +119,7 @@ fn data_behind(
     }
 }
 
-#[tactic(auto, unfolding(statement_grammar::specs::expr_forms::Reference::ref_behind))]
+#[tactic(auto, unfolding(cobol_grammar::specs::expr_forms::Reference::ref_behind))]
 fn data_ref_behind(
     alloc: Global,
     cursor: &mut Cursor<'_>,
@@ -139,7 +141,7 @@ fn data_ref_behind(
     Ok((ref_side(found, of, subs, window, position), count))
 }
 
-#[tactic(auto, unfolding(statement_grammar::specs::expr_forms::Reference::reference_behind))]
+#[tactic(auto, unfolding(cobol_grammar::specs::expr_forms::Reference::reference_behind))]
 fn data_words_behind(
     alloc: Global,
     cursor: &mut Cursor<'_>,
@@ -156,7 +158,7 @@ fn data_words_behind(
     data_ref_behind(alloc, cursor, names, found, of, position, count)
 }
 
-#[tactic(auto, unfolding(statement_grammar::specs::expr_forms::Reference::reference))]
+#[tactic(auto, unfolding(cobol_grammar::specs::expr_forms::Reference::reference))]
 fn data_words(
     alloc: Global,
     cursor: &mut Cursor<'_>,
@@ -170,7 +172,7 @@ fn data_words(
     data_words_behind(alloc, cursor, names, first, position, count)
 }
 
-#[tactic(auto, unfolding(statement_grammar::specs::expr_forms::Operand::operand))]
+#[tactic(auto, unfolding(cobol_grammar::specs::expr_forms::Operand::operand))]
 fn data_value(
     alloc: Global,
     cursor: &mut Cursor<'_>,
@@ -192,7 +194,7 @@ fn data_value(
 }
 
 /// Reads a reference outside of any expression.
-#[tactic(auto, unfolding(statement_grammar::specs::expr_forms::Levels::data_reference))]
+#[tactic(auto, unfolding(cobol_grammar::specs::expr_forms::Levels::data_reference))]
 pub fn data_reference(
     alloc: Global,
     cursor: &mut Cursor<'_>,
@@ -205,7 +207,7 @@ pub fn data_reference(
 }
 
 /// Reads a reference outside of any expression behind its first word, which stands there.
-#[tactic(auto, unfolding(statement_grammar::specs::expr_forms::Levels::data_reference_behind))]
+#[tactic(auto, unfolding(cobol_grammar::specs::expr_forms::Levels::data_reference_behind))]
 pub fn data_reference_behind(
     alloc: Global,
     cursor: &mut Cursor<'_>,
@@ -221,7 +223,7 @@ pub fn data_reference_behind(
 }
 
 /// Reads a reference or a literal outside of any expression.
-#[tactic(auto, unfolding(statement_grammar::specs::expr_forms::Levels::data_operand))]
+#[tactic(auto, unfolding(cobol_grammar::specs::expr_forms::Levels::data_operand))]
 pub fn data_operand(
     alloc: Global,
     cursor: &mut Cursor<'_>,
@@ -234,7 +236,7 @@ pub fn data_operand(
 }
 
 /// Reads an expression that no other one holds.
-#[tactic(auto, unfolding(statement_grammar::specs::expr_forms::Levels::whole_expr))]
+#[tactic(auto, unfolding(cobol_grammar::specs::expr_forms::Levels::whole_expr))]
 pub fn whole_expr(alloc: Global, cursor: &mut Cursor<'_>, names: &NameTable) -> Result<Side, Unread>
     ensures { Reads ((knots.whole_expr names.now).reads cursor.old) result cursor.new }
 {

@@ -6,6 +6,7 @@
 //! on within a condition, with the levels of parentheses left and the terms counted so far.
 #![tactic(auto)]
 
+pub mod actions;
 mod expression;
 mod front;
 mod levels;

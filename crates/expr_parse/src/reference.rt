@@ -1,19 +1,19 @@
 //! References.
 
-ghost use Rattle.grammar_forms.specs.Reading.{Reads};
-ghost use Rattle.statement_grammar.specs.expr_forms.Reference as references;
-ghost use Rattle.statement_grammar.specs.expr_forms.Levels.{inner};
+ghost use Rattle.parser_combinators.specs.Reading.{Reads};
+ghost use Rattle.cobol_grammar.specs.expr_forms.Reference as references;
+ghost use Rattle.cobol_grammar.specs.expr_forms.Levels.{inner};
 
+use crate::actions::{at_of, both_behind, drop_subs, found_fault, ref_side};
 use crate::levels::{suffix, window};
 use cob_base::{Items, Word};
-use data_names::{Found, NameTable};
-use expr_sides::{at_of, both_behind, drop_subs, found_fault, ref_side};
-use grammar_forms::{Cursor, Position, Unread};
-use statement_grammar::expr_forms::{Behind, Side, Suffix};
+use cobol_grammar::expr_forms::{Behind, Side, Suffix};
+use parser_combinators::words::name;
+use parser_combinators::{Cursor, Position, Unread};
 use std::alloc::Global;
-use word_forms::name;
+use symbol_tables::data_names::{Found, NameTable};
 
-#[tactic(auto, unfolding(statement_grammar::specs::expr_forms::Reference::qualifier))]
+#[tactic(auto, unfolding(cobol_grammar::specs::expr_forms::Reference::qualifier))]
 fn qualifier(cursor: &mut Cursor<'_>) -> Result<Word, Unread>
     ensures { Reads (references.qualifier.reads cursor.old) result cursor.new }
 {
@@ -38,7 +38,7 @@ pub fn qualifiers(alloc: Global, cursor: &mut Cursor<'_>) -> Result<Items<Word>,
 }
 
 #[cycle(exprs)]
-#[tactic(auto, unfolding(statement_grammar::specs::expr_forms::Reference::behind))]
+#[tactic(auto, unfolding(cobol_grammar::specs::expr_forms::Reference::behind))]
 fn behind(
     alloc: Global,
     cursor: &mut Cursor<'_>,
@@ -85,7 +85,7 @@ fn behind(
 
 /// Reads what stands behind the words of a reference.
 #[cycle(exprs)]
-#[tactic(auto, unfolding(statement_grammar::specs::expr_forms::Reference::ref_behind))]
+#[tactic(auto, unfolding(cobol_grammar::specs::expr_forms::Reference::ref_behind))]
 pub fn ref_behind(
     alloc: Global,
     cursor: &mut Cursor<'_>,
@@ -110,7 +110,7 @@ pub fn ref_behind(
 
 /// Reads a reference behind its first word.
 #[cycle(exprs)]
-#[tactic(auto, unfolding(statement_grammar::specs::expr_forms::Reference::reference_behind))]
+#[tactic(auto, unfolding(cobol_grammar::specs::expr_forms::Reference::reference_behind))]
 pub fn reference_behind(
     alloc: Global,
     cursor: &mut Cursor<'_>,
@@ -130,7 +130,7 @@ pub fn reference_behind(
 
 /// Reads a reference.
 #[cycle(exprs)]
-#[tactic(auto, unfolding(statement_grammar::specs::expr_forms::Reference::reference))]
+#[tactic(auto, unfolding(cobol_grammar::specs::expr_forms::Reference::reference))]
 pub fn reference(
     alloc: Global,
     cursor: &mut Cursor<'_>,

@@ -1,21 +1,21 @@
 //! Subscripts.
 
 ghost use Rattle.std.specs.Prelude.{◌≡◌};
-ghost use Rattle.grammar_forms.specs.Form as form;
-ghost use Rattle.grammar_forms.specs.Reading.{Reads};
-ghost use Rattle.statement_grammar.specs.expr_forms.Subscript as subscripts;
+ghost use Rattle.parser_combinators.specs.Form as form;
+ghost use Rattle.parser_combinators.specs.Reading.{Reads};
+ghost use Rattle.cobol_grammar.specs.expr_forms.Subscript as subscripts;
 
-use crate::reference::qualifiers;
-use cob_base::Items;
-use cob_tree::{Place, Sub};
-use data_names::NameTable;
-use expr_sides::{
+use crate::actions::{
     bare_sub, drop_place, drop_subs, found_fault, item_sub, kind_of, number_sub, place_of,
     sub_added, whole_fault_at,
 };
-use grammar_forms::{Cursor, Unread};
+use crate::reference::qualifiers;
+use cob_base::Items;
+use cob_tree::{Place, Sub};
+use parser_combinators::words::{name, sees_digits, sees_name};
+use parser_combinators::{Cursor, Unread};
 use std::alloc::Global;
-use word_forms::{name, sees_digits, sees_name};
+use symbol_tables::data_names::NameTable;
 
 fn at_sub(cursor: &Cursor<'_>) -> bool
     ensures { result ≡ form.is_next subscripts.begins_sub cursor.now }
@@ -23,7 +23,7 @@ fn at_sub(cursor: &Cursor<'_>) -> bool
     cursor.sees_mark(b'+') || sees_digits(cursor) || sees_name(cursor)
 }
 
-#[tactic(auto, unfolding(statement_grammar::specs::expr_forms::Subscript::plus_sub_form))]
+#[tactic(auto, unfolding(cobol_grammar::specs::expr_forms::Subscript::plus_sub_form))]
 fn plus_sub_form(alloc: Global, cursor: &mut Cursor<'_>) -> Result<Sub, Unread>
     ensures { Reads (subscripts.plus_sub_form.reads cursor.old) result cursor.new }
 {
@@ -32,7 +32,7 @@ fn plus_sub_form(alloc: Global, cursor: &mut Cursor<'_>) -> Result<Sub, Unread>
     Ok(number_sub(digits))
 }
 
-#[tactic(auto, unfolding(statement_grammar::specs::expr_forms::Subscript::number_sub_form))]
+#[tactic(auto, unfolding(cobol_grammar::specs::expr_forms::Subscript::number_sub_form))]
 fn number_sub_form(alloc: Global, cursor: &mut Cursor<'_>) -> Result<Sub, Unread>
     ensures { Reads (subscripts.number_sub_form.reads cursor.old) result cursor.new }
 {
@@ -40,7 +40,7 @@ fn number_sub_form(alloc: Global, cursor: &mut Cursor<'_>) -> Result<Sub, Unread
     Ok(number_sub(digits))
 }
 
-#[tactic(auto, unfolding(statement_grammar::specs::expr_forms::Subscript::item_sub_by))]
+#[tactic(auto, unfolding(cobol_grammar::specs::expr_forms::Subscript::item_sub_by))]
 fn item_sub_by(
     alloc: Global,
     cursor: &mut Cursor<'_>,
@@ -64,7 +64,7 @@ fn item_sub_by(
     }
 }
 
-#[tactic(auto, unfolding(statement_grammar::specs::expr_forms::Subscript::item_sub_behind))]
+#[tactic(auto, unfolding(cobol_grammar::specs::expr_forms::Subscript::item_sub_behind))]
 fn item_sub_behind(alloc: Global, cursor: &mut Cursor<'_>, place: Place) -> Result<Sub, Unread>
     ensures { Reads ((subscripts.item_sub_behind place).reads cursor.old) result cursor.new }
 {
@@ -77,7 +77,7 @@ fn item_sub_behind(alloc: Global, cursor: &mut Cursor<'_>, place: Place) -> Resu
     }
 }
 
-#[tactic(auto, unfolding(statement_grammar::specs::expr_forms::Subscript::item_sub_form))]
+#[tactic(auto, unfolding(cobol_grammar::specs::expr_forms::Subscript::item_sub_form))]
 fn item_sub_form(alloc: Global, cursor: &mut Cursor<'_>, names: &NameTable) -> Result<Sub, Unread>
     ensures { Reads ((subscripts.item_sub_form names.now).reads cursor.old) result cursor.new }
 {
@@ -89,7 +89,7 @@ fn item_sub_form(alloc: Global, cursor: &mut Cursor<'_>, names: &NameTable) -> R
     item_sub_behind(alloc, cursor, place_of(found, of, Items::new(alloc), None))
 }
 
-#[tactic(auto, unfolding(statement_grammar::specs::expr_forms::Subscript::sub))]
+#[tactic(auto, unfolding(cobol_grammar::specs::expr_forms::Subscript::sub))]
 fn sub(alloc: Global, cursor: &mut Cursor<'_>, names: &NameTable) -> Result<Sub, Unread>
     ensures { Reads ((subscripts.sub names.now).reads cursor.old) result cursor.new }
 {

@@ -1,17 +1,17 @@
 //! Windows.
 
 ghost use Rattle.std.specs.Prelude.{◌≡◌};
-ghost use Rattle.grammar_forms.specs.Reading.{Reads};
-ghost use Rattle.statement_grammar.specs.expr_forms.Window as windows;
-ghost use Rattle.statement_grammar.specs.expr_forms.Levels.{inner};
+ghost use Rattle.parser_combinators.specs.Reading.{Reads};
+ghost use Rattle.cobol_grammar.specs.expr_forms.Window as windows;
+ghost use Rattle.cobol_grammar.specs.expr_forms.Levels.{inner};
 
+use crate::actions::{drop_side, drop_window, expr_of, whole_fault};
 use crate::expression::expr;
 use cob_tree::{Expr, Window};
-use data_names::NameTable;
-use expr_sides::{drop_side, drop_window, expr_of, whole_fault};
-use grammar_forms::{Cursor, Unread};
-use statement_grammar::expr_forms::Side;
+use cobol_grammar::expr_forms::Side;
+use parser_combinators::{Cursor, Unread};
 use std::alloc::Global;
+use symbol_tables::data_names::NameTable;
 
 /// What is counted where a window's second expression begins.
 fn second_count(alone: bool, count: u32) -> u32
@@ -21,7 +21,7 @@ fn second_count(alone: bool, count: u32) -> u32
 }
 
 #[cycle(exprs)]
-#[tactic(auto, unfolding(statement_grammar::specs::expr_forms::Window::length_part))]
+#[tactic(auto, unfolding(cobol_grammar::specs::expr_forms::Window::length_part))]
 fn length_part(
     alloc: Global,
     cursor: &mut Cursor<'_>,
@@ -43,7 +43,7 @@ fn length_part(
 
 /// Goes on behind the first expression of a window.
 #[cycle(exprs)]
-#[tactic(auto, unfolding(statement_grammar::specs::expr_forms::Window::window_behind))]
+#[tactic(auto, unfolding(cobol_grammar::specs::expr_forms::Window::window_behind))]
 pub fn window_behind(
     alloc: Global,
     cursor: &mut Cursor<'_>,
@@ -83,7 +83,7 @@ pub fn window_behind(
 
 /// Reads a window.
 #[cycle(exprs)]
-#[tactic(auto, unfolding(statement_grammar::specs::expr_forms::Window::in_window))]
+#[tactic(auto, unfolding(cobol_grammar::specs::expr_forms::Window::in_window))]
 pub fn in_window(
     alloc: Global,
     cursor: &mut Cursor<'_>,

@@ -8,3 +8,6 @@ pub mod Attempts
 pub mod Told
 -- the first file of a name, as the code finds it
 pub mod First
+-- Operations on the files of a program, over the devices of a bench (ISO 1989:1985, Sequential
+-- I-O).
+pub mod operations

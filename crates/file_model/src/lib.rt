@@ -8,9 +8,11 @@
 
 mod bench;
 mod device;
+pub mod folder;
 mod mem_device;
 mod mem_file;
 mod null_device;
+pub mod operations;
 mod table;
 
 pub use bench::Bench;

@@ -4,10 +4,10 @@ use Rattle.std.proofs.lemmas.List.{take_all}
 use Rattle.std.proofs.lemmas.List.Sums.{sum_by_push}
 use Rattle.cob_tree.specs.declared.program.Range as code
 use Rattle.flow_graph.proofs.MadeRows.{one_more}
-use Rattle.graph_sizes.specs.Sizes.{tree_size}
-use Rattle.lower_stmts.specs.declared.telling.Telling.{Telling}
-use Rattle.range_trees.specs.Nodes.{node_in}
-use Rattle.rest_table.specs.declared.spot.Spot.{Spot}
+use Rattle.flow_graph.specs.graph_sizes.Sizes.{tree_size}
+use Rattle.statement_lowering.specs.declared.telling.Telling.{Telling}
+use Rattle.flow_graph.specs.label_trees.Nodes.{node_in}
+use Rattle.statement_lowering.specs.declared.continuations.spot.Spot.{Spot}
 use Rattle.flow_graph.specs.Counts.{CountsTo, IsSizeAt}
 
 module _ (telling : Telling) (spots : List Spot) (range : code.Range) where

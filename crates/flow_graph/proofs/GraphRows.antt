@@ -3,28 +3,28 @@ use Rattle.std.proofs.Common.{◌≡◌, ℕ, ◌*◌, Bool, List, [], ◌∷◌
 use Rattle.std.specs.List.Sorted.{IsNonDecreasingBy, IsPermutation}
 use Rattle.cob_tree.specs.declared.program.Program.{Program}
 use Rattle.cob_tree.specs.declared.program.Range as code
-use Rattle.language.specs.Control.{control_of}
-use Rattle.control.specs.Graph as graph
-use Rattle.control_laws.specs.graph_rules.Families as families
-use Rattle.control_laws.specs.graph_rules.Reduced as reduced
-use Rattle.control_laws.specs.lowering.Lower as lower
-use Rattle.control_laws.specs.lowering.Lowered.{nodes_of, place_in}
-use Rattle.control_laws.specs.lowering.Reached.{kept_nodes}
-use Rattle.control_laws.specs.lowering.Rests.{Has}
-use Rattle.control_laws.specs.lowering.Told.{Told}
-use Rattle.control_laws.specs.lowering.WellFormed.{IsLabelOf}
-use Rattle.control_laws.specs.lowering.flow.Comes.{entry_of}
-use Rattle.control_laws.proofs.lowering_lemmas.graphs.Families.{found-self}
+use Rattle.control_flow_theory.specs.language.Control.{control_of}
+use Rattle.control_flow_theory.specs.semantics.Graph as graph
+use Rattle.control_flow_theory.specs.graph_rules.Families as families
+use Rattle.control_flow_theory.specs.graph_rules.Reduced as reduced
+use Rattle.control_flow_theory.specs.lowering.Lower as lower
+use Rattle.control_flow_theory.specs.lowering.Lowered.{nodes_of, place_in}
+use Rattle.control_flow_theory.specs.lowering.Reached.{kept_nodes}
+use Rattle.control_flow_theory.specs.lowering.Rests.{Has}
+use Rattle.control_flow_theory.specs.lowering.Told.{Told}
+use Rattle.control_flow_theory.specs.lowering.WellFormed.{IsLabelOf}
+use Rattle.control_flow_theory.specs.lowering.flow.Comes.{entry_of}
+use Rattle.control_flow_theory.proofs.lowering_lemmas.graphs.Families.{found-self}
 use Rattle.branch_tree.specs.Graphs.{seen_added}
 use Rattle.branch_tree.specs.declared.graph.Graph.{Graph}
-use Rattle.lower_places.specs.Fall.{seen_range}
-use Rattle.lower_places.specs.Layout.{end_from, place_at}
-use Rattle.lower_places.specs.Leaf.{point_of}
-use Rattle.lower_stmts.specs.Along.{told_by}
-use Rattle.lower_stmts.specs.declared.telling.Telling.{Telling}
-use Rattle.rest_table.specs.declared.spot.Spot.{Spot}
-use Rattle.range_trees.specs.Nodes.{node_in}
-use Rattle.flow_levels.specs.Reaching.{IsMarked}
+use Rattle.lowering_labels.specs.points.Fall.{seen_range}
+use Rattle.lowering_labels.specs.points.Layout.{end_from, place_at}
+use Rattle.lowering_labels.specs.points.Leaf.{point_of}
+use Rattle.statement_lowering.specs.Along.{told_by}
+use Rattle.statement_lowering.specs.declared.telling.Telling.{Telling}
+use Rattle.statement_lowering.specs.declared.continuations.spot.Spot.{Spot}
+use Rattle.flow_graph.specs.label_trees.Nodes.{node_in}
+use Rattle.pending_returns.specs.levels.Reaching.{IsMarked}
 use Rattle.flow_graph.specs.Lowered.{AreNodesAt, IsLoweredIn, node_of}
 use Rattle.flow_graph.specs.Reaching.{AreReachedIn, Begins, IsRangeIn}
 use Rattle.flow_graph.proofs.LabelRows.{nodes_within, reached_label}

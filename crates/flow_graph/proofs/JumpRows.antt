@@ -3,13 +3,13 @@ use Rattle.std.proofs.Common.{◌≡◌, ℕ, zero, suc, ◌+◌, ◌≤◌, ◌
 use Rattle.std.specs.Prelude.{slice_get}
 use Rattle.std.proofs.Math.Seq.{drop-cons}
 use Rattle.std.proofs.lemmas.List.{drop_all}
-use Rattle.language.specs.Language as language
-use Rattle.control.specs.Graph as graph
-use Rattle.control_laws.specs.lowering.Reached.{ArmsJumpTo, JumpsTo}
+use Rattle.control_flow_theory.specs.language.Language as language
+use Rattle.control_flow_theory.specs.semantics.Graph as graph
+use Rattle.control_flow_theory.specs.lowering.Reached.{ArmsJumpTo, JumpsTo}
 use Rattle.branch_tree.specs.Trees.{seen_body, seen_end, seen_tree, seen_trees}
 use Rattle.branch_tree.specs.declared.tree.Tree as code
 use Rattle.branch_tree.proofs.TreeRows.{seen_tree_is}
-use Rattle.flow_levels.specs.Reaching.{Adds, Holds}
+use Rattle.pending_returns.specs.levels.Reaching.{Adds, Holds}
 use Rattle.flow_graph.specs.Jumps.{AddsArmJumps, AddsJumps, AddsThose, ArmsJumpBelow, JumpBelow}
 
 pub adds_nothing : (IsNew : ℕ → Type 0) (places : List ℕ) → ((label : ℕ) → IsNew label → ⊥) → AddsThose IsNew places places

@@ -6,24 +6,24 @@ use Rattle.std.proofs.lemmas.List.Sums.{sum_by-cons}
 use Rattle.std.proofs.lemmas.Map.Keys.{IsDistinct-head, IsDistinct-tail}
 use Rattle.cob_tree.specs.declared.program.Program.{Program}
 use Rattle.cob_tree.specs.declared.program.Range as code
-use Rattle.language.specs.Control.{control_of}
-use Rattle.control.specs.Graph as graph
-use Rattle.control_laws.specs.lowering.Lower.{Node}
-use Rattle.control_laws.specs.lowering.Lowered.{Within, nodes_of, place_in}
-use Rattle.control_laws.specs.lowering.Reached.{kept_nodes}
-use Rattle.control_laws.specs.lowering.WellFormed.{AreJustReached, IsLabelOf}
-use Rattle.control_laws.proofs.lowering_lemmas.graphs.Families.{found-self}
+use Rattle.control_flow_theory.specs.language.Control.{control_of}
+use Rattle.control_flow_theory.specs.semantics.Graph as graph
+use Rattle.control_flow_theory.specs.lowering.Lower.{Node}
+use Rattle.control_flow_theory.specs.lowering.Lowered.{Within, nodes_of, place_in}
+use Rattle.control_flow_theory.specs.lowering.Reached.{kept_nodes}
+use Rattle.control_flow_theory.specs.lowering.WellFormed.{AreJustReached, IsLabelOf}
+use Rattle.control_flow_theory.proofs.lowering_lemmas.graphs.Families.{found-self}
 use Rattle.branch_tree.specs.Graphs.{seen_graph}
 use Rattle.branch_tree.specs.declared.graph.Graph.{Graph}
-use Rattle.flow_levels.specs.Reaching.{Holds, IsMarked}
-use Rattle.flow_levels.proofs.Searching.{distinct}
-use Rattle.graph_sizes.specs.Sizes.{graph_size, node_size, tree_size}
-use Rattle.lower_places.specs.Fall.{seen_range}
-use Rattle.lower_places.specs.Layout.{end_from}
-use Rattle.lower_stmts.specs.Along.{told_by}
-use Rattle.lower_stmts.specs.declared.telling.Telling.{Telling}
-use Rattle.range_trees.specs.Nodes.{node_in}
-use Rattle.rest_table.specs.declared.spot.Spot.{Spot}
+use Rattle.pending_returns.specs.levels.Reaching.{Holds, IsMarked}
+use Rattle.pending_returns.proofs.levels_lemmas.Searching.{distinct}
+use Rattle.flow_graph.specs.graph_sizes.Sizes.{graph_size, node_size, tree_size}
+use Rattle.lowering_labels.specs.points.Fall.{seen_range}
+use Rattle.lowering_labels.specs.points.Layout.{end_from}
+use Rattle.statement_lowering.specs.Along.{told_by}
+use Rattle.statement_lowering.specs.declared.telling.Telling.{Telling}
+use Rattle.flow_graph.specs.label_trees.Nodes.{node_in}
+use Rattle.statement_lowering.specs.declared.continuations.spot.Spot.{Spot}
 use Rattle.flow_graph.specs.Counts.{CountsTo, IsLargerIn}
 use Rattle.flow_graph.specs.Lowered.{IsLoweredIn, lowered_graph, node_of}
 use Rattle.flow_graph.specs.Reaching.{AreReachedIn, IsRangeIn, Reaches}

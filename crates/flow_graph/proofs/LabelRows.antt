@@ -5,23 +5,23 @@ use Rattle.std.proofs.lemmas.List.Sums.{sum_by-cons}
 use Rattle.cob_tree.specs.declared.program.Paragraph.{Paragraph}
 use Rattle.cob_tree.specs.declared.program.Program as code
 use Rattle.cob_tree.specs.declared.program.Sentence.{Sentence}
-use Rattle.language.specs.Control.{control_of, section_last, seen_paragraph, seen_paragraphs, seen_sentence}
-use Rattle.language.specs.Language.{Program, Range}
-use Rattle.control.specs.Graph.{Label, Tree, tree, End, Pick, Jump, Return, Stop, Dead, Trees, no_more, more, end_of}
-use Rattle.control_laws.specs.lowering.Told.{IsSource, Told}
-use Rattle.control_laws.specs.lowering.Lower as lower
-use Rattle.control_laws.specs.lowering.Lower.{Node}
-use Rattle.control_laws.specs.lowering.Lowered.{find, lowered, nodes_from, nodes_of, place_in, total, Within}
-use Rattle.control_laws.specs.lowering.Reached.{ArmsJumpTo, entered, IsReached, jumped, JumpsTo}
-use Rattle.control_laws.specs.lowering.WellFormed.{AllAreWell, AreWell, IsLabelOf, IsRangeOf, IsWellEnd, IsWellTree}
-use Rattle.control_laws.specs.lowering.flow.Comes.{entry_of}
-use Rattle.control_laws.proofs.lowering_lemmas.graphs.WellFormed.{all-well, named-label}
-use Rattle.lower_places.proofs.SizeLemmas.{sizes-seen}
-use Rattle.lower_places.specs.Layout.{end_from, paragraph_size}
-use Rattle.rest_table.specs.Paragraphs.{left_at, nodes_of_paragraph, sentence_size, sentence_sizes}
-use Rattle.rest_table.proofs.Begins.{within-sentences}
-use Rattle.rest_table.proofs.ProgramSpots.{from_first}
-use Rattle.rest_table.proofs.Within.{within-append, within-lower}
+use Rattle.control_flow_theory.specs.language.Control.{control_of, section_last, seen_paragraph, seen_paragraphs, seen_sentence}
+use Rattle.control_flow_theory.specs.language.Language.{Program, Range}
+use Rattle.control_flow_theory.specs.semantics.Graph.{Label, Tree, tree, End, Pick, Jump, Return, Stop, Dead, Trees, no_more, more, end_of}
+use Rattle.control_flow_theory.specs.lowering.Told.{IsSource, Told}
+use Rattle.control_flow_theory.specs.lowering.Lower as lower
+use Rattle.control_flow_theory.specs.lowering.Lower.{Node}
+use Rattle.control_flow_theory.specs.lowering.Lowered.{find, lowered, nodes_from, nodes_of, place_in, total, Within}
+use Rattle.control_flow_theory.specs.lowering.Reached.{ArmsJumpTo, entered, IsReached, jumped, JumpsTo}
+use Rattle.control_flow_theory.specs.lowering.WellFormed.{AllAreWell, AreWell, IsLabelOf, IsRangeOf, IsWellEnd, IsWellTree}
+use Rattle.control_flow_theory.specs.lowering.flow.Comes.{entry_of}
+use Rattle.control_flow_theory.proofs.lowering_lemmas.graphs.WellFormed.{all-well, named-label}
+use Rattle.lowering_labels.proofs.points_lemmas.SizeLemmas.{sizes-seen}
+use Rattle.lowering_labels.specs.points.Layout.{end_from, paragraph_size}
+use Rattle.statement_lowering.specs.continuations.Paragraphs.{left_at, nodes_of_paragraph, sentence_size, sentence_sizes}
+use Rattle.statement_lowering.proofs.continuations_lemmas.Begins.{within-sentences}
+use Rattle.statement_lowering.proofs.continuations_lemmas.ProgramSpots.{from_first}
+use Rattle.statement_lowering.proofs.continuations_lemmas.Within.{within-append, within-lower}
 
 total_is : (last : ℕ) (sentences : List Sentence) → total (map (seen_sentence last) sentences) ≡ sentence_sizes sentences
 total_is last [] = refl

@@ -14,3 +14,9 @@ pub mod GraphRows
 pub mod CountRows
 -- the nodes that are kept, added up
 pub mod KeptSums
+-- The trees of a range's nodes, by the table of rests.
+pub mod label_trees_lemmas
+-- How large graphs are: their labels, and the statements in their trees.
+pub mod graph_sizes_lemmas
+-- How large the lowered graphs of ranges are, without these graphs.
+pub mod range_sizes_lemmas

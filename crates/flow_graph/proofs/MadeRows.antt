@@ -8,8 +8,8 @@ use Rattle.std.proofs.lemmas.List.Sorted.{All-permutation, IsNonDecreasingBy-fro
 use Rattle.std.proofs.lemmas.Option.{slice_get-get_or}
 use Rattle.cob_tree.specs.declared.program.Range as code
 use Rattle.branch_tree.specs.declared.graph.Node.{Node}
-use Rattle.lower_stmts.specs.declared.telling.Telling.{Telling}
-use Rattle.rest_table.specs.declared.spot.Spot.{Spot}
+use Rattle.statement_lowering.specs.declared.telling.Telling.{Telling}
+use Rattle.statement_lowering.specs.declared.continuations.spot.Spot.{Spot}
 use Rattle.flow_graph.specs.Lowered.{AddsNode, AreMade, AreNodesAt, IsMade}
 
 abbrev pub label_of : Node → ℕ

@@ -6,13 +6,13 @@ use Rattle.std.proofs.lemmas.Bool.Decides.{eqb_tells}
 use Rattle.std.proofs.lemmas.List.Sorted.{Contains-permutation, IsPermutation-sym}
 use Rattle.std.proofs.lemmas.Map.Keys.{IsDistinct-head, IsDistinct-tail, IsDistinct-IsPermutation}
 use Rattle.std.proofs.lemmas.Option.{slice_get_within, slice_get-get_or}
-use Rattle.control.specs.Graph.{Label, Tree}
-use Rattle.control_laws.specs.lowering.Lower.{Node}
-use Rattle.control_laws.specs.lowering.Lowered.{Within}
-use Rattle.control_laws.specs.lowering.Reached.{kept_nodes}
-use Rattle.control_laws.specs.lowering.WellFormed.{IsLabelOf}
-use Rattle.flow_levels.specs.Reaching.{Holds, IsMarked}
-use Rattle.flow_levels.proofs.Searching.{distinct}
+use Rattle.control_flow_theory.specs.semantics.Graph.{Label, Tree}
+use Rattle.control_flow_theory.specs.lowering.Lower.{Node}
+use Rattle.control_flow_theory.specs.lowering.Lowered.{Within}
+use Rattle.control_flow_theory.specs.lowering.Reached.{kept_nodes}
+use Rattle.control_flow_theory.specs.lowering.WellFormed.{IsLabelOf}
+use Rattle.pending_returns.specs.levels.Reaching.{Holds, IsMarked}
+use Rattle.pending_returns.proofs.levels_lemmas.Searching.{distinct}
 use Rattle.flow_graph.specs.Lowered.{node_by, node_of}
 use Rattle.flow_graph.proofs.LabelRows.{label_above}
 

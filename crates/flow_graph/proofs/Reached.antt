@@ -3,18 +3,18 @@ use Rattle.std.proofs.Common.{◌≡◌, ℕ, zero, suc, ◌+◌, ◌*◌, ◌�
 use Rattle.std.proofs.lemmas.Option.{slice_get_within}
 use Rattle.cob_tree.specs.declared.program.Program.{Program}
 use Rattle.cob_tree.specs.declared.program.Range as code
-use Rattle.language.specs.Control.{control_of}
-use Rattle.control.specs.Graph as graph
-use Rattle.control_laws.specs.lowering.Lowered.{nodes_of}
-use Rattle.control_laws.specs.lowering.Reached.{entered, jumped, JumpsTo}
-use Rattle.lower_places.specs.Fall.{seen_range}
-use Rattle.lower_places.specs.Layout.{end_from}
-use Rattle.lower_stmts.specs.Along.{told_by}
-use Rattle.lower_stmts.specs.declared.telling.Telling.{Telling}
-use Rattle.rest_table.specs.declared.spot.Spot.{Spot}
-use Rattle.range_trees.specs.Nodes.{IsWhole, node_in}
-use Rattle.flow_levels.specs.Reaching.{Adds, Holds, IsMarked}
-use Rattle.flow_levels.proofs.Searching.{before-or-now}
+use Rattle.control_flow_theory.specs.language.Control.{control_of}
+use Rattle.control_flow_theory.specs.semantics.Graph as graph
+use Rattle.control_flow_theory.specs.lowering.Lowered.{nodes_of}
+use Rattle.control_flow_theory.specs.lowering.Reached.{entered, jumped, JumpsTo}
+use Rattle.lowering_labels.specs.points.Fall.{seen_range}
+use Rattle.lowering_labels.specs.points.Layout.{end_from}
+use Rattle.statement_lowering.specs.Along.{told_by}
+use Rattle.statement_lowering.specs.declared.telling.Telling.{Telling}
+use Rattle.statement_lowering.specs.declared.continuations.spot.Spot.{Spot}
+use Rattle.flow_graph.specs.label_trees.Nodes.{IsWhole, node_in}
+use Rattle.pending_returns.specs.levels.Reaching.{Adds, Holds, IsMarked}
+use Rattle.pending_returns.proofs.levels_lemmas.Searching.{before-or-now}
 use Rattle.flow_graph.specs.Reaching.{AddsNodeJumps, AreReachedIn, Begins, IsRangeIn, NodeJumpsBelow, Reaches}
 use Rattle.flow_graph.proofs.LabelRows.{label_below, nodes_within, reached_label}
 

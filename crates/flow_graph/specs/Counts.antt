@@ -2,19 +2,19 @@
 use Rattle.std.specs.Prelude.{ℕ, ◌≡◌, ◌+◌, ◌-◌, ◌^◌, ◌<◌, ◌≤◌, min, Bool, List, Option, Some, None, sum_by}
 use Rattle.cob_tree.specs.declared.program.Program as source
 use Rattle.cob_tree.specs.declared.program.Range as code
-use Rattle.language.specs.Control.{control_of}
-use Rattle.language.specs.Language.{Program, Range}
-use Rattle.control.specs.Graph.{Label}
-use Rattle.control_laws.specs.lowering.Told.{Told}
-use Rattle.control_laws.specs.lowering.WellFormed.{AreJustReached}
+use Rattle.control_flow_theory.specs.language.Control.{control_of}
+use Rattle.control_flow_theory.specs.language.Language.{Program, Range}
+use Rattle.control_flow_theory.specs.semantics.Graph.{Label}
+use Rattle.control_flow_theory.specs.lowering.Told.{Told}
+use Rattle.control_flow_theory.specs.lowering.WellFormed.{AreJustReached}
 use Rattle.branch_tree.specs.Graphs.{seen_graph}
 use Rattle.branch_tree.specs.declared.graph.Graph.{Graph}
-use Rattle.graph_sizes.specs.Sizes.{graph_size, tree_size}
-use Rattle.lower_places.specs.Fall.{seen_range}
-use Rattle.lower_stmts.specs.Along.{told_by}
-use Rattle.lower_stmts.specs.declared.telling.Telling.{Telling}
-use Rattle.range_trees.specs.Nodes.{IsTableOf, node_in}
-use Rattle.rest_table.specs.declared.spot.Spot.{Spot}
+use Rattle.flow_graph.specs.graph_sizes.Sizes.{graph_size, tree_size}
+use Rattle.lowering_labels.specs.points.Fall.{seen_range}
+use Rattle.statement_lowering.specs.Along.{told_by}
+use Rattle.statement_lowering.specs.declared.telling.Telling.{Telling}
+use Rattle.flow_graph.specs.label_trees.Nodes.{IsTableOf, node_in}
+use Rattle.statement_lowering.specs.declared.continuations.spot.Spot.{Spot}
 use Rattle.flow_graph.specs.Lowered.{IsLoweredIn, lowered_graph}
 use Rattle.flow_graph.specs.Reaching.{IsRangeIn}
 

@@ -1,25 +1,25 @@
 -- The graph of a range, as lowering has it.
 use Rattle.std.specs.Prelude.{ℕ, ◌≡◌, Bool, List, [], ◌∷◌, ◌++◌, map, All}
-use Rattle.language.specs.Language as language
-use Rattle.control.specs.Graph as graph
-use Rattle.control_laws.specs.graph_rules.Reduced as reduced
-use Rattle.control_laws.specs.lowering.Told.{Told}
-use Rattle.control_laws.specs.lowering.Lower as lower
-use Rattle.control_laws.specs.lowering.Lowered.{lowered, nodes_of}
-use Rattle.control_laws.specs.lowering.Reached.{kept_nodes}
-use Rattle.control_laws.specs.lowering.WellFormed.{AreJustReached}
+use Rattle.control_flow_theory.specs.language.Language as language
+use Rattle.control_flow_theory.specs.semantics.Graph as graph
+use Rattle.control_flow_theory.specs.graph_rules.Reduced as reduced
+use Rattle.control_flow_theory.specs.lowering.Told.{Told}
+use Rattle.control_flow_theory.specs.lowering.Lower as lower
+use Rattle.control_flow_theory.specs.lowering.Lowered.{lowered, nodes_of}
+use Rattle.control_flow_theory.specs.lowering.Reached.{kept_nodes}
+use Rattle.control_flow_theory.specs.lowering.WellFormed.{AreJustReached}
 use Rattle.branch_tree.specs.Graphs.{seen_graph, seen_nodes}
 use Rattle.branch_tree.specs.declared.graph.Graph.{Graph}
 use Rattle.branch_tree.specs.declared.graph.Node.{Node}
 use Rattle.branch_tree.specs.declared.tree.Tree.{Tree}
 use Rattle.cob_tree.specs.declared.program.Program as source
 use Rattle.cob_tree.specs.declared.program.Range as code
-use Rattle.language.specs.Control.{control_of}
-use Rattle.lower_places.specs.Fall.{seen_range}
-use Rattle.lower_stmts.specs.Along.{told_by}
-use Rattle.lower_stmts.specs.declared.telling.Telling.{Telling}
-use Rattle.rest_table.specs.declared.spot.Spot.{Spot}
-use Rattle.range_trees.specs.Nodes.{IsNodeIn, IsTableOf, node_in}
+use Rattle.control_flow_theory.specs.language.Control.{control_of}
+use Rattle.lowering_labels.specs.points.Fall.{seen_range}
+use Rattle.statement_lowering.specs.Along.{told_by}
+use Rattle.statement_lowering.specs.declared.telling.Telling.{Telling}
+use Rattle.statement_lowering.specs.declared.continuations.spot.Spot.{Spot}
+use Rattle.flow_graph.specs.label_trees.Nodes.{IsNodeIn, IsTableOf, node_in}
 use Rattle.flow_graph.specs.Reaching.{IsRangeIn}
 
 -- a node of lowering as one that the rules reduce

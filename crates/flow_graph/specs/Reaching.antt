@@ -2,17 +2,17 @@
 use Rattle.std.specs.Prelude.{ℕ, ◌≡◌, List}
 use Rattle.cob_tree.specs.declared.program.Program.{Program}
 use Rattle.cob_tree.specs.declared.program.Range as code
-use Rattle.language.specs.Control.{control_of}
-use Rattle.control.specs.Graph as graph
-use Rattle.control_laws.specs.lowering.Lowered.{lowered}
-use Rattle.control_laws.specs.lowering.Reached.{IsReached}
-use Rattle.control_laws.specs.lowering.WellFormed.{IsRangeOf}
-use Rattle.lower_places.specs.Fall.{seen_range}
-use Rattle.lower_stmts.specs.Along.{told_by}
-use Rattle.lower_stmts.specs.declared.telling.Telling.{Telling}
-use Rattle.rest_table.specs.declared.spot.Spot.{Spot}
-use Rattle.flow_levels.specs.Reaching.{Holds}
-use Rattle.range_trees.specs.Nodes.{IsTableOf, node_in}
+use Rattle.control_flow_theory.specs.language.Control.{control_of}
+use Rattle.control_flow_theory.specs.semantics.Graph as graph
+use Rattle.control_flow_theory.specs.lowering.Lowered.{lowered}
+use Rattle.control_flow_theory.specs.lowering.Reached.{IsReached}
+use Rattle.control_flow_theory.specs.lowering.WellFormed.{IsRangeOf}
+use Rattle.lowering_labels.specs.points.Fall.{seen_range}
+use Rattle.statement_lowering.specs.Along.{told_by}
+use Rattle.statement_lowering.specs.declared.telling.Telling.{Telling}
+use Rattle.statement_lowering.specs.declared.continuations.spot.Spot.{Spot}
+use Rattle.pending_returns.specs.levels.Reaching.{Holds}
+use Rattle.flow_graph.specs.label_trees.Nodes.{IsTableOf, node_in}
 use Rattle.flow_graph.specs.Jumps.{AddsJumps, JumpBelow}
 
 -- a program of which it is the table, and of which this is a range

@@ -2,10 +2,10 @@
 
 ghost use Rattle.std.specs.Prelude.{◌≡◌, ◌*◌, ◌<◌, ◌-◌, ◌^◌, length, IfOk};
 ghost use Rattle.cob_tree.specs.declared.program.Program.{Program};
-ghost use Rattle.control_laws.specs.lowering.flow.Comes.{entry_of};
-ghost use Rattle.lower_places.specs.Fall.{seen_range};
-ghost use Rattle.flow_levels.specs.Reaching.{IsMarked};
-ghost use Rattle.range_trees.specs.Nodes.{IsWhole};
+ghost use Rattle.control_flow_theory.specs.lowering.flow.Comes.{entry_of};
+ghost use Rattle.lowering_labels.specs.points.Fall.{seen_range};
+ghost use Rattle.pending_returns.specs.levels.Reaching.{IsMarked};
+ghost use Rattle.flow_graph.specs.label_trees.Nodes.{IsWhole};
 ghost use Rattle.flow_graph.specs.Counts.{IsLoweredWithin};
 ghost use Rattle.flow_graph.specs.Reaching.{IsRangeIn};
 
@@ -13,10 +13,10 @@ use crate::reaching::reach_from;
 use branch_tree::{Graph, Node};
 use cob_base::NoMemory;
 use cob_tree::Range;
-use flow_levels::Reach;
-use lower_places::point;
-use lower_stmts::Telling;
-use rest_table::Spot;
+use lowering_labels::points::point;
+use pending_returns::levels::Reach;
+use statement_lowering::Telling;
+use statement_lowering::continuations::Spot;
 use std::alloc::Global;
 
 /// The paragraph that a range begins with.

@@ -2,24 +2,24 @@
 
 ghost use Rattle.std.specs.Prelude.{[], ◌≡◌, ◌≤◌, ◌<◌, ◌*◌, ◌^◌, true, false, length, IfOk, OnOk};
 ghost use Rattle.cob_tree.specs.declared.program.Program.{Program};
-ghost use Rattle.control.specs.Graph.{end_of};
+ghost use Rattle.control_flow_theory.specs.semantics.Graph.{end_of};
 ghost use Rattle.branch_tree.specs.Trees.{seen_tree, seen_trees};
-ghost use Rattle.flow_levels.specs.Reaching.{IsMarked};
+ghost use Rattle.pending_returns.specs.levels.Reaching.{IsMarked};
 ghost use Rattle.flow_graph.specs.Counts.{CountsWithin, IsLargerIn, IsSizeAt};
 ghost use Rattle.flow_graph.specs.Jumps.{AddsArmJumps, AddsJumps, ArmsJumpBelow, JumpBelow};
 ghost use Rattle.flow_graph.specs.Lowered.{AddsNode, AreMade};
-ghost use Rattle.range_trees.specs.Nodes.{IsWhole};
+ghost use Rattle.flow_graph.specs.label_trees.Nodes.{IsWhole};
 ghost use Rattle.flow_graph.specs.Reaching.{AddsNodeJumps, AreReachedIn, Begins, IsRangeIn, NodeJumpsBelow};
 
 use crate::adding::push_node;
+use crate::graph_sizes::tree_size;
+use crate::label_trees::label_tree;
 use branch_tree::{End, Node, Tree};
 use cob_base::NoMemory;
 use cob_tree::Range;
-use flow_levels::Reach;
-use graph_sizes::tree_size;
-use lower_stmts::Telling;
-use range_trees::label_tree;
-use rest_table::Spot;
+use pending_returns::levels::Reach;
+use statement_lowering::Telling;
+use statement_lowering::continuations::Spot;
 use std::alloc::Global;
 
 /// Adds the labels to which a tree jumps.

@@ -1,14 +1,14 @@
 -- Loops, form by form.
 use Rattle.std.proofs.Common.{◌≡◌, ◌≢◌, ◌≤◌, ◌<◌, ℕ, length, get_or, arith, Bool, true, false, if◌then◌else◌, ◌==◌, ◌&&◌, List, [], ◌∷◌, Option, Some, None, is_some, refl, ap, sym, ◌∙◌, ◌⊎◌, inl, inr, slice_get}
 use Rattle.std.proofs.lemmas.Bool.Decides.{eqb_tells}
-use Rattle.language.specs.Language.{Set, Test, If, Do, Choose, StopRun, Stmts, none, also, Arms, done, given}
-use Rattle.control.specs.Graph.{Label, Tree, tree, End, Pick, Jump, Return, Stop, Dead, Trees, no_more, more, body_of, end_of}
-use Rattle.control_laws.specs.graph_rules.Loops.{Flagged, Endless}
-use Rattle.control_laws.specs.graph_rules.Shapes.{followed, alone, Live, ToLabel, end_at, Targets, NoTarget, Only, Several, flat, flat_end, flat_arms}
-use Rattle.control_laws.specs.graph_rules.Reduced.{Form, pretest, posttest, form_two, is_bare, stays}
-use Rattle.control_laws.specs.closing.Closes.{none_left_out}
-use Rattle.control_laws.specs.closing.Dispatches.{stated_tree, stated_end, stated_arms, flag_jump, set_to}
-use Rattle.language.specs.Language as language
+use Rattle.control_flow_theory.specs.language.Language.{Set, Test, If, Do, Choose, StopRun, Stmts, none, also, Arms, done, given}
+use Rattle.control_flow_theory.specs.semantics.Graph.{Label, Tree, tree, End, Pick, Jump, Return, Stop, Dead, Trees, no_more, more, body_of, end_of}
+use Rattle.control_flow_theory.specs.graph_rules.Loops.{Flagged, Endless}
+use Rattle.control_flow_theory.specs.graph_rules.Shapes.{followed, alone, Live, ToLabel, end_at, Targets, NoTarget, Only, Several, flat, flat_end, flat_arms}
+use Rattle.control_flow_theory.specs.graph_rules.Reduced.{Form, pretest, posttest, form_two, is_bare, stays}
+use Rattle.control_flow_theory.specs.closing.Closes.{none_left_out}
+use Rattle.control_flow_theory.specs.closing.Dispatches.{stated_tree, stated_end, stated_arms, flag_jump, set_to}
+use Rattle.control_flow_theory.specs.language.Language as language
 use Rattle.loop_rules.specs.declared.forms.Form as shape
 use Rattle.loop_rules.specs.declared.forms.Form.TheVariants as form
 use Rattle.branch_tree.specs.declared.tree.Leaves.TheVariants as leaves

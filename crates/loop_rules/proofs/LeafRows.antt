@@ -1,8 +1,8 @@
 -- A tree as a loop has no more leaves that jump to a label.
 use Rattle.std.proofs.Common.{◌≡◌, ℕ, ◌≤◌, Option, Some, None, Result, Ok, Err, refl, ap, arith}
-use Rattle.control.specs.Graph.{Label, Tree}
-use Rattle.control_laws.specs.graph_rules.Shapes.{Targets, NoTarget, Only, Several, Live, leaves_to, other_targets}
-use Rattle.control_laws.specs.graph_rules.Reduced.{Form}
+use Rattle.control_flow_theory.specs.semantics.Graph.{Label, Tree}
+use Rattle.control_flow_theory.specs.graph_rules.Shapes.{Targets, NoTarget, Only, Several, Live, leaves_to, other_targets}
+use Rattle.control_flow_theory.specs.graph_rules.Reduced.{Form}
 use Rattle.tree_rules.proofs.LeafRows.{weight, other_weight}
 use Rattle.cob_base.specs.declared.memory.NoMemory.{NoMemory}
 use Rattle.branch_tree.specs.declared.graph.Added as code

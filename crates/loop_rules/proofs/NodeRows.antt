@@ -1,10 +1,10 @@
 -- A node of a graph as a loop.
 use Rattle.std.proofs.Common.{◌≡◌, ℕ, Bool, true, false, if◌then◌else◌, List, [], ◌∷◌, ◌++◌, Option, Some, None, map, length, refl, ap, sym, ◌∙◌, arith}
-use Rattle.control.specs.Doing.{is_above}
-use Rattle.control.specs.Graph.{Label, Tree}
-use Rattle.control_laws.specs.graph_rules.Families.{Added}
-use Rattle.control_laws.specs.graph_rules.Shapes.{Live, Targets, NoTarget, Only, Several, leaves_to, other_targets}
-use Rattle.control_laws.specs.graph_rules.Reduced.{Graph, Form, has_node, tree_in, count, form_of, looped_graph, close_form, close_by, close_graph, at_most_one, loops}
+use Rattle.control_flow_theory.specs.semantics.Doing.{is_above}
+use Rattle.control_flow_theory.specs.semantics.Graph.{Label, Tree}
+use Rattle.control_flow_theory.specs.graph_rules.Families.{Added}
+use Rattle.control_flow_theory.specs.graph_rules.Shapes.{Live, Targets, NoTarget, Only, Several, leaves_to, other_targets}
+use Rattle.control_flow_theory.specs.graph_rules.Reduced.{Graph, Form, has_node, tree_in, count, form_of, looped_graph, close_form, close_by, close_graph, at_most_one, loops}
 use Rattle.branch_tree.specs.declared.graph.Added as code_added
 use Rattle.branch_tree.specs.Graphs.{seen_added}
 use Rattle.loop_rules.specs.Closed.{closed_form, closed_by, closed, may_loop}

@@ -1,9 +1,9 @@
 -- A node's tree comes out, and another one that isn't larger is put for it.
 use Rattle.std.proofs.Common.{◌≡◌, ◌≤◌, ◌++◌, List, map, true, ap, sym, ◌∙◌, subst}
 use Rattle.std.proofs.lemmas.List.{map-append}
-use Rattle.control.specs.Graph.{Label, Tree}
-use Rattle.control_laws.specs.graph_rules.Shapes.{leaves_to}
-use Rattle.control_laws.specs.graph_rules.Reduced.{has_node, tree_in, with_tree, looped_graph}
+use Rattle.control_flow_theory.specs.semantics.Graph.{Label, Tree}
+use Rattle.control_flow_theory.specs.graph_rules.Shapes.{leaves_to}
+use Rattle.control_flow_theory.specs.graph_rules.Reduced.{has_node, tree_in, with_tree, looped_graph}
 use Rattle.branch_tree.specs.declared.graph.Added.{Added}
 use Rattle.branch_tree.specs.Graphs.{seen_nodes, seen_added}
 use Rattle.branch_tree.specs.Helds.{Held, seen_work}

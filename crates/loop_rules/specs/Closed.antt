@@ -1,13 +1,13 @@
 -- A node's tree as a loop, with the added items that it brings.
 use Rattle.std.specs.Prelude.{ℕ, ◌≡◌, Bool, true, false, if◌then◌else◌, List, [], ◌∷◌, Option, Some, None, Result, Ok, Err}
 use Rattle.cob_base.specs.declared.memory.NoMemory.{NoMemory}
-use Rattle.control.specs.Doing.{is_above}
-use Rattle.control.specs.Graph.{Label, Tree, tree, Dead}
-use Rattle.control_laws.specs.graph_rules.Families.{Added, Never, Flag}
-use Rattle.control_laws.specs.graph_rules.Loops.{Flagged, Endless, loop_of}
-use Rattle.control_laws.specs.graph_rules.Shapes.{Targets, NoTarget, Only, Several, leaves_to, other_targets, flat}
-use Rattle.control_laws.specs.graph_rules.Reduced.{Graph, has_node, at_most_one, loops, close_graph}
-use Rattle.control_laws.specs.graph_rules.Reduced as reduced
+use Rattle.control_flow_theory.specs.semantics.Doing.{is_above}
+use Rattle.control_flow_theory.specs.semantics.Graph.{Label, Tree, tree, Dead}
+use Rattle.control_flow_theory.specs.graph_rules.Families.{Added, Never, Flag}
+use Rattle.control_flow_theory.specs.graph_rules.Loops.{Flagged, Endless, loop_of}
+use Rattle.control_flow_theory.specs.graph_rules.Shapes.{Targets, NoTarget, Only, Several, leaves_to, other_targets, flat}
+use Rattle.control_flow_theory.specs.graph_rules.Reduced.{Graph, has_node, at_most_one, loops, close_graph}
+use Rattle.control_flow_theory.specs.graph_rules.Reduced as reduced
 use Rattle.branch_tree.specs.Graphs.{seen_added}
 use Rattle.branch_tree.specs.declared.graph.Added as code
 use Rattle.loop_rules.specs.Forms.{formed_if, form_for, end_by}

@@ -1,11 +1,11 @@
 -- How a loop is tested.
 use Rattle.std.specs.Prelude.{Bool, true, false, if◌then◌else◌, ◌&&◌, Option, Some, None, is_some}
-use Rattle.language.specs.Language.{Until, Loop, Nested, Stmt, Stmts, none, also}
-use Rattle.control.specs.Graph.{Label, Tree, tree, End, Trees, no_more, more, Dead, body_of, end_of}
-use Rattle.control_laws.specs.graph_rules.Loops.{turned_test}
-use Rattle.control_laws.specs.graph_rules.Shapes.{alone, followed, Live, ToLabel, end_at, Targets, NoTarget, Only, Several}
-use Rattle.control_laws.specs.graph_rules.Reduced.{form_of, is_leaf, stays}
-use Rattle.control_laws.specs.graph_rules.Reduced as reduced
+use Rattle.control_flow_theory.specs.language.Language.{Until, Loop, Nested, Stmt, Stmts, none, also}
+use Rattle.control_flow_theory.specs.semantics.Graph.{Label, Tree, tree, End, Trees, no_more, more, Dead, body_of, end_of}
+use Rattle.control_flow_theory.specs.graph_rules.Loops.{turned_test}
+use Rattle.control_flow_theory.specs.graph_rules.Shapes.{alone, followed, Live, ToLabel, end_at, Targets, NoTarget, Only, Several}
+use Rattle.control_flow_theory.specs.graph_rules.Reduced.{form_of, is_leaf, stays}
+use Rattle.control_flow_theory.specs.graph_rules.Reduced as reduced
 use Rattle.branch_tree.specs.Choosers.{seen_test}
 use Rattle.branch_tree.specs.Trees.{stated}
 use Rattle.loop_rules.specs.declared.forms.Turning.{Turning}

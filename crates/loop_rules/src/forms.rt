@@ -3,13 +3,13 @@
 ghost use Rattle.std.specs.Prelude.{◌≡◌, ◌<◌, true, false, ◌&&◌, is_some, Some, length, slice_get, OnOk, OnErr};
 ghost use Rattle.std.specs.Vec.{vec_len, vec_capacity};
 ghost use Rattle.std.specs.VecDeque.{deque_len, deque_capacity};
-ghost use Rattle.control.specs.Graph as graph;
-ghost use Rattle.language.specs.Language.{Until, Loop, Nested};
-ghost use Rattle.control_laws.specs.graph_rules.Reduced.{stays};
+ghost use Rattle.control_flow_theory.specs.semantics.Graph as graph;
+ghost use Rattle.control_flow_theory.specs.language.Language.{Until, Loop, Nested};
+ghost use Rattle.control_flow_theory.specs.graph_rules.Reduced.{stays};
 ghost use Rattle.tree_rules.specs.Targets.{seen_targets};
 ghost use Rattle.loop_rules.specs.Forms.{loop_by, looped_by, end_by, is_nothing, bare_by, leaf_by, way, two_ways, ways, form_at, form_for, formed_if};
 ghost use Rattle.loop_rules.specs.declared.forms.Form.TheVariants as FormIs;
-ghost use Rattle.control_laws.specs.graph_rules.Shapes.{followed, alone};
+ghost use Rattle.control_flow_theory.specs.graph_rules.Shapes.{followed, alone};
 ghost use Rattle.branch_tree.specs.Choosers.{seen_test};
 ghost use Rattle.branch_tree.specs.Trees.{seen_tree, seen_trees, seen_body, seen_end, stated};
 

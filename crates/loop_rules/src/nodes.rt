@@ -2,10 +2,10 @@
 
 ghost use Rattle.std.specs.Prelude.{◌≡◌, ◌<◌, ◌^◌, true, OnOk, OnErr};
 ghost use Rattle.std.specs.Vec.{vec_len};
-ghost use Rattle.control.specs.Graph as graph;
-ghost use Rattle.control_laws.specs.graph_rules.Loops.{Flagged, Endless, loop_of};
-ghost use Rattle.control_laws.specs.graph_rules.Reduced.{close_graph, at_most_one};
-ghost use Rattle.control_laws.specs.graph_rules.Shapes.{flat};
+ghost use Rattle.control_flow_theory.specs.semantics.Graph as graph;
+ghost use Rattle.control_flow_theory.specs.graph_rules.Loops.{Flagged, Endless, loop_of};
+ghost use Rattle.control_flow_theory.specs.graph_rules.Reduced.{close_graph, at_most_one};
+ghost use Rattle.control_flow_theory.specs.graph_rules.Shapes.{flat};
 ghost use Rattle.branch_tree.specs.Helds.{seen_work};
 ghost use Rattle.branch_tree.specs.Trees.{seen_tree};
 ghost use Rattle.tree_rules.specs.Targets.{seen_targets};

@@ -1,5 +1,2 @@
-pub mod Growth
-pub mod Units
-pub mod Tying
-pub mod Running
-pub mod Stepping
+-- What a source program means, what a structured one means, and when the two are the same.
+pub mod plain_lemmas

@@ -1,9 +1,4 @@
-pub mod Language
-pub mod World
-pub mod Source
-pub mod Structural
-pub mod Seen
-pub mod Stepped
-pub mod Same
-pub mod Laws
-pub mod Example
+-- What a source program means, what a structured one means, and when the two are the same.
+pub mod plain
+-- What simple statements do: the definitions, without code.
+pub mod statements

@@ -2,12 +2,12 @@
 
 ghost use Rattle.std.specs.Prelude.{◌+◌, ◌<◌, ◌^◌, length, IfOk};
 ghost use Rattle.cob_base.specs.Answers.{Makes};
-ghost use Rattle.numbered_words.specs.Stem.{IsStem};
+ghost use Rattle.cob_words.specs.numbered.Stem.{IsStem};
 ghost use Rattle.out_names.specs.FreshWords.{is_taken, fresh_number, fresh_word, IsFresh};
 
 use cob_base::{NoMemory, Word};
 use cob_words::WordTable;
-use numbered_words::numbered;
+use cob_words::numbered::numbered;
 use std::alloc::Global;
 
 /// A word that isn't in a table, and the number that ends it.

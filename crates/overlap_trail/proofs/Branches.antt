@@ -10,20 +10,20 @@ use Rattle.cob_tree.specs.declared.file.FileEntry.{FileEntry}
 use Rattle.cob_tree.specs.declared.place.Place as places
 use Rattle.cob_tree.specs.declared.stmt.Stmt as tree
 use Rattle.cob_tree.specs.declared.stmt.When.{When, out-When}
-use Rattle.language.specs.Language.{Picker, By, If, Read, Arith, Choose, Arms, done, given, Stmts, none, also, Stmt}
-use Rattle.language.specs.Language as language
-use Rattle.language.specs.Items.{Item, Do, before}
-use Rattle.language.specs.Control.{test_of, arith_of, arith_stmt, both_arms, arm_before, else_of, Branch, branches_before, tests_of, evaluate_of, seen, seen_when, seen_stmts}
-use Rattle.language.proofs.Rows.{seen_if_any, seen_when_is}
-use Rattle.flow_paths.specs.declared.trail.Move.{Move}
-use Rattle.flow_paths.specs.Step.{Point, at, way_at, only, first_is_barred}
-use Rattle.flow_paths.specs.Accepted.{walk, walk_to, arm_at, by_arm, by_choice}
-use Rattle.flow_numbers.specs.Kinds.{is_silent}
-use Rattle.flow_numbers.specs.Building.{branches_of, branch_points, seen_maybe, seen_branches}
+use Rattle.control_flow_theory.specs.language.Language.{Picker, By, If, Read, Arith, Choose, Arms, done, given, Stmts, none, also, Stmt}
+use Rattle.control_flow_theory.specs.language.Language as language
+use Rattle.control_flow_theory.specs.language.Items.{Item, Do, before}
+use Rattle.control_flow_theory.specs.language.Control.{test_of, arith_of, arith_stmt, both_arms, arm_before, else_of, Branch, branches_before, tests_of, evaluate_of, seen, seen_when, seen_stmts}
+use Rattle.control_flow_theory.proofs.language_lemmas.Rows.{seen_if_any, seen_when_is}
+use Rattle.program_points.specs.declared.paths.trail.Move.{Move}
+use Rattle.program_points.specs.paths.Step.{Point, at, way_at, only, first_is_barred}
+use Rattle.program_points.specs.paths.Accepted.{walk, walk_to, arm_at, by_arm, by_choice}
+use Rattle.program_points.specs.numbering.Kinds.{is_silent}
+use Rattle.program_points.specs.numbering.Building.{branches_of, branch_points, seen_maybe, seen_branches}
 use Rattle.overlap_trail.specs.declared.follow.Way.{Way}
 use Rattle.overlap_trail.specs.declared.follow.Way.TheVariants.{Through, Lost}
 use Rattle.overlap_trail.specs.Following.{Known, known_of, rests, ComesTo, Follows, FollowsBranches, FollowsArm, FollowsBoth, IsArmFirst, AreSeveral, Picks, PicksNone, first_arm}
-use Rattle.flow_paths.specs.declared.trail.Lemma.{Lemma}
+use Rattle.program_points.specs.declared.paths.trail.Lemma.{Lemma}
 use Rattle.overlap_trail.proofs.Steps.{no-first-arm, behind, one-step, choice-step, choice-stuck, first-step, second-step, neither-stuck}
 use Rattle.overlap_trail.proofs.Rows.{never, IsCounted, choose-next, if-branches, evaluate-branches, evaluate-counted, evaluate-barred, both, both_branches, both-branches, barred-arith}
 

@@ -8,14 +8,14 @@ use Rattle.cob_tree.specs.declared.program.Range.{Range}
 use Rattle.cob_tree.specs.declared.program.Paragraph as tree_paragraph
 use Rattle.cob_tree.specs.declared.program.Program as tree
 use Rattle.cob_tree.specs.declared.program.Sentence as tree_sentence
-use Rattle.language.specs.Language.{Paragraph, unless_absent}
-use Rattle.language.specs.Items.{items_of}
-use Rattle.language.specs.Control.{control_of, seen_paragraphs, seen_sentence, section_last}
-use Rattle.flow_paths.specs.declared.trail.Move.{Move}
-use Rattle.flow_paths.specs.Step.{at, start, Ends, is_present, is_paragraph}
-use Rattle.flow_paths.specs.Flow.{is_exit}
-use Rattle.flow_paths.specs.Accepted.{Walk, walk, past_end, Leads, here, further, Aim, Meets}
-use Rattle.flow_table.proofs.Sections.{seen-length, paragraph-at}
+use Rattle.control_flow_theory.specs.language.Language.{Paragraph, unless_absent}
+use Rattle.control_flow_theory.specs.language.Items.{items_of}
+use Rattle.control_flow_theory.specs.language.Control.{control_of, seen_paragraphs, seen_sentence, section_last}
+use Rattle.program_points.specs.declared.paths.trail.Move.{Move}
+use Rattle.program_points.specs.paths.Step.{at, start, Ends, is_present, is_paragraph}
+use Rattle.program_points.specs.paths.Flow.{is_exit}
+use Rattle.program_points.specs.paths.Accepted.{Walk, walk, past_end, Leads, here, further, Aim, Meets}
+use Rattle.program_points.proofs.table_building_lemmas.Sections.{seen-length, paragraph-at}
 use Rattle.overlap_trail.specs.declared.leg.Leg.{Leg}
 use Rattle.overlap_trail.specs.declared.leg.Leg.TheVariants.{There, Nowhere, On}
 use Rattle.overlap_trail.specs.Following.{Known, Sought, sought_of, MeetsAt, onward_at, Quietly, rests, on_to, Goes, IsStuck}

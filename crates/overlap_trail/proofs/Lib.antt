@@ -18,3 +18,5 @@ mod Meeting
 mod Legs
 -- lemmas and hops, one after the other
 mod Trails
+-- A trail for a program that is faulty.
+pub mod finding_lemmas

@@ -1,11 +1,11 @@
 -- What a trail is to come to, and when it is there.
 use Rattle.std.proofs.Common.{◌≡◌, ◌+◌, ◌<◌, ◌≤◌, ℕ, zero, suc, true, false, ◌||◌, ◌==◌, if◌then◌else◌, IsTrue, ◌↔◌, List, [], ◌∷◌, drop, length, refl, ap, ◌∙◌, arith, length-drop, eqb-true, eq-eqb, nat_eq}
 use Rattle.cob_tree.specs.declared.program.Range.{Range}
-use Rattle.flow_paths.specs.declared.trail.Move.{Move}
-use Rattle.flow_paths.specs.declared.trail.Move.TheVariants.{Into}
-use Rattle.flow_paths.specs.Step.{Ends}
-use Rattle.flow_paths.specs.Flow.{is_among}
-use Rattle.flow_paths.specs.Accepted.{Aim, Return, Enter, Fault, Meets}
+use Rattle.program_points.specs.declared.paths.trail.Move.{Move}
+use Rattle.program_points.specs.declared.paths.trail.Move.TheVariants.{Into}
+use Rattle.program_points.specs.paths.Step.{Ends}
+use Rattle.program_points.specs.paths.Flow.{is_among}
+use Rattle.program_points.specs.paths.Accepted.{Aim, Return, Enter, Fault, Meets}
 use Rattle.overlap_trail.specs.Checking.{top_is, below_is}
 
 pub end-moves : (aim : Aim) (range : Range) (paragraph : ℕ) (moves : List Move) → Meets aim range (Ends paragraph) moves → moves ≡ []

@@ -1,11 +1,11 @@
 -- GO TO DEPENDING.
 use Rattle.std.proofs.Common.{◌≡◌, ◌+◌, ◌<◌, ◌≤◌, ◌==◌, ℕ, zero, suc, Bool, true, false, if◌then◌else◌, List, [], ◌∷◌, ◌++◌, map, drop, length, Option, Some, None, slice_get, refl, ap, sym, ◌∙◌, arith, eqb-true}
-use Rattle.language.specs.Language.{Chooser, GoDepending, Program, also, none}
-use Rattle.language.specs.Items.{Item, Do}
-use Rattle.control.specs.Items.{way_after, to_one}
-use Rattle.flow_paths.specs.declared.trail.Move.{Move}
-use Rattle.flow_paths.specs.Step.{Point, at, start, by_way, led, Ways, ways_from, ways_of, next, way_at, no_way, only}
-use Rattle.flow_paths.specs.Accepted.{walk, walk_to, arm_at, by_arm, by_choice}
+use Rattle.control_flow_theory.specs.language.Language.{Chooser, GoDepending, Program, also, none}
+use Rattle.control_flow_theory.specs.language.Items.{Item, Do}
+use Rattle.control_flow_theory.specs.semantics.Items.{way_after, to_one}
+use Rattle.program_points.specs.declared.paths.trail.Move.{Move}
+use Rattle.program_points.specs.paths.Step.{Point, at, start, by_way, led, Ways, ways_from, ways_of, next, way_at, no_way, only}
+use Rattle.program_points.specs.paths.Accepted.{walk, walk_to, arm_at, by_arm, by_choice}
 use Rattle.overlap_trail.specs.declared.follow.Way.TheVariants.{Through, To, Lost}
 use Rattle.overlap_trail.specs.Following.{Known, Sought, next_at, Follows, IsArmFirst, first_arm}
 use Rattle.overlap_trail.proofs.Steps.{no-first-arm, one-step, choice-goes, choice-step, choice-stuck}

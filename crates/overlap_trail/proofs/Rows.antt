@@ -7,16 +7,16 @@ use Rattle.cob_tree.specs.declared.choice.Test.{Test}
 use Rattle.cob_tree.specs.declared.file.FileEntry.{FileEntry}
 use Rattle.cob_tree.specs.declared.stmt.Stmt as tree
 use Rattle.cob_tree.specs.declared.stmt.When.{When}
-use Rattle.language.specs.Language.{Picker, By, If, Holds, Chooser, Evaluate, Arith, Choose, Arms, done, given, missing, Stmts, none, also, Stmt, Program, Control, Times, Until, Varying, Body, Nested, Performed, Loop, Perform}
-use Rattle.language.specs.Items.{Item, Do, Turn, Steps, before, before_body, before_arm}
-use Rattle.language.specs.Control.{always, Both, both_arms, arm_before, else_of, Branch, branches_before, picker_by, evaluate_of, cell_chosen, count_from, stmts_of, perform_of, loop_of, seen_when}
-use Rattle.language.proofs.Rows.{seen_if_any}
-use Rattle.control_laws.specs.lowering.Told.{arm_count}
-use Rattle.flow_paths.specs.Step.{Point, at, Ways, some_given, first_is_barred, without_first, ways_from, next}
-use Rattle.flow_numbers.specs.declared.kind.Kind.{Kind}
-use Rattle.flow_numbers.specs.declared.kind.Kind.TheVariants.{Before, Again, After}
-use Rattle.flow_numbers.specs.Kinds.{kind_in, remainder, never_first_of}
-use Rattle.flow_numbers.specs.Building.{branches_of, branch_points, seen_maybe, seen_branches}
+use Rattle.control_flow_theory.specs.language.Language.{Picker, By, If, Holds, Chooser, Evaluate, Arith, Choose, Arms, done, given, missing, Stmts, none, also, Stmt, Program, Control, Times, Until, Varying, Body, Nested, Performed, Loop, Perform}
+use Rattle.control_flow_theory.specs.language.Items.{Item, Do, Turn, Steps, before, before_body, before_arm}
+use Rattle.control_flow_theory.specs.language.Control.{always, Both, both_arms, arm_before, else_of, Branch, branches_before, picker_by, evaluate_of, cell_chosen, count_from, stmts_of, perform_of, loop_of, seen_when}
+use Rattle.control_flow_theory.proofs.language_lemmas.Rows.{seen_if_any}
+use Rattle.control_flow_theory.specs.lowering.Told.{arm_count}
+use Rattle.program_points.specs.paths.Step.{Point, at, Ways, some_given, first_is_barred, without_first, ways_from, next}
+use Rattle.program_points.specs.declared.numbering.kind.Kind.{Kind}
+use Rattle.program_points.specs.declared.numbering.kind.Kind.TheVariants.{Before, Again, After}
+use Rattle.program_points.specs.numbering.Kinds.{kind_in, remainder, never_first_of}
+use Rattle.program_points.specs.numbering.Building.{branches_of, branch_points, seen_maybe, seen_branches}
 
 -- Loops.
 

@@ -1,13 +1,13 @@
 -- Sentences, one after the other.
 use Rattle.std.proofs.Common.{◌≡◌, ◌+◌, ◌<◌, ◌≤◌, ℕ, zero, suc, Bool, true, false, List, [], ◌∷◌, map, drop, length, get_or, refl, ap, sym, ◌∙◌, subst, arith, add-one}
 use Rattle.cob_tree.specs.declared.program.Sentence as tree
-use Rattle.language.specs.Language.{Stmts, Paragraph}
-use Rattle.language.specs.Items.{SentenceEnd, before, items_of, from_loop}
-use Rattle.language.specs.Control.{seen_stmts, seen_sentence}
-use Rattle.flow_paths.specs.declared.trail.Move.{Move}
-use Rattle.flow_paths.specs.Step.{at}
-use Rattle.flow_paths.specs.Accepted.{walk}
-use Rattle.flow_numbers.proofs.Growing.{loop-before}
+use Rattle.control_flow_theory.specs.language.Language.{Stmts, Paragraph}
+use Rattle.control_flow_theory.specs.language.Items.{SentenceEnd, before, items_of, from_loop}
+use Rattle.control_flow_theory.specs.language.Control.{seen_stmts, seen_sentence}
+use Rattle.program_points.specs.declared.paths.trail.Move.{Move}
+use Rattle.program_points.specs.paths.Step.{at}
+use Rattle.program_points.specs.paths.Accepted.{walk}
+use Rattle.program_points.proofs.numbering_lemmas.Growing.{loop-before}
 use Rattle.overlap_trail.specs.declared.follow.Way.TheVariants as way
 use Rattle.overlap_trail.specs.declared.leg.Out.TheVariants.{ToEnd, ToSectionEnd, ToStart, Met, Lost}
 use Rattle.overlap_trail.specs.Following.{Known, Sought, Quietly, rests, Follows}

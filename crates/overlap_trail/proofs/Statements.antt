@@ -1,14 +1,14 @@
 -- Statements, one after the other.
 use Rattle.std.proofs.Common.{◌≡◌, ◌+◌, ◌<◌, ◌≤◌, ℕ, zero, suc, true, false, List, [], ◌∷◌, drop, length, get_or, refl, ap, sym, ◌∙◌, subst, arith, add-one}
 use Rattle.cob_tree.specs.declared.stmt.Stmt as tree
-use Rattle.language.specs.Language.{Act, Go, NextSentence, StopRun, ExitParagraph, ExitSection, ExitPerform, Stmts, none, also, Stmt}
-use Rattle.language.specs.Language as language
-use Rattle.language.specs.Items.{Item, Do, before, past_sentence, from_loop}
-use Rattle.language.specs.Control.{seen, seen_stmts}
-use Rattle.flow_paths.specs.declared.trail.Move.{Move}
-use Rattle.flow_paths.specs.Step.{at, start}
-use Rattle.flow_paths.specs.Accepted.{Walk, walk}
-use Rattle.flow_numbers.proofs.Growing.{past-before, loop-before}
+use Rattle.control_flow_theory.specs.language.Language.{Act, Go, NextSentence, StopRun, ExitParagraph, ExitSection, ExitPerform, Stmts, none, also, Stmt}
+use Rattle.control_flow_theory.specs.language.Language as language
+use Rattle.control_flow_theory.specs.language.Items.{Item, Do, before, past_sentence, from_loop}
+use Rattle.control_flow_theory.specs.language.Control.{seen, seen_stmts}
+use Rattle.program_points.specs.declared.paths.trail.Move.{Move}
+use Rattle.program_points.specs.paths.Step.{at, start}
+use Rattle.program_points.specs.paths.Accepted.{Walk, walk}
+use Rattle.program_points.proofs.numbering_lemmas.Growing.{past-before, loop-before}
 use Rattle.overlap_trail.specs.declared.follow.Way.{Way}
 use Rattle.overlap_trail.specs.declared.follow.Way.TheVariants.{Through, To, Left, Ended, SectionEnded, Broken, Cycled, Met, Lost}
 use Rattle.overlap_trail.specs.Following.{Known, Sought, Quietly, rests, ComesTo, Follows}

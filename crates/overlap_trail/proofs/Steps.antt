@@ -1,11 +1,11 @@
 -- Single steps of a trail, and what they come to.
 use Rattle.std.proofs.Common.{◌≡◌, ◌+◌, ◌≤◌, ℕ, zero, suc, true, false, List, [], ◌∷◌, drop, Option, Some, None, refl, ap, sym, ◌∙◌, subst, arith}
 use Rattle.cob_tree.specs.declared.program.Range.{Range}
-use Rattle.flow_paths.specs.declared.trail.Move.{Move}
-use Rattle.flow_paths.specs.declared.trail.Move.TheVariants.{Arm, Over, Into}
-use Rattle.language.specs.Items.{Item, past_sentence, from_loop}
-use Rattle.flow_paths.specs.Step.{Point, at, start, Ways, Calls, Stops, only}
-use Rattle.flow_paths.specs.Accepted.{Walk, walk, walk_to, arm_at, by_arm, by_choice, over_call, onward_by, Aim, Return, Enter, Fault, Meets}
+use Rattle.program_points.specs.declared.paths.trail.Move.{Move}
+use Rattle.program_points.specs.declared.paths.trail.Move.TheVariants.{Arm, Over, Into}
+use Rattle.control_flow_theory.specs.language.Items.{Item, past_sentence, from_loop}
+use Rattle.program_points.specs.paths.Step.{Point, at, start, Ways, Calls, Stops, only}
+use Rattle.program_points.specs.paths.Accepted.{Walk, walk, walk_to, arm_at, by_arm, by_choice, over_call, onward_by, Aim, Return, Enter, Fault, Meets}
 use Rattle.overlap_trail.specs.declared.follow.Way.{Way}
 use Rattle.overlap_trail.specs.declared.follow.Way.TheVariants.{Through, To, Left, Ended, SectionEnded, Broken, Cycled, Met, Lost}
 use Rattle.overlap_trail.specs.Following.{Known, Sought, next_at, onward_at, MeetsAt, Quietly, rests, on_to, Goes, IsStuck, ComesTo, IsArmFirst, IsBetween, IsTaken, first_arm, first_over, turned_way}

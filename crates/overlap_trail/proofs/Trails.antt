@@ -3,13 +3,13 @@ use Rattle.std.proofs.Common.{◌≡◌, Bool, ◌+◌, ◌<◌, ℕ, zero, suc,
 use Rattle.std.proofs.lemmas.List.{map-append}
 use Rattle.std.proofs.lemmas.Option.{slice_get_read}
 use Rattle.cob_tree.specs.declared.program.Range.{Range}
-use Rattle.flow_paths.specs.declared.trail.FlowFault.{FlowFault}
-use Rattle.flow_paths.specs.declared.trail.Move.{Move}
-use Rattle.flow_paths.specs.declared.trail.Lemma.{Lemma}
-use Rattle.flow_paths.specs.declared.trail.Hop.{Hop}
-use Rattle.flow_paths.specs.declared.trail.Trail.{Trail}
-use Rattle.language.specs.Language.{Chooser, Program}
-use Rattle.flow_paths.specs.Accepted.{Aim, Return, LeadsTo, LemmasHold, with_exit, HopsLead, BeginsInMain, lemma_ranges, IsAccepted}
+use Rattle.program_points.specs.declared.paths.trail.FlowFault.{FlowFault}
+use Rattle.program_points.specs.declared.paths.trail.Move.{Move}
+use Rattle.program_points.specs.declared.paths.trail.Lemma.{Lemma}
+use Rattle.program_points.specs.declared.paths.trail.Hop.{Hop}
+use Rattle.program_points.specs.declared.paths.trail.Trail.{Trail}
+use Rattle.control_flow_theory.specs.language.Language.{Chooser, Program}
+use Rattle.program_points.specs.paths.Accepted.{Aim, Return, LeadsTo, LemmasHold, with_exit, HopsLead, BeginsInMain, lemma_ranges, IsAccepted}
 use Rattle.overlap_trail.specs.Checking.{exits_from, exits_of, aim_behind, HopsFrom, IsFirstMain}
 
 drop-at : {A : Type 0} → (xs : List A) (index : ℕ) (x : A) → slice_get xs index ≡ Some x → drop index xs ≡ x ∷ drop (suc index) xs

@@ -1,14 +1,14 @@
 -- Calls and loops.
 use Rattle.std.proofs.Common.{◌≡◌, ◌+◌, ℕ, true, false, if◌then◌else◌, List, [], ◌∷◌, drop, Option, Some, None, slice_get, refl, ap, sym, ◌∙◌, subst}
-use Rattle.language.specs.Items.{Item, Do, Turn, Turning, before, before_body}
-use Rattle.language.specs.Language.{Control, Body, Stmts, Perform, Loop, Choose, If, Holds, given, done, also, none}
-use Rattle.language.specs.Control.{always}
-use Rattle.flow_paths.specs.declared.trail.Move.{Move}
-use Rattle.flow_paths.specs.declared.trail.Move.TheVariants.{Over}
-use Rattle.flow_paths.specs.Step.{Point, at}
-use Rattle.flow_paths.specs.Accepted.{Walk, walk, by_arm, is_range}
-use Rattle.flow_numbers.specs.declared.kind.Kind.TheVariants.{Before, Again, After}
-use Rattle.flow_numbers.specs.Kinds.{kind_in, remainder}
+use Rattle.control_flow_theory.specs.language.Items.{Item, Do, Turn, Turning, before, before_body}
+use Rattle.control_flow_theory.specs.language.Language.{Control, Body, Stmts, Perform, Loop, Choose, If, Holds, given, done, also, none}
+use Rattle.control_flow_theory.specs.language.Control.{always}
+use Rattle.program_points.specs.declared.paths.trail.Move.{Move}
+use Rattle.program_points.specs.declared.paths.trail.Move.TheVariants.{Over}
+use Rattle.program_points.specs.paths.Step.{Point, at}
+use Rattle.program_points.specs.paths.Accepted.{Walk, walk, by_arm, is_range}
+use Rattle.program_points.specs.declared.numbering.kind.Kind.TheVariants.{Before, Again, After}
+use Rattle.program_points.specs.numbering.Kinds.{kind_in, remainder}
 use Rattle.overlap_trail.specs.declared.follow.Way.{Way}
 use Rattle.overlap_trail.specs.declared.follow.Way.TheVariants.{Through, To, Left, Ended, SectionEnded, Broken, Cycled, Met, Lost}
 use Rattle.overlap_trail.specs.Following.{Known, Sought, Quietly, rests, on_to, IsStuck, ComesTo, Follows, IsTurn, Turns, turned_way, IsArmFirst, IsOverFirst, first_over}

@@ -1,15 +1,15 @@
 -- What a check of a trail looks at.
 use Rattle.std.specs.Prelude.{ℕ, ◌≡◌, ◌<◌, Bool, false, ◌==◌, List, [], ◌∷◌, length, drop}
 use Rattle.cob_tree.specs.declared.program.Range.{Range}
-use Rattle.flow_paths.specs.declared.trail.Move.{Move}
-use Rattle.flow_paths.specs.declared.trail.Hop.{Hop}
-use Rattle.flow_paths.specs.declared.trail.FlowFault.{FlowFault}
-use Rattle.language.specs.Language.{Chooser, Paragraph, Program}
-use Rattle.language.specs.Items.{items_of}
-use Rattle.flow_paths.specs.Step.{at, start}
-use Rattle.flow_paths.specs.Flow.{is_among, main_range}
-use Rattle.flow_paths.specs.Accepted.{Walk, walk, Leads, Aim, LeadsTo, with_exit}
-use Rattle.flow_paths.specs.Accepted as accepted
+use Rattle.program_points.specs.declared.paths.trail.Move.{Move}
+use Rattle.program_points.specs.declared.paths.trail.Hop.{Hop}
+use Rattle.program_points.specs.declared.paths.trail.FlowFault.{FlowFault}
+use Rattle.control_flow_theory.specs.language.Language.{Chooser, Paragraph, Program}
+use Rattle.control_flow_theory.specs.language.Items.{items_of}
+use Rattle.program_points.specs.paths.Step.{at, start}
+use Rattle.program_points.specs.paths.Flow.{is_among, main_range}
+use Rattle.program_points.specs.paths.Accepted.{Walk, walk, Leads, Aim, LeadsTo, with_exit}
+use Rattle.program_points.specs.paths.Accepted as accepted
 use Rattle.overlap_trail.specs.declared.judge.Goal.{Goal}
 use Rattle.overlap_trail.specs.declared.judge.Goal.TheVariants.{Return, Enter, Fault}
 use Rattle.overlap_trail.specs.declared.leg.Leg.{Leg}

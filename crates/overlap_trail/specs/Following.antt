@@ -3,16 +3,16 @@ use Rattle.std.specs.Prelude.{ℕ, ◌≡◌, ◌≤◌, ◌<◌, ◌+◌, Bool,
 use Rattle.cob_tree.specs.declared.file.FileEntry.{FileEntry}
 use Rattle.cob_tree.specs.declared.program.Range.{Range}
 use Rattle.cob_tree.specs.declared.stmt.Stmt as tree
-use Rattle.language.specs.Language.{Chooser, Control, Body, Stmts, none, Program}
-use Rattle.language.specs.Control.{seen_stmts}
-use Rattle.language.specs.Items.{Item, Turn, before, before_body, past_sentence, from_loop}
-use Rattle.flow_paths.specs.declared.trail.Lemma.{Lemma}
-use Rattle.flow_paths.specs.declared.trail.Move.{Move}
-use Rattle.flow_paths.specs.declared.trail.Move.TheVariants.{Arm, Over, Into}
-use Rattle.flow_paths.specs.Step.{Point, at, start, Next, Ways, Calls, next, way_at, only}
-use Rattle.flow_paths.specs.Accepted.{Walk, walk, walk_to, by_arm, by_choice, onward, Aim, Meets, lemma_ranges}
-use Rattle.flow_numbers.specs.Kinds.{never_first_of, remainder}
-use Rattle.flow_numbers.specs.Building.{branch_points, seen_maybe}
+use Rattle.control_flow_theory.specs.language.Language.{Chooser, Control, Body, Stmts, none, Program}
+use Rattle.control_flow_theory.specs.language.Control.{seen_stmts}
+use Rattle.control_flow_theory.specs.language.Items.{Item, Turn, before, before_body, past_sentence, from_loop}
+use Rattle.program_points.specs.declared.paths.trail.Lemma.{Lemma}
+use Rattle.program_points.specs.declared.paths.trail.Move.{Move}
+use Rattle.program_points.specs.declared.paths.trail.Move.TheVariants.{Arm, Over, Into}
+use Rattle.program_points.specs.paths.Step.{Point, at, start, Next, Ways, Calls, next, way_at, only}
+use Rattle.program_points.specs.paths.Accepted.{Walk, walk, walk_to, by_arm, by_choice, onward, Aim, Meets, lemma_ranges}
+use Rattle.program_points.specs.numbering.Kinds.{never_first_of, remainder}
+use Rattle.program_points.specs.numbering.Building.{branch_points, seen_maybe}
 use Rattle.overlap_trail.specs.declared.follow.Side.{Side}
 use Rattle.overlap_trail.specs.declared.follow.Side.TheVariants.{First, Second, Neither}
 use Rattle.overlap_trail.specs.declared.follow.Way.{Way}

@@ -2,3 +2,7 @@
 pub mod Following
 -- what a check of a trail looks at
 pub mod Checking
+-- A trail for a program that is faulty.
+pub mod finding
+-- The lines that tell a trail.
+pub mod notes

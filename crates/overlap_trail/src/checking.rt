@@ -1,17 +1,17 @@
 //! Whether a trail is accepted.
 
 ghost use Rattle.std.specs.Prelude.{List, [], ◌≡◌, ◌↔◌, ◌+◌, ◌<◌, length, drop, IsTrue};
-ghost use Rattle.language.specs.Control.{control_of};
-ghost use Rattle.flow_paths.specs.Flow.{main_range};
-ghost use Rattle.flow_paths.specs.Accepted.{LeadsTo, LemmasHold, IsAccepted, lemma_ranges};
-ghost use Rattle.flow_paths.specs.declared.trail.Hop.{Hop};
-ghost use Rattle.flow_numbers.specs.Kinds.{never_first_of};
+ghost use Rattle.control_flow_theory.specs.language.Control.{control_of};
+ghost use Rattle.program_points.specs.paths.Flow.{main_range};
+ghost use Rattle.program_points.specs.paths.Accepted.{LeadsTo, LemmasHold, IsAccepted, lemma_ranges};
+ghost use Rattle.program_points.specs.declared.paths.trail.Hop.{Hop};
+ghost use Rattle.program_points.specs.numbering.Kinds.{never_first_of};
 ghost use Rattle.overlap_trail.specs.Checking.{aim_of, exits_of, aim_behind, HopsFrom, IsFirstMain};
 
 use crate::judge::Goal;
 use crate::leg::{Leg, one_leg};
 use cob_tree::{Program, Range};
-use flow_paths::{FlowFault, Hop, Lemma, Move, Trail};
+use program_points::paths::{FlowFault, Hop, Lemma, Move, Trail};
 
 /// Whether the moves lead from the range's entry to where they are to lead.
 pub fn leads(

@@ -1,14 +1,14 @@
 //! Following a trail's moves through statements.
 
 ghost use Rattle.std.specs.Prelude.{Bool, ℕ, List, ◌≡◌, ◌+◌, ◌<◌, ◌≤◌, [], ◌∷◌, length, drop, slice_get, MatchOption};
-ghost use Rattle.language.specs.Language.{Stmts, also, none, Perform, Performed, GoDepending, Chooser};
-ghost use Rattle.language.specs.Control.{control_in, perform_of};
-ghost use Rattle.flow_paths.specs.Accepted.{is_range, lemma_ranges};
+ghost use Rattle.control_flow_theory.specs.language.Language.{Stmts, also, none, Perform, Performed, GoDepending, Chooser};
+ghost use Rattle.control_flow_theory.specs.language.Control.{control_in, perform_of};
+ghost use Rattle.program_points.specs.paths.Accepted.{is_range, lemma_ranges};
 ghost use Rattle.overlap_trail.specs.Following.{Known, Follows, Turns, IsTaken, IsBetween, first_arm, first_over, IsArmFirst, IsOverFirst, IsSide, knowing, AreSeveral, Picks, PicksNone, turned_way};
 
 use cob_tree::Control;
-use flow_numbers::{Kind, kind_of};
-use flow_paths::{Lemma, Move};
+use program_points::numbering::{Kind, kind_of};
+use program_points::paths::{Lemma, Move};
 
 /// What comes of following moves through statements, with the number of moves that are taken then.
 #[derive(Debug, Clone, Copy)]

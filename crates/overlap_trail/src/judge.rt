@@ -1,15 +1,15 @@
 //! What moves are to lead to, and whether they have.
 
 ghost use Rattle.std.specs.Prelude.{ℕ, List, [], ◌∷◌, ◌≡◌, ◌≤◌, ◌↔◌, length, drop, IsTrue};
-ghost use Rattle.flow_paths.specs.Step.{Ends, Calls, Point};
-ghost use Rattle.flow_paths.specs.Flow.{is_exit, is_among};
-ghost use Rattle.flow_paths.specs.Accepted.{Meets, with_exit};
-ghost use Rattle.flow_paths.specs.declared.trail.Move.TheVariants.{Into};
+ghost use Rattle.program_points.specs.paths.Step.{Ends, Calls, Point};
+ghost use Rattle.program_points.specs.paths.Flow.{is_exit, is_among};
+ghost use Rattle.program_points.specs.paths.Accepted.{Meets, with_exit};
+ghost use Rattle.program_points.specs.declared.paths.trail.Move.TheVariants.{Into};
 ghost use Rattle.overlap_trail.specs.Checking.{aim_of, exits_of, top_is, below_is};
 
 use crate::follow::next_move;
 use cob_tree::Range;
-use flow_paths::{FlowFault, Hop, Move};
+use program_points::paths::{FlowFault, Hop, Move};
 
 /// What moves are to lead to.
 #[derive(Debug, Clone, Copy)]

@@ -1,9 +1,9 @@
 //! From the start of one paragraph to the start of the next.
 
 ghost use Rattle.std.specs.Prelude.{ℕ, [], suc, map, ◌≡◌, ◌≤◌, ◌<◌, length, drop};
-ghost use Rattle.language.specs.Control.{control_of, section_last, seen_sentence};
-ghost use Rattle.flow_paths.specs.Step.{at, start};
-ghost use Rattle.flow_paths.specs.Accepted.{walk};
+ghost use Rattle.control_flow_theory.specs.language.Control.{control_of, section_last, seen_sentence};
+ghost use Rattle.program_points.specs.paths.Step.{at, start};
+ghost use Rattle.program_points.specs.paths.Accepted.{walk};
 ghost use Rattle.overlap_trail.specs.Following.{known_of, Known, sought_of};
 ghost use Rattle.overlap_trail.specs.Checking.{aim_of, FollowsSentences, IsLeg, IsOnFrom, IsCallLeg, IsTakenOut};
 
@@ -11,7 +11,7 @@ use crate::follow::Way;
 use crate::judge::{Goal, ends_at, meets_call, meets_end};
 use crate::through::follow_stmts;
 use cob_tree::{FileEntry, Paragraph, Program, Range, Sentence};
-use flow_paths::{Hop, Lemma, Move};
+use program_points::paths::{Hop, Lemma, Move};
 
 /// What comes of following moves through a paragraph, with the number of moves that are taken then.
 #[derive(Debug, Clone, Copy)]

@@ -1,14 +1,16 @@
 //! Trails of programs: whether one is accepted.
 //!
 //! `check` follows a trail's moves through the tree, without memory, and holds exactly where
-//! `IsAccepted` of `flow_paths` does. `specs/Following.antt` says what comes of following moves
+//! `IsAccepted` of `program_points::paths` does. `specs/Following.antt` says what comes of following moves
 //! through statements, `specs/Checking.antt` what of following them from one paragraph to the next.
 #![tactic(auto)]
 
 mod checking;
+pub mod finding;
 mod follow;
 mod judge;
 mod leg;
+pub mod notes;
 mod through;
 
 pub use checking::{begins_in_main, check, goal_of, hops_lead, is_main, leads, lemmas_hold};

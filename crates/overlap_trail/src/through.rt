@@ -2,16 +2,16 @@
 
 ghost use Rattle.std.specs.Prelude.{[], ◌∷◌, ℕ, ◌≤◌, length, slice_get};
 ghost use Rattle.cob_tree.specs.declared.stmt.Arms.{out-Arms};
-ghost use Rattle.language.specs.Language.{also, none, Nested};
-ghost use Rattle.language.specs.Control.{seen, seen_stmts, control_in, loop_of};
-ghost use Rattle.flow_numbers.specs.Building.{seen_branches};
+ghost use Rattle.control_flow_theory.specs.language.Language.{also, none, Nested};
+ghost use Rattle.control_flow_theory.specs.language.Control.{seen, seen_stmts, control_in, loop_of};
+ghost use Rattle.program_points.specs.numbering.Building.{seen_branches};
 ghost use Rattle.overlap_trail.specs.Following.{known_of, Follows, FollowsBranches, FollowsBoth, FollowsArm, Turns, IsTaken};
 
 use crate::follow::{Side, Way, follow_depending, follow_perform, pick_branch, side_of, turned};
 use cob_base::Items;
 use cob_tree::{Arms, Control, FileEntry, Stmt, When};
-use flow_numbers::{Kind, is_silent, kind_of};
-use flow_paths::{Lemma, Move};
+use program_points::numbering::{Kind, is_silent, kind_of};
+use program_points::paths::{Lemma, Move};
 
 /// Through a statement.
 #[cycle(follow)]

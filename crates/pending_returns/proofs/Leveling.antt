@@ -1,10 +1,10 @@
 -- The levels of a table, and where calls lead.
 use Rattle.std.proofs.Common.{◌≡◌, ◌+◌, ◌<◌, ◌≤◌, ℕ, Bool, true, List, [], ◌∷◌, ◌++◌, length, Some, slice_get, refl, ap, sym, ◌∙◌, subst, ◌⊎◌, inl, inr, arith, length-append}
 use Rattle.cob_tree.specs.declared.program.Range.{Range}
-use Rattle.flow_places.specs.declared.table.Table.{Table}
-use Rattle.flow_places.specs.Table.{IsTidy}
-use Rattle.flow_levels.specs.Reaching.{Holds, IsMarked, Adds, IsReach, AllPlaces, GathersAllCalls, GathersAllEnds}
-use Rattle.flow_levels.proofs.Searching.{comes-below}
+use Rattle.program_points.specs.declared.point_table.table.Table.{Table}
+use Rattle.program_points.specs.point_table.Table.{IsTidy}
+use Rattle.pending_returns.specs.levels.Reaching.{Holds, IsMarked, Adds, IsReach, AllPlaces, GathersAllCalls, GathersAllEnds}
+use Rattle.pending_returns.proofs.levels_lemmas.Searching.{comes-below}
 use Rattle.pending_returns.specs.declared.facts.RangeFacts.{RangeFacts}
 use Rattle.pending_returns.specs.Tabled.{Orders, TellsLevel, TellsLevels, LeadsTo, AddsCalls}
 use Rattle.pending_returns.specs.Tabled as tabled

@@ -20,3 +20,7 @@ mod Summing
 mod Limits
 -- A summary has no more ranges than its table.
 pub mod Few
+-- What a range's level comes to, and which ranges return.
+pub mod levels_lemmas
+-- Where a flow path of a program comes to a fault, told by the program's summary.
+pub mod faults_lemmas

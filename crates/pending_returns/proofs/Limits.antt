@@ -4,13 +4,13 @@ use Rattle.cob_tree.specs.declared.fault.SplitFault.{SplitFault}
 use Rattle.cob_tree.specs.declared.fault.SplitFault.TheVariants as fault
 use Rattle.cob_tree.specs.declared.program.Program as tree
 use Rattle.cob_tree.specs.declared.program.Range.{Range}
-use Rattle.language.specs.Language.{Chooser}
-use Rattle.language.specs.Control.{control_of}
-use Rattle.flow_paths.specs.Flow.{main_range}
-use Rattle.flow_places.specs.declared.table.Table.{Table}
-use Rattle.named_ranges.specs.Named.{AreRangesOf}
-use Rattle.flow_table.specs.Numbering.{Counts, HasTable}
-use Rattle.flow_table.proofs.Sections.{seen-length}
+use Rattle.control_flow_theory.specs.language.Language.{Chooser}
+use Rattle.control_flow_theory.specs.language.Control.{control_of}
+use Rattle.program_points.specs.paths.Flow.{main_range}
+use Rattle.program_points.specs.declared.point_table.table.Table.{Table}
+use Rattle.program_points.specs.perform_ranges.Named.{AreRangesOf}
+use Rattle.program_points.specs.table_building.Numbering.{Counts, HasTable}
+use Rattle.program_points.proofs.table_building_lemmas.Sections.{seen-length}
 use Rattle.pending_returns.specs.declared.facts.Summary.{Summary}
 use Rattle.pending_returns.specs.Summary.{IsSummary, IsLimit, IsWithin, IsPast}
 use Rattle.pending_returns.specs.Tabled.{RangesRise, SummarisesTable}

@@ -1,15 +1,15 @@
 -- A table's summary is the program's.
 use Rattle.std.proofs.Common.{◌≡◌, ◌<◌, ◌≤◌, ◌↔◌, ℕ, zero, suc, Bool, true, List, length, Some, slice_get, refl, ap, sym, ◌∙◌, subst, ◌⊎◌, inl, inr, arith}
 use Rattle.cob_tree.specs.declared.program.Range.{Range}
-use Rattle.language.specs.Language.{Chooser, Program}
-use Rattle.flow_paths.specs.Step.{Point}
-use Rattle.flow_paths.specs.Flow.{main_range, CallsIn, EndsIn, ReturnsIn, IsRange, IsReached}
-use Rattle.flow_places.specs.declared.table.Table.{Table}
-use Rattle.flow_places.specs.Table.{IsTable, IsTidy, IsSound, IsClosed}
-use Rattle.flow_levels.specs.Reaching.{Holds, SaysSoundly}
-use Rattle.flow_levels.proofs.Exact.{returns-found, calls-found, calls-true, ends-found, ends-true}
-use Rattle.named_ranges.specs.Named.{is_before}
-use Rattle.named_ranges.proofs.Ordered.{before-far}
+use Rattle.control_flow_theory.specs.language.Language.{Chooser, Program}
+use Rattle.program_points.specs.paths.Step.{Point}
+use Rattle.program_points.specs.paths.Flow.{main_range, CallsIn, EndsIn, ReturnsIn, IsRange, IsReached}
+use Rattle.program_points.specs.declared.point_table.table.Table.{Table}
+use Rattle.program_points.specs.point_table.Table.{IsTable, IsTidy, IsSound, IsClosed}
+use Rattle.pending_returns.specs.levels.Reaching.{Holds, SaysSoundly}
+use Rattle.pending_returns.proofs.levels_lemmas.Exact.{returns-found, calls-found, calls-true, ends-found, ends-true}
+use Rattle.program_points.specs.perform_ranges.Named.{is_before}
+use Rattle.program_points.proofs.perform_ranges_lemmas.Ordered.{before-far}
 use Rattle.pending_returns.specs.declared.facts.RangeFacts.{RangeFacts}
 use Rattle.pending_returns.specs.declared.facts.Summary.{Summary}
 use Rattle.pending_returns.specs.Summary.{Rises, IsNumber, Tells, IsSummary}

@@ -1,10 +1,10 @@
 -- The paragraphs to which levels come.
 use Rattle.std.proofs.Common.{◌≡◌, ◌+◌, ◌<◌, ◌≤◌, ℕ, Bool, true, false, List, length, replicate, Some, slice_get, ap, sym, ◌∙◌, subst, ◌⊎◌, inl, inr, arith, set}
 use Rattle.cob_tree.specs.declared.program.Range.{Range}
-use Rattle.flow_places.specs.declared.table.Table.{Table}
-use Rattle.flow_places.specs.Table.{ComesIn, IsTidy}
-use Rattle.flow_levels.specs.Reaching.{IsReach, AllPlaces}
-use Rattle.flow_levels.proofs.Searching.{no-mark}
+use Rattle.program_points.specs.declared.point_table.table.Table.{Table}
+use Rattle.program_points.specs.point_table.Table.{ComesIn, IsTidy}
+use Rattle.pending_returns.specs.levels.Reaching.{IsReach, AllPlaces}
+use Rattle.pending_returns.proofs.levels_lemmas.Searching.{no-mark}
 use Rattle.pending_returns.specs.Tabled.{OwnersBelow, IsOwner, MarksOwners, ComesToOwner, MarksLevels}
 use Rattle.pending_returns.proofs.Getting.{get-below, before-or-now, set-here, set-other, same-or-not}
 use Rattle.pending_returns.proofs.Leveling.{level-below}

@@ -1,15 +1,15 @@
 -- The ranges that some flow path performs, by levels.
 use Rattle.std.proofs.Common.{◌≡◌, ◌<◌, ℕ, Bool, List, [], ◌∷◌, length, Some, slice_get, refl, ap, sym, ◌∙◌, subst, inl, inr, arith}
 use Rattle.cob_tree.specs.declared.program.Range.{Range}
-use Rattle.language.specs.Language.{Chooser, Program}
-use Rattle.flow_paths.specs.Step.{Point}
-use Rattle.flow_paths.specs.Flow.{main_range, part, Pending, returning, IsRange, IsReached}
-use Rattle.flow_paths.specs.Levels.{Levels, bottom, called}
-use Rattle.flow_paths.proofs.Runs.{stands, levels-run}
-use Rattle.flow_places.specs.declared.table.Table.{Table}
-use Rattle.flow_places.specs.Table.{IsTable, IsTidy, IsSound, IsClosed}
-use Rattle.flow_levels.specs.Reaching.{Holds}
-use Rattle.flow_levels.proofs.Exact.{path-comes, comes-path, comes-in, found-in, calls-found, calls-true}
+use Rattle.control_flow_theory.specs.language.Language.{Chooser, Program}
+use Rattle.program_points.specs.paths.Step.{Point}
+use Rattle.program_points.specs.paths.Flow.{main_range, part, Pending, returning, IsRange, IsReached}
+use Rattle.program_points.specs.paths.Levels.{Levels, bottom, called}
+use Rattle.program_points.proofs.paths_lemmas.Runs.{stands, levels-run}
+use Rattle.program_points.specs.declared.point_table.table.Table.{Table}
+use Rattle.program_points.specs.point_table.Table.{IsTable, IsTidy, IsSound, IsClosed}
+use Rattle.pending_returns.specs.levels.Reaching.{Holds}
+use Rattle.pending_returns.proofs.levels_lemmas.Exact.{path-comes, comes-path, comes-in, found-in, calls-found, calls-true}
 use Rattle.pending_returns.specs.declared.facts.RangeFacts.{RangeFacts}
 use Rattle.pending_returns.specs.Tabled.{TellsLevel, TellsLevels, LeadsTo, begins, calls, ComesToOwner}
 use Rattle.pending_returns.proofs.Getting.{get-below, get-some}

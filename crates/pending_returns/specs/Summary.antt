@@ -6,10 +6,10 @@ use Rattle.cob_tree.specs.declared.fault.SplitFault.{SplitFault}
 use Rattle.cob_tree.specs.declared.fault.SplitFault.TheVariants as fault
 use Rattle.cob_tree.specs.declared.program.Range.{Range}
 use Rattle.cob_tree.specs.declared.program.Program as tree
-use Rattle.language.specs.Language.{Chooser, Program}
-use Rattle.flow_paths.specs.Flow.{main_range, ReturnsIn, CallsIn, EndsIn, IsRange, IsReached}
-use Rattle.flow_levels.specs.Reaching.{Holds}
-use Rattle.named_ranges.specs.Named.{is_before, AreRangesOf}
+use Rattle.control_flow_theory.specs.language.Language.{Chooser, Program}
+use Rattle.program_points.specs.paths.Flow.{main_range, ReturnsIn, CallsIn, EndsIn, IsRange, IsReached}
+use Rattle.pending_returns.specs.levels.Reaching.{Holds}
+use Rattle.program_points.specs.perform_ranges.Named.{is_before, AreRangesOf}
 use Rattle.pending_returns.specs.declared.facts.RangeFacts.{RangeFacts}
 use Rattle.pending_returns.specs.declared.facts.Summary.{Summary}
 

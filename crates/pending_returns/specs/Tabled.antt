@@ -1,12 +1,12 @@
 -- What is told of a table of places on the way to a summary.
 use Rattle.std.specs.Prelude.{ℕ, suc, ◌≡◌, ◌<◌, ◌↔◌, ◌⊎◌, Bool, true, List, length, Some, slice_get}
 use Rattle.cob_tree.specs.declared.program.Range.{Range}
-use Rattle.language.specs.Language.{Chooser, Program}
-use Rattle.flow_paths.specs.Step.{Point}
-use Rattle.flow_places.specs.declared.table.Table.{Table}
-use Rattle.flow_places.specs.Table.{ComesIn, IsTable}
-use Rattle.flow_levels.specs.Reaching.{Holds, IsReach, IsCalled, IsEnded}
-use Rattle.named_ranges.specs.Named.{is_before}
+use Rattle.control_flow_theory.specs.language.Language.{Chooser, Program}
+use Rattle.program_points.specs.paths.Step.{Point}
+use Rattle.program_points.specs.declared.point_table.table.Table.{Table}
+use Rattle.program_points.specs.point_table.Table.{ComesIn, IsTable}
+use Rattle.pending_returns.specs.levels.Reaching.{Holds, IsReach, IsCalled, IsEnded}
+use Rattle.program_points.specs.perform_ranges.Named.{is_before}
 use Rattle.pending_returns.specs.declared.facts.RangeFacts.{RangeFacts}
 use Rattle.pending_returns.specs.declared.facts.Summary.{Summary}
 use Rattle.pending_returns.specs.Summary.{Rises, IsSummary}

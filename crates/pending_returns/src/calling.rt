@@ -1,12 +1,12 @@
 //! The ranges that main's level leads to.
 
 ghost use Rattle.std.specs.Prelude.{ℕ, ◌≡◌, ◌<◌, ◌↔◌, Some, true, length, slice_get, IfOk, OnOk};
-ghost use Rattle.flow_levels.specs.Reaching.{IsMarked};
+ghost use Rattle.pending_returns.specs.levels.Reaching.{IsMarked};
 ghost use Rattle.pending_returns.specs.Tabled.{AddsCalls, CallsBelow, AllBelow, LeadsTo};
 
 use crate::facts::RangeFacts;
+use crate::levels::Reach;
 use cob_base::NoMemory;
-use flow_levels::Reach;
 use std::alloc::Global;
 
 /// Adds the ranges of these numbers.

@@ -1,15 +1,15 @@
 //! What the level of each range does.
 
 ghost use Rattle.std.specs.Prelude.{◌≡◌, ◌≤◌, length, IfOk};
-ghost use Rattle.flow_places.specs.Table.{IsTidy};
-ghost use Rattle.flow_levels.specs.Fitting.{FitsTable};
+ghost use Rattle.program_points.specs.point_table.Table.{IsTidy};
+ghost use Rattle.pending_returns.specs.levels.Fitting.{FitsTable};
 ghost use Rattle.pending_returns.specs.Tabled.{TellsLevel, TellsLevels};
 
+use crate::levels::Level;
 use crate::listing::rising;
 use cob_base::{Items, NoMemory};
 use cob_tree::Range;
-use flow_levels::Level;
-use flow_places::Table;
+use program_points::point_table::Table;
 use std::alloc::Global;
 
 /// What a range's level does.

@@ -7,7 +7,9 @@
 
 mod calling;
 mod facts;
+pub mod faults;
 mod keeping;
+pub mod levels;
 mod listing;
 mod passing;
 mod summary;

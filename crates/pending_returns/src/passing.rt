@@ -1,13 +1,13 @@
 //! The paragraphs that levels come to.
 
 ghost use Rattle.std.specs.Prelude.{◌≡◌, ◌≤◌, length, IfOk};
-ghost use Rattle.flow_places.specs.Table.{IsTidy};
-ghost use Rattle.flow_levels.specs.Reaching.{AllPlaces};
+ghost use Rattle.program_points.specs.point_table.Table.{IsTidy};
+ghost use Rattle.pending_returns.specs.levels.Reaching.{AllPlaces};
 ghost use Rattle.pending_returns.specs.Tabled.{AllBelow, MarksOwners, MarksLevels, OwnersBelow};
 
+use crate::levels::{Reach, reached};
 use cob_base::NoMemory;
-use flow_levels::{Reach, reached};
-use flow_places::Table;
+use program_points::point_table::Table;
 use std::alloc::Global;
 
 /// Puts a flag on the paragraph of each of these places.

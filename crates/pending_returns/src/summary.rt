@@ -1,24 +1,24 @@
 //! The summary of a program.
 
 ghost use Rattle.std.specs.Prelude.{◌≡◌, ◌<◌, ◌≤◌, Some, length, slice_get, IfOk, MatchResult};
-ghost use Rattle.language.specs.Control.{control_of};
-ghost use Rattle.flow_paths.specs.Flow.{main_range};
-ghost use Rattle.flow_numbers.specs.Kinds.{never_first_of};
-ghost use Rattle.flow_places.specs.Table.{IsTidy};
+ghost use Rattle.control_flow_theory.specs.language.Control.{control_of};
+ghost use Rattle.program_points.specs.paths.Flow.{main_range};
+ghost use Rattle.program_points.specs.numbering.Kinds.{never_first_of};
+ghost use Rattle.program_points.specs.point_table.Table.{IsTidy};
 ghost use Rattle.pending_returns.specs.Summary.{IsSummary, IsLimit, IsWithin, IsPast};
 ghost use Rattle.pending_returns.specs.Tabled.{RangesRise, SummarisesTable};
 
 use crate::calling::led_to;
 use crate::facts::{Summary, levels_of};
 use crate::keeping::{kept_facts, ranks_of};
+use crate::levels::settle;
 use crate::listing::lists;
 use crate::passing::marked_owners;
 use cob_base::{Items, Limit, LimitKind, NoMemory};
 use cob_tree::{Program, SplitFault};
-use flow_levels::settle;
-use flow_places::Table;
-use flow_table::table_of;
-use named_ranges::ranges_of;
+use program_points::perform_ranges::ranges_of;
+use program_points::point_table::Table;
+use program_points::table_building::table_of;
 use std::alloc::Global;
 
 /// The most distinct ranges that the PERFORM statements of a program name, main included.

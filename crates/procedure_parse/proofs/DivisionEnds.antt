@@ -1,12 +1,12 @@
 -- No token is left behind a division.
 use Rattle.std.proofs.Common.{◌≡◌, List, [], sym, ap, ◌∙◌}
 use Rattle.cob_tree.specs.declared.program.Paragraph.{Paragraph}
-use Rattle.grammar_forms.specs.Form.{Input, Got}
-use Rattle.grammar_forms.specs.Part.{ended}
-use Rattle.grammar_forms.proofs.Lawful.{then_got, got_is}
-use Rattle.grammar_forms.proofs.Reader.{ended_rest}
-use Rattle.statement_grammar.specs.stmt_forms.Part.{Parts}
-use Rattle.statement_grammar.specs.stmt_forms.Paragraph as forms
+use Rattle.parser_combinators.specs.Form.{Input, Got}
+use Rattle.parser_combinators.specs.Part.{ended}
+use Rattle.parser_combinators.proofs.Lawful.{then_got, got_is}
+use Rattle.parser_combinators.proofs.Reader.{ended_rest}
+use Rattle.cobol_grammar.specs.stmt_forms.Part.{Parts}
+use Rattle.cobol_grammar.specs.stmt_forms.Paragraph as forms
 
 pub division_ends : {Side Known : Type 0} (parts : Parts Side Known) (p : Input) (found : List Paragraph) (q : Input) → (forms.division parts).reads p ≡ Got found q → q.rest ≡ []
 unfolding forms.division

@@ -5,11 +5,11 @@ use Rattle.cob_tree.specs.declared.fault.NameFault.{NameFault}
 use Rattle.cob_tree.specs.declared.fault.ParseFault.{ParseFault}
 use Rattle.cob_tree.specs.declared.fault.ParseFault.TheVariants as faults
 use Rattle.cobol_lex.specs.declared.token.Token.{Token}
-use Rattle.grammar_forms.specs.declared.note.Note.{Note}
-use Rattle.grammar_forms.specs.declared.why.Why.{Why}
-use Rattle.grammar_forms.specs.Form.{Form, Input}
-use Rattle.grammar_forms.specs.Reading.{Stops, start_at, fault_line}
-use Rattle.read_faults.specs.Fault.{stop_fault, name_fault}
+use Rattle.parser_combinators.specs.declared.note.Note.{Note}
+use Rattle.parser_combinators.specs.declared.why.Why.{Why}
+use Rattle.parser_combinators.specs.Form.{Form, Input}
+use Rattle.parser_combinators.specs.Reading.{Stops, start_at, fault_line}
+use Rattle.parser_combinators.specs.faults.Fault.{stop_fault, name_fault}
 
 -- a fault of the divisions before comes first, and else that which was noted
 abbrev pub first_fault : (earlier : Option NameFault) → Option Note → Option NameFault

@@ -1,12 +1,12 @@
 -- What is left of a form of `stmt_forms` behind its first parts: a step of the code each.
 use Rattle.std.specs.Prelude.{ℕ, true, List, Some}
 use Rattle.cob_tree.specs.declared.program.Paragraph.{Paragraph}
-use Rattle.grammar_forms.specs.Form.{Form, pure, ◌>>=◌, ◌>>◌, where_next}
-use Rattle.grammar_forms.specs.Part.{period, ended as no_more}
-use Rattle.statement_grammar.specs.declared.stmt_forms.outline.Outline.{Outline}
-use Rattle.statement_grammar.specs.stmt_forms.Paragraph as forms
-use Rattle.statement_grammar.specs.stmt_forms.Part.{Parts}
-use Rattle.statement_grammar.specs.stmt_forms.Verb.{begins_stmt}
+use Rattle.parser_combinators.specs.Form.{Form, pure, ◌>>=◌, ◌>>◌, where_next}
+use Rattle.parser_combinators.specs.Part.{period, ended as no_more}
+use Rattle.cobol_grammar.specs.declared.stmt_forms.outline.Outline.{Outline}
+use Rattle.cobol_grammar.specs.stmt_forms.Paragraph as forms
+use Rattle.cobol_grammar.specs.stmt_forms.Part.{Parts}
+use Rattle.cobol_grammar.specs.stmt_forms.Verb.{begins_stmt}
 
 -- a section behind its header
 abbrev pub section_behind : {Side Known : Type 0} → Parts Side Known →

@@ -2,19 +2,19 @@
 
 ghost use Rattle.std.specs.Prelude.{◌≡◌, ◌≤◌, List, None, Option, IfErr, IfOk, length};
 ghost use Rattle.cob_tree.specs.declared.program.Paragraph.{Paragraph};
-ghost use Rattle.grammar_forms.specs.declared.note.Note.{Note};
-ghost use Rattle.statement_grammar.specs.stmt_forms.Paragraph.{division as form};
+ghost use Rattle.parser_combinators.specs.declared.note.Note.{Note};
+ghost use Rattle.cobol_grammar.specs.stmt_forms.Paragraph.{division as form};
 ghost use Rattle.procedure_parse.specs.Answer as answers;
 
+use crate::drafts::drop_paragraphs;
 use crate::paragraph::division;
 use cob_base::Items;
 use cob_tree::{NameFault, Paragraph, ParseFault};
+use cobol_grammar::part_readers::Parts;
 use cobol_lex::Token;
-use grammar_forms::{Cursor, Note, Unread};
-use part_readers::Parts;
-use read_faults::{name_fault, stop_fault};
+use parser_combinators::faults::{name_fault, stop_fault};
+use parser_combinators::{Cursor, Note, Unread};
 use std::alloc::Global;
-use stmt_drafts::drop_paragraphs;
 
 fn first_fault(earlier: Option<NameFault>, noted: Option<Note>) -> Option<NameFault>
     ensures { result ≡ answers.first_fault earlier noted }

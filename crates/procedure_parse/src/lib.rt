@@ -7,7 +7,9 @@
 #![tactic(auto)]
 
 mod answer;
+pub mod drafts;
 mod paragraph;
+pub mod statements;
 
 pub use answer::read_division;
 pub use paragraph::division;

@@ -2,28 +2,28 @@
 
 ghost use Rattle.std.specs.Prelude.{◌≡◌};
 ghost use Rattle.cob_base.specs.Answers.{Makes};
-ghost use Rattle.grammar_forms.specs.Form as form;
-ghost use Rattle.grammar_forms.specs.Reading.{Reads};
-ghost use Rattle.statement_grammar.specs.stmt_forms.Paragraph as forms;
+ghost use Rattle.parser_combinators.specs.Form as form;
+ghost use Rattle.parser_combinators.specs.Reading.{Reads};
+ghost use Rattle.cobol_grammar.specs.stmt_forms.Paragraph as forms;
 ghost use Rattle.procedure_parse.specs.Step as steps;
 
-use act_parse::exit_behind;
-use cob_base::{Items, NoMemory, Word};
-use cob_tree::{Paragraph, Sentence, Stmt};
-use grammar_forms::{Cursor, Position, Unread, Why};
-use part_readers::{Parts, at_procedure, at_stmt};
-use statement_grammar::stmt_forms::{Outline, Scope};
-use std::alloc::Global;
-use stmt_drafts::{
+use crate::drafts::{
     drop_outline, drop_paragraphs, drop_sentences, drop_stmts, paragraph_added, sentence_added,
     stmt_added,
 };
-use stmt_parse::{stmts_from, stmts_with};
+use crate::statements::{stmts_from, stmts_with};
+use cob_base::{Items, NoMemory, Word};
+use cob_tree::{Paragraph, Sentence, Stmt};
+use cobol_grammar::part_readers::{Parts, at_procedure, at_stmt};
+use cobol_grammar::stmt_forms::{Outline, Scope};
+use parser_combinators::{Cursor, Position, Unread, Why};
+use simple_stmt_parse::verbs::exit_behind;
+use std::alloc::Global;
 
 /// How deep statements may nest.
 const MAX_NESTING: u32 = 500;
 
-#[tactic(auto, unfolding(statement_grammar::specs::stmt_forms::Paragraph::sentence_closed))]
+#[tactic(auto, unfolding(cobol_grammar::specs::stmt_forms::Paragraph::sentence_closed))]
 fn sentence_closed(cursor: &mut Cursor<'_>, stmts: Items<Stmt>) -> Result<Sentence, Unread>
     ensures { Reads ((forms.sentence_closed stmts).reads cursor.old) result cursor.new }
 {
@@ -36,7 +36,7 @@ fn sentence_closed(cursor: &mut Cursor<'_>, stmts: Items<Stmt>) -> Result<Senten
     }
 }
 
-#[tactic(auto, unfolding(statement_grammar::specs::stmt_forms::Paragraph::sentence_end))]
+#[tactic(auto, unfolding(cobol_grammar::specs::stmt_forms::Paragraph::sentence_end))]
 fn sentence_end(cursor: &mut Cursor<'_>, found: (Items<Stmt>, bool)) -> Result<Sentence, Unread>
     ensures { Reads ((forms.sentence_end found).reads cursor.old) result cursor.new }
 {
@@ -49,7 +49,7 @@ fn sentence_end(cursor: &mut Cursor<'_>, found: (Items<Stmt>, bool)) -> Result<S
     }
 }
 
-#[tactic(auto, unfolding(statement_grammar::specs::stmt_forms::Paragraph::sentence))]
+#[tactic(auto, unfolding(cobol_grammar::specs::stmt_forms::Paragraph::sentence))]
 fn sentence<P: Parts>(
     parts: &P,
     alloc: Global,
@@ -105,7 +105,7 @@ fn at_exit_word(cursor: &Cursor<'_>) -> bool
     cursor.sees(b"PARAGRAPH") || (cursor.sees(b"SECTION") || cursor.sees(b"PERFORM"))
 }
 
-#[tactic(auto, unfolding(statement_grammar::specs::stmt_forms::Paragraph::exit_alone))]
+#[tactic(auto, unfolding(cobol_grammar::specs::stmt_forms::Paragraph::exit_alone))]
 fn exit_alone(alloc: Global, cursor: &mut Cursor<'_>) -> Result<Items<Sentence>, Unread>
     ensures { Reads (forms.exit_alone.reads cursor.old) result cursor.new }
 {
@@ -114,7 +114,7 @@ fn exit_alone(alloc: Global, cursor: &mut Cursor<'_>) -> Result<Items<Sentence>,
     Ok(sentence_added(Items::new(alloc), Sentence { stmts })?)
 }
 
-#[tactic(auto, unfolding(statement_grammar::specs::stmt_forms::Paragraph::exit_sentence))]
+#[tactic(auto, unfolding(cobol_grammar::specs::stmt_forms::Paragraph::exit_sentence))]
 fn exit_sentence<P: Parts>(
     parts: &P,
     alloc: Global,
@@ -131,7 +131,7 @@ fn exit_sentence<P: Parts>(
     sentence_end(cursor, found)
 }
 
-#[tactic(auto, unfolding(statement_grammar::specs::stmt_forms::Paragraph::exit_sentences))]
+#[tactic(auto, unfolding(cobol_grammar::specs::stmt_forms::Paragraph::exit_sentences))]
 fn exit_sentences<P: Parts>(
     parts: &P,
     alloc: Global,
@@ -147,7 +147,7 @@ fn exit_sentences<P: Parts>(
     sentences_from(parts, alloc, cursor, scope, found)
 }
 
-#[tactic(auto, unfolding(statement_grammar::specs::stmt_forms::Paragraph::sentences_by_exit))]
+#[tactic(auto, unfolding(cobol_grammar::specs::stmt_forms::Paragraph::sentences_by_exit))]
 fn sentences_by_exit<P: Parts>(
     parts: &P,
     alloc: Global,
@@ -165,7 +165,7 @@ fn sentences_by_exit<P: Parts>(
     }
 }
 
-#[tactic(auto, unfolding(statement_grammar::specs::stmt_forms::Paragraph::sentences))]
+#[tactic(auto, unfolding(cobol_grammar::specs::stmt_forms::Paragraph::sentences))]
 fn sentences<P: Parts>(
     parts: &P,
     alloc: Global,
@@ -212,7 +212,7 @@ fn scope_of(in_section: bool) -> Scope
     }
 }
 
-#[tactic(auto, unfolding(statement_grammar::specs::stmt_forms::Paragraph::section_start))]
+#[tactic(auto, unfolding(cobol_grammar::specs::stmt_forms::Paragraph::section_start))]
 fn section_start<P: Parts>(
     parts: &P,
     alloc: Global,
@@ -309,7 +309,7 @@ fn section_closed<P: Parts>(
     }
 }
 
-#[tactic(auto, unfolding(statement_grammar::specs::stmt_forms::Paragraph::section))]
+#[tactic(auto, unfolding(cobol_grammar::specs::stmt_forms::Paragraph::section))]
 fn section<P: Parts>(
     parts: &P,
     alloc: Global,
@@ -368,7 +368,7 @@ fn paragraph_behind<P: Parts>(
     }
 }
 
-#[tactic(auto, unfolding(statement_grammar::specs::stmt_forms::Paragraph::paragraph))]
+#[tactic(auto, unfolding(cobol_grammar::specs::stmt_forms::Paragraph::paragraph))]
 fn paragraph<P: Parts>(
     parts: &P,
     alloc: Global,
@@ -389,7 +389,7 @@ fn paragraph<P: Parts>(
     }
 }
 
-#[tactic(auto, unfolding(statement_grammar::specs::stmt_forms::Paragraph::headed))]
+#[tactic(auto, unfolding(cobol_grammar::specs::stmt_forms::Paragraph::headed))]
 fn headed<P: Parts>(
     parts: &P,
     alloc: Global,
@@ -429,7 +429,7 @@ fn headed_from<P: Parts>(
     Ok(state)
 }
 
-#[tactic(auto, unfolding(statement_grammar::specs::stmt_forms::Paragraph::unnamed_start))]
+#[tactic(auto, unfolding(cobol_grammar::specs::stmt_forms::Paragraph::unnamed_start))]
 fn unnamed_start<P: Parts>(
     parts: &P,
     alloc: Global,
@@ -450,7 +450,7 @@ fn unnamed_start<P: Parts>(
     })
 }
 
-#[tactic(auto, unfolding(statement_grammar::specs::stmt_forms::Paragraph::start))]
+#[tactic(auto, unfolding(cobol_grammar::specs::stmt_forms::Paragraph::start))]
 fn start<P: Parts>(parts: &P, alloc: Global, cursor: &mut Cursor<'_>) -> Result<Outline, Unread>
     ensures { Reads ((forms.start (P.parts parts.now)).reads cursor.old) result cursor.new }
 {
@@ -488,7 +488,7 @@ fn all_of(alloc: Global, state: Outline) -> Result<Items<Paragraph>, NoMemory>
     at_least_one(alloc, done)
 }
 
-#[tactic(auto, unfolding(statement_grammar::specs::stmt_forms::Paragraph::paragraphs))]
+#[tactic(auto, unfolding(cobol_grammar::specs::stmt_forms::Paragraph::paragraphs))]
 fn paragraphs<P: Parts>(
     parts: &P,
     alloc: Global,
@@ -502,7 +502,7 @@ fn paragraphs<P: Parts>(
     Ok(found)
 }
 
-#[tactic(auto, unfolding(statement_grammar::specs::stmt_forms::Paragraph::program_name))]
+#[tactic(auto, unfolding(cobol_grammar::specs::stmt_forms::Paragraph::program_name))]
 fn program_name<P: Parts>(parts: &P, cursor: &mut Cursor<'_>) -> Result<(), Unread>
     ensures { Reads ((forms.program_name (P.parts parts.now)).reads cursor.old) result cursor.new }
 {
@@ -514,7 +514,7 @@ fn program_name<P: Parts>(parts: &P, cursor: &mut Cursor<'_>) -> Result<(), Unre
     }
 }
 
-#[tactic(auto, unfolding(statement_grammar::specs::stmt_forms::Paragraph::end_program))]
+#[tactic(auto, unfolding(cobol_grammar::specs::stmt_forms::Paragraph::end_program))]
 fn end_program<P: Parts>(parts: &P, cursor: &mut Cursor<'_>) -> Result<(), Unread>
     ensures { Reads ((forms.end_program (P.parts parts.now)).reads cursor.old) result cursor.new }
 {
@@ -525,7 +525,7 @@ fn end_program<P: Parts>(parts: &P, cursor: &mut Cursor<'_>) -> Result<(), Unrea
     Ok(())
 }
 
-#[tactic(auto, unfolding(statement_grammar::specs::stmt_forms::Paragraph::end_part))]
+#[tactic(auto, unfolding(cobol_grammar::specs::stmt_forms::Paragraph::end_part))]
 fn end_part<P: Parts>(parts: &P, cursor: &mut Cursor<'_>) -> Result<(), Unread>
     ensures { Reads ((forms.end_part (P.parts parts.now)).reads cursor.old) result cursor.new }
 {
@@ -554,7 +554,7 @@ fn division_ended(
 }
 
 /// The whole division behind its header, up to the last token.
-#[tactic(auto, unfolding(statement_grammar::specs::stmt_forms::Paragraph::division))]
+#[tactic(auto, unfolding(cobol_grammar::specs::stmt_forms::Paragraph::division))]
 pub fn division<P: Parts>(
     parts: &P,
     alloc: Global,

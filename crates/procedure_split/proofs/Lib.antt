@@ -32,3 +32,8 @@ pub mod kept_arms_lemmas
 pub mod lowered_arms_lemmas
 -- A program written of shaped bodies nests no deeper than is judged of these bodies.
 pub mod written_depth_lemmas
+-- The plan of a program that isn't faulty, by the summary of its ranges: which ranges return, and
+-- in which order they stand as procedures.
+pub mod plan_lemmas
+-- What a restructured program's report tells, and its lines.
+pub mod report_lemmas

@@ -4,11 +4,11 @@ use Rattle.std.specs.Prelude.{slice_get}
 use Rattle.std.proofs.lemmas.List.{length_push}
 use Rattle.cob_tree.specs.declared.program.Paragraph.{Paragraph}
 use Rattle.cob_tree.specs.declared.program.Range.{Range}
-use Rattle.lower_places.specs.Fall.{seen_range}
+use Rattle.lowering_labels.specs.points.Fall.{seen_range}
 use Rattle.branch_tree.specs.Trees.{seen_tree}
-use Rattle.choice_writing.specs.declared.placing.Placed.{Placed}
-use Rattle.cell_words.specs.declared.cells.CellItem.{CellItem}
-use Rattle.body_writing.specs.Procedures.{is_main}
+use Rattle.statement_builders.specs.declared.arms.placing.Placed.{Placed}
+use Rattle.statement_builders.specs.declared.item_words.cells.CellItem.{CellItem}
+use Rattle.body_rendering.specs.Procedures.{is_main}
 use Rattle.procedure_split.specs.declared.shaped_ranges.shaping.Closed.{Closed}
 use Rattle.procedure_split.specs.made_procedures.Made.{AreParagraphsOf, IsParagraphOf}
 

@@ -8,7 +8,7 @@ use Rattle.std.proofs.lemmas.List.Elements.{All-append, All-cons, All-get_or, Al
 use Rattle.std.proofs.lemmas.List.Sorted.{All-permutation}
 use Rattle.std.proofs.lemmas.Option.{get_or_from_slice_get, slice_get_within}
 use Rattle.cob_tree.specs.declared.program.Range.{Range}
-use Rattle.choice_writing.specs.declared.placing.Placed.{Placed}
+use Rattle.statement_builders.specs.declared.arms.placing.Placed.{Placed}
 use Rattle.procedure_split.specs.made_procedures.Made.{ArePlacesIn}
 use Rattle.procedure_split.specs.Places.{placed_to, place_at, places_from}
 

@@ -5,21 +5,21 @@ use Rattle.cob_tree.specs.declared.fault.SplitFault.{SplitFault}
 use Rattle.cob_tree.specs.declared.fault.SplitFault.TheVariants as faults
 use Rattle.cob_tree.specs.declared.program.Program as cobol
 use Rattle.cob_tree.specs.declared.program.Range as code
-use Rattle.language.specs.Control.{control_of}
-use Rattle.language.specs.Language.{Program, Range, Main, Part, same_range}
-use Rattle.control.proofs.Ranges.{same-self}
-use Rattle.control_laws.specs.lowering.Told.{Told}
-use Rattle.control_laws.specs.lowering.WellFormed.{IsRangeOf}
-use Rattle.control_laws.specs.graph_rules.Walked.{In, is_in}
-use Rattle.cut_lists.specs.Told.{told_of}
+use Rattle.control_flow_theory.specs.language.Control.{control_of}
+use Rattle.control_flow_theory.specs.language.Language.{Program, Range, Main, Part, same_range}
+use Rattle.control_flow_theory.proofs.semantics_lemmas.Ranges.{same-self}
+use Rattle.control_flow_theory.specs.lowering.Told.{Told}
+use Rattle.control_flow_theory.specs.lowering.WellFormed.{IsRangeOf}
+use Rattle.control_flow_theory.specs.graph_rules.Walked.{In, is_in}
+use Rattle.program_facts.specs.completion.Told.{told_of}
 use Rattle.procedure_split.specs.Split.{AreGraphs, IsSplitFault, Planned}
-use Rattle.flow_table.proofs.Sections.{seen-length}
+use Rattle.program_points.proofs.table_building_lemmas.Sections.{seen-length}
 use Rattle.pending_returns.specs.declared.facts.Summary.{Summary}
-use Rattle.range_plan.specs.Laws.{as_control, ending_at, others_of}
-use Rattle.range_plan.specs.Planned.{IsPlanOf}
-use Rattle.range_plan.proofs.CobolPlans.{cobol-planned}
+use Rattle.procedure_split.specs.plan.Laws.{as_control, ending_at, others_of}
+use Rattle.procedure_split.specs.plan.Planned.{IsPlanOf}
+use Rattle.procedure_split.proofs.plan_lemmas.CobolPlans.{cobol-planned}
 use Rattle.branch_tree.specs.declared.graph.Graph.{Graph}
-use Rattle.lower_places.specs.Fall.{range_by, seen_range}
+use Rattle.lowering_labels.specs.points.Fall.{range_by, seen_range}
 use Rattle.procedure_split.specs.shaped_ranges.Graphs.{AreGraphsOf}
 use Rattle.procedure_split.specs.shaped_ranges.Laws.{HasFlow}
 use Rattle.procedure_split.specs.shaped_ranges.Limit.{IsLoweringFault}

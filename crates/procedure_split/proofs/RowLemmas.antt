@@ -2,9 +2,9 @@
 use Rattle.std.proofs.Common.{◌≡◌, ℕ, zero, suc, ◌+◌, ◌≤◌, List, [], ◌∷◌, ◌++◌, length, drop, Some, refl, ap, ap₂, sym, ◌∙◌, add-one, arith}
 use Rattle.std.specs.Prelude.{slice_get}
 use Rattle.cob_tree.specs.declared.program.Range.{Range}
-use Rattle.cell_table.specs.Row.{CellRange}
-use Rattle.cell_table.specs.Seen.{seen_cells, seen_ranges}
-use Rattle.cell_table.specs.declared.row.ShapedRange.{ShapedRange}
+use Rattle.added_items.specs.item_table.Row.{CellRange}
+use Rattle.added_items.specs.item_table.Seen.{seen_cells, seen_ranges}
+use Rattle.added_items.specs.declared.item_table.row.ShapedRange.{ShapedRange}
 use Rattle.procedure_split.specs.declared.shaped_ranges.shaping.Closed.{Closed}
 use Rattle.procedure_split.specs.Rows.{row_of, rows_of}
 

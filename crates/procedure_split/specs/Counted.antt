@@ -1,7 +1,7 @@
 -- How many items of each kind are added.
 use Rattle.std.specs.Prelude.{◌+◌, List, [], ◌∷◌}
-use Rattle.control_laws.specs.graph_rules.Families.{Added, Never, Flag, Count, State, Exit}
-use Rattle.flow_report.specs.declared.report.AddedCounts.{AddedCounts}
+use Rattle.control_flow_theory.specs.graph_rules.Families.{Added, Never, Flag, Count, State, Exit}
+use Rattle.procedure_split.specs.declared.report.report.AddedCounts.{AddedCounts}
 
 abbrev pub none_added : AddedCounts
 none_added = record { never = 0; flags = 0; counts = 0; states = 0; exits = 0 }

@@ -1,7 +1,7 @@
 -- The places of procedures, in their order.
 use Rattle.std.specs.Prelude.{ℕ, suc, ◌+◌, ◌*◌, ◌^◌, List, [], ◌∷◌, ◌++◌, Option, Some, None}
 use Rattle.cob_tree.specs.declared.program.Range.{Range}
-use Rattle.choice_writing.specs.declared.placing.Placed.{Placed}
+use Rattle.statement_builders.specs.declared.arms.placing.Placed.{Placed}
 
 -- less for a smaller entry, and for a smaller exit at the same entry
 abbrev pub key_of : Placed → ℕ

@@ -1,11 +1,11 @@
 -- Shaped ranges, as the theory has them.
 use Rattle.std.specs.Prelude.{List, [], ◌∷◌, map}
 use Rattle.cob_tree.specs.declared.program.Range.{Range}
-use Rattle.lower_places.specs.Fall.{seen_range}
+use Rattle.lowering_labels.specs.points.Fall.{seen_range}
 use Rattle.branch_tree.specs.Graphs.{seen_added}
-use Rattle.control.specs.Graph.{body_of}
+use Rattle.control_flow_theory.specs.semantics.Graph.{body_of}
 use Rattle.branch_tree.specs.Trees.{seen_tree}
-use Rattle.cell_table.specs.Row.{CellRange}
+use Rattle.added_items.specs.item_table.Row.{CellRange}
 use Rattle.procedure_split.specs.declared.shaped_ranges.shaping.Closed.{Closed}
 
 abbrev pub row_of : Range → Closed → CellRange

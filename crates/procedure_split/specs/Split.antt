@@ -5,16 +5,16 @@ use Rattle.cob_tree.specs.declared.fault.SplitFault.{SplitFault}
 use Rattle.cob_tree.specs.declared.fault.SplitFault.TheVariants as fault
 use Rattle.cob_tree.specs.declared.program.Program.{Program}
 use Rattle.cob_tree.specs.declared.program.Range.{Range}
-use Rattle.language.specs.Control.{control_of}
-use Rattle.cut_lists.specs.Told.{told_of}
+use Rattle.control_flow_theory.specs.language.Control.{control_of}
+use Rattle.program_facts.specs.completion.Told.{told_of}
 use Rattle.pending_returns.specs.declared.facts.Summary.{Summary}
-use Rattle.range_plan.specs.Planned.{IsPlanOf}
+use Rattle.procedure_split.specs.plan.Planned.{IsPlanOf}
 use Rattle.branch_tree.specs.declared.graph.Graph.{Graph}
 use Rattle.region_rewrite.specs.Shape.{nesting_passed}
 use Rattle.procedure_split.specs.shaped_ranges.Limit.{AreLowered, ArePast}
 use Rattle.procedure_split.specs.shaped_ranges.Shaped.{AllShaped, IsOneTooDeep}
 use Rattle.procedure_split.specs.declared.shaped_ranges.shaping.Closed.{Closed}
-use Rattle.cell_table.specs.Items.{item_kinds}
+use Rattle.added_items.specs.item_table.Items.{item_kinds}
 use Rattle.procedure_split.specs.Counted.{counts_of}
 use Rattle.procedure_split.specs.Rows.{rows_of}
 use Rattle.procedure_split.specs.Written.{IsWrittenFrom}

@@ -4,15 +4,15 @@ use Rattle.cob_tree.specs.declared.entry.Entry.{Entry}
 use Rattle.cob_tree.specs.declared.program.Paragraph.{Paragraph}
 use Rattle.cob_tree.specs.declared.program.Program.{Program}
 use Rattle.cob_tree.specs.declared.program.Range.{Range}
-use Rattle.cobol_laws.specs.cell_serving.Entries.{CellEntry, entries_of}
+use Rattle.cobol_theory.specs.cell_serving.Entries.{CellEntry, entries_of}
 use Rattle.out_names.specs.Naming.{names_of}
 use Rattle.out_names.specs.Words.{program_words, table_of}
-use Rattle.choice_writing.specs.declared.placing.Placed.{Placed}
-use Rattle.cell_words.specs.declared.cells.CellItem.{CellItem}
-use Rattle.cell_table.specs.CellItems.{AreCellItems}
-use Rattle.cell_table.specs.Items.{item_kinds}
-use Rattle.cell_table.specs.Names.{entries_for, item_kind, seen_item}
-use Rattle.cell_table.specs.declared.naming.AddedItem.{AddedItem}
+use Rattle.statement_builders.specs.declared.arms.placing.Placed.{Placed}
+use Rattle.statement_builders.specs.declared.item_words.cells.CellItem.{CellItem}
+use Rattle.added_items.specs.item_table.CellItems.{AreCellItems}
+use Rattle.added_items.specs.item_table.Items.{item_kinds}
+use Rattle.added_items.specs.item_table.Names.{entries_for, item_kind, seen_item}
+use Rattle.added_items.specs.declared.item_table.naming.AddedItem.{AddedItem}
 use Rattle.procedure_split.specs.declared.shaped_ranges.shaping.Closed.{Closed}
 use Rattle.procedure_split.specs.made_procedures.Made.{AreAsMany, AreParagraphsOf, ArePlacesIn}
 use Rattle.procedure_split.specs.Counted.{counts_of}

@@ -3,13 +3,13 @@
 ghost use Rattle.std.specs.Prelude.{◌≡◌, ◌+◌, map, IfOk, OnOk};
 ghost use Rattle.cob_base.specs.Answers.{Makes};
 ghost use Rattle.branch_tree.specs.Graphs.{seen_added};
-ghost use Rattle.cell_table.specs.Names.{item_kind};
+ghost use Rattle.added_items.specs.item_table.Names.{item_kind};
 ghost use Rattle.procedure_split.specs.Counted.{counts_of, none_added, with_one};
 
+use crate::report::AddedCounts;
+use added_items::item_table::AddedItem;
 use branch_tree::Added;
-use cell_table::AddedItem;
 use cob_base::NoMemory;
-use flow_report::AddedCounts;
 
 fn none_added() -> AddedCounts
     ensures { result ≡ none_added }

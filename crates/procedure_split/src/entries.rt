@@ -2,11 +2,11 @@
 
 ghost use Rattle.std.specs.Prelude.{◌++◌, map};
 ghost use Rattle.cob_base.specs.Answers.{Makes};
-ghost use Rattle.cobol_laws.specs.cell_serving.Entries.{entries_of};
-ghost use Rattle.cell_table.specs.Names.{seen_item};
+ghost use Rattle.cobol_theory.specs.cell_serving.Entries.{entries_of};
+ghost use Rattle.added_items.specs.item_table.Names.{seen_item};
 
-use cell_entries::add_entries;
-use cell_table::AddedItem;
+use added_items::entries::add_entries;
+use added_items::item_table::AddedItem;
 use cob_base::{Copied, Items, NoMemory};
 use cob_tree::Entry;
 use std::alloc::Global;

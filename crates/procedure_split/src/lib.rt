@@ -16,6 +16,8 @@ pub mod one_split;
 pub mod one_summary;
 mod paragraphs;
 mod placing;
+pub mod plan;
+pub mod report;
 mod rows;
 pub mod shaped_ranges;
 pub mod split_behaviour;

@@ -2,19 +2,19 @@
 
 ghost use Rattle.std.specs.Prelude.{◌≡◌, IfOk};
 ghost use Rattle.cob_base.specs.Answers.{Makes};
-ghost use Rattle.lower_places.specs.Fall.{seen_range};
+ghost use Rattle.lowering_labels.specs.points.Fall.{seen_range};
 ghost use Rattle.branch_tree.specs.Trees.{seen_tree};
-ghost use Rattle.body_writing.specs.Procedures.{is_main};
+ghost use Rattle.body_rendering.specs.Procedures.{is_main};
 ghost use Rattle.procedure_split.specs.made_procedures.Made.{AreAsMany, AreParagraphsOf, IsParagraphOf};
 ghost use Rattle.procedure_split.specs.Paragraphs.{paragraph_named};
 
 use crate::shaped_ranges::Closed;
-use body_writing::write_procedure;
+use body_rendering::write_procedure;
 use branch_tree::{End, Tree};
-use cell_words::CellItem;
-use choice_writing::Placed;
 use cob_base::{Items, NoMemory, Word};
 use cob_tree::{Paragraph, Range, Sentence};
+use statement_builders::arms::Placed;
+use statement_builders::item_words::CellItem;
 use std::alloc::Global;
 use std::collections::VecDeque;
 use std::mem;

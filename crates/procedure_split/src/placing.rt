@@ -5,9 +5,9 @@ ghost use Rattle.std.specs.List.Sorted.{IsNonDecreasingBy, IsPermutation};
 ghost use Rattle.procedure_split.specs.made_procedures.Made.{ArePlacesIn};
 ghost use Rattle.procedure_split.specs.Places.{key_of, place_at, places_from};
 
-use choice_writing::Placed;
 use cob_base::NoMemory;
 use cob_tree::Range;
+use statement_builders::arms::Placed;
 use std::alloc::Global;
 
 /// A number that is less for a smaller entry, and for a smaller exit at the same entry.

@@ -1,11 +1,11 @@
 //! The shaped ranges, as their cells are given items.
 
 ghost use Rattle.std.specs.Prelude.{◌≡◌, length, IfOk};
-ghost use Rattle.cell_table.specs.Seen.{seen_cells, seen_ranges};
+ghost use Rattle.added_items.specs.item_table.Seen.{seen_cells, seen_ranges};
 ghost use Rattle.procedure_split.specs.Rows.{row_of, rows_of};
 
 use crate::shaped_ranges::Closed;
-use cell_table::ShapedRange;
+use added_items::item_table::ShapedRange;
 use cob_base::NoMemory;
 use cob_tree::Range;
 use std::alloc::Global;

@@ -4,11 +4,11 @@ ghost use Rattle.std.specs.Prelude.{MatchResult};
 ghost use Rattle.procedure_split.specs.shaped_ranges.Laws.{HasFlow};
 ghost use Rattle.procedure_split.specs.Split.{IsSplitFault, IsSplitWith};
 
+use crate::plan::plan_of;
 use crate::shaped_ranges::{lower_ranges, shape_all};
 use crate::writing::{Split, write_program};
 use cob_tree::{Program, SplitFault};
 use pending_returns::Summary;
-use range_plan::plan_of;
 use std::alloc::Global;
 
 /// The structured program that a program without a fault is restructured to, by the summary of its

@@ -2,8 +2,8 @@
 
 ghost use Rattle.std.specs.Prelude.{◌≡◌, ◌++◌, ◌+◌, ◌<◌, ◌^◌, length, map, IfOk, IsTrue};
 ghost use Rattle.cob_base.specs.Answers.{Makes};
-ghost use Rattle.cobol_laws.specs.cell_serving.Entries.{entries_of};
-ghost use Rattle.cell_table.specs.Names.{seen_item};
+ghost use Rattle.cobol_theory.specs.cell_serving.Entries.{entries_of};
+ghost use Rattle.added_items.specs.item_table.Names.{seen_item};
 ghost use Rattle.out_names.specs.Words.{program_words};
 ghost use Rattle.procedure_split.specs.Written.{IsWrittenWith, split_of, with_parts};
 
@@ -11,12 +11,12 @@ use crate::counting::counts_of;
 use crate::entries::entries_with;
 use crate::paragraphs::paragraphs_of;
 use crate::placing::places_of;
+use crate::report::AddedCounts;
 use crate::rows::rows_of;
 use crate::shaped_ranges::Closed;
-use cell_table::{AddedItem, give_items};
+use added_items::item_table::{AddedItem, give_items};
 use cob_base::{Copied, Items, NoMemory};
 use cob_tree::{Paragraph, Program, Range};
-use flow_report::AddedCounts;
 use out_names::{names, word_table};
 use std::alloc::Global;
 

@@ -5,8 +5,8 @@ use Rattle.std.specs.Fmt.{decimal}
 use Rattle.std.proofs.lemmas.Fmt.{length-decimal-le}
 use Rattle.std.proofs.lemmas.List.{length-append}
 use Rattle.std.proofs.lemmas.List.Elements.{All-cons, All-nil}
-use Rattle.numbered_words.specs.Stem.{IsStem, stem_byte}
-use Rattle.numbered_words.proofs.NumberedLemmas.{stem_goes_on, decimal_is_spelled}
+use Rattle.cob_words.specs.numbered.Stem.{IsStem, stem_byte}
+use Rattle.cob_words.proofs.numbered_lemmas.NumberedLemmas.{stem_goes_on, decimal_is_spelled}
 
 spelled : (b : ℕ) (bs : List ℕ) → stem_byte b ≡ true → All (λ x. stem_byte x ≡ true) bs → All (λ x. stem_byte x ≡ true) (b ∷ bs)
 spelled b bs h hs = All-cons (λ x. stem_byte x ≡ true) b bs h hs

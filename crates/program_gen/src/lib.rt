@@ -19,7 +19,7 @@ use crate::main_paragraph::main_of;
 use crate::parts::counter_entry;
 use cob_base::{Items, NoMemory};
 use cob_tree::Program;
-use numbered_words::numbered;
+use cob_words::numbered::numbered;
 use std::alloc::Global;
 
 /// The program of a number: so many groups of four paragraphs, of which three jump about.

@@ -7,7 +7,7 @@ ghost use Rattle.program_gen.specs.Generated.{perform_group, performs_of, main_o
 use crate::parts::{counter, only, sentence};
 use cob_base::{Items, NoMemory};
 use cob_tree::{Control, Operand, Paragraph, Sentence, Stmt};
-use numbered_words::capital_word;
+use cob_words::numbered::capital_word;
 use std::alloc::Global;
 
 /// `PERFORM G-group-1 THRU G-group-4`

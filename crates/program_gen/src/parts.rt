@@ -9,7 +9,7 @@ use cob_tree::{
     Arms, Calc, Cond, Digits, Entry, Expr, Number, Operand, Paragraph, Picture, Place, Rel,
     Sentence, Sign, Stmt, Target,
 };
-use numbered_words::{capital_word, numbered, numbered_text};
+use cob_words::numbered::{capital_word, numbered, numbered_text};
 use std::alloc::Global;
 
 /// A list of this item alone.

@@ -3,21 +3,21 @@ use Rattle.std.proofs.Common.{◌≡◌, ◌≢◌, ◌<◌, ◌≤◌, ℕ, zer
 use Rattle.std.specs.Ordering.{nat_cmp}
 use Rattle.std.specs.BTreeSet.{BTreeSet, contains}
 use Rattle.std.proofs.lemmas.Bool.Decides.{eqb_tells}
-use Rattle.control.specs.Doing.{is_above}
-use Rattle.control.specs.Graph.{Label, Tree}
-use Rattle.control_laws.specs.graph_rules.Shapes.{joined, inlined, leaves_to, other_targets}
-use Rattle.control_laws.specs.graph_rules.Reduced.{Node, Graph, tree_in, has_node, each_tree, without, with_tree, all_leaves_to, join_graph, inline_graph, close_graph, inlines, loops, at_most_one, inline_step, loop_step, rule_step}
-use Rattle.control_laws.specs.closing.Closes.{are_several, has_exits, exits_graph, exits_step, or_exits}
-use Rattle.control_laws.specs.closing.Dispatches.{Rising}
+use Rattle.control_flow_theory.specs.semantics.Doing.{is_above}
+use Rattle.control_flow_theory.specs.semantics.Graph.{Label, Tree}
+use Rattle.control_flow_theory.specs.graph_rules.Shapes.{joined, inlined, leaves_to, other_targets}
+use Rattle.control_flow_theory.specs.graph_rules.Reduced.{Node, Graph, tree_in, has_node, each_tree, without, with_tree, all_leaves_to, join_graph, inline_graph, close_graph, inlines, loops, at_most_one, inline_step, loop_step, rule_step}
+use Rattle.control_flow_theory.specs.closing.Closes.{are_several, has_exits, exits_graph, exits_step, or_exits}
+use Rattle.control_flow_theory.specs.closing.Dispatches.{Rising}
 use Rattle.tree_rules.specs.Inlines.{may_inline}
 use Rattle.tree_rules.proofs.InlineRows.{graph_with, graph_same}
 use Rattle.tree_rules.proofs.ByLabel.{without_with, first_alone, rising_tail, lowest_is, lowest_none}
 use Rattle.tree_rules.proofs.MoveRows.{both, apart, inline_is, has_inline, tree_inline, count_inline}
-use Rattle.control_laws.proofs.graph_rules_lemmas.shapes.Reducing.{with-other}
+use Rattle.control_flow_theory.proofs.graph_rules_lemmas.shapes.Reducing.{with-other}
 use Rattle.branch_tree.specs.Sounds.{IsSound}
 use Rattle.branch_tree.proofs.NodeRows.{has_with, with_none, without_none, has_not_without, leaves_with, leaves_split}
 use Rattle.loop_rules.specs.Closed.{may_loop}
-use Rattle.exit_rules.specs.Exits.{may_exit}
+use Rattle.region_rewrite.specs.exit_rule.Exits.{may_exit}
 use Rattle.region_rewrite.specs.Candidates.{AllIn, AllInBut, TargetsIn, Grows, Enters, Fixed, Holds, HoldsBut}
 
 -- What the rules look at.

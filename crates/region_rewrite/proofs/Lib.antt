@@ -10,3 +10,8 @@ pub mod ReduceRows
 pub mod StepRows
 -- the one node that is left
 pub mod ShapeRows
+-- Exits: a node with a jump to itself, whose other live leaves have several targets, becomes a
+-- loop, and then a choice of its targets.
+pub mod exit_rule_lemmas
+-- How deep the statements of a tree nest as they are written.
+pub mod written_nesting_lemmas

@@ -1,13 +1,13 @@
 -- What the rules make of a graph and of the labels on which they are to be tried.
 use Rattle.std.proofs.Common.{◌≡◌, ℕ, true, refl, ap, sym, ◌∙◌, subst}
 use Rattle.std.specs.BTreeSet.{BTreeSet}
-use Rattle.control.specs.Doing.{is_above}
-use Rattle.control.specs.Graph.{Label, Tree}
-use Rattle.control_laws.specs.graph_rules.Shapes.{joined, leaves_to, other_targets}
-use Rattle.control_laws.specs.graph_rules.Reduced.{Graph, tree_in, has_node, count, loops, close_graph, looped_graph, at_most_one, join_graph}
-use Rattle.control_laws.specs.closing.Closes.{none_left_out, has_exits, exits_graph}
-use Rattle.control_laws.specs.closing.Dispatches.{Rising}
-use Rattle.control_laws.specs.closing.Targets.{with_exits}
+use Rattle.control_flow_theory.specs.semantics.Doing.{is_above}
+use Rattle.control_flow_theory.specs.semantics.Graph.{Label, Tree}
+use Rattle.control_flow_theory.specs.graph_rules.Shapes.{joined, leaves_to, other_targets}
+use Rattle.control_flow_theory.specs.graph_rules.Reduced.{Graph, tree_in, has_node, count, loops, close_graph, looped_graph, at_most_one, join_graph}
+use Rattle.control_flow_theory.specs.closing.Closes.{none_left_out, has_exits, exits_graph}
+use Rattle.control_flow_theory.specs.closing.Dispatches.{Rising}
+use Rattle.control_flow_theory.specs.closing.Targets.{with_exits}
 use Rattle.branch_tree.proofs.NodeRows.{has_with, rising_with, tree_with}
 use Rattle.tree_rules.specs.Joins.{joined_at}
 use Rattle.tree_rules.proofs.LeafRows.{joined_leaves}
@@ -15,8 +15,8 @@ use Rattle.tree_rules.proofs.MoveRows.{both}
 use Rattle.loop_rules.specs.Closed.{closed, may_loop}
 use Rattle.loop_rules.proofs.NodeRows.{close_row}
 use Rattle.loop_rules.proofs.LeafRows.{closed_leaves}
-use Rattle.exit_rules.specs.Exits.{may_exit}
-use Rattle.exit_rules.proofs.LeafRows.{exits_leaves}
+use Rattle.region_rewrite.specs.exit_rule.Exits.{may_exit}
+use Rattle.region_rewrite.proofs.exit_rule_lemmas.LeafRows.{exits_leaves}
 use Rattle.region_rewrite.specs.Candidates.{Enters, Grows, Holds, HoldsBut, TargetsIn}
 use Rattle.region_rewrite.proofs.CandidateRows.{changed_but, entered, join_is}
 use Rattle.region_rewrite.proofs.JoinedRows.{closed_joined, joined_twice}

@@ -4,10 +4,10 @@ use Rattle.std.specs.Ordering.{nat_cmp, is_gt}
 use Rattle.std.specs.BTreeMap.{is_at}
 use Rattle.std.specs.BTreeSet.{BTreeSet, contains, btree_set_len, Updates, IsLowerBound}
 use Rattle.std.proofs.lemmas.Bool.Decides.{eqb_tells, nat_tests}
-use Rattle.control.specs.Doing.{is_above}
-use Rattle.control.specs.Graph.{Label, Tree}
-use Rattle.control_laws.specs.graph_rules.Shapes.{leaves_to, arms_leaves_to}
-use Rattle.control_laws.specs.graph_rules.Reduced.{Node, tree_in, has_node}
+use Rattle.control_flow_theory.specs.semantics.Doing.{is_above}
+use Rattle.control_flow_theory.specs.semantics.Graph.{Label, Tree}
+use Rattle.control_flow_theory.specs.graph_rules.Shapes.{leaves_to, arms_leaves_to}
+use Rattle.control_flow_theory.specs.graph_rules.Reduced.{Node, tree_in, has_node}
 use Rattle.branch_tree.specs.declared.graph.Node as code
 use Rattle.branch_tree.specs.declared.tree.Tree as code_tree
 use Rattle.branch_tree.specs.Graphs.{seen_nodes}

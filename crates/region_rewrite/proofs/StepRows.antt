@@ -1,15 +1,15 @@
 -- The steps of the rules.
 use Rattle.std.proofs.Common.{◌≡◌, ◌<◌, ◌≤◌, ◌++◌, ℕ, zero, suc, ◌-◌, Bool, true, false, if◌then◌else◌, List, [], ◌∷◌, length, take, drop, get_or, set, Option, Some, None, Result, Ok, Err, refl, ap, sym, ◌∙◌, subst, arith}
 use Rattle.cob_base.specs.declared.memory.NoMemory.{NoMemory}
-use Rattle.control.specs.Doing.{is_above}
-use Rattle.control.specs.Graph.{Label, Tree}
-use Rattle.control_laws.specs.graph_rules.Shapes.{joined}
-use Rattle.control_laws.specs.graph_rules.Reduced.{Node, Graph, each_tree, join_graph, close_graph, size, rule_step, stepped, reduced}
-use Rattle.control_laws.specs.closing.Closes.{IsClosed, dispatch_graph, dispatch_rest, any_step, or_exits, exits_graph, reduced_by_all}
+use Rattle.control_flow_theory.specs.semantics.Doing.{is_above}
+use Rattle.control_flow_theory.specs.semantics.Graph.{Label, Tree}
+use Rattle.control_flow_theory.specs.graph_rules.Shapes.{joined}
+use Rattle.control_flow_theory.specs.graph_rules.Reduced.{Node, Graph, each_tree, join_graph, close_graph, size, rule_step, stepped, reduced}
+use Rattle.control_flow_theory.specs.closing.Closes.{IsClosed, dispatch_graph, dispatch_rest, any_step, or_exits, exits_graph, reduced_by_all}
 use Rattle.std.specs.Prelude.{OnOk}
 use Rattle.loop_rules.specs.Closed.{may_loop, CloseLoop}
-use Rattle.exit_rules.specs.Exits.{may_exit, CloseExits}
-use Rattle.control_laws.proofs.closing_lemmas.closing.RulesStayClosed.{join-closed}
+use Rattle.region_rewrite.specs.exit_rule.Exits.{may_exit, CloseExits}
+use Rattle.control_flow_theory.proofs.closing_lemmas.closing.RulesStayClosed.{join-closed}
 use Rattle.branch_tree.specs.declared.graph.Node as code
 use Rattle.branch_tree.specs.Graphs.{seen_node, seen_nodes}
 use Rattle.region_rewrite.specs.Candidates.{Fixed}

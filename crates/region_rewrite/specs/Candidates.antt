@@ -2,13 +2,13 @@
 use Rattle.std.specs.Prelude.{ℕ, ◌≡◌, ◌≢◌, ◌<◌, Bool, true, false, List, [], ◌∷◌, Option, Some, None}
 use Rattle.std.specs.Ordering.{nat_cmp}
 use Rattle.std.specs.BTreeSet.{BTreeSet, contains}
-use Rattle.control.specs.Doing.{is_above}
-use Rattle.control.specs.Graph.{Label, Tree, Trees}
-use Rattle.control_laws.specs.graph_rules.Shapes.{joined, leaves_to, arms_leaves_to}
-use Rattle.control_laws.specs.graph_rules.Reduced.{Node, Graph, without}
+use Rattle.control_flow_theory.specs.semantics.Doing.{is_above}
+use Rattle.control_flow_theory.specs.semantics.Graph.{Label, Tree, Trees}
+use Rattle.control_flow_theory.specs.graph_rules.Shapes.{joined, leaves_to, arms_leaves_to}
+use Rattle.control_flow_theory.specs.graph_rules.Reduced.{Node, Graph, without}
 use Rattle.tree_rules.specs.Inlines.{may_inline}
 use Rattle.loop_rules.specs.Closed.{may_loop}
-use Rattle.exit_rules.specs.Exits.{may_exit}
+use Rattle.region_rewrite.specs.exit_rule.Exits.{may_exit}
 
 -- each label on which the rule applies is in the set
 abbrev pub AllIn : (Label → Bool) → BTreeSet ℕ → Type 0

@@ -8,3 +8,8 @@ pub mod Reducings
 pub mod Steps
 -- a graph as one body
 pub mod Shape
+-- Exits: a node with a jump to itself, whose other live leaves have several targets, becomes a
+-- loop, and then a choice of its targets.
+pub mod exit_rule
+-- How deep the statements of a tree nest as they are written.
+pub mod written_nesting

@@ -1,6 +1,6 @@
 -- A graph while the rules reduce it.
-use Rattle.control.specs.Graph.{Label}
-use Rattle.control_laws.specs.graph_rules.Reduced.{Graph}
+use Rattle.control_flow_theory.specs.semantics.Graph.{Label}
+use Rattle.control_flow_theory.specs.graph_rules.Reduced.{Graph}
 use Rattle.branch_tree.specs.Helds.{seen_work}
 use Rattle.region_rewrite.specs.Candidates.{Holds, HoldsBut}
 use Rattle.region_rewrite.specs.declared.reducing.Reducing.{Reducing}

@@ -4,12 +4,12 @@ use Rattle.cob_base.specs.declared.limit.Limit.{Limit}
 use Rattle.cob_base.specs.declared.limit.LimitKind.TheVariants.{Nesting}
 use Rattle.cob_tree.specs.declared.fault.SplitFault.{SplitFault}
 use Rattle.cob_tree.specs.declared.fault.SplitFault.TheVariants as fault
-use Rattle.language.specs.Language.{none}
-use Rattle.control.specs.Graph.{Tree, tree, Dead, body_of}
-use Rattle.control_laws.specs.graph_rules.Reduced.{Node, Graph}
+use Rattle.control_flow_theory.specs.language.Language.{none}
+use Rattle.control_flow_theory.specs.semantics.Graph.{Tree, tree, Dead, body_of}
+use Rattle.control_flow_theory.specs.graph_rules.Reduced.{Node, Graph}
 use Rattle.branch_tree.specs.Graphs.{seen_added}
 use Rattle.branch_tree.specs.Trees.{seen_body, seen_end}
-use Rattle.tree_nesting.specs.Nesting.{nesting}
+use Rattle.region_rewrite.specs.written_nesting.Nesting.{nesting}
 use Rattle.region_rewrite.specs.declared.shaping.Shaped.{Shaped}
 
 -- the most levels of statements in a result, one in the other

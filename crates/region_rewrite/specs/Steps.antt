@@ -1,8 +1,8 @@
 -- One step of the rules.
 use Rattle.std.specs.Prelude.{◌≡◌, Bool, true, false, Option, Some, None, Result, Ok, Err}
 use Rattle.cob_base.specs.declared.memory.NoMemory.{NoMemory}
-use Rattle.control.specs.Graph.{Label}
-use Rattle.control_laws.specs.graph_rules.Reduced.{Graph, rule_step}
+use Rattle.control_flow_theory.specs.semantics.Graph.{Label}
+use Rattle.control_flow_theory.specs.graph_rules.Reduced.{Graph, rule_step}
 use Rattle.loop_rules.specs.Closed.{may_loop}
 
 -- true with the graph after the step, false where no rule applies

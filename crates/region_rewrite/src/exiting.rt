@@ -1,17 +1,17 @@
 //! Exits, where neither Loop nor Inline applies, and all rules in their order.
 
 ghost use Rattle.std.specs.Prelude.{◌≡◌, true, None, OnOk};
-ghost use Rattle.control_laws.specs.closing.Closes.{any_step, exits_graph, or_exits, reduced_by_all};
-ghost use Rattle.control_laws.specs.graph_rules.Reduced.{join_graph};
-ghost use Rattle.exit_rules.specs.Exits.{may_exit};
+ghost use Rattle.control_flow_theory.specs.closing.Closes.{any_step, exits_graph, or_exits, reduced_by_all};
+ghost use Rattle.control_flow_theory.specs.graph_rules.Reduced.{join_graph};
+ghost use Rattle.region_rewrite.specs.exit_rule.Exits.{may_exit};
 ghost use Rattle.region_rewrite.specs.Reducings.{StateHolds, StateHoldsBut, graph_in};
 ghost use Rattle.region_rewrite.specs.Steps.{Steps};
 
 use crate::candidates::{Rule, next, put_node_targets};
+use crate::exit_rule::close_exits;
 use crate::reducing::{Reducing, settle, step};
 use branch_tree::Label;
 use cob_base::NoMemory;
-use exit_rules::close_exits;
 use std::alloc::Global;
 
 /// Exits on a label where it applies, and Join. A graph with 2^32 - 1 added items is out of memory.

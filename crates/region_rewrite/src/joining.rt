@@ -1,8 +1,8 @@
 //! Join, everywhere.
 
 ghost use Rattle.std.specs.Prelude.{◌≡◌, ◌*◌, IfOk, OnOk};
-ghost use Rattle.control_laws.specs.graph_rules.Reduced.{each_tree, join_graph, size};
-ghost use Rattle.control_laws.specs.graph_rules.Shapes.{joined};
+ghost use Rattle.control_flow_theory.specs.graph_rules.Reduced.{each_tree, join_graph, size};
+ghost use Rattle.control_flow_theory.specs.graph_rules.Shapes.{joined};
 ghost use Rattle.branch_tree.specs.Graphs.{seen_graph, seen_nodes};
 
 use branch_tree::{Graph, Node};

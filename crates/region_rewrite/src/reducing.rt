@@ -1,8 +1,8 @@
 //! Loop and Inline, on the lowest label where they apply, Loop first.
 
 ghost use Rattle.std.specs.Prelude.{◌≡◌, true, false, OnOk};
-ghost use Rattle.control.specs.Graph.{Label};
-ghost use Rattle.control_laws.specs.graph_rules.Reduced.{close_graph, has_node, inline_graph, join_graph, reduced, rule_step};
+ghost use Rattle.control_flow_theory.specs.semantics.Graph.{Label};
+ghost use Rattle.control_flow_theory.specs.graph_rules.Reduced.{close_graph, has_node, inline_graph, join_graph, reduced, rule_step};
 ghost use Rattle.loop_rules.specs.Closed.{may_loop};
 ghost use Rattle.tree_rules.specs.Inlines.{may_inline};
 ghost use Rattle.region_rewrite.specs.Candidates.{Enters};

@@ -1,19 +1,19 @@
 //! A graph as one body.
 
 ghost use Rattle.std.specs.Prelude.{◌≡◌, length, IfOk};
-ghost use Rattle.control_laws.specs.closing.Closes.{IsClosed, closed_graph};
-ghost use Rattle.control_laws.specs.closing.Laws.{PlainEnd};
+ghost use Rattle.control_flow_theory.specs.closing.Closes.{IsClosed, closed_graph};
+ghost use Rattle.control_flow_theory.specs.closing.Laws.{PlainEnd};
 ghost use Rattle.branch_tree.specs.Graphs.{seen_graph};
 ghost use Rattle.branch_tree.specs.Trees.{seen_end};
 ghost use Rattle.region_rewrite.specs.Shape.{Shapes, nesting_passed};
 
 use crate::ordering::close;
+use crate::written_nesting::body_nesting;
 use branch_tree::{Added, End, Graph, Node, Piece, Tree};
 use cob_base::{Limit, LimitKind};
 use cob_tree::SplitFault;
 use std::alloc::Global;
 use std::collections::VecDeque;
-use tree_nesting::body_nesting;
 
 /// What a graph becomes: a body, an end behind which nothing comes, and the added items in the
 /// order in which they were made.

@@ -4,12 +4,12 @@ use Rattle.std.specs.Prelude.{IfOk}
 use Rattle.cob_tree.specs.declared.fault.SplitFault.{SplitFault}
 use Rattle.cob_tree.specs.declared.fault.SplitFault.TheVariants as split
 use Rattle.cob_tree.specs.declared.program.Program.{Program}
-use Rattle.flow_paths.specs.declared.trail.Trail.{Trail}
+use Rattle.program_points.specs.declared.paths.trail.Trail.{Trail}
 use Rattle.pending_returns.specs.declared.facts.Summary.{Summary}
 use Rattle.procedure_split.specs.declared.writing.Split.{Split}
 use Rattle.procedure_split.specs.Split.{IsSplitFault, IsSplitWith}
-use Rattle.flow_report.specs.Report.{IsReportOf}
-use Rattle.flow_report.specs.declared.report.Report.{Report}
+use Rattle.procedure_split.specs.report.Report.{IsReportOf}
+use Rattle.procedure_split.specs.declared.report.report.Report.{Report}
 use Rattle.cobol_read.specs.declared.refusal.ReadRefusal.{ReadRefusal}
 use Rattle.cobol_read.specs.declared.refusal.ReadRefusal.TheVariants as read
 use Rattle.cobol_read.specs.Reading as reading

@@ -2,9 +2,9 @@
 use Rattle.std.proofs.Common.{ℕ, List}
 use Rattle.cob_tree.specs.declared.program.Program.{Program}
 use Rattle.struct_form.specs.Structured.{IsStructured}
-use Rattle.cobol_laws.specs.cobol_meaning.Same.{SameBehaviour}
+use Rattle.cobol_theory.specs.cobol_meaning.Same.{SameBehaviour}
 use Rattle.procedure_split.specs.declared.writing.Split.{Split}
-use Rattle.result_laws.proofs.read_headline_lemmas.WellMade.{read-alike, read-structured}
+use Rattle.end_to_end_laws.proofs.results_lemmas.read_headline_lemmas.WellMade.{read-alike, read-structured}
 use Rattle.cobol_read.specs.Reading.{Reads}
 use Rattle.restructure_core.specs.Made.{IsMadeOf}
 use Rattle.restructure_core.proofs.ReadWell.{clear-flow}

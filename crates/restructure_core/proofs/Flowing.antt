@@ -3,10 +3,10 @@ use Rattle.std.proofs.Common.{◌≡◌, ◌≤◌, length, sym, subst}
 use Rattle.cob_tree.specs.declared.fault.SplitFault.{SplitFault}
 use Rattle.cob_tree.specs.declared.fault.SplitFault.TheVariants as split
 use Rattle.cob_tree.specs.declared.program.Program.{Program}
-use Rattle.language.specs.Control.{control_of}
-use Rattle.flow_paths.specs.declared.trail.Trail.{Trail}
-use Rattle.flow_paths.proofs.Showing.{accepted-faulty}
-use Rattle.flow_numbers.specs.Kinds.{never_first_of}
+use Rattle.control_flow_theory.specs.language.Control.{control_of}
+use Rattle.program_points.specs.declared.paths.trail.Trail.{Trail}
+use Rattle.program_points.proofs.paths_lemmas.Showing.{accepted-faulty}
+use Rattle.program_points.specs.numbering.Kinds.{never_first_of}
 use Rattle.pending_returns.specs.declared.facts.Summary.{Summary}
 use Rattle.pending_returns.specs.Summary.{IsSummary, IsWithin, IsPast}
 use Rattle.restructure_core.specs.declared.fault.Refused.{Refused}

@@ -16,3 +16,5 @@ pub mod OneReport
 pub mod Ranges
 pub mod OneResult
 pub mod OneAnswer
+-- A source to what comes of its run.
+pub mod run_lemmas

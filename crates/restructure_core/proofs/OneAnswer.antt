@@ -3,7 +3,7 @@ use Rattle.std.proofs.Common.{◌≡◌, ℕ, List, Result, Ok, Err, refl, ap, s
 use Rattle.std.specs.Prelude.{IsOk, IfOk, IfErr}
 use Rattle.cob_base.specs.declared.limit.Limit.{Limit}
 use Rattle.cob_tree.specs.declared.program.Program.{Program}
-use Rattle.flow_paths.specs.declared.trail.Trail.{Trail}
+use Rattle.program_points.specs.declared.paths.trail.Trail.{Trail}
 use Rattle.pending_returns.specs.Summary.{IsWithin}
 use Rattle.cobol_read.specs.Reading.{Reads}
 use Rattle.cobol_read.proofs.OneWay.{one_way}

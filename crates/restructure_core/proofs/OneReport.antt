@@ -1,16 +1,16 @@
 -- A program has one report.
 use Rattle.std.proofs.Common.{◌≡◌, ℕ, List, map, length, Option, ap, sym, ◌∙◌}
 use Rattle.cob_tree.specs.declared.program.Program.{Program}
-use Rattle.language.specs.Control.{control_of}
+use Rattle.control_flow_theory.specs.language.Control.{control_of}
 use Rattle.out_names.specs.Naming.{paragraph_label}
-use Rattle.flow_numbers.specs.Kinds.{never_first_of}
+use Rattle.program_points.specs.numbering.Kinds.{never_first_of}
 use Rattle.pending_returns.specs.declared.facts.RangeFacts.{RangeFacts}
 use Rattle.pending_returns.specs.declared.facts.Summary.{Summary}
 use Rattle.procedure_split.proofs.one_summary_lemmas.Facts.{summaries-same}
 use Rattle.procedure_split.proofs.one_summary_lemmas.Numbers.{one-rising}
-use Rattle.flow_report.specs.Report.{IsSummaryOf, AreDroppedOf, AreLabelsOfDropped, IsReportOf}
-use Rattle.flow_report.specs.declared.report.AddedCounts.{AddedCounts}
-use Rattle.flow_report.specs.declared.report.Report.{Report}
+use Rattle.procedure_split.specs.report.Report.{IsSummaryOf, AreDroppedOf, AreLabelsOfDropped, IsReportOf}
+use Rattle.procedure_split.specs.declared.report.report.AddedCounts.{AddedCounts}
+use Rattle.procedure_split.specs.declared.report.report.Report.{Report}
 
 same-numbers : (program : Program) (one other : List ℕ) → AreDroppedOf program one →
     AreDroppedOf program other → one ≡ other

@@ -6,8 +6,8 @@ use Rattle.cob_tree.specs.declared.program.Program.{Program}
 use Rattle.cobol_read.specs.Reading.{Reads}
 use Rattle.cobol_print.specs.Program.{printed}
 use Rattle.procedure_split.specs.declared.writing.Split.{Split}
-use Rattle.flow_report.specs.Report.{IsReportOf}
-use Rattle.flow_report.specs.declared.report.Report.{Report}
+use Rattle.procedure_split.specs.report.Report.{IsReportOf}
+use Rattle.procedure_split.specs.declared.report.report.Report.{Report}
 use Rattle.restructure_core.proofs.OneReport.{one-report}
 use Rattle.procedure_split.specs.one_split.Laws.{IsSplitOnce}
 use Rattle.procedure_split.proofs.one_split_lemmas.OneSplit.{one-split}
@@ -17,7 +17,7 @@ use Rattle.pending_returns.specs.declared.facts.Summary.{Summary}
 use Rattle.restructure_core.specs.Made.{IsClear, IsMadeOf, PassesBefore}
 use Rattle.restructure_core.specs.Limit.{result_limit}
 use Rattle.restructure_core.specs.Answers.{PassesAsResult, PassesLimit, IsResultOf}
-use Rattle.result_laws.proofs.read_headline_lemmas.WellMade.{well-made}
+use Rattle.end_to_end_laws.proofs.results_lemmas.read_headline_lemmas.WellMade.{well-made}
 use Rattle.restructure_core.proofs.ReadWell.{clear-flow}
 
 pub limited-faultless : (program : Program) (limit : Limit) → PassesLimit program limit →

@@ -3,8 +3,8 @@ use Rattle.std.proofs.Common.{◌≡◌, ◌<◌, ◌==◌, ◌&&◌, ◌||◌, 
 use Rattle.cob_base.specs.declared.limit.Limit.{Limit}
 use Rattle.cob_tree.specs.declared.program.Program.{Program}
 use Rattle.cob_tree.specs.declared.program.Range.{Range}
-use Rattle.named_ranges.specs.Named.{is_before, pair_before, exit_before, Has, AreRangesOf}
-use Rattle.named_ranges.proofs.Ordered.{before-far}
+use Rattle.program_points.specs.perform_ranges.Named.{is_before, pair_before, exit_before, Has, AreRangesOf}
+use Rattle.program_points.proofs.perform_ranges_lemmas.Ordered.{before-far}
 use Rattle.pending_returns.specs.Summary.{NamesSoMany, IsWithin, limit_at}
 use Rattle.restructure_core.specs.Flow.{PassesRanges}
 

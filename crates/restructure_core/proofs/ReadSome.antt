@@ -2,12 +2,12 @@
 use Rattle.std.proofs.Common.{◌<◌, ℕ, List, [], ◌∷◌, length, sym, subst, arith}
 use Rattle.cob_tree.specs.declared.program.Paragraph.{Paragraph}
 use Rattle.cob_tree.specs.declared.program.Program.{Program}
-use Rattle.grammar_forms.specs.Form.{Input}
-use Rattle.grammar_forms.specs.Reading.{start}
-use Rattle.statement_grammar.specs.stmt_forms.Part.{Parts}
-use Rattle.statement_grammar.specs.stmt_forms.Paragraph as paragraphs
-use Rattle.statement_grammar.specs.stmt_forms.Paragraph.{at_least_one, with_pending}
-use Rattle.statement_grammar.specs.Whole.{parts_of}
+use Rattle.parser_combinators.specs.Form.{Input}
+use Rattle.parser_combinators.specs.Reading.{start}
+use Rattle.cobol_grammar.specs.stmt_forms.Part.{Parts}
+use Rattle.cobol_grammar.specs.stmt_forms.Paragraph as paragraphs
+use Rattle.cobol_grammar.specs.stmt_forms.Paragraph.{at_least_one, with_pending}
+use Rattle.cobol_grammar.specs.Whole.{parts_of}
 use Rattle.cobol_read.specs.declared.program.Declarations.{Declarations}
 use Rattle.cobol_read.specs.declared.program.ProgramDraft.{ProgramDraft}
 use Rattle.cobol_read.specs.Program as forms

@@ -5,7 +5,7 @@ use Rattle.pending_returns.specs.declared.facts.Summary.{Summary}
 use Rattle.cobol_read.specs.Reading.{Reads}
 use Rattle.procedure_split.specs.shaped_ranges.Laws.{HasFlow}
 use Rattle.procedure_split.specs.split_behaviour.Alike.{FlowsSo}
-use Rattle.result_laws.proofs.read_headline_lemmas.WellMade.{well-made}
+use Rattle.end_to_end_laws.proofs.results_lemmas.read_headline_lemmas.WellMade.{well-made}
 use Rattle.restructure_core.specs.Made.{IsClear}
 use Rattle.restructure_core.proofs.ReadSome.{read_some}
 

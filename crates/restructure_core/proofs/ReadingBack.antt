@@ -3,16 +3,16 @@ use Rattle.std.proofs.Common.{◌≡◌, ◌≤◌, ℕ, zero, suc, Bool, true, 
 use Rattle.cob_base.specs.declared.limit.Limit.{Limit}
 use Rattle.cob_base.specs.declared.limit.LimitKind.TheVariants as limits
 use Rattle.cob_tree.specs.declared.program.Program.{Program}
-use Rattle.data_sizes.specs.Storage.{storage_limit, storage_of}
-use Rattle.term_sizes.specs.Program.{max_terms, terms_limit, terms_of}
+use Rattle.cob_store.specs.sizes.Storage.{storage_limit, storage_of}
+use Rattle.program_facts.specs.term_counts.Program.{max_terms, terms_limit, terms_of}
 use Rattle.out_names.specs.Ordering.{first_ready, order_from, order_of}
-use Rattle.range_plan.specs.Planned.{calls_of, range_at}
+use Rattle.procedure_split.specs.plan.Planned.{calls_of, range_at}
 use Rattle.pending_returns.specs.declared.facts.RangeFacts.{RangeFacts}
 use Rattle.pending_returns.specs.declared.facts.Summary.{Summary}
 use Rattle.procedure_split.specs.declared.writing.Split.{Split}
 use Rattle.procedure_split.specs.Split.{IsSplit}
 use Rattle.cobol_read.specs.Limit.{token_limit}
-use Rattle.result_laws.specs.readable_results.Laws.{IsWithinLimits, SplitProgramsReadBack}
+use Rattle.end_to_end_laws.specs.results.readable_results.Laws.{IsWithinLimits, SplitProgramsReadBack}
 use Rattle.restructure_core.specs.Limit.{byte_limit, byte_count, token_count, else_limit, text_limit, part_limit, result_limit}
 use Rattle.restructure_core.specs.Made.{IsMadeOf}
 use Rattle.restructure_core.specs.Results.{ResultsReadBack}

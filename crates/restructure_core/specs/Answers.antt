@@ -3,12 +3,12 @@ use Rattle.std.specs.Prelude.{ℕ, ◌≡◌, ◌≢◌, ◌⊎◌, List, Some, 
 use Rattle.cob_base.specs.declared.limit.Limit.{Limit}
 use Rattle.cob_tree.specs.declared.program.Program.{Program}
 use Rattle.struct_form.specs.Structured.{IsStructured}
-use Rattle.cobol_laws.specs.cobol_meaning.Same.{SameBehaviour}
-use Rattle.flow_paths.specs.declared.trail.Trail.{Trail}
+use Rattle.cobol_theory.specs.cobol_meaning.Same.{SameBehaviour}
+use Rattle.program_points.specs.declared.paths.trail.Trail.{Trail}
 use Rattle.pending_returns.specs.Summary.{IsWithin}
 use Rattle.procedure_split.specs.declared.writing.Split.{Split}
-use Rattle.flow_report.specs.Report.{IsReportOf}
-use Rattle.flow_report.specs.declared.report.Report.{Report}
+use Rattle.procedure_split.specs.report.Report.{IsReportOf}
+use Rattle.procedure_split.specs.declared.report.report.Report.{Report}
 use Rattle.cobol_read.specs.declared.refusal.ReadRefusal.{ReadRefusal}
 use Rattle.cobol_read.specs.declared.refusal.ReadRefusal.TheVariants as read
 use Rattle.cobol_read.specs.Reading as reading

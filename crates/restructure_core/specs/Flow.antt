@@ -2,12 +2,12 @@
 use Rattle.cob_base.specs.declared.limit.Limit.{Limit}
 use Rattle.cob_tree.specs.declared.fault.SplitFault.TheVariants as split
 use Rattle.cob_tree.specs.declared.program.Program.{Program}
-use Rattle.language.specs.Control.{control_of}
-use Rattle.flow_paths.specs.Flow.{IsFaulty}
-use Rattle.flow_paths.specs.declared.trail.Trail.{Trail}
-use Rattle.flow_numbers.specs.Kinds.{never_first_of}
+use Rattle.control_flow_theory.specs.language.Control.{control_of}
+use Rattle.program_points.specs.paths.Flow.{IsFaulty}
+use Rattle.program_points.specs.declared.paths.trail.Trail.{Trail}
+use Rattle.program_points.specs.numbering.Kinds.{never_first_of}
 use Rattle.pending_returns.specs.Summary.{IsWithin, IsPast}
-use Rattle.trail_finding.specs.Finding.{IsFound}
+use Rattle.overlap_trail.specs.finding.Finding.{IsFound}
 use Rattle.restructure_core.specs.declared.fault.Refused.{Refused}
 use Rattle.restructure_core.specs.declared.fault.Refused.TheVariants as refused
 

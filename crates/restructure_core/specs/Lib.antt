@@ -10,3 +10,5 @@ pub mod Refusals
 pub mod Answers
 -- what is printed of results
 pub mod Results
+-- A source to what comes of its run.
+pub mod run

@@ -4,9 +4,9 @@ use Rattle.cob_base.specs.declared.limit.Limit.{Limit}
 use Rattle.cob_base.specs.declared.limit.LimitKind.{LimitKind}
 use Rattle.cob_base.specs.declared.limit.LimitKind.TheVariants as limits
 use Rattle.cob_tree.specs.declared.program.Program.{Program}
-use Rattle.data_sizes.specs.Storage.{storage_limit, storage_of}
-use Rattle.term_sizes.specs.Program.{terms_limit}
-use Rattle.program_units.specs.Division.{program_units}
+use Rattle.cob_store.specs.sizes.Storage.{storage_limit, storage_of}
+use Rattle.program_facts.specs.term_counts.Program.{terms_limit}
+use Rattle.cobol_print.specs.units.Division.{program_units}
 use Rattle.cobol_read.specs.Limit.{token_limit}
 use Rattle.cobol_print.specs.Unit.{all_tokens}
 use Rattle.cobol_print.specs.Program.{printed}

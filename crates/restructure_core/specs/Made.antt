@@ -3,8 +3,8 @@ use Rattle.std.specs.Prelude.{◌≤◌, length}
 use Rattle.cob_base.specs.declared.limit.Limit.{Limit}
 use Rattle.cob_tree.specs.declared.fault.SplitFault.TheVariants as split
 use Rattle.cob_tree.specs.declared.program.Program.{Program}
-use Rattle.language.specs.Control.{control_of}
-use Rattle.flow_numbers.specs.Kinds.{never_first_of}
+use Rattle.control_flow_theory.specs.language.Control.{control_of}
+use Rattle.program_points.specs.numbering.Kinds.{never_first_of}
 use Rattle.pending_returns.specs.declared.facts.Summary.{Summary}
 use Rattle.pending_returns.specs.Summary.{IsSummary}
 use Rattle.procedure_split.specs.declared.writing.Split.{Split}

@@ -3,7 +3,7 @@
 use cob_base::{Limit, NoMemory};
 use cob_tree::{Program, SplitFault};
 use cobol_read::ReadRefusal;
-use flow_paths::Trail;
+use program_points::paths::Trail;
 use thiserror::Error;
 
 /// Why a source was refused.

@@ -6,10 +6,10 @@ ghost use Rattle.restructure_core.specs.Made.{IsFlowOf};
 
 use crate::fault::Refused;
 use cob_tree::Program;
-use flow_paths::Trail;
+use overlap_trail::finding::find;
 use pending_returns::{Summary, summarise};
+use program_points::paths::Trail;
 use std::alloc::Global;
-use trail_finding::find;
 
 /// What control of a program comes to.
 #[derive(Debug, Drop)]

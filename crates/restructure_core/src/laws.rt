@@ -2,7 +2,7 @@
 
 ghost use Rattle.restructure_core.specs.Results.{ResultsReadBack};
 
-use result_laws::readable_results::split_programs_read_back;
+use end_to_end_laws::results::readable_results::split_programs_read_back;
 
 /// What is printed of a result that passes no limit reads to it.
 pub fn results_read_back()

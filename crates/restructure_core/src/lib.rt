@@ -11,6 +11,7 @@ mod flow;
 mod laws;
 mod limit;
 mod pipeline;
+pub mod run;
 
 pub use fault::Refused;
 pub use laws::results_read_back;

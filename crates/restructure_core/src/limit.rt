@@ -8,12 +8,12 @@ ghost use Rattle.restructure_core.specs.Answers.{IsPrinted, IsText};
 
 use crate::fault::Refused;
 use cob_base::{Limit, LimitKind, NoMemory, Text};
+use cob_store::sizes::{storage_limit, storage_of};
 use cob_tree::Program;
+use cobol_print::units::program_units;
 use cobol_print::{PrintUnit, print_units};
-use data_sizes::{storage_limit, storage_of};
-use program_units::program_units;
+use program_facts::term_counts::terms_limit;
 use std::alloc::Global;
-use term_sizes::terms_limit;
 
 /// How many tokens the result may have.
 const TOKEN_LIMIT: usize = 500_000;

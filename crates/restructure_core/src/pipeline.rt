@@ -17,8 +17,8 @@ use crate::limit::print_result;
 use cob_base::Text;
 use cob_tree::Program;
 use cobol_read::read;
-use flow_report::{Report, report_of};
 use pending_returns::Summary;
+use procedure_split::report::{Report, report_of};
 use procedure_split::split;
 use std::alloc::Global;
 

@@ -2,15 +2,15 @@
 use Rattle.std.proofs.Common.{◌≡◌, ◌∙◌, sym, subst, refl, ℕ, List, Option, Some, ◌⊎◌, inl, inr}
 use Rattle.cob_base.specs.Source.{SourceCall}
 use Rattle.cob_base.specs.Sink.{SinkCall}
-use Rattle.file_desk.specs.Seen.{Seen}
+use Rattle.file_model.specs.operations.Seen.{Seen}
 use Rattle.cobol_run.specs.declared.machine.Ending.TheVariants as ending
 use Rattle.cobol_run.specs.declared.running.Ran.TheVariants as ran
 use Rattle.restructure_core.specs.declared.fault.Refused.{Refused}
 use Rattle.restructure_core.specs.declared.fault.Refused.TheVariants as refused
 use Rattle.restructure_core.specs.Refusals.{of_read_refusal}
-use Rattle.run_answer.specs.declared.Came.{Came}
-use Rattle.run_answer.specs.declared.Came.TheVariants as came
-use Rattle.run_answer.specs.Answers.{CameFalls}
+use Rattle.restructure_core.specs.declared.run.Came.{Came}
+use Rattle.restructure_core.specs.declared.run.Came.TheVariants as came
+use Rattle.restructure_core.specs.run.Answers.{CameFalls}
 use Rattle.restructure_tool.specs.declared.ask.Ask.{Ask}
 use Rattle.restructure_tool.specs.declared.refusal.Refusal.{Refusal}
 use Rattle.restructure_tool.specs.declared.refusal.Refusal.TheVariants as refusal

@@ -2,9 +2,9 @@
 use Rattle.std.proofs.Common.{◌≡◌, ℕ, List, Option, Some, None, refl, ap, sym, ◌∙◌, subst, inl, inr}
 use Rattle.cob_base.specs.Sink.{SinkCall}
 use Rattle.cob_tree.specs.declared.program.Program.{Program}
-use Rattle.file_desk.specs.Seen as desk
-use Rattle.runs.specs.Run.{Going}
-use Rattle.cobol_laws.specs.cobol_meaning.Runs.{Files}
+use Rattle.file_model.specs.operations.Seen as desk
+use Rattle.control_flow_theory.specs.runs.Run.{Going}
+use Rattle.cobol_theory.specs.cobol_meaning.Runs.{Files}
 use Rattle.cobol_read.specs.Reading.{Reads}
 use Rattle.cobol_read.proofs.OneWay.{one_way}
 use Rattle.cobol_run.specs.Machine.{ending_seen}
@@ -18,9 +18,9 @@ use Rattle.restructure_core.specs.Answers.{IsUnread}
 use Rattle.restructure_core.specs.Refusals.{of_read_refusal}
 use Rattle.cobol_read.specs.declared.refusal.ReadRefusal.{ReadRefusal}
 use Rattle.cobol_read.specs.declared.refusal.ReadRefusal.TheVariants as rd
-use Rattle.run_answer.specs.declared.Came.{Came}
-use Rattle.run_answer.specs.declared.Came.TheVariants as came
-use Rattle.run_answer.specs.Answers.{Comes, ComesOver}
+use Rattle.restructure_core.specs.declared.run.Came.{Came}
+use Rattle.restructure_core.specs.declared.run.Came.TheVariants as came
+use Rattle.restructure_core.specs.run.Answers.{Comes, ComesOver}
 use Rattle.restructure_tool.specs.declared.refusal.Refusal.{Refusal}
 use Rattle.restructure_tool.specs.declared.refusal.Refusal.TheVariants as refusal
 use Rattle.restructure_tool.specs.declared.status.Status.{Status}

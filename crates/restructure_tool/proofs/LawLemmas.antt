@@ -6,11 +6,11 @@ use Rattle.cob_base.specs.Source.{SourceCall}
 use Rattle.cob_base.specs.Sink.{SinkCall}
 use Rattle.cob_tree.specs.declared.program.Program.{Program}
 use Rattle.cobol_read.specs.Limit.{source_limit}
-use Rattle.flow_report.specs.Lines.{report_text}
+use Rattle.procedure_split.specs.report.Lines.{report_text}
 use Rattle.restructure_core.specs.declared.fault.Refused.{Refused}
 use Rattle.restructure_core.specs.declared.fault.Refused.TheVariants as refused
 use Rattle.restructure_core.specs.declared.pipeline.Done.{Done}
-use Rattle.flow_paths.specs.declared.trail.Trail.{Trail}
+use Rattle.program_points.specs.declared.paths.trail.Trail.{Trail}
 use Rattle.restructure_core.specs.Answers.{IsRestructured, IsFaultySource, IsAccepted, IsRefusedByTrail, HasCause}
 use Rattle.restructure_core.proofs.OneAnswer.{Outcome, IsAlike, IsDueTo, alike, done-due, cause-due, comes-faulty, comes-done}
 use Rattle.restructure_tool.specs.declared.ask.Ask.{Ask}

@@ -8,10 +8,10 @@ use Rattle.cob_tree.specs.declared.ending.Abend.TheVariants as abends
 use Rattle.cob_tree.specs.declared.ending.FlowFault.{FlowFault}
 use Rattle.cob_tree.specs.declared.ending.FlowFault.TheVariants as flow
 use Rattle.cob_tree.specs.declared.program.Program.{Program}
-use Rattle.runs.specs.Run.{Going, Over}
-use Rattle.control.specs.Outcome as outcome
-use Rattle.cobol_laws.specs.cobol_meaning.Acting.{abend_number}
-use Rattle.cobol_laws.specs.cobol_meaning.Runs.{Files}
+use Rattle.control_flow_theory.specs.runs.Run.{Going, Over}
+use Rattle.control_flow_theory.specs.semantics.Outcome as outcome
+use Rattle.cobol_theory.specs.cobol_meaning.Acting.{abend_number}
+use Rattle.cobol_theory.specs.cobol_meaning.Runs.{Files}
 use Rattle.cobol_read.specs.Reading.{Reads}
 use Rattle.cobol_read.proofs.OneWay.{one_way}
 use Rattle.cobol_run.specs.Machine.{ending_seen, fault_seen}
@@ -25,9 +25,9 @@ use Rattle.restructure_core.specs.Answers.{IsUnread}
 use Rattle.restructure_core.specs.Refusals.{of_read_refusal}
 use Rattle.cobol_read.specs.declared.refusal.ReadRefusal.{ReadRefusal}
 use Rattle.cobol_read.specs.declared.refusal.ReadRefusal.TheVariants as rd
-use Rattle.run_answer.specs.declared.Came.{Came}
-use Rattle.run_answer.specs.declared.Came.TheVariants as came
-use Rattle.run_answer.specs.Answers.{Comes}
+use Rattle.restructure_core.specs.declared.run.Came.{Came}
+use Rattle.restructure_core.specs.declared.run.Came.TheVariants as came
+use Rattle.restructure_core.specs.run.Answers.{Comes}
 use Rattle.restructure_tool.specs.declared.refusal.Refusal.{Refusal}
 use Rattle.restructure_tool.specs.declared.refusal.Refusal.TheVariants as refusal
 use Rattle.restructure_tool.specs.declared.status.Status.{Status}

@@ -7,10 +7,10 @@ use Rattle.cob_base.specs.Sink.{SinkCall}
 use Rattle.cobol_read.specs.declared.refusal.ReadRefusal.{ReadRefusal}
 use Rattle.cobol_read.specs.declared.refusal.ReadRefusal.TheVariants as rd
 use Rattle.cobol_read.specs.Limit.{source_limit, past_source}
-use Rattle.run_answer.specs.declared.Came.{Came}
-use Rattle.run_answer.specs.declared.Came.TheVariants as came
-use Rattle.file_desk.specs.Seen.{Seen}
-use Rattle.run_answer.specs.Answers.{Comes, ComesOver, IsWriteFault, Keeps as Kept}
+use Rattle.restructure_core.specs.declared.run.Came.{Came}
+use Rattle.restructure_core.specs.declared.run.Came.TheVariants as came
+use Rattle.file_model.specs.operations.Seen.{Seen}
+use Rattle.restructure_core.specs.run.Answers.{Comes, ComesOver, IsWriteFault, Keeps as Kept}
 use Rattle.restructure_tool.proofs.LengthLemmas.{short-read, short-either}
 use Rattle.restructure_tool.proofs.EndLemmas.{whole-read, long-read}
 use Rattle.restructure_tool.specs.declared.refusal.Refusal.{Refusal}

@@ -3,8 +3,8 @@ use Rattle.std.specs.Prelude.{ℕ, ◌≡◌, ◌≢◌, ◌⊎◌, List, Option
 use Rattle.cob_base.specs.Source.{SourceCall}
 use Rattle.program_gen.specs.Generated.{generated}
 use Rattle.cobol_print.specs.Program.{printed}
-use Rattle.flow_report.specs.declared.report.Report as reports
-use Rattle.flow_report.specs.Lines.{report_text}
+use Rattle.procedure_split.specs.declared.report.report.Report as reports
+use Rattle.procedure_split.specs.report.Lines.{report_text}
 use Rattle.restructure_core.specs.declared.fault.Refused.TheVariants as refused
 use Rattle.restructure_core.specs.declared.pipeline.Done.{Done}
 use Rattle.restructure_core.specs.Answers.{IsRestructured, IsReported, HasCause}

@@ -3,9 +3,9 @@ use Rattle.std.specs.Prelude.{ℕ, ◌≡◌, ◌≤◌, ◌↔◌, ◌⊎◌, L
 use Rattle.cob_base.specs.Source.{SourceCall}
 use Rattle.cob_base.specs.Sink.{SinkCall}
 use Rattle.cob_tree.specs.declared.program.Program.{Program}
-use Rattle.flow_paths.specs.declared.trail.Trail.{Trail}
-use Rattle.file_desk.specs.Seen.{Seen}
-use Rattle.cobol_laws.specs.cobol_meaning.Runs.{Files}
+use Rattle.program_points.specs.declared.paths.trail.Trail.{Trail}
+use Rattle.file_model.specs.operations.Seen.{Seen}
+use Rattle.cobol_theory.specs.cobol_meaning.Runs.{Files}
 use Rattle.cobol_run.specs.Over.{TellFiles}
 use Rattle.cobol_read.specs.Limit.{source_limit}
 use Rattle.restructure_core.specs.declared.fault.Refused.TheVariants as refused

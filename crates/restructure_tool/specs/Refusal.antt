@@ -7,12 +7,12 @@ use Rattle.cob_tree.specs.declared.ending.Abend.{Abend}
 use Rattle.cob_tree.specs.declared.ending.Abend.TheVariants as abends
 use Rattle.cob_tree.specs.declared.ending.FlowFault.{FlowFault}
 use Rattle.cob_tree.specs.declared.ending.FlowFault.TheVariants as flow
-use Rattle.flow_paths.specs.declared.trail.FlowFault as path
-use Rattle.flow_paths.specs.declared.trail.FlowFault.TheVariants as paths
+use Rattle.program_points.specs.declared.paths.trail.FlowFault as path
+use Rattle.program_points.specs.declared.paths.trail.FlowFault.TheVariants as paths
 use Rattle.restructure_core.specs.declared.fault.Refused.{Refused}
 use Rattle.restructure_core.specs.declared.fault.Refused.TheVariants as refused
 use Rattle.cobol_read.specs.declared.refusal.ReadRefusal.{ReadRefusal}
-use Rattle.trail_notes.specs.Trail.{fault_text, trail_text}
+use Rattle.overlap_trail.specs.notes.Trail.{fault_text, trail_text}
 use Rattle.restructure_tool.specs.Kind.{kind_at}
 use Rattle.restructure_tool.specs.declared.status.Status.{Status}
 use Rattle.restructure_tool.specs.declared.status.Status.TheVariants as status

@@ -4,10 +4,10 @@ use Rattle.cob_base.specs.Faults.{Rose}
 use Rattle.cob_base.specs.Source.{SourceCall}
 use Rattle.cob_base.specs.Sink.{SinkCall}
 use Rattle.cob_tree.specs.declared.program.Program.{Program}
-use Rattle.file_desk.specs.Seen.{Seen}
-use Rattle.runs.specs.Run.{Going, Over}
-use Rattle.control.specs.Outcome.{Standing}
-use Rattle.cobol_laws.specs.cobol_meaning.Runs.{Files, source_run}
+use Rattle.file_model.specs.operations.Seen.{Seen}
+use Rattle.control_flow_theory.specs.runs.Run.{Going, Over}
+use Rattle.control_flow_theory.specs.semantics.Outcome.{Standing}
+use Rattle.cobol_theory.specs.cobol_meaning.Runs.{Files, source_run}
 use Rattle.cobol_read.specs.declared.refusal.ReadRefusal.{ReadRefusal}
 use Rattle.cobol_read.specs.Reading.{Reads}
 use Rattle.cobol_read.specs.Limit.{source_limit}
@@ -20,9 +20,9 @@ use Rattle.cobol_run.specs.Machine.{ending_seen}
 use Rattle.cobol_run.specs.PlainTests.{is_plain}
 use Rattle.restructure_core.specs.Answers.{IsUnread}
 use Rattle.restructure_core.specs.Refusals.{of_read_refusal}
-use Rattle.run_answer.specs.declared.Came.{Came}
-use Rattle.run_answer.specs.declared.Came.TheVariants as came
-use Rattle.run_answer.specs.Answers.{Comes, ComesOver, IsWriteFault}
+use Rattle.restructure_core.specs.declared.run.Came.{Came}
+use Rattle.restructure_core.specs.declared.run.Came.TheVariants as came
+use Rattle.restructure_core.specs.run.Answers.{Comes, ComesOver, IsWriteFault}
 use Rattle.restructure_tool.specs.declared.refusal.Refusal.{Refusal}
 use Rattle.restructure_tool.specs.declared.refusal.Refusal.TheVariants as refusals
 use Rattle.restructure_tool.specs.declared.status.Status.{Status}

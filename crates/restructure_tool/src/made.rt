@@ -11,7 +11,7 @@ use crate::refusal::Refusal;
 use crate::texts::Texts;
 use cob_base::{NoMemory, Text};
 use cobol_print::print;
-use flow_report::report_text;
+use procedure_split::report::report_text;
 use program_gen::generate;
 use restructure_core::{Done, check, restructure};
 use std::alloc::Global;

@@ -15,7 +15,7 @@ use crate::status::Status;
 use crate::tool;
 use crate::writing::{note, write_text};
 use cob_base::{NoMemory, Sink, Source};
-use file_desk::Watched;
+use file_model::operations::Watched;
 use file_model::{Bench, Device};
 use std::alloc::Global;
 use std::process::ExitCode;

@@ -12,9 +12,9 @@ use crate::status::Status;
 use cob_base::{Limit, NoMemory, Text};
 use cob_tree::{Abend, FlowFault, Program};
 use cobol_read::ReadRefusal;
+use overlap_trail::notes::{fault_text, trail_text};
 use restructure_core::Refused;
 use std::alloc::Global;
-use trail_notes::{fault_text, trail_text};
 
 /// Why an ask isn't done.
 #[derive(Debug, Drop)]
@@ -139,12 +139,12 @@ fn not_subset_text(alloc: Global, why: &ReadRefusal) -> Result<Text, NoMemory>
 }
 
 // The fault of flow that a trail would show.
-fn fault_of(fault: FlowFault) -> flow_paths::FlowFault
+fn fault_of(fault: FlowFault) -> program_points::paths::FlowFault
     ensures { result ≡ refusals.fault_of fault }
 {
     match fault {
-        FlowFault::Overlap(paragraph) => flow_paths::FlowFault::Overlap(paragraph),
-        FlowFault::Reentry(paragraph) => flow_paths::FlowFault::Reentry(paragraph),
+        FlowFault::Overlap(paragraph) => program_points::paths::FlowFault::Overlap(paragraph),
+        FlowFault::Reentry(paragraph) => program_points::paths::FlowFault::Reentry(paragraph),
     }
 }
 

@@ -14,10 +14,10 @@ use cob_base::{Sink, Source};
 use cob_tree::Program;
 use cobol_read::ReadRefusal;
 use cobol_run::{Ending, Ran};
-use file_desk::Watched;
+use file_model::operations::Watched;
 use file_model::{Bench, Device};
 use restructure_core::Refused;
-use run_answer::{Came, run_source};
+use restructure_core::run::{Came, run_source};
 use std::alloc::Global;
 
 /// Reads a source and runs it over a bench for at most so many steps. What it displays goes to

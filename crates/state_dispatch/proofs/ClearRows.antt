@@ -3,10 +3,10 @@ use Rattle.std.proofs.Common.{◌≡◌, ◌<◌, ◌+◌, ℕ, suc, Bool, true,
 use Rattle.std.proofs.lemmas.List.{map-append, drop_more}
 use Rattle.std.proofs.lemmas.Bool.{eq-eqb}
 use Rattle.std.proofs.lemmas.Bool.Decides.{eqb_tells}
-use Rattle.control.specs.Graph.{Label, Tree}
-use Rattle.control_laws.specs.graph_rules.Reduced.{Node, has_node, tree_in, with_tree, without, all_leaves_to}
-use Rattle.control_laws.specs.closing.Dispatches.{Rising, labels_of}
-use Rattle.control_laws.proofs.closing_lemmas.closing.Closes.{AllAbove, rising-above}
+use Rattle.control_flow_theory.specs.semantics.Graph.{Label, Tree}
+use Rattle.control_flow_theory.specs.graph_rules.Reduced.{Node, has_node, tree_in, with_tree, without, all_leaves_to}
+use Rattle.control_flow_theory.specs.closing.Dispatches.{Rising, labels_of}
+use Rattle.control_flow_theory.proofs.closing_lemmas.closing.Closes.{AllAbove, rising-above}
 use Rattle.branch_tree.specs.declared.tree.Tree as code
 use Rattle.branch_tree.specs.Trees.{seen_tree}
 use Rattle.branch_tree.specs.Sounds.{bare}

@@ -1,13 +1,13 @@
 -- What the dispatch makes.
 use Rattle.std.proofs.Common.{◌≡◌, ℕ, Bool, true, false, List, [], ◌∷◌, length, arith, refl, ap, sym, ◌∙◌}
-use Rattle.language.specs.Language.{Picker, ByCell, Choose, Do, Set, Is, Until, Loop, Stmts, Nested, none, also, given}
-use Rattle.control.specs.Doing.{is_above}
-use Rattle.control.specs.Graph.{Label, tree}
-use Rattle.control_laws.specs.graph_rules.Shapes.{leaves_to, end_leaves_to}
-use Rattle.control_laws.specs.graph_rules.Reduced.{Node}
-use Rattle.control_laws.specs.closing.Closes.{none_left_out}
-use Rattle.control_laws.specs.closing.Dispatches.{stated_tree, stated_arms, state_jump, set_to, node_arms, dispatched, labels_of, number_in, return_if, trees_return, some_returns, either, tree_returns}
-use Rattle.control.specs.Graph as graph
+use Rattle.control_flow_theory.specs.language.Language.{Picker, ByCell, Choose, Do, Set, Is, Until, Loop, Stmts, Nested, none, also, given}
+use Rattle.control_flow_theory.specs.semantics.Doing.{is_above}
+use Rattle.control_flow_theory.specs.semantics.Graph.{Label, tree}
+use Rattle.control_flow_theory.specs.graph_rules.Shapes.{leaves_to, end_leaves_to}
+use Rattle.control_flow_theory.specs.graph_rules.Reduced.{Node}
+use Rattle.control_flow_theory.specs.closing.Closes.{none_left_out}
+use Rattle.control_flow_theory.specs.closing.Dispatches.{stated_tree, stated_arms, state_jump, set_to, node_arms, dispatched, labels_of, number_in, return_if, trees_return, some_returns, either, tree_returns}
+use Rattle.control_flow_theory.specs.semantics.Graph as graph
 use Rattle.branch_tree.specs.declared.graph.Node as code
 use Rattle.branch_tree.specs.declared.tree.Tree as code_tree
 use Rattle.branch_tree.specs.Graphs.{seen_nodes}

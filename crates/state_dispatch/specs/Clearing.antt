@@ -1,7 +1,7 @@
 -- How all nodes but one go.
 use Rattle.std.specs.Prelude.{◌≡◌, true, if◌then◌else◌, ◌==◌, List, [], ◌∷◌}
-use Rattle.control.specs.Graph.{Label, Tree}
-use Rattle.control_laws.specs.graph_rules.Reduced.{Node, has_node, tree_in, with_tree, without, all_leaves_to}
+use Rattle.control_flow_theory.specs.semantics.Graph.{Label, Tree}
+use Rattle.control_flow_theory.specs.graph_rules.Reduced.{Node, has_node, tree_in, with_tree, without, all_leaves_to}
 use Rattle.branch_tree.specs.Sounds.{bare}
 
 -- only this node

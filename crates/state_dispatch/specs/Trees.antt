@@ -1,8 +1,8 @@
 -- The trees of nodes.
 use Rattle.std.specs.Prelude.{ℕ, false, List, [], ◌∷◌}
-use Rattle.language.specs.Language.{ByCell, none}
-use Rattle.control.specs.Graph.{Tree, tree, Pick, Trees}
-use Rattle.control_laws.specs.graph_rules.Reduced.{Node}
+use Rattle.control_flow_theory.specs.language.Language.{ByCell, none}
+use Rattle.control_flow_theory.specs.semantics.Graph.{Tree, tree, Pick, Trees}
+use Rattle.control_flow_theory.specs.graph_rules.Reduced.{Node}
 use Rattle.branch_tree.specs.declared.chooser.Test.TheVariants as test
 use Rattle.branch_tree.specs.declared.tree.Leaves.TheVariants as leaves
 use Rattle.loop_rules.specs.declared.forms.Turning.{Turning}

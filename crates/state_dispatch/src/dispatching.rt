@@ -2,8 +2,8 @@
 
 ghost use Rattle.std.specs.Prelude.{◌≡◌, ◌<◌, ◌≤◌, ◌^◌, suc, length, map, OnOk, OnErr};
 ghost use Rattle.std.specs.Vec.{vec_len, vec_capacity};
-ghost use Rattle.control_laws.specs.closing.Closes.{dispatch_graph, none_left_out};
-ghost use Rattle.control_laws.specs.closing.Dispatches.{dispatched, labels_of, number_in, return_if, set_to};
+ghost use Rattle.control_flow_theory.specs.closing.Closes.{dispatch_graph, none_left_out};
+ghost use Rattle.control_flow_theory.specs.closing.Dispatches.{dispatched, labels_of, number_in, return_if, set_to};
 ghost use Rattle.branch_tree.specs.Graphs.{seen_nodes};
 ghost use Rattle.branch_tree.specs.Helds.{seen_work};
 ghost use Rattle.branch_tree.specs.Sounds.{bare, WithNodes};

@@ -1,7 +1,7 @@
 //! Whether some leaf returns.
 
 ghost use Rattle.std.specs.Prelude.{◌≡◌};
-ghost use Rattle.control_laws.specs.closing.Dispatches.{tree_returns, trees_return};
+ghost use Rattle.control_flow_theory.specs.closing.Dispatches.{tree_returns, trees_return};
 ghost use Rattle.branch_tree.specs.Trees.{seen_tree, seen_trees};
 
 use branch_tree::{End, Tree};

@@ -1,8 +1,8 @@
 -- Control that nests, as a test; and the test is what the definition says.
 use Rattle.std.proofs.Common.{◌≡◌, ℕ, Bool, true, false, ◌&&◌, refl}
 use Rattle.std.proofs.lemmas.Bool.{and_from, and_parts}
-use Rattle.language.specs.Language.{Stmt, Do, Choose, Loop, Perform, Go, GoDepending, NextSentence, ExitParagraph, ExitSection, ExitPerform, StopRun, Stmts, none, also, Arms, done, given, missing, Body, Nested, Performed}
-use Rattle.language.specs.Structured.{StmtNests, StmtsNest, ArmsNest, BodyNests}
+use Rattle.control_flow_theory.specs.language.Language.{Stmt, Do, Choose, Loop, Perform, Go, GoDepending, NextSentence, ExitParagraph, ExitSection, ExitPerform, StopRun, Stmts, none, also, Arms, done, given, missing, Body, Nested, Performed}
+use Rattle.control_flow_theory.specs.language.Structured.{StmtNests, StmtsNest, ArmsNest, BodyNests}
 
 abbrev mutual
   pub stmt_passes : (ℕ → ℕ → Bool) → Stmt → Bool

@@ -7,9 +7,9 @@ use Rattle.cob_tree.specs.declared.stmt.Arms.{Arms, roll-Arms, map-Arms, fold-ro
 use Rattle.cob_tree.specs.declared.stmt.When.{When, roll-When, map-When, fold-roll-When}
 use Rattle.cob_tree.specs.declared.stmt.Stmt.{Stmt, ind-Stmt, map-Stmt, roll-Stmt, fold-roll-Stmt}
 use Rattle.cob_tree.specs.declared.stmt.Stmt.TheOpen.{Stmt-F, Arms-F, When-F}
-use Rattle.language.specs.Language as language
-use Rattle.language.specs.All.{all}
-use Rattle.language.specs.Control.{arith_stmt, arm_before, else_of, stmts_of, control_in, loop_of, perform_of, Branch, branches_before, Both, both_arms, both_step, branch_step, seen_step, seen, seen_when, seen_both, seen_stmts}
+use Rattle.control_flow_theory.specs.language.Language as language
+use Rattle.control_flow_theory.specs.language.All.{all}
+use Rattle.control_flow_theory.specs.language.Control.{arith_stmt, arm_before, else_of, stmts_of, control_in, loop_of, perform_of, Branch, branches_before, Both, both_arms, both_step, branch_step, seen_step, seen, seen_when, seen_both, seen_stmts}
 use Rattle.struct_form.specs.Structured.{exitless_step, exitless_arms, exitless_when, exitless, arms_exitless, when_exitless, stmts_exitless}
 use Rattle.struct_form.specs.Nested.{names_later, nests_step, arms_step, when_step, stmt_nests, arms_nest, when_nests, stmts_nest, whens_nest}
 use Rattle.struct_form.proofs.Joined.{and-true, and-assoc, interchange}

@@ -8,9 +8,9 @@ use Rattle.cob_tree.specs.declared.stmt.When.{When, roll-When, map-When, fold-ro
 use Rattle.cob_tree.specs.declared.stmt.Stmt.{Stmt, ind-Stmt, map-Stmt, roll-Stmt, fold-roll-Stmt}
 use Rattle.cob_tree.specs.declared.stmt.Stmt.TheOpen.{Stmt-F, Arms-F, When-F}
 use Rattle.cob_tree.specs.declared.program.Sentence.{Sentence}
-use Rattle.language.specs.Language as language
-use Rattle.language.specs.Control.{arith_stmt, arm_before, else_of, stmts_of, control_in, loop_of, perform_of, Branch, branches_before, Both, both_arms, both_step, branch_step, seen_step, seen, seen_when, seen_both, seen_stmts, seen_sentence}
-use Rattle.language.specs.Structured as control
+use Rattle.control_flow_theory.specs.language.Language as language
+use Rattle.control_flow_theory.specs.language.Control.{arith_stmt, arm_before, else_of, stmts_of, control_in, loop_of, perform_of, Branch, branches_before, Both, both_arms, both_step, branch_step, seen_step, seen, seen_when, seen_both, seen_stmts, seen_sentence}
+use Rattle.control_flow_theory.specs.language.Structured as control
 use Rattle.struct_form.specs.Performed.{any, performs_step, arms_step, when_step, stmt_performs, arms_perform, when_performs, stmts_perform, whens_perform}
 use Rattle.struct_form.proofs.Joined.{or-false, or-assoc}
 

@@ -8,9 +8,9 @@ use Rattle.cob_tree.specs.declared.stmt.When.{When}
 use Rattle.cob_tree.specs.declared.stmt.Stmt.{Stmt, map-Stmt, roll-Stmt, out-Stmt, roll-out-Stmt, fold_out-Stmt}
 use Rattle.cob_tree.specs.declared.stmt.Stmt.TheOpen.{Stmt-F}
 use Rattle.cob_tree.specs.declared.stmt.Stmt.TheVariants.{StopRun, rolls-Display, rolls-Move, rolls-Arith, rolls-SetTrue, rolls-Opens, rolls-Closes, rolls-Read, rolls-Write, rolls-Rewrite, rolls-If, rolls-Evaluate, rolls-Loop, rolls-Perform, rolls-Go, rolls-GoDepending, rolls-NextSentence, rolls-StopRun, rolls-Exit, rolls-ExitParagraph, rolls-ExitSection, rolls-ExitPerform, rolls-Continue}
-use Rattle.language.specs.Language as language
-use Rattle.language.specs.Control.{arith_stmt, control_in, loop_of, perform_of, Branch, Both, both_step, branch_step, seen_step, seen, seen_when, seen_both, seen_stmts, stmts_of}
-use Rattle.language.specs.Structured.{EndsInStop}
+use Rattle.control_flow_theory.specs.language.Language as language
+use Rattle.control_flow_theory.specs.language.Control.{arith_stmt, control_in, loop_of, perform_of, Branch, Both, both_step, branch_step, seen_step, seen, seen_when, seen_both, seen_stmts, stmts_of}
+use Rattle.control_flow_theory.specs.language.Structured.{EndsInStop}
 use Rattle.struct_form.specs.Stops.{is_stop, ends_in_stop}
 
 abbrev stop_seen : language.Stmt → Bool

@@ -6,9 +6,9 @@ use Rattle.std.proofs.lemmas.List.Elements.{All-nil, All-cons, All-head, All-tai
 use Rattle.cob_tree.specs.declared.program.Sentence.{Sentence}
 use Rattle.cob_tree.specs.declared.program.Paragraph.{Paragraph}
 use Rattle.cob_tree.specs.declared.program.Program.{Program}
-use Rattle.language.specs.Language as language
-use Rattle.language.specs.Control.{seen_stmts, seen_sentence, seen_paragraph, seen_paragraphs, section_last}
-use Rattle.language.specs.Structured as control
+use Rattle.control_flow_theory.specs.language.Language as language
+use Rattle.control_flow_theory.specs.language.Control.{seen_stmts, seen_sentence, seen_paragraph, seen_paragraphs, section_last}
+use Rattle.control_flow_theory.specs.language.Structured as control
 use Rattle.struct_form.specs.Structured.{stmts_exitless, IsProcedure, IsStructured}
 use Rattle.struct_form.specs.Nested.{names_later, sentences_nest, paragraph_nests, paragraphs_nest}
 use Rattle.struct_form.specs.Stops.{sentences_stop, first_stops}

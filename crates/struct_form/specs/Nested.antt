@@ -7,7 +7,7 @@ use Rattle.cob_tree.specs.declared.stmt.Arms.{Arms, fold-Arms}
 use Rattle.cob_tree.specs.declared.stmt.When.{When, fold-When}
 use Rattle.cob_tree.specs.declared.program.Sentence.{Sentence}
 use Rattle.cob_tree.specs.declared.program.Paragraph.{Paragraph}
-use Rattle.language.specs.All.{all, all_if}
+use Rattle.control_flow_theory.specs.language.All.{all, all_if}
 
 -- a paragraph past this one, by itself, of so many
 abbrev pub names_later : (count here entry exit : ℕ) → Bool

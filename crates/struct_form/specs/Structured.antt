@@ -6,9 +6,9 @@ use Rattle.cob_tree.specs.declared.stmt.Arms.{Arms, fold-Arms}
 use Rattle.cob_tree.specs.declared.stmt.When.{When, fold-When}
 use Rattle.cob_tree.specs.declared.program.Paragraph.{Paragraph}
 use Rattle.cob_tree.specs.declared.program.Program.{Program}
-use Rattle.language.specs.All.{all, all_if}
-use Rattle.language.specs.Control.{control_of}
-use Rattle.language.specs.Structured as control
+use Rattle.control_flow_theory.specs.language.All.{all, all_if}
+use Rattle.control_flow_theory.specs.language.Control.{control_of}
+use Rattle.control_flow_theory.specs.language.Structured as control
 
 -- EXIT without a further word acts on nothing, so control doesn't tell it from other statements
 

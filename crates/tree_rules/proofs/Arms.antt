@@ -1,8 +1,8 @@
 -- Arms that are changed one after the other.
 use Rattle.std.proofs.Common.{◌≡◌, ◌<◌, ◌≤◌, ◌+◌, ℕ, zero, suc, List, [], ◌∷◌, ◌++◌, map, length, take, drop, get_or, set, refl, ap, sym, ◌∙◌, arith, add-one}
 use Rattle.std.proofs.Math.ListN.{get_or-map}
-use Rattle.control.specs.Graph.{Tree, more}
-use Rattle.control_laws.specs.graph_rules.Shapes.{joined, joined_arms}
+use Rattle.control_flow_theory.specs.semantics.Graph.{Tree, more}
+use Rattle.control_flow_theory.specs.graph_rules.Shapes.{joined, joined_arms}
 use Rattle.branch_tree.specs.declared.tree.Tree as tree
 use Rattle.branch_tree.specs.Trees.{seen_tree, trees_of}
 

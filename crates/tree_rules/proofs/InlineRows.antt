@@ -1,8 +1,8 @@
 -- Graphs that are the same in their parts.
 use Rattle.std.proofs.Common.{◌≡◌, List, ap, ◌∙◌}
-use Rattle.control.specs.Graph.{Label}
-use Rattle.control_laws.specs.graph_rules.Families.{Added}
-use Rattle.control_laws.specs.graph_rules.Reduced.{Node, Graph}
+use Rattle.control_flow_theory.specs.semantics.Graph.{Label}
+use Rattle.control_flow_theory.specs.graph_rules.Families.{Added}
+use Rattle.control_flow_theory.specs.graph_rules.Reduced.{Node, Graph}
 
 abbrev pub graph_with : Label → List Node → List Added → Graph
 graph_with entry nodes added = record { entry = entry; nodes = nodes; added = added }

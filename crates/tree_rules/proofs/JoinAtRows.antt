@@ -2,10 +2,10 @@
 use Rattle.std.proofs.Common.{◌≡◌, ◌≤◌, ℕ, Bool, true, false, if◌then◌else◌, ◌==◌, List, [], ◌∷◌, Option, Some, None, Result, Ok, Err, map, refl, ap, sym, ◌∙◌, subst, arith, inl, inr}
 use Rattle.std.proofs.lemmas.Bool.Decides.{eqb_tells}
 use Rattle.cob_base.specs.declared.memory.NoMemory.{NoMemory}
-use Rattle.language.specs.Language.{none}
-use Rattle.control.specs.Graph.{Label, Tree, tree, Dead}
-use Rattle.control_laws.specs.graph_rules.Shapes.{joined, leaves_to}
-use Rattle.control_laws.specs.graph_rules.Reduced.{Node, Graph, tree_in, has_node, with_tree}
+use Rattle.control_flow_theory.specs.language.Language.{none}
+use Rattle.control_flow_theory.specs.semantics.Graph.{Label, Tree, tree, Dead}
+use Rattle.control_flow_theory.specs.graph_rules.Shapes.{joined, leaves_to}
+use Rattle.control_flow_theory.specs.graph_rules.Reduced.{Node, Graph, tree_in, has_node, with_tree}
 use Rattle.branch_tree.specs.Graphs.{seen_nodes, seen_added}
 use Rattle.branch_tree.specs.Helds.{Held, seen_work}
 use Rattle.branch_tree.specs.Sounds.{IsSound, Fits, bare, Takes, WithNodes}

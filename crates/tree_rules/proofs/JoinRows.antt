@@ -1,10 +1,10 @@
 -- One pass of Join joins something exactly where one join does.
 use Rattle.std.proofs.Common.{◌≡◌, ◌<◌, ℕ, zero, suc, ◌+◌, Bool, true, false, ◌||◌, List, [], ◌∷◌, length, take, get_or, Option, Some, None, is_some, Ok, refl, ap, sym, ◌∙◌, arith, add-one}
-use Rattle.language.specs.Language.{Stmts, Picker}
-use Rattle.control.specs.Graph.{Tree, tree, Pick, Trees, no_more, more}
-use Rattle.control_laws.specs.graph_rules.Shapes.{Targets, NoTarget, Only, Several, arms_targets, join_by, joined, joined_arms, later_arm, first_arm, once_by, joined_once, once_arms}
-use Rattle.control_laws.specs.graph_rules.Reduced.{at_most_one}
-use Rattle.control_laws.proofs.graph_rules_lemmas.shapes.Once.{no-join-is-left}
+use Rattle.control_flow_theory.specs.language.Language.{Stmts, Picker}
+use Rattle.control_flow_theory.specs.semantics.Graph.{Tree, tree, Pick, Trees, no_more, more}
+use Rattle.control_flow_theory.specs.graph_rules.Shapes.{Targets, NoTarget, Only, Several, arms_targets, join_by, joined, joined_arms, later_arm, first_arm, once_by, joined_once, once_arms}
+use Rattle.control_flow_theory.specs.graph_rules.Reduced.{at_most_one}
+use Rattle.control_flow_theory.proofs.graph_rules_lemmas.shapes.Once.{no-join-is-left}
 use Rattle.branch_tree.specs.Choosers.{seen_picker}
 use Rattle.branch_tree.specs.Trees.{seen_tree, seen_body, seen_end, seen_trees, trees_of}
 use Rattle.branch_tree.specs.declared.chooser.Picker as code_picker

@@ -1,9 +1,9 @@
 -- How many leaves jump to a label after Join and after Inline.
 use Rattle.std.proofs.Common.{◌≡◌, ℕ, ◌+◌, ◌*◌, ◌≤◌, Bool, true, false, if◌then◌else◌, ◌==◌, refl, ap, arith}
 use Rattle.std.proofs.lemmas.Bool.{eqb-true}
-use Rattle.language.specs.Language.{Stmts, Picker}
-use Rattle.control.specs.Graph.{Label, Tree, tree, End, Pick, Jump, Return, Stop, Dead, Trees, no_more, more, body_of, end_of}
-use Rattle.control_laws.specs.graph_rules.Shapes.{followed, Targets, NoTarget, Only, Several, ToLabel, end_at, same_live, both_targets, leaf_targets, arms_targets, join_by, joined, join_end, joined_arms, inlined, inline_end, inlined_arms, leaves_to, end_leaves_to, arms_leaves_to, other_targets, end_targets, other_arms_targets}
+use Rattle.control_flow_theory.specs.language.Language.{Stmts, Picker}
+use Rattle.control_flow_theory.specs.semantics.Graph.{Label, Tree, tree, End, Pick, Jump, Return, Stop, Dead, Trees, no_more, more, body_of, end_of}
+use Rattle.control_flow_theory.specs.graph_rules.Shapes.{followed, Targets, NoTarget, Only, Several, ToLabel, end_at, same_live, both_targets, leaf_targets, arms_targets, join_by, joined, join_end, joined_arms, inlined, inline_end, inlined_arms, leaves_to, end_leaves_to, arms_leaves_to, other_targets, end_targets, other_arms_targets}
 
 pub end_leaves : (l : Label) (t : Tree) → leaves_to l t ≡ end_leaves_to l (end_of t)
 end_leaves l (tree body end) = refl

@@ -2,11 +2,11 @@
 use Rattle.std.proofs.Common.{◌≡◌, ◌≢◌, ◌<◌, ◌≤◌, ◌^◌, ℕ, zero, suc, ◌+◌, Bool, true, false, if◌then◌else◌, ◌==◌, List, Option, Some, None, refl, ap, sym, ◌∙◌, subst, arith}
 use Rattle.std.proofs.lemmas.Bool.{eqb-true}
 use Rattle.std.proofs.lemmas.Bool.Decides.{eqb_tells}
-use Rattle.control.specs.Doing.{is_above}
-use Rattle.control.specs.Graph.{Label, Tree}
-use Rattle.control_laws.specs.graph_rules.Shapes.{inlined, leaves_to}
-use Rattle.control_laws.specs.graph_rules.Reduced.{Node, Graph, tree_in, has_node, without, with_tree, all_leaves_to, inlines, inline_graph}
-use Rattle.control_laws.proofs.graph_rules_lemmas.shapes.Reducing.{without-in, with-other}
+use Rattle.control_flow_theory.specs.semantics.Doing.{is_above}
+use Rattle.control_flow_theory.specs.semantics.Graph.{Label, Tree}
+use Rattle.control_flow_theory.specs.graph_rules.Shapes.{inlined, leaves_to}
+use Rattle.control_flow_theory.specs.graph_rules.Reduced.{Node, Graph, tree_in, has_node, without, with_tree, all_leaves_to, inlines, inline_graph}
+use Rattle.control_flow_theory.proofs.graph_rules_lemmas.shapes.Reducing.{without-in, with-other}
 use Rattle.branch_tree.specs.Sounds.{IsSound, Fits, bare}
 use Rattle.branch_tree.specs.declared.tree.Tree as code
 use Rattle.branch_tree.proofs.ChangeRows.{fits_less}

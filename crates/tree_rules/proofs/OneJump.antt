@@ -1,9 +1,9 @@
 -- The one arm, or the one node, with the jump to a label.
 use Rattle.std.proofs.Common.{◌≡◌, ◌<◌, ◌≤◌, ℕ, zero, suc, ◌+◌, Bool, true, false, if◌then◌else◌, ◌==◌, List, [], ◌∷◌, length, take, get_or, set, refl, ap, sym, ◌∙◌, arith, add-one}
-use Rattle.language.specs.Language.{Stmts}
-use Rattle.control.specs.Doing.{is_above}
-use Rattle.control.specs.Graph.{Label, Tree, tree, End, Pick, Jump, Return, Stop, Dead, Trees, no_more, more}
-use Rattle.control_laws.specs.graph_rules.Shapes.{inlined, inline_end, inlined_arms, leaves_to, end_leaves_to, arms_leaves_to}
+use Rattle.control_flow_theory.specs.language.Language.{Stmts}
+use Rattle.control_flow_theory.specs.semantics.Doing.{is_above}
+use Rattle.control_flow_theory.specs.semantics.Graph.{Label, Tree, tree, End, Pick, Jump, Return, Stop, Dead, Trees, no_more, more}
+use Rattle.control_flow_theory.specs.graph_rules.Shapes.{inlined, inline_end, inlined_arms, leaves_to, end_leaves_to, arms_leaves_to}
 use Rattle.branch_tree.specs.Changes.{gone_on}
 use Rattle.branch_tree.specs.Trees.{trees_of}
 

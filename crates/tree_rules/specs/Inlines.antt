@@ -1,10 +1,10 @@
 -- What Inline answers, and leaves.
 use Rattle.std.specs.Prelude.{ℕ, ◌≡◌, Bool, true, false, if◌then◌else◌, Result, Ok, Err, Option, Some, None}
 use Rattle.cob_base.specs.declared.memory.NoMemory.{NoMemory}
-use Rattle.control.specs.Doing.{is_above}
-use Rattle.control.specs.Graph.{Label}
-use Rattle.control_laws.specs.graph_rules.Shapes.{leaves_to}
-use Rattle.control_laws.specs.graph_rules.Reduced.{Graph, has_node, tree_in, inlines, inline_graph}
+use Rattle.control_flow_theory.specs.semantics.Doing.{is_above}
+use Rattle.control_flow_theory.specs.semantics.Graph.{Label}
+use Rattle.control_flow_theory.specs.graph_rules.Shapes.{leaves_to}
+use Rattle.control_flow_theory.specs.graph_rules.Reduced.{Graph, has_node, tree_in, inlines, inline_graph}
 
 -- the label is that of a node, and exactly one leaf jumps to it, from another node
 abbrev pub may_inline : Graph → Label → Bool

@@ -1,10 +1,10 @@
 -- What Join answers, and leaves.
 use Rattle.std.specs.Prelude.{◌≡◌, Bool, true, false, is_some, Result, Ok, Err}
 use Rattle.cob_base.specs.declared.memory.NoMemory.{NoMemory}
-use Rattle.language.specs.Language.{Stmts, Picker, Choose}
-use Rattle.control.specs.Graph.{Label, Tree, tree, End, Trees}
-use Rattle.control_laws.specs.graph_rules.Shapes.{followed, alone, arms_stmts, joined, joined_once, once_arms}
-use Rattle.control_laws.specs.graph_rules.Reduced.{Graph, tree_in, with_tree}
+use Rattle.control_flow_theory.specs.language.Language.{Stmts, Picker, Choose}
+use Rattle.control_flow_theory.specs.semantics.Graph.{Label, Tree, tree, End, Trees}
+use Rattle.control_flow_theory.specs.graph_rules.Shapes.{followed, alone, arms_stmts, joined, joined_once, once_arms}
+use Rattle.control_flow_theory.specs.graph_rules.Reduced.{Graph, tree_in, with_tree}
 
 -- a choice as a statement behind a body, and then this end
 abbrev pub choice_then : Stmts → Picker → Trees → End → Tree

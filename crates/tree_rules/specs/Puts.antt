@@ -1,7 +1,7 @@
 -- What becomes of a tree that is put in the place of a jump.
 use Rattle.std.specs.Prelude.{◌≡◌, Option, Some, None}
-use Rattle.control.specs.Graph.{Label, Tree, Trees}
-use Rattle.control_laws.specs.graph_rules.Shapes.{inlined, inlined_arms, leaves_to, arms_leaves_to}
+use Rattle.control_flow_theory.specs.semantics.Graph.{Label, Tree, Trees}
+use Rattle.control_flow_theory.specs.graph_rules.Shapes.{inlined, inlined_arms, leaves_to, arms_leaves_to}
 use Rattle.branch_tree.specs.Trees.{seen_tree}
 use Rattle.branch_tree.specs.declared.tree.Tree as code
 use Rattle.tree_rules.specs.declared.putting.Placed.{Placed}

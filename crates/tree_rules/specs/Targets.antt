@@ -1,5 +1,5 @@
 -- Where live leaves lead, as the theory has it.
-use Rattle.control_laws.specs.graph_rules.Shapes as shapes
+use Rattle.control_flow_theory.specs.graph_rules.Shapes as shapes
 use Rattle.tree_rules.specs.declared.targets.Targets.{Targets}
 use Rattle.tree_rules.specs.declared.targets.Targets.TheVariants as targets
 

@@ -1,9 +1,9 @@
 //! Inline: a node in the place of the one jump to it.
 
 ghost use Rattle.std.specs.Prelude.{◌≡◌, true, OnOk, OnErr};
-ghost use Rattle.control.specs.Doing.{is_above};
-ghost use Rattle.control_laws.specs.graph_rules.Reduced.{has_node, inline_graph, tree_in};
-ghost use Rattle.control_laws.specs.graph_rules.Shapes.{leaves_to};
+ghost use Rattle.control_flow_theory.specs.semantics.Doing.{is_above};
+ghost use Rattle.control_flow_theory.specs.graph_rules.Reduced.{has_node, inline_graph, tree_in};
+ghost use Rattle.control_flow_theory.specs.graph_rules.Shapes.{leaves_to};
 ghost use Rattle.branch_tree.specs.Helds.{seen_work};
 ghost use Rattle.tree_rules.specs.Inlines.{Inlines, InlinesInto, may_inline};
 

@@ -2,8 +2,8 @@
 
 ghost use Rattle.std.specs.Prelude.{◌≡◌, ◌<◌, ◌||◌, All, OnOk};
 ghost use Rattle.std.specs.VecDeque.{deque_len, deque_capacity};
-ghost use Rattle.control_laws.specs.graph_rules.Shapes.{join_by, joined, joined_arms, arms_targets};
-ghost use Rattle.control_laws.specs.graph_rules.Reduced.{at_most_one};
+ghost use Rattle.control_flow_theory.specs.graph_rules.Shapes.{join_by, joined, joined_arms, arms_targets};
+ghost use Rattle.control_flow_theory.specs.graph_rules.Reduced.{at_most_one};
 ghost use Rattle.tree_rules.specs.Joins.{choice_then, may_join, arms_may_join, JoinsAll, JoinsAt};
 ghost use Rattle.tree_rules.specs.Rooms.{HasRoom};
 ghost use Rattle.branch_tree.specs.Choosers.{seen_picker};

@@ -1,7 +1,7 @@
 //! A tree in the place of a jump.
 
 ghost use Rattle.std.specs.Prelude.{◌≡◌, ◌≤◌};
-ghost use Rattle.control_laws.specs.graph_rules.Shapes.{leaves_to, arms_leaves_to};
+ghost use Rattle.control_flow_theory.specs.graph_rules.Shapes.{leaves_to, arms_leaves_to};
 ghost use Rattle.branch_tree.specs.Trees.{seen_tree, seen_trees};
 ghost use Rattle.tree_rules.specs.Puts.{Puts, Places, PlacesOne};
 

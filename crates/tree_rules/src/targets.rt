@@ -2,7 +2,7 @@
 
 ghost use Rattle.std.specs.Prelude.{◌≡◌};
 ghost use Rattle.branch_tree.specs.Trees.{seen_tree, seen_end, seen_trees};
-ghost use Rattle.control_laws.specs.graph_rules.Shapes.{both_targets, leaf_targets, arms_targets, other_targets, other_arms_targets};
+ghost use Rattle.control_flow_theory.specs.graph_rules.Shapes.{both_targets, leaf_targets, arms_targets, other_targets, other_arms_targets};
 ghost use Rattle.tree_rules.specs.Targets.{seen_targets};
 
 use branch_tree::{End, Label, Tree};

@@ -1,14 +1,14 @@
 use Rattle.std.proofs.Common.{◌≡◌, suc, ◌-◌, Err, sym, subst, arith}
 use Rattle.std.proofs.lemmas.Result.{err_from_is_err_and}
 use Rattle.cob_base.specs.Bytes.{left_parenthesis}
-use Rattle.grammar_forms.specs.declared.why.Why.TheVariants.{Parens}
-use Rattle.grammar_forms.specs.Part.{is_mark}
-use Rattle.grammar_forms.specs.Reading.{Reads}
-use Rattle.grammar_forms.proofs.Loops.{goes_on, ends_err, is_done, shrinks, too_deep_err}
-use Rattle.statement_grammar.proofs.expr_forms_lemmas.ExpressionLaws as laws
-use Rattle.statement_grammar.specs.cond_forms.Condition as conditions
-use Rattle.statement_grammar.specs.cond_forms.Token as tokens
-use Rattle.statement_grammar.proofs.cond_forms_lemmas.ConditionLaws as claws
+use Rattle.parser_combinators.specs.declared.why.Why.TheVariants.{Parens}
+use Rattle.parser_combinators.specs.Part.{is_mark}
+use Rattle.parser_combinators.specs.Reading.{Reads}
+use Rattle.parser_combinators.proofs.Loops.{goes_on, ends_err, is_done, shrinks, too_deep_err}
+use Rattle.cobol_grammar.proofs.expr_forms_lemmas.ExpressionLaws as laws
+use Rattle.cobol_grammar.specs.cond_forms.Condition as conditions
+use Rattle.cobol_grammar.specs.cond_forms.Token as tokens
+use Rattle.cobol_grammar.proofs.cond_forms_lemmas.ConditionLaws as claws
 use Rattle.cond_parse.proofs.+conds.Goals as goal
 
 pub condition::content-returns-then-levels-eq0 : goal.condition::content-returns-then-levels-eq0

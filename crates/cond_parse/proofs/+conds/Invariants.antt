@@ -1,7 +1,7 @@
 use Rattle.std.proofs.Common.{◌≡◌, ◌+◌, ◌*◌, length}
-use Rattle.statement_grammar.specs.expr_forms.Levels.{inner}
-use Rattle.statement_grammar.specs.cond_forms.Condition as conditions
-use Rattle.statement_grammar.specs.cond_forms.Condition.{content}
+use Rattle.cobol_grammar.specs.expr_forms.Levels.{inner}
+use Rattle.cobol_grammar.specs.cond_forms.Condition as conditions
+use Rattle.cobol_grammar.specs.cond_forms.Condition.{content}
 use Rattle.cond_parse.proofs.+conds.Given as goal
 
 abbrev pub decreases-condition::content : goal.decreases-condition::content

@@ -1,13 +1,13 @@
 use Rattle.std.proofs.Common.{◌≡◌, suc, ◌-◌, Err, sym, subst, arith}
 use Rattle.std.proofs.lemmas.Result.{err_from_is_err_and}
 use Rattle.cob_base.specs.Bytes.{left_parenthesis}
-use Rattle.grammar_forms.specs.declared.why.Why.TheVariants.{Parens}
-use Rattle.grammar_forms.specs.Part.{is_mark}
-use Rattle.grammar_forms.specs.Reading.{Reads}
-use Rattle.grammar_forms.proofs.Loops.{goes_on, ends_err, is_done, shrinks, too_deep_err}
-use Rattle.statement_grammar.specs.expr_forms.Levels.{inner}
-use Rattle.statement_grammar.specs.expr_forms.Token as tokens
-use Rattle.statement_grammar.proofs.expr_forms_lemmas.ExpressionLaws as laws
+use Rattle.parser_combinators.specs.declared.why.Why.TheVariants.{Parens}
+use Rattle.parser_combinators.specs.Part.{is_mark}
+use Rattle.parser_combinators.specs.Reading.{Reads}
+use Rattle.parser_combinators.proofs.Loops.{goes_on, ends_err, is_done, shrinks, too_deep_err}
+use Rattle.cobol_grammar.specs.expr_forms.Levels.{inner}
+use Rattle.cobol_grammar.specs.expr_forms.Token as tokens
+use Rattle.cobol_grammar.proofs.expr_forms_lemmas.ExpressionLaws as laws
 use Rattle.expr_parse.proofs.NameFront.{same_front}
 use Rattle.expr_parse.proofs.+exprs.Goals as goal
 

@@ -1,7 +1,7 @@
 use Rattle.std.proofs.Common.{◌≡◌, ◌+◌, ◌*◌, length}
-use Rattle.statement_grammar.specs.expr_forms.Expression as expressions
-use Rattle.statement_grammar.specs.expr_forms.Front as fronts
-use Rattle.statement_grammar.specs.expr_forms.Levels.{inner}
+use Rattle.cobol_grammar.specs.expr_forms.Expression as expressions
+use Rattle.cobol_grammar.specs.expr_forms.Front as fronts
+use Rattle.cobol_grammar.specs.expr_forms.Levels.{inner}
 use Rattle.expr_parse.proofs.+exprs.Given as goal
 
 abbrev pub decreases-levels::nested : goal.decreases-levels::nested

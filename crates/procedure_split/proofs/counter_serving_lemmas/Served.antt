@@ -1,16 +1,16 @@
 -- What the table of cells has of a counter.
 use Rattle.std.proofs.Common.{◌≡◌, Bool, true, false, not, ◌&&◌, ◌==◌, if◌then◌else◌, List, [], ◌∷◌, Option, Some, refl, ap, ◌∙◌}
 use Rattle.std.specs.Prelude.{is_some}
-use Rattle.language.specs.Language.{Range, same_range}
-use Rattle.control.proofs.Ranges.{same-range}
-use Rattle.control_laws.specs.graph_rules.Families.{Added, Count}
-use Rattle.control_laws.specs.graph_rules.Reduced.{Graphs, kind_at}
-use Rattle.control_laws.specs.graph_rules.Walked.{is_in, In}
-use Rattle.control_laws.specs.closing.Closes.{closed_graph}
-use Rattle.cell_table.specs.Items.{is_never, or_never}
-use Rattle.cell_table.specs.Laws.{cell_range, closed_ranges}
-use Rattle.cell_table.specs.Names.{digits_of, is_signed}
-use Rattle.cell_table.specs.Row.{of_range}
+use Rattle.control_flow_theory.specs.language.Language.{Range, same_range}
+use Rattle.control_flow_theory.proofs.semantics_lemmas.Ranges.{same-range}
+use Rattle.control_flow_theory.specs.graph_rules.Families.{Added, Count}
+use Rattle.control_flow_theory.specs.graph_rules.Reduced.{Graphs, kind_at}
+use Rattle.control_flow_theory.specs.graph_rules.Walked.{is_in, In}
+use Rattle.control_flow_theory.specs.closing.Closes.{closed_graph}
+use Rattle.added_items.specs.item_table.Items.{is_never, or_never}
+use Rattle.added_items.specs.item_table.Laws.{cell_range, closed_ranges}
+use Rattle.added_items.specs.item_table.Names.{digits_of, is_signed}
+use Rattle.added_items.specs.item_table.Row.{of_range}
 use Rattle.procedure_split.specs.counter_serving.Laws.{ClosedCountersAreServed}
 use Rattle.procedure_split.proofs.counter_serving_lemmas.Kept.{closed-keeps}
 

@@ -1,12 +1,12 @@
 -- Each rule on trees keeps the arms of choices.
 use Rattle.std.proofs.Common.{◌≡◌, ℕ, suc, Bool, true, false, if◌then◌else◌, ◌==◌, List, [], ◌∷◌, Option, Some, None, refl}
-use Rattle.language.specs.Language.{Evaluate, Read, Arith, Depending, Test, Picker, If, By, ByCell, Choose, Stmts, none, also, Arms, given}
-use Rattle.control.specs.Graph.{Label, Tree, tree, End, Pick, Jump, Return, Stop, Dead, Trees, no_more, more, body_of, end_of}
-use Rattle.control_laws.specs.graph_rules.Loops.{Keeper, Flagged, Endless}
-use Rattle.control_laws.specs.graph_rules.Shapes.{followed, alone, Live, ToLabel, Back, end_at, Targets, NoTarget, Only, Several, arms_targets, last_stmts, arm_stmts, arms_stmts, join_by, joined, join_end, joined_arms, inlined, inline_end, inlined_arms, leaving, flat, flat_end, flat_arms}
-use Rattle.control_laws.specs.graph_rules.Reduced.{Form, is_bare, stays, pretest, posttest, form_two, form_arms, form_pick, form_of}
-use Rattle.control_laws.specs.closing.Closes.{none_left_out}
-use Rattle.control_laws.specs.closing.Dispatches.{stated_end, stated_tree, stated_arms, bare}
+use Rattle.control_flow_theory.specs.language.Language.{Evaluate, Read, Arith, Depending, Test, Picker, If, By, ByCell, Choose, Stmts, none, also, Arms, given}
+use Rattle.control_flow_theory.specs.semantics.Graph.{Label, Tree, tree, End, Pick, Jump, Return, Stop, Dead, Trees, no_more, more, body_of, end_of}
+use Rattle.control_flow_theory.specs.graph_rules.Loops.{Keeper, Flagged, Endless}
+use Rattle.control_flow_theory.specs.graph_rules.Shapes.{followed, alone, Live, ToLabel, Back, end_at, Targets, NoTarget, Only, Several, arms_targets, last_stmts, arm_stmts, arms_stmts, join_by, joined, join_end, joined_arms, inlined, inline_end, inlined_arms, leaving, flat, flat_end, flat_arms}
+use Rattle.control_flow_theory.specs.graph_rules.Reduced.{Form, is_bare, stays, pretest, posttest, form_two, form_arms, form_pick, form_of}
+use Rattle.control_flow_theory.specs.closing.Closes.{none_left_out}
+use Rattle.control_flow_theory.specs.closing.Dispatches.{stated_end, stated_tree, stated_arms, bare}
 use Rattle.procedure_split.specs.split_depth.Arms.{HasArms, StmtHasArms, StmtsHaveArms, EachArmHas}
 use Rattle.procedure_split.specs.kept_arms.Trees.{SomeTree, TreeHasArms, EndHasArms, TreesHaveArms}
 

@@ -2,8 +2,8 @@
 use Rattle.std.proofs.Common.{◌≤◌, List, [], ◌∷◌, subst}
 use Rattle.cob_tree.specs.Depth.{program_depth}
 use Rattle.cob_tree.specs.declared.program.Program.{Program}
-use Rattle.control_laws.specs.graph_rules.Reduced.{Node}
-use Rattle.control_laws.specs.closing.Closes.{closed_graph}
+use Rattle.control_flow_theory.specs.graph_rules.Reduced.{Node}
+use Rattle.control_flow_theory.specs.closing.Closes.{closed_graph}
 use Rattle.pending_returns.specs.declared.facts.Summary.{Summary}
 use Rattle.branch_tree.specs.Graphs.{seen_graph}
 use Rattle.branch_tree.specs.Trees.{seen_tree}

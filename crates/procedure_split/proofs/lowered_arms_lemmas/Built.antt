@@ -1,10 +1,10 @@
 -- Trees that are built of statements whose choices have arms have them.
 use Rattle.std.proofs.Common.{◌≡◌, ℕ, ◌+◌, Bool, true, false, if◌then◌else◌, List, [], ◌∷◌, ◌++◌, refl, ◌∙◌}
-use Rattle.language.specs.Language.{Lower, Test, Above, Evaluate, Read, Arith, Depending, Picker, If, By, ByCell, Control, Times, Until, Varying, Stmt, Do, Choose, Loop, Perform, Go, GoDepending, NextSentence, ExitParagraph, ExitSection, ExitPerform, StopRun, Stmts, none, also, Arms, done, given, missing, Body, Nested, Performed}
-use Rattle.control.specs.Graph.{Tree, tree, End, Pick, Jump, Dead}
-use Rattle.control_laws.specs.lowering.Told.{Told}
-use Rattle.control_laws.specs.lowering.Completes.{first_is_dead, completes, cut, cuts, cut_arms, cut_body, whole, whole_body, size, sizes, skips}
-use Rattle.control_laws.specs.lowering.Lower.{point, head, only, with_first, back, loop_start, Node, by_test, loop_nodes, Leaving, within_loop, loop_left, push, leaf_stmt, leaf, depending, build_stmt, build, build_arms, nodes_in, nodes, nodes_of_arms, nodes_of_body}
+use Rattle.control_flow_theory.specs.language.Language.{Lower, Test, Above, Evaluate, Read, Arith, Depending, Picker, If, By, ByCell, Control, Times, Until, Varying, Stmt, Do, Choose, Loop, Perform, Go, GoDepending, NextSentence, ExitParagraph, ExitSection, ExitPerform, StopRun, Stmts, none, also, Arms, done, given, missing, Body, Nested, Performed}
+use Rattle.control_flow_theory.specs.semantics.Graph.{Tree, tree, End, Pick, Jump, Dead}
+use Rattle.control_flow_theory.specs.lowering.Told.{Told}
+use Rattle.control_flow_theory.specs.lowering.Completes.{first_is_dead, completes, cut, cuts, cut_arms, cut_body, whole, whole_body, size, sizes, skips}
+use Rattle.control_flow_theory.specs.lowering.Lower.{point, head, only, with_first, back, loop_start, Node, by_test, loop_nodes, Leaving, within_loop, loop_left, push, leaf_stmt, leaf, depending, build_stmt, build, build_arms, nodes_in, nodes, nodes_of_arms, nodes_of_body}
 use Rattle.procedure_split.specs.split_depth.Arms.{begins_given, has_some, has_given, HasArms, StmtHasArms, StmtsHaveArms, EachArmHas, BodyHasArms}
 use Rattle.procedure_split.specs.kept_arms.Trees.{SomeTree, TreeHasArms, EndHasArms, TreesHaveArms}
 use Rattle.procedure_split.proofs.kept_arms_lemmas.Rules.{body-has, end-has}

@@ -6,25 +6,25 @@ use Rattle.cob_tree.specs.declared.program.Paragraph as trees
 use Rattle.cob_tree.specs.declared.program.Program as cobol
 use Rattle.cob_tree.specs.declared.program.Range as code
 use Rattle.cob_tree.specs.declared.program.Sentence as sentences
-use Rattle.language.specs.Control.{control_of, seen_paragraphs, seen_sentence, section_last}
-use Rattle.language.specs.Language.{Evaluate, Read, Arith, Depending, Picker, If, By, ByCell, Stmt, Do, Choose, Loop, Perform, Go, GoDepending, NextSentence, ExitParagraph, ExitSection, ExitPerform, StopRun, Stmts, none, also, Arms, done, given, missing, Body, Nested, Performed, Paragraph, Program, Range, Main, Part}
-use Rattle.control.specs.Graph.{Label, Tree, tree, End, Pick, Jump, Return, Stop, Dead, Trees, no_more, more}
-use Rattle.control_laws.specs.lowering.Told.{Told}
-use Rattle.control_laws.specs.lowering.Completes.{sizes}
-use Rattle.control_laws.specs.lowering.Lower.{Node, nodes, Leaving, fall_leaf, end_leaf, leaving_at}
-use Rattle.control_laws.specs.lowering.Lowered.{total, place_in, nodes_left, nodes_from, nodes_of}
-use Rattle.control_laws.specs.lowering.Reached.{kept_nodes}
-use Rattle.control_laws.specs.lowering.Renamed.{picker_anew, stmt_anew, stmts_anew, arms_anew, body_anew, end_anew, trees_anew, tree_anew}
-use Rattle.control_laws.specs.lowering.Rests.{Rest, Over, From, Sent, Turns, Cut, after_sentence, after_loop, at_loop, rest_from, leaf_of, leaving_of, tree_of}
-use Rattle.control_laws.specs.graph_rules.Reduced.{Graph}
-use Rattle.control_laws.specs.headline.Chain.{graph_nodes}
-use Rattle.control_laws.specs.headline.Numbering.{numbers_by}
-use Rattle.cut_lists.specs.Told.{told_of}
-use Rattle.lower_places.specs.Fall.{seen_range}
+use Rattle.control_flow_theory.specs.language.Control.{control_of, seen_paragraphs, seen_sentence, section_last}
+use Rattle.control_flow_theory.specs.language.Language.{Evaluate, Read, Arith, Depending, Picker, If, By, ByCell, Stmt, Do, Choose, Loop, Perform, Go, GoDepending, NextSentence, ExitParagraph, ExitSection, ExitPerform, StopRun, Stmts, none, also, Arms, done, given, missing, Body, Nested, Performed, Paragraph, Program, Range, Main, Part}
+use Rattle.control_flow_theory.specs.semantics.Graph.{Label, Tree, tree, End, Pick, Jump, Return, Stop, Dead, Trees, no_more, more}
+use Rattle.control_flow_theory.specs.lowering.Told.{Told}
+use Rattle.control_flow_theory.specs.lowering.Completes.{sizes}
+use Rattle.control_flow_theory.specs.lowering.Lower.{Node, nodes, Leaving, fall_leaf, end_leaf, leaving_at}
+use Rattle.control_flow_theory.specs.lowering.Lowered.{total, place_in, nodes_left, nodes_from, nodes_of}
+use Rattle.control_flow_theory.specs.lowering.Reached.{kept_nodes}
+use Rattle.control_flow_theory.specs.lowering.Renamed.{picker_anew, stmt_anew, stmts_anew, arms_anew, body_anew, end_anew, trees_anew, tree_anew}
+use Rattle.control_flow_theory.specs.lowering.Rests.{Rest, Over, From, Sent, Turns, Cut, after_sentence, after_loop, at_loop, rest_from, leaf_of, leaving_of, tree_of}
+use Rattle.control_flow_theory.specs.graph_rules.Reduced.{Graph}
+use Rattle.control_flow_theory.specs.headline.Chain.{graph_nodes}
+use Rattle.control_flow_theory.specs.headline.Numbering.{numbers_by}
+use Rattle.program_facts.specs.completion.Told.{told_of}
+use Rattle.lowering_labels.specs.points.Fall.{seen_range}
 use Rattle.branch_tree.specs.Graphs.{seen_graph}
 use Rattle.branch_tree.specs.declared.graph.Graph as coded
-use Rattle.named_programs.specs.Part.{Counts, is_filled}
-use Rattle.named_programs.specs.Named.{counts_of, stmts_named, sentence_named, sentences_named, paragraphs_named}
+use Rattle.program_facts.specs.well_scoped.Part.{Counts, is_filled}
+use Rattle.program_facts.specs.well_scoped.Named.{counts_of, stmts_named, sentence_named, sentences_named, paragraphs_named}
 use Rattle.pending_returns.specs.declared.facts.Summary.{Summary}
 use Rattle.region_rewrite.specs.Shape.{max_nesting}
 use Rattle.procedure_split.specs.shaped_ranges.Graphs.{AreGraphsOf, IsGraphOf}

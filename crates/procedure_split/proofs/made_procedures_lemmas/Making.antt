@@ -3,33 +3,33 @@ use Rattle.std.proofs.Common.{◌≡◌, ◌<◌, ℕ, List, [], ◌∷◌, map,
 use Rattle.cob_tree.specs.declared.program.Paragraph.{Paragraph}
 use Rattle.cob_tree.specs.declared.program.Program.{Program}
 use Rattle.cob_tree.specs.declared.program.Range as code
-use Rattle.language.specs.Control.{control_of, seen_paragraph, seen_paragraphs, seen_sentence}
-use Rattle.language.specs.Language as language
-use Rattle.language.specs.Language.{Range, Main, Part}
-use Rattle.control.specs.Graph.{Tree}
-use Rattle.control_laws.specs.lowering.Told.{IsSource}
-use Rattle.control_laws.specs.graph_rules.Reduced.{Graphs, tree_in}
-use Rattle.control_laws.specs.closing.Closes.{closed_graph}
-use Rattle.control_laws.specs.rendering.Rendering.{Empty, Naming, Procedure, place_of, rendered, written_paragraph}
-use Rattle.control_laws.specs.headline.Chain.{procedures_of}
-use Rattle.control_laws.specs.headline.Headline.{graphs_by, procedures_by}
-use Rattle.control_laws.proofs.headline_lemmas.SomeResult.{every-kind}
+use Rattle.control_flow_theory.specs.language.Control.{control_of, seen_paragraph, seen_paragraphs, seen_sentence}
+use Rattle.control_flow_theory.specs.language.Language as language
+use Rattle.control_flow_theory.specs.language.Language.{Range, Main, Part}
+use Rattle.control_flow_theory.specs.semantics.Graph.{Tree}
+use Rattle.control_flow_theory.specs.lowering.Told.{IsSource}
+use Rattle.control_flow_theory.specs.graph_rules.Reduced.{Graphs, tree_in}
+use Rattle.control_flow_theory.specs.closing.Closes.{closed_graph}
+use Rattle.control_flow_theory.specs.rendering.Rendering.{Empty, Naming, Procedure, place_of, rendered, written_paragraph}
+use Rattle.control_flow_theory.specs.headline.Chain.{procedures_of}
+use Rattle.control_flow_theory.specs.headline.Headline.{graphs_by, procedures_by}
+use Rattle.control_flow_theory.proofs.headline_lemmas.SomeResult.{every-kind}
 use Rattle.region_rewrite.specs.Shape.{first_tree}
-use Rattle.statements.specs.Does.{declared_in}
-use Rattle.cobol_laws.specs.added_items.Own.{items}
-use Rattle.cobol_laws.proofs.cobol_parts_lemmas.Sources.{source}
-use Rattle.flow_table.proofs.Sections.{seen-length}
-use Rattle.range_plan.proofs.CobolPlans.{cobol-planned}
+use Rattle.meanings.specs.statements.Does.{declared_in}
+use Rattle.cobol_theory.specs.added_items.Own.{items}
+use Rattle.cobol_theory.proofs.cobol_parts_lemmas.Sources.{source}
+use Rattle.program_points.proofs.table_building_lemmas.Sections.{seen-length}
+use Rattle.procedure_split.proofs.plan_lemmas.CobolPlans.{cobol-planned}
 use Rattle.branch_tree.specs.Trees.{seen_tree}
-use Rattle.lower_places.specs.Fall.{seen_range}
-use Rattle.control_laws.proofs.rendering_lemmas.Written.{map-get}
-use Rattle.cobol_laws.specs.cell_serving.Choosing.{written_chooser}
-use Rattle.cobol_laws.specs.cell_serving.Entries.{whole_literal}
-use Rattle.cobol_laws.specs.cell_serving.Naming.{cell_naming}
-use Rattle.choice_writing.specs.Places.{ArePlaced}
-use Rattle.choice_writing.specs.Written.{naming_in}
-use Rattle.body_writing.specs.Procedures.{procedure_of}
-use Rattle.cobol_laws.specs.cobol_headline.Alike.{Writing, naming_of}
+use Rattle.lowering_labels.specs.points.Fall.{seen_range}
+use Rattle.control_flow_theory.proofs.rendering_lemmas.Written.{map-get}
+use Rattle.cobol_theory.specs.cell_serving.Choosing.{written_chooser}
+use Rattle.cobol_theory.specs.cell_serving.Entries.{whole_literal}
+use Rattle.cobol_theory.specs.cell_serving.Naming.{cell_naming}
+use Rattle.statement_builders.specs.arms.Places.{ArePlaced}
+use Rattle.statement_builders.specs.arms.Written.{naming_in}
+use Rattle.body_rendering.specs.Procedures.{procedure_of}
+use Rattle.cobol_theory.specs.cobol_headline.Alike.{Writing, naming_of}
 use Rattle.procedure_split.proofs.shaped_ranges_lemmas.Keeping.{AreApart}
 use Rattle.procedure_split.specs.made_procedures.Laws.{AreMade, MadeProceduresAreWritten}
 use Rattle.procedure_split.specs.made_procedures.Made.{way_of}

@@ -3,19 +3,19 @@ use Rattle.std.proofs.Common.{◌≡◌, ℕ, zero, suc, true, false, if◌then�
 use Rattle.std.specs.Prelude.{pred}
 use Rattle.cob_tree.specs.declared.program.Paragraph.{Paragraph}
 use Rattle.cob_tree.specs.declared.program.Range as code
-use Rattle.language.specs.Control.{seen_paragraph, seen_paragraphs, section_last}
-use Rattle.language.specs.Language as language
-use Rattle.language.specs.Language.{Range, same_range}
-use Rattle.control.proofs.Ranges.{same-self, range-tells}
-use Rattle.control_laws.specs.graph_rules.Walked.{In, is_in}
-use Rattle.control_laws.specs.graph_rules.Reduced.{Graphs}
-use Rattle.control_laws.specs.lowering.Told.{Told}
-use Rattle.control_laws.specs.closing.Closes.{closed_graph}
-use Rattle.control_laws.specs.rendering.Rendering.{Procedure, place_of}
-use Rattle.control_laws.proofs.rendering_lemmas.Written.{or_else}
-use Rattle.control_laws.specs.headline.Chain.{procedure_of, procedures_of, CallsStandLater}
-use Rattle.range_plan.specs.Laws.{as_control, ending_at}
-use Rattle.lower_places.specs.Fall.{range_by, seen_range}
+use Rattle.control_flow_theory.specs.language.Control.{seen_paragraph, seen_paragraphs, section_last}
+use Rattle.control_flow_theory.specs.language.Language as language
+use Rattle.control_flow_theory.specs.language.Language.{Range, same_range}
+use Rattle.control_flow_theory.proofs.semantics_lemmas.Ranges.{same-self, range-tells}
+use Rattle.control_flow_theory.specs.graph_rules.Walked.{In, is_in}
+use Rattle.control_flow_theory.specs.graph_rules.Reduced.{Graphs}
+use Rattle.control_flow_theory.specs.lowering.Told.{Told}
+use Rattle.control_flow_theory.specs.closing.Closes.{closed_graph}
+use Rattle.control_flow_theory.specs.rendering.Rendering.{Procedure, place_of}
+use Rattle.control_flow_theory.proofs.rendering_lemmas.Written.{or_else}
+use Rattle.control_flow_theory.specs.headline.Chain.{procedure_of, procedures_of, CallsStandLater}
+use Rattle.procedure_split.specs.plan.Laws.{as_control, ending_at}
+use Rattle.lowering_labels.specs.points.Fall.{range_by, seen_range}
 use Rattle.branch_tree.specs.Graphs.{seen_graph}
 use Rattle.branch_tree.specs.declared.graph.Graph.{Graph}
 use Rattle.procedure_split.proofs.shaped_ranges_lemmas.Keeping.{AreApart}

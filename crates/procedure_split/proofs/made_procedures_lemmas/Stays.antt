@@ -1,9 +1,9 @@
 -- What is written of procedures that can be written leaves no section.
 use Rattle.std.proofs.Common.{ℕ, suc, Bool, true, false, List, [], ◌∷◌, inl, inr}
-use Rattle.language.specs.Language.{Simple, If, By, ByCell, Stmt, Do, Choose, Loop, Perform, Go, GoDepending, NextSentence, ExitParagraph, ExitSection, ExitPerform, StopRun, Stmts, none, also, Arms, done, given, missing, Body, Nested, Performed, Paragraph, Range, Main, Part}
-use Rattle.control.specs.Graph.{End, Pick, Jump, Return, Stop, Dead}
-use Rattle.control_laws.specs.rendering.Rendering.{Empty, Continues, Stays, Goes, Naming, Procedure, place_of, required, written_arm, and_missing, whole_arms, picker_lacks, then_stmts, closing, written_stmt, written_stmts, written_arms, written_body, written_paragraph}
-use Rattle.control_laws.specs.rendering.Procedures.{Writable, StmtStands, StmtsStand, StmtsLeft, ArmsStand, BodyStands, StmtChooses, BodyChooses}
+use Rattle.control_flow_theory.specs.language.Language.{Simple, If, By, ByCell, Stmt, Do, Choose, Loop, Perform, Go, GoDepending, NextSentence, ExitParagraph, ExitSection, ExitPerform, StopRun, Stmts, none, also, Arms, done, given, missing, Body, Nested, Performed, Paragraph, Range, Main, Part}
+use Rattle.control_flow_theory.specs.semantics.Graph.{End, Pick, Jump, Return, Stop, Dead}
+use Rattle.control_flow_theory.specs.rendering.Rendering.{Empty, Continues, Stays, Goes, Naming, Procedure, place_of, required, written_arm, and_missing, whole_arms, picker_lacks, then_stmts, closing, written_stmt, written_stmts, written_arms, written_body, written_paragraph}
+use Rattle.control_flow_theory.specs.rendering.Procedures.{Writable, StmtStands, StmtsStand, StmtsLeft, ArmsStand, BodyStands, StmtChooses, BodyChooses}
 use Rattle.procedure_split.specs.made_procedures.Staying.{StmtStays, StmtsStay, ArmsStay, BodyStays}
 
 -- each of its sentences does

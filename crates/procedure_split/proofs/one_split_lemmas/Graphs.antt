@@ -1,17 +1,17 @@
 -- The graphs of ranges are one list, as they are seen, and so is what they are shaped to.
 use Rattle.std.proofs.Common.{◌≡◌, ◌≤◌, ◌<◌, ℕ, zero, suc, List, [], ◌∷◌, map, Some, slice_get, refl, ap, ap₂, sym, subst, ◌∙◌, arith}
 use Rattle.cob_tree.specs.declared.program.Range as code
-use Rattle.language.specs.Language.{Program}
-use Rattle.control.specs.Graph.{Tree, body_of}
-use Rattle.control_laws.specs.lowering.Told.{Told}
-use Rattle.control_laws.specs.graph_rules.Families.{Added}
-use Rattle.control_laws.specs.graph_rules.Reduced as reduced
-use Rattle.control_laws.specs.closing.Closes.{closed_graph}
+use Rattle.control_flow_theory.specs.language.Language.{Program}
+use Rattle.control_flow_theory.specs.semantics.Graph.{Tree, body_of}
+use Rattle.control_flow_theory.specs.lowering.Told.{Told}
+use Rattle.control_flow_theory.specs.graph_rules.Families.{Added}
+use Rattle.control_flow_theory.specs.graph_rules.Reduced as reduced
+use Rattle.control_flow_theory.specs.closing.Closes.{closed_graph}
 use Rattle.branch_tree.specs.Graphs.{seen_graph}
 use Rattle.branch_tree.specs.declared.graph.Graph.{Graph}
-use Rattle.lower_places.specs.Fall.{seen_range}
+use Rattle.lowering_labels.specs.points.Fall.{seen_range}
 use Rattle.region_rewrite.specs.Shape.{first_tree, max_nesting, result_nesting}
-use Rattle.cell_table.specs.Row.{CellRange}
+use Rattle.added_items.specs.item_table.Row.{CellRange}
 use Rattle.procedure_split.specs.shaped_ranges.Graphs.{HaveGraphs}
 use Rattle.procedure_split.specs.shaped_ranges.Shaped.{AllShaped, IsOneTooDeep, IsShapedTo}
 use Rattle.procedure_split.specs.declared.shaped_ranges.shaping.Closed.{Closed}

@@ -1,16 +1,16 @@
 -- Graphs of nodes that are kept alike.
 use Rattle.std.proofs.Common.{◌≡◌, ℕ, ◌+◌, Bool, true, false, if◌then◌else◌, List, [], ◌∷◌, ◌++◌, refl, ap, ap₂, sym, ◌∙◌}
-use Rattle.language.specs.Language.{Control, Times, Until, Varying, Stmt, Do, Choose, Loop, Perform, Go, GoDepending, NextSentence, ExitParagraph, ExitSection, ExitPerform, StopRun, Stmts, none, also, Arms, done, given, missing, Body, Nested, Performed, Paragraph, Program, Range}
-use Rattle.control.specs.Graph.{Label}
-use Rattle.control_laws.specs.lowering.Told.{Told}
-use Rattle.control_laws.specs.lowering.Completes.{size, sizes}
-use Rattle.control_laws.specs.lowering.Lower as lower
-use Rattle.control_laws.specs.lowering.Lower.{Node}
-use Rattle.control_laws.specs.lowering.Lowered.{total, nodes_of, lowered}
-use Rattle.control_laws.specs.lowering.Reached.{kept_nodes}
-use Rattle.control_laws.specs.graph_rules.Reduced as reduced
-use Rattle.control_laws.specs.headline.Chain.{graph_nodes}
-use Rattle.control_laws.specs.headline.Numbering.{place_among, control_counters, stmt_counters, stmts_counters, arms_counters, body_counters, paragraph_counters, paragraphs_counters, counters_of, counts}
+use Rattle.control_flow_theory.specs.language.Language.{Control, Times, Until, Varying, Stmt, Do, Choose, Loop, Perform, Go, GoDepending, NextSentence, ExitParagraph, ExitSection, ExitPerform, StopRun, Stmts, none, also, Arms, done, given, missing, Body, Nested, Performed, Paragraph, Program, Range}
+use Rattle.control_flow_theory.specs.semantics.Graph.{Label}
+use Rattle.control_flow_theory.specs.lowering.Told.{Told}
+use Rattle.control_flow_theory.specs.lowering.Completes.{size, sizes}
+use Rattle.control_flow_theory.specs.lowering.Lower as lower
+use Rattle.control_flow_theory.specs.lowering.Lower.{Node}
+use Rattle.control_flow_theory.specs.lowering.Lowered.{total, nodes_of, lowered}
+use Rattle.control_flow_theory.specs.lowering.Reached.{kept_nodes}
+use Rattle.control_flow_theory.specs.graph_rules.Reduced as reduced
+use Rattle.control_flow_theory.specs.headline.Chain.{graph_nodes}
+use Rattle.control_flow_theory.specs.headline.Numbering.{place_among, control_counters, stmt_counters, stmts_counters, arms_counters, body_counters, paragraph_counters, paragraphs_counters, counters_of, counts}
 use Rattle.procedure_split.specs.shaped_ranges.Graphs.{IsGraphOf, graph_by}
 
 module _ (keep also_keep : Label → Bool) (same : (label : Label) → keep label ≡ also_keep label) where

@@ -7,39 +7,39 @@ use Rattle.cob_tree.specs.declared.file.FileEntry.{FileEntry}
 use Rattle.cob_tree.specs.declared.program.Paragraph.{Paragraph}
 use Rattle.cob_tree.specs.declared.program.Program.{Program}
 use Rattle.cob_tree.specs.declared.program.Range as code
-use Rattle.language.specs.Control.{control_of}
-use Rattle.language.specs.Language as language
-use Rattle.language.specs.Own.{OwnParagraphs}
-use Rattle.language.proofs.Losing.{control-loses_nothing}
-use Rattle.control_laws.specs.lowering.Told.{Told}
-use Rattle.cut_lists.specs.Told.{told_of}
-use Rattle.control_laws.specs.graph_rules.Reduced as reduced
-use Rattle.control_laws.specs.rendering.Rendering.{Procedure, Naming, rendered}
-use Rattle.control_laws.proofs.rendering_lemmas.Written.{or_else, map-get}
-use Rattle.control_laws.specs.headline.Chain.{procedures_of}
-use Rattle.control_laws.specs.headline.Headline.{Plan, graphs_by}
-use Rattle.flow_numbers.specs.Kinds.{never_first_of}
+use Rattle.control_flow_theory.specs.language.Control.{control_of}
+use Rattle.control_flow_theory.specs.language.Language as language
+use Rattle.control_flow_theory.specs.language.Own.{OwnParagraphs}
+use Rattle.control_flow_theory.proofs.language_lemmas.Losing.{control-loses_nothing}
+use Rattle.control_flow_theory.specs.lowering.Told.{Told}
+use Rattle.program_facts.specs.completion.Told.{told_of}
+use Rattle.control_flow_theory.specs.graph_rules.Reduced as reduced
+use Rattle.control_flow_theory.specs.rendering.Rendering.{Procedure, Naming, rendered}
+use Rattle.control_flow_theory.proofs.rendering_lemmas.Written.{or_else, map-get}
+use Rattle.control_flow_theory.specs.headline.Chain.{procedures_of}
+use Rattle.control_flow_theory.specs.headline.Headline.{Plan, graphs_by}
+use Rattle.program_points.specs.numbering.Kinds.{never_first_of}
 use Rattle.pending_returns.specs.declared.facts.RangeFacts.{RangeFacts}
 use Rattle.pending_returns.specs.declared.facts.Summary.{Summary}
 use Rattle.procedure_split.proofs.one_summary_lemmas.Facts.{summaries-same}
 use Rattle.out_names.specs.Naming.{names_of}
 use Rattle.out_names.specs.Ordering.{order_of}
 use Rattle.out_names.specs.Words.{program_words, table_of}
-use Rattle.range_plan.specs.Planned.{calls_of, range_at, table_by}
-use Rattle.statements.specs.Does.{declared_in}
-use Rattle.cobol_laws.specs.added_items.Own.{items}
-use Rattle.cobol_laws.specs.cell_serving.Choosing.{written_chooser}
-use Rattle.cobol_laws.specs.cell_serving.Entries.{whole_literal, entries_of}
-use Rattle.cobol_laws.specs.cell_serving.Naming.{cell_naming}
-use Rattle.choice_writing.specs.Empties.{empties}
-use Rattle.cell_table.specs.Items.{item_kinds}
-use Rattle.cell_table.specs.Names.{entries_for}
-use Rattle.flow_report.specs.declared.report.AddedCounts.{AddedCounts}
-use Rattle.cell_table.specs.Row.{CellRange}
-use Rattle.cell_table.specs.Tables.{table_of_cells}
+use Rattle.procedure_split.specs.plan.Planned.{calls_of, range_at, table_by}
+use Rattle.meanings.specs.statements.Does.{declared_in}
+use Rattle.cobol_theory.specs.added_items.Own.{items}
+use Rattle.cobol_theory.specs.cell_serving.Choosing.{written_chooser}
+use Rattle.cobol_theory.specs.cell_serving.Entries.{whole_literal, entries_of}
+use Rattle.cobol_theory.specs.cell_serving.Naming.{cell_naming}
+use Rattle.statement_builders.specs.arms.Empties.{empties}
+use Rattle.added_items.specs.item_table.Items.{item_kinds}
+use Rattle.added_items.specs.item_table.Names.{entries_for}
+use Rattle.procedure_split.specs.declared.report.report.AddedCounts.{AddedCounts}
+use Rattle.added_items.specs.item_table.Row.{CellRange}
+use Rattle.added_items.specs.item_table.Tables.{table_of_cells}
 use Rattle.branch_tree.specs.Graphs.{seen_graph}
 use Rattle.branch_tree.specs.declared.graph.Graph.{Graph}
-use Rattle.lower_places.specs.Fall.{seen_range}
+use Rattle.lowering_labels.specs.points.Fall.{seen_range}
 use Rattle.procedure_split.specs.shaped_ranges.Graphs.{AreGraphsOf, HaveGraphs, node_count, total_size}
 use Rattle.procedure_split.specs.shaped_ranges.Limit.{nodes_passed, node_limit}
 use Rattle.procedure_split.proofs.made_procedures_lemmas.Rows.{beside}

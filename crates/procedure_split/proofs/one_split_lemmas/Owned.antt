@@ -1,9 +1,9 @@
 -- What is written of procedures has no word on an added item.
 use Rattle.std.proofs.Common.{ℕ, suc, Bool, true, false, List, [], ◌∷◌, map}
-use Rattle.language.specs.Language.{Simple, Act, Own, Set, Take, Lower, Test, Holds, Not, Is, Above, Picker, If, By, ByCell, Control, Times, Until, Varying, Stmt, Do, Choose, Loop, Perform, Go, GoDepending, NextSentence, ExitParagraph, ExitSection, ExitPerform, StopRun, Stmts, none, also, Arms, done, given, missing, Body, Nested, Performed, Range, Main, Part}
-use Rattle.language.specs.Own.{OwnAct, OwnTest, OwnPicker, OwnControl, OwnStmt, OwnStmts, OwnArms, OwnBody, OwnParagraph, OwnParagraphs}
-use Rattle.control.specs.Graph.{End, Pick, Jump, Return, Stop, Dead}
-use Rattle.control_laws.specs.rendering.Rendering.{Empty, Continues, Stays, Goes, Naming, Procedure, place_of, standing, required, written_arm, and_missing, whole_arms, picker_lacks, then_stmts, closing, written_act, written_test, written_picker, written_control, written_stmt, written_stmts, written_arms, written_body, written_paragraph, rendered}
+use Rattle.control_flow_theory.specs.language.Language.{Simple, Act, Own, Set, Take, Lower, Test, Holds, Not, Is, Above, Picker, If, By, ByCell, Control, Times, Until, Varying, Stmt, Do, Choose, Loop, Perform, Go, GoDepending, NextSentence, ExitParagraph, ExitSection, ExitPerform, StopRun, Stmts, none, also, Arms, done, given, missing, Body, Nested, Performed, Range, Main, Part}
+use Rattle.control_flow_theory.specs.language.Own.{OwnAct, OwnTest, OwnPicker, OwnControl, OwnStmt, OwnStmts, OwnArms, OwnBody, OwnParagraph, OwnParagraphs}
+use Rattle.control_flow_theory.specs.semantics.Graph.{End, Pick, Jump, Return, Stop, Dead}
+use Rattle.control_flow_theory.specs.rendering.Rendering.{Empty, Continues, Stays, Goes, Naming, Procedure, place_of, standing, required, written_arm, and_missing, whole_arms, picker_lacks, then_stmts, closing, written_act, written_test, written_picker, written_control, written_stmt, written_stmts, written_arms, written_body, written_paragraph, rendered}
 
 module _ (nothing : Simple) where
   required-own : (stmts : Stmts) → OwnStmts stmts → OwnStmts (required nothing stmts)

@@ -5,13 +5,13 @@ use Rattle.cob_tree.specs.declared.stmt.Stmt.{Stmt}
 use Rattle.cob_tree.specs.declared.program.Paragraph.{Paragraph}
 use Rattle.cob_tree.specs.declared.program.Range as code
 use Rattle.cob_tree.specs.declared.program.Sentence.{Sentence}
-use Rattle.language.specs.Laws.{statements_of}
-use Rattle.control_laws.specs.graph_rules.Reduced.{Graphs}
-use Rattle.control_laws.specs.closing.Closes.{closed_graph}
-use Rattle.control_laws.specs.rendering.Rendering.{Procedure}
-use Rattle.control_laws.proofs.rendering_lemmas.Written.{or_else, map-get}
-use Rattle.control_laws.specs.headline.Chain.{procedure_of, procedures_of}
-use Rattle.lower_places.specs.Fall.{seen_range}
+use Rattle.control_flow_theory.specs.language.Laws.{statements_of}
+use Rattle.control_flow_theory.specs.graph_rules.Reduced.{Graphs}
+use Rattle.control_flow_theory.specs.closing.Closes.{closed_graph}
+use Rattle.control_flow_theory.specs.rendering.Rendering.{Procedure}
+use Rattle.control_flow_theory.proofs.rendering_lemmas.Written.{or_else, map-get}
+use Rattle.control_flow_theory.specs.headline.Chain.{procedure_of, procedures_of}
+use Rattle.lowering_labels.specs.points.Fall.{seen_range}
 
 pub lists-same : {A : Type 0} (xs ys : List A) → length xs ≡ length ys →
     ((at : ℕ) (x y : A) → slice_get xs at ≡ Some x → slice_get ys at ≡ Some y → x ≡ y) → xs ≡ ys

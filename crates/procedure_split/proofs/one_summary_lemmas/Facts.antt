@@ -2,10 +2,10 @@
 use Rattle.std.proofs.Common.{◌≡◌, ◌<◌, ℕ, zero, suc, Bool, true, false, List, [], ◌∷◌, length, Some, slice_get, refl, ap, sym, ◌∙◌, subst, arith}
 use Rattle.std.specs.Prelude.{map}
 use Rattle.cob_tree.specs.declared.program.Range.{Range}
-use Rattle.language.specs.Language.{Chooser, Program}
-use Rattle.flow_paths.specs.Flow.{ReturnsIn, CallsIn, EndsIn, IsRange}
-use Rattle.flow_levels.specs.Reaching.{Holds}
-use Rattle.named_ranges.specs.Named.{is_before, Has}
+use Rattle.control_flow_theory.specs.language.Language.{Chooser, Program}
+use Rattle.program_points.specs.paths.Flow.{ReturnsIn, CallsIn, EndsIn, IsRange}
+use Rattle.pending_returns.specs.levels.Reaching.{Holds}
+use Rattle.program_points.specs.perform_ranges.Named.{is_before, Has}
 use Rattle.pending_returns.specs.declared.facts.RangeFacts.{RangeFacts}
 use Rattle.pending_returns.specs.declared.facts.Summary.{Summary}
 use Rattle.pending_returns.specs.Summary.{IsNumber, Tells, IsSummary}

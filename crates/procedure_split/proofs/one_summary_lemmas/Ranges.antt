@@ -1,8 +1,8 @@
 -- Ranges in their order.
 use Rattle.std.proofs.Common.{◌≡◌, ◌<◌, ◌==◌, ◌&&◌, ◌||◌, nat_lt, eqb-true, ltb-true, ℕ, zero, suc, Bool, true, false, List, [], ◌∷◌, Option, Some, None, slice_get, refl, ap, sym, ◌∙◌, ◌⊎◌, inl, inr, arith}
 use Rattle.cob_tree.specs.declared.program.Range.{Range}
-use Rattle.named_ranges.specs.Named.{is_before, pair_before, exit_before, Has}
-use Rattle.named_ranges.proofs.Ordered.{before-far}
+use Rattle.program_points.specs.perform_ranges.Named.{is_before, pair_before, exit_before, Has}
+use Rattle.program_points.proofs.perform_ranges_lemmas.Ordered.{before-far}
 
 -- no range is before itself, nor are two before each other
 

@@ -11,30 +11,30 @@ use Rattle.cob_tree.specs.declared.fault.SplitFault.{SplitFault}
 use Rattle.cob_tree.specs.declared.fault.SplitFault.TheVariants as faults
 use Rattle.cob_tree.specs.declared.program.Program.{Program}
 use Rattle.cob_tree.specs.declared.program.Range as code
-use Rattle.language.specs.Control.{control_of}
-use Rattle.language.specs.Language as language
-use Rattle.language.specs.OwnItems.{NamesOwnItems}
-use Rattle.control_laws.specs.lowering.Told.{Told, IsSource}
-use Rattle.statements.specs.Does.{declared_in}
-use Rattle.cobol_laws.specs.cobol_parts.Named.{NamesOwnParagraphs}
-use Rattle.cobol_laws.proofs.cobol_parts_lemmas.Sources.{source}
-use Rattle.control_laws.specs.closing.Closes.{IsClosed}
-use Rattle.control_laws.specs.graph_rules.Reduced as reduced
+use Rattle.control_flow_theory.specs.language.Control.{control_of}
+use Rattle.control_flow_theory.specs.language.Language as language
+use Rattle.control_flow_theory.specs.language.OwnItems.{NamesOwnItems}
+use Rattle.control_flow_theory.specs.lowering.Told.{Told, IsSource}
+use Rattle.meanings.specs.statements.Does.{declared_in}
+use Rattle.cobol_theory.specs.cobol_parts.Named.{NamesOwnParagraphs}
+use Rattle.cobol_theory.proofs.cobol_parts_lemmas.Sources.{source}
+use Rattle.control_flow_theory.specs.closing.Closes.{IsClosed}
+use Rattle.control_flow_theory.specs.graph_rules.Reduced as reduced
 use Rattle.branch_tree.specs.Graphs.{seen_graph}
 use Rattle.branch_tree.specs.declared.graph.Graph.{Graph}
-use Rattle.counter_cells.specs.Placed.{ClosesPlaced, NumbersPlaced}
-use Rattle.cut_lists.specs.Told.{told_of}
+use Rattle.added_items.specs.counters.Placed.{ClosesPlaced, NumbersPlaced}
+use Rattle.program_facts.specs.completion.Told.{told_of}
 use Rattle.flow_graph.specs.Counts.{IsLarger, IsLargerIn}
 use Rattle.flow_graph.specs.Lowered.{IsLoweredIn}
 use Rattle.flow_graph.specs.Reaching.{IsRangeIn}
-use Rattle.graph_sizes.specs.Sizes.{graph_size}
-use Rattle.range_sizes.specs.Sizes.{IsSizeIn}
-use Rattle.lower_places.specs.Fall.{seen_range}
-use Rattle.lower_places.specs.Layout.{IsLayout}
-use Rattle.lower_stmts.specs.Along.{told_by}
-use Rattle.lower_stmts.specs.declared.telling.Telling.{Telling}
-use Rattle.rest_table.specs.Paragraphs.{AreRestsOf}
-use Rattle.rest_table.specs.declared.spot.Spot.{Spot}
+use Rattle.flow_graph.specs.graph_sizes.Sizes.{graph_size}
+use Rattle.flow_graph.specs.range_sizes.Sizes.{IsSizeIn}
+use Rattle.lowering_labels.specs.points.Fall.{seen_range}
+use Rattle.lowering_labels.specs.points.Layout.{IsLayout}
+use Rattle.statement_lowering.specs.Along.{told_by}
+use Rattle.statement_lowering.specs.declared.telling.Telling.{Telling}
+use Rattle.statement_lowering.specs.continuations.Paragraphs.{AreRestsOf}
+use Rattle.statement_lowering.specs.declared.continuations.spot.Spot.{Spot}
 use Rattle.procedure_split.specs.shaped_ranges.Graphs.{AreGraphsOf, HaveGraphs, IsGraphOf, graph_by, node_count, total_size}
 use Rattle.procedure_split.specs.shaped_ranges.Limit.{AreLowered, IsLoweringFault, node_limit, nodes_passed}
 use Rattle.procedure_split.specs.shaped_ranges.Shaped.{AllClosed}

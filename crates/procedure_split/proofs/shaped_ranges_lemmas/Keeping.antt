@@ -1,20 +1,20 @@
 -- One choice of kept nodes for all ranges, by those of each.
 use Rattle.std.proofs.Common.{◌≡◌, ℕ, zero, suc, Bool, true, false, if◌then◌else◌, List, [], ◌∷◌, map, Some, slice_get, refl, ap, sym, subst, ◌∙◌}
 use Rattle.cob_tree.specs.declared.program.Range as code
-use Rattle.language.specs.Language.{Program, Range, same_range}
-use Rattle.control.specs.Graph.{Label}
-use Rattle.control.proofs.Ranges.{same-range, same-self}
-use Rattle.control_laws.specs.lowering.Told.{Told}
-use Rattle.control_laws.specs.lowering.Lowered.{lowered}
-use Rattle.control_laws.specs.lowering.Reached.{AreReached, IsReached}
-use Rattle.control_laws.specs.lowering.WellFormed.{AreJustReached}
-use Rattle.control_laws.specs.graph_rules.Walked.{In, is_in}
-use Rattle.control_laws.specs.graph_rules.Reduced as reduced
-use Rattle.control_laws.specs.headline.Chain.{lowered_graphs}
-use Rattle.control_laws.specs.headline.Numbering.{numbers_by, added_by}
+use Rattle.control_flow_theory.specs.language.Language.{Program, Range, same_range}
+use Rattle.control_flow_theory.specs.semantics.Graph.{Label}
+use Rattle.control_flow_theory.proofs.semantics_lemmas.Ranges.{same-range, same-self}
+use Rattle.control_flow_theory.specs.lowering.Told.{Told}
+use Rattle.control_flow_theory.specs.lowering.Lowered.{lowered}
+use Rattle.control_flow_theory.specs.lowering.Reached.{AreReached, IsReached}
+use Rattle.control_flow_theory.specs.lowering.WellFormed.{AreJustReached}
+use Rattle.control_flow_theory.specs.graph_rules.Walked.{In, is_in}
+use Rattle.control_flow_theory.specs.graph_rules.Reduced as reduced
+use Rattle.control_flow_theory.specs.headline.Chain.{lowered_graphs}
+use Rattle.control_flow_theory.specs.headline.Numbering.{numbers_by, added_by}
 use Rattle.branch_tree.specs.Graphs.{seen_graph}
 use Rattle.branch_tree.specs.declared.graph.Graph.{Graph}
-use Rattle.lower_places.specs.Fall.{seen_range}
+use Rattle.lowering_labels.specs.points.Fall.{seen_range}
 use Rattle.procedure_split.specs.shaped_ranges.Graphs.{AreGraphsOf, graph_by}
 
 abbrev pub Kept : Type 0

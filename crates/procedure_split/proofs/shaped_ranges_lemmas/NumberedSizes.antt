@@ -1,19 +1,19 @@
 -- Numbering its counters leaves a graph as large as it is.
 use Rattle.std.proofs.Common.{◌≡◌, ◌+◌, ℕ, Bool, List, [], ◌∷◌, map, sum_by, refl, ap, ap₂, sym, ◌∙◌}
 use Rattle.std.proofs.lemmas.List.Sums.{sum_by-cons}
-use Rattle.language.specs.Language as language
-use Rattle.control.specs.Graph as graph
-use Rattle.control_laws.specs.graph_rules.Reduced as reduced
-use Rattle.control_laws.specs.headline.Chain.{graph_nodes}
-use Rattle.control_laws.specs.headline.Numbering.{numbers_by}
-use Rattle.control_laws.specs.lowering.Completes.{size, size_arms, size_body, sizes}
-use Rattle.control_laws.specs.lowering.Lower as lower
-use Rattle.control_laws.specs.lowering.Lowered.{nodes_of}
-use Rattle.control_laws.specs.lowering.Reached.{kept_nodes}
-use Rattle.control_laws.specs.lowering.Renamed.{arms_anew, body_anew, end_anew, stmt_anew, stmts_anew, tree_anew, trees_anew}
-use Rattle.control_laws.specs.lowering.Told.{Told}
+use Rattle.control_flow_theory.specs.language.Language as language
+use Rattle.control_flow_theory.specs.semantics.Graph as graph
+use Rattle.control_flow_theory.specs.graph_rules.Reduced as reduced
+use Rattle.control_flow_theory.specs.headline.Chain.{graph_nodes}
+use Rattle.control_flow_theory.specs.headline.Numbering.{numbers_by}
+use Rattle.control_flow_theory.specs.lowering.Completes.{size, size_arms, size_body, sizes}
+use Rattle.control_flow_theory.specs.lowering.Lower as lower
+use Rattle.control_flow_theory.specs.lowering.Lowered.{nodes_of}
+use Rattle.control_flow_theory.specs.lowering.Reached.{kept_nodes}
+use Rattle.control_flow_theory.specs.lowering.Renamed.{arms_anew, body_anew, end_anew, stmt_anew, stmts_anew, tree_anew, trees_anew}
+use Rattle.control_flow_theory.specs.lowering.Told.{Told}
 use Rattle.flow_graph.specs.Lowered.{lowered_graph, node_of}
-use Rattle.graph_sizes.specs.Sizes.{end_size, graph_size, node_size, tree_size, trees_size}
+use Rattle.flow_graph.specs.graph_sizes.Sizes.{end_size, graph_size, node_size, tree_size, trees_size}
 use Rattle.procedure_split.specs.shaped_ranges.Graphs.{graph_by}
 
 module _ (number : ℕ → ℕ) where

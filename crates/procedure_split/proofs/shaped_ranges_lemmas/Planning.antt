@@ -1,17 +1,17 @@
 -- The plan with these graphs.
 use Rattle.std.proofs.Common.{◌≡◌, ◌<◌, ℕ, List, [], ◌∷◌, map, length, Option, Some, None, refl, ap₂, sym, subst, ◌∙◌}
 use Rattle.cob_tree.specs.declared.program.Range as code
-use Rattle.language.specs.Control.{control_of}
-use Rattle.language.specs.Language.{Program, Range, Main}
-use Rattle.control_laws.specs.lowering.Told.{Told}
-use Rattle.control_laws.specs.graph_rules.Walked.{In}
-use Rattle.control_laws.specs.headline.Chain.{CallsStandLater}
-use Rattle.control_laws.specs.headline.Headline.{Plan}
-use Rattle.cut_lists.specs.Told.{told_of}
-use Rattle.flow_table.proofs.Sections.{seen-length}
-use Rattle.range_plan.specs.Laws.{as_control, ending_at, others_of}
-use Rattle.range_plan.proofs.CobolPlans.{cobol-planned, has-plan}
-use Rattle.lower_places.specs.Fall.{range_by, seen_range}
+use Rattle.control_flow_theory.specs.language.Control.{control_of}
+use Rattle.control_flow_theory.specs.language.Language.{Program, Range, Main}
+use Rattle.control_flow_theory.specs.lowering.Told.{Told}
+use Rattle.control_flow_theory.specs.graph_rules.Walked.{In}
+use Rattle.control_flow_theory.specs.headline.Chain.{CallsStandLater}
+use Rattle.control_flow_theory.specs.headline.Headline.{Plan}
+use Rattle.program_facts.specs.completion.Told.{told_of}
+use Rattle.program_points.proofs.table_building_lemmas.Sections.{seen-length}
+use Rattle.procedure_split.specs.plan.Laws.{as_control, ending_at, others_of}
+use Rattle.procedure_split.proofs.plan_lemmas.CobolPlans.{cobol-planned, has-plan}
+use Rattle.lowering_labels.specs.points.Fall.{range_by, seen_range}
 use Rattle.procedure_split.specs.shaped_ranges.Laws.{RangesArePlanned}
 use Rattle.procedure_split.proofs.shaped_ranges_lemmas.Keeping.{AreApart, kept_by, kept-reached, kept-just, kept-graphs, kept-graph}
 

@@ -5,7 +5,7 @@ use Rattle.cob_tree.specs.declared.fault.SplitFault.{SplitFault}
 use Rattle.cob_tree.specs.declared.fault.SplitFault.TheVariants as faults
 use Rattle.branch_tree.specs.Graphs.{seen_added, seen_graph}
 use Rattle.branch_tree.specs.declared.graph.Graph.{Graph}
-use Rattle.control_laws.specs.closing.Closes.{IsClosed, closed_graph}
+use Rattle.control_flow_theory.specs.closing.Closes.{IsClosed, closed_graph}
 use Rattle.region_rewrite.specs.Shape.{Shapes}
 use Rattle.region_rewrite.specs.declared.shaping.Shaped.{Shaped}
 use Rattle.procedure_split.specs.declared.shaped_ranges.shaping.Closed.{Closed}

@@ -2,20 +2,20 @@
 use Rattle.std.proofs.Common.{◌≡◌, ℕ, zero, suc, List, [], ◌∷◌, map, length, Some, slice_get, refl, ap, ap₂, sym, ◌∙◌}
 use Rattle.std.specs.Prelude.{pred}
 use Rattle.cob_tree.specs.declared.program.Range as code
-use Rattle.language.specs.Language.{Range}
-use Rattle.control.specs.Graph.{body_of}
-use Rattle.control_laws.specs.graph_rules.Families.{Added}
-use Rattle.control_laws.specs.graph_rules.Reduced as reduced
-use Rattle.control_laws.specs.graph_rules.Reduced.{Graphs, tree_in}
-use Rattle.control_laws.specs.graph_rules.Walked.{is_in}
-use Rattle.control_laws.specs.closing.Closes.{closed_graph}
-use Rattle.control_laws.proofs.rendering_lemmas.Written.{or_else}
-use Rattle.language.specs.Language.{Stmts}
-use Rattle.lower_places.specs.Fall.{seen_range}
+use Rattle.control_flow_theory.specs.language.Language.{Range}
+use Rattle.control_flow_theory.specs.semantics.Graph.{body_of}
+use Rattle.control_flow_theory.specs.graph_rules.Families.{Added}
+use Rattle.control_flow_theory.specs.graph_rules.Reduced as reduced
+use Rattle.control_flow_theory.specs.graph_rules.Reduced.{Graphs, tree_in}
+use Rattle.control_flow_theory.specs.graph_rules.Walked.{is_in}
+use Rattle.control_flow_theory.specs.closing.Closes.{closed_graph}
+use Rattle.control_flow_theory.proofs.rendering_lemmas.Written.{or_else}
+use Rattle.control_flow_theory.specs.language.Language.{Stmts}
+use Rattle.lowering_labels.specs.points.Fall.{seen_range}
 use Rattle.region_rewrite.specs.Shape.{first_tree}
-use Rattle.cell_table.specs.CellItems.{StandOnce}
-use Rattle.cell_table.specs.Laws.{cell_range, closed_ranges}
-use Rattle.cell_table.specs.Row.{CellRange}
+use Rattle.added_items.specs.item_table.CellItems.{StandOnce}
+use Rattle.added_items.specs.item_table.Laws.{cell_range, closed_ranges}
+use Rattle.added_items.specs.item_table.Row.{CellRange}
 use Rattle.procedure_split.proofs.shaped_ranges_lemmas.Keeping.{AreApart}
 use Rattle.procedure_split.specs.shaped_ranges.Shaped.{IsShapedTo}
 use Rattle.procedure_split.specs.declared.shaped_ranges.shaping.Closed.{Closed}

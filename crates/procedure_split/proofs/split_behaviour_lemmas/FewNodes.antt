@@ -2,19 +2,19 @@
 use Rattle.std.proofs.Common.{◌≡◌, ◌≤◌, ◌<◌, ℕ, zero, suc, ◌+◌, true, if◌then◌else◌, List, [], ◌∷◌, map, length, Some, slice_get, sum_by, refl, ap, sym, subst, ◌∙◌, inl, inr, arith}
 use Rattle.std.proofs.lemmas.List.Sums.{sum_by-cons}
 use Rattle.cob_tree.specs.declared.program.Range as code
-use Rattle.language.specs.Language as language
-use Rattle.language.specs.Language.{Range}
-use Rattle.control.proofs.Ranges.{range-tells}
-use Rattle.control_laws.specs.lowering.Told.{Told}
-use Rattle.control_laws.specs.graph_rules.Walked.{In, is_in}
-use Rattle.control_laws.specs.graph_rules.Reduced as reduced
-use Rattle.control_laws.specs.graph_rules.Reduced.{Graphs, Node, size}
-use Rattle.control_laws.proofs.rendering_lemmas.Written.{or_else}
+use Rattle.control_flow_theory.specs.language.Language as language
+use Rattle.control_flow_theory.specs.language.Language.{Range}
+use Rattle.control_flow_theory.proofs.semantics_lemmas.Ranges.{range-tells}
+use Rattle.control_flow_theory.specs.lowering.Told.{Told}
+use Rattle.control_flow_theory.specs.graph_rules.Walked.{In, is_in}
+use Rattle.control_flow_theory.specs.graph_rules.Reduced as reduced
+use Rattle.control_flow_theory.specs.graph_rules.Reduced.{Graphs, Node, size}
+use Rattle.control_flow_theory.proofs.rendering_lemmas.Written.{or_else}
 use Rattle.branch_tree.specs.Graphs.{seen_graph}
 use Rattle.branch_tree.specs.declared.graph.Graph.{Graph}
-use Rattle.lower_places.specs.Fall.{seen_range}
-use Rattle.graph_sizes.specs.Sizes.{graph_size, node_size, tree_size}
-use Rattle.cell_table.specs.Tables.{most_arms}
+use Rattle.lowering_labels.specs.points.Fall.{seen_range}
+use Rattle.flow_graph.specs.graph_sizes.Sizes.{graph_size, node_size, tree_size}
+use Rattle.added_items.specs.item_table.Tables.{most_arms}
 use Rattle.procedure_split.specs.shaped_ranges.Graphs.{AreGraphsOf, node_count}
 use Rattle.procedure_split.specs.shaped_ranges.Limit.{node_limit}
 use Rattle.procedure_split.proofs.made_procedures_lemmas.Rows.{beside}

@@ -3,44 +3,44 @@ use Rattle.std.proofs.Common.{◌≡◌, ◌<◌, ℕ, true, false, List, [], �
 use Rattle.cob_tree.specs.declared.program.Paragraph.{Paragraph}
 use Rattle.cob_tree.specs.declared.program.Program.{Program}
 use Rattle.cob_tree.specs.declared.program.Range as code
-use Rattle.language.specs.Control.{control_of}
-use Rattle.language.specs.Language as language
-use Rattle.language.specs.Language.{Range, Main}
-use Rattle.language.specs.Structured.{IsStructured}
-use Rattle.control_laws.specs.lowering.Told.{IsSource}
-use Rattle.control_laws.specs.graph_rules.Walked.{In}
-use Rattle.control_laws.specs.graph_rules.Reduced.{Graphs, size}
-use Rattle.cut_lists.specs.Told.{told_of}
-use Rattle.control_laws.specs.headline.Chain.{EachCellServed, GraphsServed}
-use Rattle.control_laws.specs.headline.Headline.{Plan, graphs_by}
-use Rattle.control_laws.specs.served_graphs.Laws.{CountersAreServed}
-use Rattle.cobol_laws.proofs.cobol_parts_lemmas.Sources.{source}
-use Rattle.cobol_laws.specs.cobol_meaning.Same.{SameBehaviour}
-use Rattle.statements.specs.Does.{declared_in}
-use Rattle.cobol_laws.specs.added_items.Own.{items}
-use Rattle.cobol_laws.proofs.added_items_lemmas.Layouts.{inside-of}
-use Rattle.cobol_laws.specs.cell_serving.Entries.{added_to}
-use Rattle.cobol_laws.specs.cell_serving.Tested.{kinds_of}
-use Rattle.flow_table.proofs.Sections.{seen-length}
-use Rattle.range_plan.proofs.CobolPlans.{cobol-planned}
+use Rattle.control_flow_theory.specs.language.Control.{control_of}
+use Rattle.control_flow_theory.specs.language.Language as language
+use Rattle.control_flow_theory.specs.language.Language.{Range, Main}
+use Rattle.control_flow_theory.specs.language.Structured.{IsStructured}
+use Rattle.control_flow_theory.specs.lowering.Told.{IsSource}
+use Rattle.control_flow_theory.specs.graph_rules.Walked.{In}
+use Rattle.control_flow_theory.specs.graph_rules.Reduced.{Graphs, size}
+use Rattle.program_facts.specs.completion.Told.{told_of}
+use Rattle.control_flow_theory.specs.headline.Chain.{EachCellServed, GraphsServed}
+use Rattle.control_flow_theory.specs.headline.Headline.{Plan, graphs_by}
+use Rattle.control_flow_theory.specs.served_graphs.Laws.{CountersAreServed}
+use Rattle.cobol_theory.proofs.cobol_parts_lemmas.Sources.{source}
+use Rattle.cobol_theory.specs.cobol_meaning.Same.{SameBehaviour}
+use Rattle.meanings.specs.statements.Does.{declared_in}
+use Rattle.cobol_theory.specs.added_items.Own.{items}
+use Rattle.cobol_theory.proofs.added_items_lemmas.Layouts.{inside-of}
+use Rattle.cobol_theory.specs.cell_serving.Entries.{added_to}
+use Rattle.cobol_theory.specs.cell_serving.Tested.{kinds_of}
+use Rattle.program_points.proofs.table_building_lemmas.Sections.{seen-length}
+use Rattle.procedure_split.proofs.plan_lemmas.CobolPlans.{cobol-planned}
 use Rattle.out_names.specs.Naming.{names_of}
 use Rattle.out_names.specs.Words.{program_words, table_of}
-use Rattle.named_programs.specs.Part.{is_filled}
-use Rattle.choice_writing.specs.Empties.{empties}
-use Rattle.cell_words.specs.Words.{AreItems}
-use Rattle.cell_table.proofs.Entered.{are-entries}
-use Rattle.cell_table.proofs.Served.{are-served}
-use Rattle.cell_table.specs.CellItems.{StandOnce}
-use Rattle.cell_table.specs.Laws.{closed_ranges}
-use Rattle.cell_table.specs.Row.{CellRange}
-use Rattle.cell_table.specs.Tables.{most_arms, table_of_cells}
-use Rattle.lower_places.specs.Fall.{seen_range}
-use Rattle.control_laws.proofs.rendering_lemmas.Written.{map-get}
+use Rattle.program_facts.specs.well_scoped.Part.{is_filled}
+use Rattle.statement_builders.specs.arms.Empties.{empties}
+use Rattle.statement_builders.specs.item_words.Words.{AreItems}
+use Rattle.added_items.proofs.item_table_lemmas.Entered.{are-entries}
+use Rattle.added_items.proofs.item_table_lemmas.Served.{are-served}
+use Rattle.added_items.specs.item_table.CellItems.{StandOnce}
+use Rattle.added_items.specs.item_table.Laws.{closed_ranges}
+use Rattle.added_items.specs.item_table.Row.{CellRange}
+use Rattle.added_items.specs.item_table.Tables.{most_arms, table_of_cells}
+use Rattle.lowering_labels.specs.points.Fall.{seen_range}
+use Rattle.control_flow_theory.proofs.rendering_lemmas.Written.{map-get}
 use Rattle.procedure_split.proofs.counter_serving_lemmas.Served.{counters-served}
-use Rattle.cobol_laws.specs.cobol_headline.Alike.{Writing, naming_of, writable_of, CanBeWritten, IsWrittenOf}
-use Rattle.cobol_laws.proofs.cobol_headline_lemmas.Joined.{alike}
-use Rattle.cobol_laws.specs.served_programs.Laws.{KeepsAtEnd}
-use Rattle.cobol_laws.proofs.served_programs_lemmas.Taken.{graphs-served}
+use Rattle.cobol_theory.specs.cobol_headline.Alike.{Writing, naming_of, writable_of, CanBeWritten, IsWrittenOf}
+use Rattle.cobol_theory.proofs.cobol_headline_lemmas.Joined.{alike}
+use Rattle.cobol_theory.specs.served_programs.Laws.{KeepsAtEnd}
+use Rattle.cobol_theory.proofs.served_programs_lemmas.Taken.{graphs-served}
 use Rattle.procedure_split.specs.shaped_ranges.Laws.{HasFlow, IsPlannedWith}
 use Rattle.procedure_split.specs.shaped_ranges.Shaped.{IsShapedTo}
 use Rattle.procedure_split.specs.declared.shaped_ranges.shaping.Closed.{Closed}

@@ -1,12 +1,12 @@
 -- Bodies whose choices have arms are written without a level more.
 use Rattle.std.proofs.Common.{◌≡◌, ◌≤◌, ℕ, suc, max, Bool, true, false, List, refl, sym, ◌∙◌, subst, arith}
-use Rattle.language.specs.Language.{Chooser, Evaluate, Read, Arith, Depending, Picker, If, By, ByCell, Stmt, Do, Choose, Loop, Perform, Go, GoDepending, NextSentence, ExitParagraph, ExitSection, ExitPerform, StopRun, Stmts, none, also, Arms, done, given, missing, Body, Nested, Performed}
-use Rattle.control_laws.specs.rendering.Rendering.{Empty, Continues, Stays, Goes, Naming}
-use Rattle.tree_nesting.specs.Nesting.{leaves_out, is_nothing, arm_level, nesting, arms_nesting}
-use Rattle.cobol_laws.specs.cell_serving.Choosing.{written_chooser}
-use Rattle.cobol_laws.specs.cell_serving.Entries.{whole_literal}
-use Rattle.choice_writing.specs.Empties.{empties}
-use Rattle.choice_writing.specs.Written.{Way, naming_in}
+use Rattle.control_flow_theory.specs.language.Language.{Chooser, Evaluate, Read, Arith, Depending, Picker, If, By, ByCell, Stmt, Do, Choose, Loop, Perform, Go, GoDepending, NextSentence, ExitParagraph, ExitSection, ExitPerform, StopRun, Stmts, none, also, Arms, done, given, missing, Body, Nested, Performed}
+use Rattle.control_flow_theory.specs.rendering.Rendering.{Empty, Continues, Stays, Goes, Naming}
+use Rattle.region_rewrite.specs.written_nesting.Nesting.{leaves_out, is_nothing, arm_level, nesting, arms_nesting}
+use Rattle.cobol_theory.specs.cell_serving.Choosing.{written_chooser}
+use Rattle.cobol_theory.specs.cell_serving.Entries.{whole_literal}
+use Rattle.statement_builders.specs.arms.Empties.{empties}
+use Rattle.statement_builders.specs.arms.Written.{Way, naming_in}
 use Rattle.procedure_split.specs.written_depth.Fits.{LeavesOut, MissingFits, StmtFits, StmtsFit, ArmsFit, BodyFits}
 use Rattle.procedure_split.specs.written_depth.Levels.{least_levels}
 use Rattle.procedure_split.specs.split_depth.Arms.{begins_given, has_given, HasArms, StmtHasArms, StmtsHaveArms, EachArmHas, BodyHasArms}

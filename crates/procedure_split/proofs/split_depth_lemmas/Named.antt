@@ -10,13 +10,13 @@ use Rattle.cob_tree.specs.declared.stmt.Arms.{Arms, roll-Arms, map-Arms, fold-ro
 use Rattle.cob_tree.specs.declared.stmt.When.{When, roll-When, map-When, fold-roll-When}
 use Rattle.cob_tree.specs.declared.stmt.Stmt.{Stmt, ind-Stmt, map-Stmt, roll-Stmt, fold-roll-Stmt}
 use Rattle.cob_tree.specs.declared.stmt.Stmt.TheOpen.{Stmt-F, Arms-F, When-F}
-use Rattle.language.specs.All.{all}
-use Rattle.language.specs.Language as language
-use Rattle.language.specs.Control.{arith_stmt, arm_before, else_of, stmts_of, control_in, loop_of, perform_of, picker_by, cell_chosen, count_from, tests_of, Branch, branches_before, Both, both_arms, both_step, branch_step, seen_step, seen, seen_when, seen_both, seen_stmts}
-use Rattle.named_programs.specs.Part.{Counts, is_filled, if_any, file_named, place_named}
-use Rattle.named_programs.specs.Beside.{turns, cond_named, control_named, calc_named, target_named, subject_named, test_named}
-use Rattle.named_programs.specs.Named as named
-use Rattle.named_programs.specs.Named.{arm, fit, stmt_step, arms_step, when_step, stmt_named, arms_named, when_seen, stmts_named}
+use Rattle.control_flow_theory.specs.language.All.{all}
+use Rattle.control_flow_theory.specs.language.Language as language
+use Rattle.control_flow_theory.specs.language.Control.{arith_stmt, arm_before, else_of, stmts_of, control_in, loop_of, perform_of, picker_by, cell_chosen, count_from, tests_of, Branch, branches_before, Both, both_arms, both_step, branch_step, seen_step, seen, seen_when, seen_both, seen_stmts}
+use Rattle.program_facts.specs.well_scoped.Part.{Counts, is_filled, if_any, file_named, place_named}
+use Rattle.program_facts.specs.well_scoped.Beside.{turns, cond_named, control_named, calc_named, target_named, subject_named, test_named}
+use Rattle.program_facts.specs.well_scoped.Named as named
+use Rattle.program_facts.specs.well_scoped.Named.{arm, fit, stmt_step, arms_step, when_step, stmt_named, arms_named, when_seen, stmts_named}
 use Rattle.procedure_split.specs.split_depth.Arms.{has_given, HasArms, StmtHasArms, StmtsHaveArms, EachArmHas}
 
 second : (a b : Bool) → (a && b) ≡ true → b ≡ true

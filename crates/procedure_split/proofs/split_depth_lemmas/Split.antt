@@ -4,29 +4,29 @@ use Rattle.cob_tree.specs.Depth.{largest, paragraph_depth, program_depth}
 use Rattle.cob_tree.specs.declared.program.Paragraph.{Paragraph}
 use Rattle.cob_tree.specs.declared.program.Program.{Program}
 use Rattle.cob_tree.specs.declared.program.Range as code
-use Rattle.language.specs.Control.{control_of, seen_sentence}
-use Rattle.language.specs.Language.{Range, Main, Part}
-use Rattle.control.specs.Graph.{Tree, body_of}
-use Rattle.control_laws.specs.graph_rules.Reduced.{Graphs}
-use Rattle.control_laws.specs.rendering.Rendering.{place_of, written_paragraph}
-use Rattle.control_laws.proofs.rendering_lemmas.Written.{map-get}
-use Rattle.control_laws.specs.headline.Chain.{procedures_of}
-use Rattle.cut_lists.specs.Told.{told_of}
-use Rattle.flow_table.proofs.Sections.{seen-length}
+use Rattle.control_flow_theory.specs.language.Control.{control_of, seen_sentence}
+use Rattle.control_flow_theory.specs.language.Language.{Range, Main, Part}
+use Rattle.control_flow_theory.specs.semantics.Graph.{Tree, body_of}
+use Rattle.control_flow_theory.specs.graph_rules.Reduced.{Graphs}
+use Rattle.control_flow_theory.specs.rendering.Rendering.{place_of, written_paragraph}
+use Rattle.control_flow_theory.proofs.rendering_lemmas.Written.{map-get}
+use Rattle.control_flow_theory.specs.headline.Chain.{procedures_of}
+use Rattle.program_facts.specs.completion.Told.{told_of}
+use Rattle.program_points.proofs.table_building_lemmas.Sections.{seen-length}
 use Rattle.pending_returns.specs.declared.facts.Summary.{Summary}
-use Rattle.range_plan.specs.Laws.{IsPlannedByPaths, others_of}
-use Rattle.range_plan.proofs.CobolPlans.{cobol-planned}
+use Rattle.procedure_split.specs.plan.Laws.{IsPlannedByPaths, others_of}
+use Rattle.procedure_split.proofs.plan_lemmas.CobolPlans.{cobol-planned}
 use Rattle.branch_tree.specs.Trees.{seen_tree}
-use Rattle.lower_places.specs.Fall.{seen_range}
-use Rattle.tree_nesting.specs.Nesting.{nesting}
+use Rattle.lowering_labels.specs.points.Fall.{seen_range}
+use Rattle.region_rewrite.specs.written_nesting.Nesting.{nesting}
 use Rattle.region_rewrite.specs.Shape.{max_nesting}
-use Rattle.cobol_laws.specs.cell_serving.Table.{CellTable}
-use Rattle.choice_writing.specs.Places.{ArePlaced}
-use Rattle.choice_writing.specs.Written.{Way, naming_in}
-use Rattle.choice_writing.specs.declared.placing.Placed.{Placed}
-use Rattle.cell_words.specs.Words.{AreItems}
-use Rattle.cell_words.specs.declared.cells.CellItem.{CellItem}
-use Rattle.body_writing.specs.Procedures.{is_main, procedure_of}
+use Rattle.cobol_theory.specs.cell_serving.Table.{CellTable}
+use Rattle.statement_builders.specs.arms.Places.{ArePlaced}
+use Rattle.statement_builders.specs.arms.Written.{Way, naming_in}
+use Rattle.statement_builders.specs.declared.arms.placing.Placed.{Placed}
+use Rattle.statement_builders.specs.item_words.Words.{AreItems}
+use Rattle.statement_builders.specs.declared.item_words.cells.CellItem.{CellItem}
+use Rattle.body_rendering.specs.Procedures.{is_main, procedure_of}
 use Rattle.procedure_split.specs.shaped_ranges.Laws.{HasFlow}
 use Rattle.procedure_split.proofs.shaped_ranges_lemmas.Keeping.{AreApart}
 use Rattle.procedure_split.specs.made_procedures.Made.{IsParagraphOf, ArePlacesIn}

@@ -8,12 +8,12 @@ use Rattle.cob_tree.specs.declared.stmt.When.{When, roll-When, map-When, fold-ro
 use Rattle.cob_tree.specs.declared.stmt.Stmt.{Stmt, ind-Stmt, map-Stmt, roll-Stmt, fold-roll-Stmt}
 use Rattle.cob_tree.specs.declared.stmt.Stmt.TheOpen.{Stmt-F, Arms-F, When-F}
 use Rattle.cob_tree.specs.declared.stmt.Stmt.TheVariants as stmts
-use Rattle.language.specs.All.{all}
-use Rattle.language.specs.Language as language
-use Rattle.language.specs.Control.{arith_stmt, arm_before, else_of, stmts_of, control_in, loop_of, Branch, branches_before, Both, both_arms, both_step, branch_step, seen_step, seen, seen_when, seen_both, seen_stmts}
-use Rattle.named_programs.proofs.Made.{both}
+use Rattle.control_flow_theory.specs.language.All.{all}
+use Rattle.control_flow_theory.specs.language.Language as language
+use Rattle.control_flow_theory.specs.language.Control.{arith_stmt, arm_before, else_of, stmts_of, control_in, loop_of, Branch, branches_before, Both, both_arms, both_step, branch_step, seen_step, seen, seen_when, seen_both, seen_stmts}
+use Rattle.program_facts.proofs.well_scoped_lemmas.Made.{both}
 use Rattle.struct_form.specs.Structured.{exitless_step, exitless_arms, exitless_when, exitless, arms_exitless, when_exitless, stmts_exitless}
-use Rattle.few_stmts.specs.lone_exits.Alone.{is_exit}
+use Rattle.grammar_laws.specs.short_lists.lone_exits.Alone.{is_exit}
 use Rattle.procedure_split.proofs.split_form_lemmas.Lacking.{StmtLacks, StmtsLack, ArmsLack}
 
 abbrev BothLack : Both → Type 0

@@ -5,17 +5,17 @@ use Rattle.cob_tree.specs.declared.program.Paragraph.{Paragraph}
 use Rattle.cob_tree.specs.declared.program.Program.{Program}
 use Rattle.cob_tree.specs.declared.program.Sentence.{Sentence}
 use Rattle.cob_tree.specs.declared.stmt.Stmt.{Stmt}
-use Rattle.language.specs.Control.{control_of, seen_paragraph, seen_paragraphs, seen_sentence, section_last}
-use Rattle.language.specs.Language as language
+use Rattle.control_flow_theory.specs.language.Control.{control_of, seen_paragraph, seen_paragraphs, seen_sentence, section_last}
+use Rattle.control_flow_theory.specs.language.Language as language
 use Rattle.struct_form.specs.Structured.{NoExit, IsProcedure, stmts_exitless}
-use Rattle.few_stmts.specs.lone_exits.Alone.{is_exit, exits_alone}
-use Rattle.cut_lists.specs.Told.{told_of}
-use Rattle.control_laws.specs.rendering.Rendering.{Naming, Procedure, place_of, written_paragraph}
-use Rattle.control_laws.proofs.rendering_lemmas.Written.{or_else}
-use Rattle.control_laws.specs.headline.Headline.{procedures_by}
-use Rattle.control_laws.specs.served_graphs.Served.{ProgramIsServed}
+use Rattle.grammar_laws.specs.short_lists.lone_exits.Alone.{is_exit, exits_alone}
+use Rattle.program_facts.specs.completion.Told.{told_of}
+use Rattle.control_flow_theory.specs.rendering.Rendering.{Naming, Procedure, place_of, written_paragraph}
+use Rattle.control_flow_theory.proofs.rendering_lemmas.Written.{or_else}
+use Rattle.control_flow_theory.specs.headline.Headline.{procedures_by}
+use Rattle.control_flow_theory.specs.served_graphs.Served.{ProgramIsServed}
 use Rattle.pending_returns.specs.declared.facts.Summary.{Summary}
-use Rattle.cobol_laws.specs.cobol_headline.Alike.{naming_of}
+use Rattle.cobol_theory.specs.cobol_headline.Alike.{naming_of}
 use Rattle.procedure_split.specs.Split.{IsSplit}
 use Rattle.procedure_split.specs.split_behaviour.Alike.{IsWellMade, FlowsSo}
 use Rattle.procedure_split.proofs.split_behaviour_lemmas.Joined.{plan, planned, is-source, some, writing, is-written, behave-alike}

@@ -1,7 +1,7 @@
 -- Statements of control in which no EXIT stands.
 use Rattle.std.proofs.Common.{◌≡◌, false}
-use Rattle.language.specs.Language.{Act, Own, Set, Take, Lower, Stmt, Do, Choose, Loop, Perform, Go, GoDepending, NextSentence, ExitParagraph, ExitSection, ExitPerform, StopRun, Stmts, none, also, Arms, done, given, missing, Body, Nested, Performed}
-use Rattle.few_stmts.specs.lone_exits.Alone.{is_exit}
+use Rattle.control_flow_theory.specs.language.Language.{Act, Own, Set, Take, Lower, Stmt, Do, Choose, Loop, Perform, Go, GoDepending, NextSentence, ExitParagraph, ExitSection, ExitPerform, StopRun, Stmts, none, also, Arms, done, given, missing, Body, Nested, Performed}
+use Rattle.grammar_laws.specs.short_lists.lone_exits.Alone.{is_exit}
 
 abbrev pub ActLacks : Act → Type 0
 ActLacks (Own simple) = is_exit simple ≡ false

@@ -15,15 +15,15 @@ use Rattle.cob_tree.specs.declared.stmt.When.{When, roll-When, map-When, fold-ro
 use Rattle.cob_tree.specs.declared.stmt.Stmt.{Stmt, ind-Stmt, map-Stmt, out-Stmt, roll-Stmt, roll-out-Stmt, fold-roll-Stmt}
 use Rattle.cob_tree.specs.declared.stmt.Stmt.TheOpen.{Stmt-F, Arms-F, When-F}
 use Rattle.cob_tree.specs.declared.stmt.Stmt.TheVariants as stmts
-use Rattle.language.specs.All.{all}
-use Rattle.language.specs.Language as language
-use Rattle.language.specs.Control.{cell_of, number_written, setting, move_to, move_of, lowered_cell, arith_act, arith_stmt, arm_before, else_of, stmts_of, control_in, loop_of, perform_of, test_of, evaluate_of, tests_of, Branch, branches_before, Both, both_arms, both_step, branch_step, seen_step, seen, seen_when, seen_both, seen_stmts, seen_sentence, seen_paragraphs, section_last}
-use Rattle.control_laws.specs.lowering.Told.{Told}
-use Rattle.control_laws.specs.rendering.Rendering.{Naming, count_arms}
-use Rattle.control_laws.specs.rendering.Procedures.{Writable}
-use Rattle.control_laws.specs.served_graphs.Served.{ActIsServed, TestIsServed, PickerIsServed, StmtIsServed, StmtsAreServed, ArmsAreServed, IsIdle, SentenceIsServed, ParagraphIsServed, ParagraphsAreServed}
+use Rattle.control_flow_theory.specs.language.All.{all}
+use Rattle.control_flow_theory.specs.language.Language as language
+use Rattle.control_flow_theory.specs.language.Control.{cell_of, number_written, setting, move_to, move_of, lowered_cell, arith_act, arith_stmt, arm_before, else_of, stmts_of, control_in, loop_of, perform_of, test_of, evaluate_of, tests_of, Branch, branches_before, Both, both_arms, both_step, branch_step, seen_step, seen, seen_when, seen_both, seen_stmts, seen_sentence, seen_paragraphs, section_last}
+use Rattle.control_flow_theory.specs.lowering.Told.{Told}
+use Rattle.control_flow_theory.specs.rendering.Rendering.{Naming, count_arms}
+use Rattle.control_flow_theory.specs.rendering.Procedures.{Writable}
+use Rattle.control_flow_theory.specs.served_graphs.Served.{ActIsServed, TestIsServed, PickerIsServed, StmtIsServed, StmtsAreServed, ArmsAreServed, IsIdle, SentenceIsServed, ParagraphIsServed, ParagraphsAreServed}
 use Rattle.struct_form.specs.Structured.{exitless_step, exitless_arms, exitless_when, exitless, arms_exitless, when_exitless, stmts_exitless}
-use Rattle.few_stmts.specs.lone_exits.Alone.{is_exit, is_lone_exit, sentence_exits_alone, sentences_exit_alone, paragraph_exits_alone, paragraphs_exit_alone}
+use Rattle.grammar_laws.specs.short_lists.lone_exits.Alone.{is_exit, is_lone_exit, sentence_exits_alone, sentences_exit_alone, paragraph_exits_alone, paragraphs_exit_alone}
 
 -- any part may be written but EXIT
 abbrev pub no_exits : Writable

@@ -1,10 +1,10 @@
 -- What is written of statements that may stand holds no EXIT, where no simple one is.
 use Rattle.std.proofs.Common.{◌≡◌, ℕ, suc, Bool, true, false, List, inl, inr}
-use Rattle.language.specs.Language.{Simple, Amount, Act, Own, Set, Take, Lower, If, By, ByCell, Stmt, Do, Choose, Loop, Perform, Go, GoDepending, NextSentence, ExitParagraph, ExitSection, ExitPerform, StopRun, Stmts, none, also, Arms, done, given, missing, Body, Nested, Performed, Range, Main, Part}
-use Rattle.control.specs.Graph.{End, Pick, Jump, Return, Stop, Dead}
-use Rattle.control_laws.specs.rendering.Rendering.{Empty, Continues, Stays, Goes, Naming, Procedure, place_of, required, written_act, written_arm, and_missing, whole_arms, picker_lacks, then_stmts, closing, written_stmt, written_stmts, written_arms, written_body}
-use Rattle.control_laws.specs.rendering.Procedures.{Writable, ActFits, StmtStands, StmtsStand, StmtsLeft, ArmsStand, BodyStands, StmtChooses, BodyChooses}
-use Rattle.few_stmts.specs.lone_exits.Alone.{is_exit}
+use Rattle.control_flow_theory.specs.language.Language.{Simple, Amount, Act, Own, Set, Take, Lower, If, By, ByCell, Stmt, Do, Choose, Loop, Perform, Go, GoDepending, NextSentence, ExitParagraph, ExitSection, ExitPerform, StopRun, Stmts, none, also, Arms, done, given, missing, Body, Nested, Performed, Range, Main, Part}
+use Rattle.control_flow_theory.specs.semantics.Graph.{End, Pick, Jump, Return, Stop, Dead}
+use Rattle.control_flow_theory.specs.rendering.Rendering.{Empty, Continues, Stays, Goes, Naming, Procedure, place_of, required, written_act, written_arm, and_missing, whole_arms, picker_lacks, then_stmts, closing, written_stmt, written_stmts, written_arms, written_body}
+use Rattle.control_flow_theory.specs.rendering.Procedures.{Writable, ActFits, StmtStands, StmtsStand, StmtsLeft, ArmsStand, BodyStands, StmtChooses, BodyChooses}
+use Rattle.grammar_laws.specs.short_lists.lone_exits.Alone.{is_exit}
 use Rattle.procedure_split.proofs.split_form_lemmas.Lacking.{ActLacks, StmtLacks, StmtsLack, ArmsLack, BodyLacks}
 
 missing-lack : (arms : Arms) → ArmsLack arms → ArmsLack (and_missing arms)

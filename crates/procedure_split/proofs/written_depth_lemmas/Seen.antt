@@ -12,8 +12,8 @@ use Rattle.cob_tree.specs.declared.stmt.When.{When, roll-When, map-When, fold-ro
 use Rattle.cob_tree.specs.declared.stmt.Stmt.{Stmt, ind-Stmt, map-Stmt, roll-Stmt, fold-roll-Stmt}
 use Rattle.cob_tree.specs.declared.stmt.Stmt.TheOpen.{Stmt-F, Arms-F, When-F}
 use Rattle.cob_tree.specs.Depth.{largest, level, depth_step, arms_step, when_step, stmt_depth, arms_depth, when_depth, stmts_depth, whens_depth, sentence_depth, paragraph_depth, program_depth}
-use Rattle.language.specs.Language as language
-use Rattle.language.specs.Control.{arith_stmt, arm_before, else_of, stmts_of, control_in, loop_of, perform_of, picker_by, cell_chosen, count_from, evaluate_of, tests_of, Branch, branches_before, Both, both_arms, both_step, branch_step, seen_step, seen, seen_when, seen_both, seen_stmts, seen_sentence, seen_paragraphs, section_last, control_of}
+use Rattle.control_flow_theory.specs.language.Language as language
+use Rattle.control_flow_theory.specs.language.Control.{arith_stmt, arm_before, else_of, stmts_of, control_in, loop_of, perform_of, picker_by, cell_chosen, count_from, evaluate_of, tests_of, Branch, branches_before, Both, both_arms, both_step, branch_step, seen_step, seen, seen_when, seen_both, seen_stmts, seen_sentence, seen_paragraphs, section_last, control_of}
 use Rattle.procedure_split.specs.written_depth.Levels.{least_levels, levels, stmt_levels, arms_levels, paragraph_levels, program_levels}
 
 no_more : (n : ℕ) → max n 0 ≡ n

@@ -2,10 +2,10 @@
 use Rattle.std.proofs.Common.{◌≡◌, ◌≤◌, ℕ, suc, max, List, [], ◌∷◌, map, refl, ap, sym, ◌∙◌, subst, arith}
 use Rattle.cob_tree.specs.Depth.{largest, program_depth}
 use Rattle.cob_tree.specs.declared.program.Program as trees
-use Rattle.language.specs.Control.{control_of}
-use Rattle.language.specs.Language.{Range}
-use Rattle.control_laws.specs.rendering.Rendering.{Naming, Procedure, place_of, rendered, required, then_stmts, closing, written_stmts, written_paragraph}
-use Rattle.tree_nesting.specs.Nesting.{nesting}
+use Rattle.control_flow_theory.specs.language.Control.{control_of}
+use Rattle.control_flow_theory.specs.language.Language.{Range}
+use Rattle.control_flow_theory.specs.rendering.Rendering.{Naming, Procedure, place_of, rendered, required, then_stmts, closing, written_stmts, written_paragraph}
+use Rattle.region_rewrite.specs.written_nesting.Nesting.{nesting}
 use Rattle.procedure_split.specs.written_depth.Levels.{levels, paragraph_levels, program_levels}
 use Rattle.procedure_split.specs.written_depth.Laws.{NestsWithin, AllNestWithin}
 use Rattle.procedure_split.proofs.written_depth_lemmas.Seen.{program-agrees}

@@ -1,9 +1,9 @@
 -- What is written of a body nests at most as deep as is judged of it.
 use Rattle.std.proofs.Common.{◌≡◌, ◌≤◌, ℕ, suc, max, Bool, true, false, List, refl, ap, sym, ◌∙◌, subst, arith}
-use Rattle.language.specs.Language.{Simple, Chooser, Evaluate, Read, Arith, Depending, Picker, If, By, ByCell, Stmt, Do, Choose, Loop, Perform, Go, GoDepending, NextSentence, ExitParagraph, ExitSection, ExitPerform, StopRun, Stmts, none, also, Arms, done, given, missing, Body, Nested, Performed, Range, Main, Part}
-use Rattle.control.specs.Graph.{End, Pick, Jump, Return, Stop, Dead}
-use Rattle.control_laws.specs.rendering.Rendering.{Empty, Continues, Stays, Goes, Naming, standing, required, written_picker, written_arm, and_missing, whole_arms, picker_lacks, then_stmts, closing, written_stmt, written_stmts, written_arms, written_body}
-use Rattle.tree_nesting.specs.Nesting.{leaves_out, is_nothing, arm_level, nesting, stmt_nesting, arms_nesting, body_nesting}
+use Rattle.control_flow_theory.specs.language.Language.{Simple, Chooser, Evaluate, Read, Arith, Depending, Picker, If, By, ByCell, Stmt, Do, Choose, Loop, Perform, Go, GoDepending, NextSentence, ExitParagraph, ExitSection, ExitPerform, StopRun, Stmts, none, also, Arms, done, given, missing, Body, Nested, Performed, Range, Main, Part}
+use Rattle.control_flow_theory.specs.semantics.Graph.{End, Pick, Jump, Return, Stop, Dead}
+use Rattle.control_flow_theory.specs.rendering.Rendering.{Empty, Continues, Stays, Goes, Naming, standing, required, written_picker, written_arm, and_missing, whole_arms, picker_lacks, then_stmts, closing, written_stmt, written_stmts, written_arms, written_body}
+use Rattle.region_rewrite.specs.written_nesting.Nesting.{leaves_out, is_nothing, arm_level, nesting, stmt_nesting, arms_nesting, body_nesting}
 use Rattle.procedure_split.specs.written_depth.Levels.{least_levels, levels, stmt_levels, arms_levels, body_levels}
 use Rattle.procedure_split.specs.written_depth.Fits.{LeavesOut, MissingFits, StmtFits, StmtsFit, ArmsFit, BodyFits}
 

@@ -1,15 +1,15 @@
 -- What is stated of the counters of graphs.
 use Rattle.std.specs.Prelude.{ℕ, ◌≡◌, List, Some}
-use Rattle.language.specs.Language.{Range}
-use Rattle.statements.specs.Filing.{Declared}
-use Rattle.cobol_laws.specs.added_items.Widened.{AddedItems}
-use Rattle.control_laws.specs.graph_rules.Families.{Added}
-use Rattle.control_laws.specs.graph_rules.Reduced.{Graph, Graphs, kind_at}
-use Rattle.control_laws.specs.closing.Closes.{closed_graph}
-use Rattle.cobol_laws.specs.cell_serving.Tested.{kinds_of}
-use Rattle.control_laws.specs.served_graphs.Laws.{CountersAreServed}
-use Rattle.cell_table.specs.Laws.{closed_ranges}
-use Rattle.cell_table.specs.Tables.{table_of_cells}
+use Rattle.control_flow_theory.specs.language.Language.{Range}
+use Rattle.meanings.specs.statements.Filing.{Declared}
+use Rattle.cobol_theory.specs.added_items.Widened.{AddedItems}
+use Rattle.control_flow_theory.specs.graph_rules.Families.{Added}
+use Rattle.control_flow_theory.specs.graph_rules.Reduced.{Graph, Graphs, kind_at}
+use Rattle.control_flow_theory.specs.closing.Closes.{closed_graph}
+use Rattle.cobol_theory.specs.cell_serving.Tested.{kinds_of}
+use Rattle.control_flow_theory.specs.served_graphs.Laws.{CountersAreServed}
+use Rattle.added_items.specs.item_table.Laws.{closed_ranges}
+use Rattle.added_items.specs.item_table.Tables.{table_of_cells}
 
 -- a cell of a graph is a cell of the closed graph, of the same kind
 abbrev pub ClosedGraphsKeepCells : Type 0

@@ -2,8 +2,8 @@
 use Rattle.std.specs.Prelude.{◌≤◌}
 use Rattle.cob_tree.specs.Depth.{program_depth}
 use Rattle.cob_tree.specs.declared.program.Program.{Program}
-use Rattle.control_laws.specs.graph_rules.Reduced.{Graph}
-use Rattle.control_laws.specs.closing.Closes.{closed_graph}
+use Rattle.control_flow_theory.specs.graph_rules.Reduced.{Graph}
+use Rattle.control_flow_theory.specs.closing.Closes.{closed_graph}
 use Rattle.pending_returns.specs.declared.facts.Summary.{Summary}
 use Rattle.region_rewrite.specs.Shape.{max_nesting}
 use Rattle.procedure_split.specs.shaped_ranges.Laws.{HasFlow}

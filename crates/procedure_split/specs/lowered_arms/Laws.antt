@@ -2,7 +2,7 @@
 use Rattle.std.specs.Prelude.{◌≡◌, ◌≤◌, true}
 use Rattle.cob_tree.specs.Depth.{program_depth}
 use Rattle.cob_tree.specs.declared.program.Program.{Program}
-use Rattle.named_programs.specs.Named.{counts_of, paragraphs_named}
+use Rattle.program_facts.specs.well_scoped.Named.{counts_of, paragraphs_named}
 use Rattle.pending_returns.specs.declared.facts.Summary.{Summary}
 use Rattle.region_rewrite.specs.Shape.{max_nesting}
 use Rattle.procedure_split.specs.shaped_ranges.Laws.{HasFlow}

@@ -2,16 +2,16 @@
 use Rattle.std.specs.Prelude.{ℕ, ◌≡◌, List}
 use Rattle.cob_tree.specs.declared.program.Program.{Program}
 use Rattle.cob_tree.specs.declared.program.Range.{Range}
-use Rattle.language.specs.Control.{control_of}
-use Rattle.control_laws.specs.rendering.Rendering.{rendered}
-use Rattle.control_laws.specs.headline.Headline.{procedures_by}
+use Rattle.control_flow_theory.specs.language.Control.{control_of}
+use Rattle.control_flow_theory.specs.rendering.Rendering.{rendered}
+use Rattle.control_flow_theory.specs.headline.Headline.{procedures_by}
 use Rattle.pending_returns.specs.declared.facts.Summary.{Summary}
-use Rattle.range_plan.specs.Planned.{IsPlanOf}
+use Rattle.procedure_split.specs.plan.Planned.{IsPlanOf}
 use Rattle.branch_tree.specs.declared.graph.Graph.{Graph}
-use Rattle.choice_writing.specs.Empties.{empties}
-use Rattle.choice_writing.specs.declared.placing.Placed.{Placed}
-use Rattle.cell_words.specs.declared.cells.CellItem.{CellItem}
-use Rattle.cobol_laws.specs.cobol_headline.Alike.{Writing, naming_of}
+use Rattle.statement_builders.specs.arms.Empties.{empties}
+use Rattle.statement_builders.specs.declared.arms.placing.Placed.{Placed}
+use Rattle.statement_builders.specs.declared.item_words.cells.CellItem.{CellItem}
+use Rattle.cobol_theory.specs.cobol_headline.Alike.{Writing, naming_of}
 use Rattle.procedure_split.specs.shaped_ranges.Laws.{HasFlow, IsPlannedWith}
 use Rattle.procedure_split.specs.shaped_ranges.Shaped.{AllShaped}
 use Rattle.procedure_split.specs.declared.shaped_ranges.shaping.Closed.{Closed}

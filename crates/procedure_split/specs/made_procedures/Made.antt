@@ -4,20 +4,20 @@ use Rattle.cob_tree.specs.declared.program.Paragraph.{Paragraph}
 use Rattle.cob_tree.specs.declared.program.Program.{Program}
 use Rattle.cob_tree.specs.declared.program.Range.{Range}
 use Rattle.cob_tree.specs.declared.program.Sentence.{Sentence}
-use Rattle.language.specs.Control.{control_of}
-use Rattle.control.specs.Graph.{Tree}
-use Rattle.control_laws.specs.rendering.Rendering.{place_of}
-use Rattle.control_laws.specs.headline.Headline.{procedures_by}
-use Rattle.statements.specs.Does.{declared_in}
-use Rattle.cobol_laws.specs.added_items.Own.{items}
+use Rattle.control_flow_theory.specs.language.Control.{control_of}
+use Rattle.control_flow_theory.specs.semantics.Graph.{Tree}
+use Rattle.control_flow_theory.specs.rendering.Rendering.{place_of}
+use Rattle.control_flow_theory.specs.headline.Headline.{procedures_by}
+use Rattle.meanings.specs.statements.Does.{declared_in}
+use Rattle.cobol_theory.specs.added_items.Own.{items}
 use Rattle.branch_tree.specs.Trees.{seen_tree}
-use Rattle.lower_places.specs.Fall.{seen_range}
-use Rattle.choice_writing.specs.Written.{Way}
-use Rattle.choice_writing.specs.declared.placing.Placed.{Placed}
-use Rattle.cell_words.specs.Words.{AreItems}
-use Rattle.cell_words.specs.declared.cells.CellItem.{CellItem}
-use Rattle.body_writing.specs.Procedures.{IsProcedure, is_main}
-use Rattle.cobol_laws.specs.cobol_headline.Alike.{Writing}
+use Rattle.lowering_labels.specs.points.Fall.{seen_range}
+use Rattle.statement_builders.specs.arms.Written.{Way}
+use Rattle.statement_builders.specs.declared.arms.placing.Placed.{Placed}
+use Rattle.statement_builders.specs.item_words.Words.{AreItems}
+use Rattle.statement_builders.specs.declared.item_words.cells.CellItem.{CellItem}
+use Rattle.body_rendering.specs.Procedures.{IsProcedure, is_main}
+use Rattle.cobol_theory.specs.cobol_headline.Alike.{Writing}
 use Rattle.procedure_split.specs.declared.shaped_ranges.shaping.Closed.{Closed}
 
 -- a paragraph of this name, in no section, that holds one sentence, a procedure

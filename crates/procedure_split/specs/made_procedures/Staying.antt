@@ -1,9 +1,9 @@
 -- Statements that leave no section: no EXIT SECTION stands among them.
 use Rattle.std.specs.Prelude.{ℕ, ◌≡◌, List}
 use Rattle.cob_tree.specs.declared.stmt.Stmt.{Stmt}
-use Rattle.language.specs.Control.{seen_stmts}
-use Rattle.language.specs.Language as language
-use Rattle.language.specs.Language.{Do, Choose, Loop, Perform, Go, GoDepending, NextSentence, ExitParagraph, ExitSection, ExitPerform, StopRun, Stmts, none, also, Arms, done, given, missing, Body, Nested, Performed}
+use Rattle.control_flow_theory.specs.language.Control.{seen_stmts}
+use Rattle.control_flow_theory.specs.language.Language as language
+use Rattle.control_flow_theory.specs.language.Language.{Do, Choose, Loop, Perform, Go, GoDepending, NextSentence, ExitParagraph, ExitSection, ExitPerform, StopRun, Stmts, none, also, Arms, done, given, missing, Body, Nested, Performed}
 
 abbrev mutual
   pub StmtStays : language.Stmt → Type 0

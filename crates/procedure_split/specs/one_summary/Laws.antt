@@ -1,6 +1,6 @@
 -- What holds of summaries.
 use Rattle.std.specs.Prelude.{◌≡◌, Bool}
-use Rattle.language.specs.Language.{Chooser, Program}
+use Rattle.control_flow_theory.specs.language.Language.{Chooser, Program}
 use Rattle.pending_returns.specs.declared.facts.Summary.{Summary}
 use Rattle.pending_returns.specs.Summary.{IsSummary}
 

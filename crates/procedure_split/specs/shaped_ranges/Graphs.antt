@@ -1,17 +1,17 @@
 -- The graphs of a program's ranges, as the rules begin with them.
 use Rattle.std.specs.Prelude.{ℕ, ◌≡◌, Bool, List, [], ◌∷◌, sum_by}
 use Rattle.cob_tree.specs.declared.program.Range as code
-use Rattle.language.specs.Language.{Program, Range}
-use Rattle.control.specs.Graph.{Label}
-use Rattle.control_laws.specs.lowering.Told.{Told}
-use Rattle.control_laws.specs.lowering.WellFormed.{AreJustReached}
-use Rattle.control_laws.specs.graph_rules.Reduced as reduced
-use Rattle.control_laws.specs.headline.Chain.{lowered_graphs}
-use Rattle.control_laws.specs.headline.Numbering.{numbers_by, added_by}
+use Rattle.control_flow_theory.specs.language.Language.{Program, Range}
+use Rattle.control_flow_theory.specs.semantics.Graph.{Label}
+use Rattle.control_flow_theory.specs.lowering.Told.{Told}
+use Rattle.control_flow_theory.specs.lowering.WellFormed.{AreJustReached}
+use Rattle.control_flow_theory.specs.graph_rules.Reduced as reduced
+use Rattle.control_flow_theory.specs.headline.Chain.{lowered_graphs}
+use Rattle.control_flow_theory.specs.headline.Numbering.{numbers_by, added_by}
 use Rattle.branch_tree.specs.Graphs.{seen_graph}
 use Rattle.branch_tree.specs.declared.graph.Graph.{Graph}
-use Rattle.lower_places.specs.Fall.{seen_range}
-use Rattle.graph_sizes.specs.Sizes.{graph_size}
+use Rattle.lowering_labels.specs.points.Fall.{seen_range}
+use Rattle.flow_graph.specs.graph_sizes.Sizes.{graph_size}
 
 -- the nodes that this keeps, and counters numbered from 0
 abbrev pub graph_by : Told → Program → (Label → Bool) → Range → reduced.Graph

@@ -2,24 +2,24 @@
 use Rattle.std.specs.Prelude.{ℕ, ◌≡◌, ◌<◌, List, ◌∷◌, length, Some, slice_get}
 use Rattle.cob_tree.specs.declared.program.Program as cobol
 use Rattle.cob_tree.specs.declared.program.Range as code
-use Rattle.language.specs.Control.{control_of}
-use Rattle.language.specs.Language.{Main}
-use Rattle.language.specs.OwnItems.{NamesOwnItems}
-use Rattle.control_laws.specs.lowering.flow.Paths as theory
-use Rattle.cut_lists.specs.Told.{told_of}
-use Rattle.cobol_laws.specs.cobol_parts.Named.{NamesOwnParagraphs}
-use Rattle.control_laws.specs.headline.Chain.{IsPlan}
-use Rattle.control_laws.specs.headline.CallsReached.{CalledByPaths}
-use Rattle.control_laws.specs.headline.Headline.{Plan, graphs_by}
-use Rattle.flow_paths.specs.Flow.{IsFaulty}
-use Rattle.flow_numbers.specs.Kinds.{never_first_of}
+use Rattle.control_flow_theory.specs.language.Control.{control_of}
+use Rattle.control_flow_theory.specs.language.Language.{Main}
+use Rattle.control_flow_theory.specs.language.OwnItems.{NamesOwnItems}
+use Rattle.control_flow_theory.specs.lowering.flow.Paths as theory
+use Rattle.program_facts.specs.completion.Told.{told_of}
+use Rattle.cobol_theory.specs.cobol_parts.Named.{NamesOwnParagraphs}
+use Rattle.control_flow_theory.specs.headline.Chain.{IsPlan}
+use Rattle.control_flow_theory.specs.headline.CallsReached.{CalledByPaths}
+use Rattle.control_flow_theory.specs.headline.Headline.{Plan, graphs_by}
+use Rattle.program_points.specs.paths.Flow.{IsFaulty}
+use Rattle.program_points.specs.numbering.Kinds.{never_first_of}
 use Rattle.pending_returns.specs.declared.facts.Summary.{Summary}
 use Rattle.pending_returns.specs.Summary.{IsSummary}
-use Rattle.range_plan.specs.Planned.{IsPlanOf}
-use Rattle.range_plan.specs.Laws.{others_of}
+use Rattle.procedure_split.specs.plan.Planned.{IsPlanOf}
+use Rattle.procedure_split.specs.plan.Laws.{others_of}
 use Rattle.branch_tree.specs.Graphs.{seen_graph}
 use Rattle.branch_tree.specs.declared.graph.Graph.{Graph}
-use Rattle.lower_places.specs.Fall.{seen_range}
+use Rattle.lowering_labels.specs.points.Fall.{seen_range}
 use Rattle.procedure_split.specs.shaped_ranges.Graphs.{AreGraphsOf}
 
 -- a program whose flow has this summary, without a fault

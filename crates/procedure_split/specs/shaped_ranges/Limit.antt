@@ -5,9 +5,9 @@ use Rattle.cob_base.specs.declared.limit.LimitKind.TheVariants.{Nodes}
 use Rattle.cob_tree.specs.declared.fault.SplitFault.{SplitFault}
 use Rattle.cob_tree.specs.declared.fault.SplitFault.TheVariants as fault
 use Rattle.cob_tree.specs.declared.program.Range.{Range}
-use Rattle.language.specs.Language.{Program}
-use Rattle.control_laws.specs.lowering.Told.{Told}
-use Rattle.control_laws.specs.graph_rules.Reduced as reduced
+use Rattle.control_flow_theory.specs.language.Language.{Program}
+use Rattle.control_flow_theory.specs.lowering.Told.{Told}
+use Rattle.control_flow_theory.specs.graph_rules.Reduced as reduced
 use Rattle.branch_tree.specs.declared.graph.Graph.{Graph}
 use Rattle.procedure_split.specs.shaped_ranges.Graphs.{AreGraphsOf, HaveGraphs, node_count, total_size}
 

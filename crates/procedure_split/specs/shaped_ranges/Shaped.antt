@@ -2,9 +2,9 @@
 use Rattle.std.specs.Prelude.{ℕ, ◌≡◌, ◌≤◌, ◌<◌, List, [], ◌∷◌, ◌++◌, map, Some, slice_get}
 use Rattle.cob_tree.specs.declared.fault.SplitFault.{SplitFault}
 use Rattle.cob_tree.specs.declared.fault.SplitFault.TheVariants as fault
-use Rattle.control.specs.Graph.{tree}
-use Rattle.control_laws.specs.graph_rules.Reduced as reduced
-use Rattle.control_laws.specs.closing.Closes.{IsClosed, closed_graph}
+use Rattle.control_flow_theory.specs.semantics.Graph.{tree}
+use Rattle.control_flow_theory.specs.graph_rules.Reduced as reduced
+use Rattle.control_flow_theory.specs.closing.Closes.{IsClosed, closed_graph}
 use Rattle.branch_tree.specs.Graphs.{seen_added, seen_graph}
 use Rattle.branch_tree.specs.Trees.{seen_body, seen_end, seen_tree}
 use Rattle.branch_tree.specs.declared.graph.Graph.{Graph}

@@ -5,20 +5,20 @@ use Rattle.cob_tree.specs.declared.fault.SplitFault.{SplitFault}
 use Rattle.cob_tree.specs.declared.fault.SplitFault.TheVariants as fault
 use Rattle.cob_tree.specs.declared.program.Program.{Program}
 use Rattle.cob_tree.specs.declared.program.Range as code
-use Rattle.language.specs.Control.{control_of}
-use Rattle.language.specs.Language as language
-use Rattle.control_laws.specs.lowering.WellFormed.{IsRangeOf}
-use Rattle.control_laws.specs.graph_rules.Reduced as reduced
+use Rattle.control_flow_theory.specs.language.Control.{control_of}
+use Rattle.control_flow_theory.specs.language.Language as language
+use Rattle.control_flow_theory.specs.lowering.WellFormed.{IsRangeOf}
+use Rattle.control_flow_theory.specs.graph_rules.Reduced as reduced
 use Rattle.branch_tree.specs.Graphs.{seen_graph}
 use Rattle.branch_tree.specs.declared.graph.Graph.{Graph}
-use Rattle.lower_places.specs.Fall.{seen_range}
-use Rattle.lower_stmts.specs.Along.{told_by}
-use Rattle.lower_stmts.specs.declared.telling.Telling.{Telling}
-use Rattle.rest_table.specs.declared.spot.Spot.{Spot}
-use Rattle.range_trees.specs.Nodes.{IsTableOf}
+use Rattle.lowering_labels.specs.points.Fall.{seen_range}
+use Rattle.statement_lowering.specs.Along.{told_by}
+use Rattle.statement_lowering.specs.declared.telling.Telling.{Telling}
+use Rattle.statement_lowering.specs.declared.continuations.spot.Spot.{Spot}
+use Rattle.flow_graph.specs.label_trees.Nodes.{IsTableOf}
 use Rattle.flow_graph.specs.Counts.{IsLargerIn}
 use Rattle.flow_graph.specs.Reaching.{IsRangeIn}
-use Rattle.graph_sizes.specs.Sizes.{graph_size}
+use Rattle.flow_graph.specs.graph_sizes.Sizes.{graph_size}
 use Rattle.procedure_split.specs.shaped_ranges.Graphs.{HaveGraphs, IsGraphOf, total_size}
 use Rattle.procedure_split.specs.shaped_ranges.Limit.{AreLowered, IsLoweringFault, nodes_passed}
 

@@ -2,16 +2,16 @@
 use Rattle.std.specs.Prelude.{◌≡◌, true, All, IsSome, None}
 use Rattle.cob_tree.specs.declared.program.Paragraph.{Paragraph}
 use Rattle.cob_tree.specs.declared.program.Program.{Program}
-use Rattle.language.specs.Control.{control_of}
-use Rattle.language.specs.Structured.{IsStructured}
-use Rattle.whole_counts.specs.Whole.{counts_whole}
-use Rattle.cobol_laws.specs.fit_programs.Fit.{IsFit}
-use Rattle.flow_paths.specs.Flow.{IsFaulty}
-use Rattle.flow_numbers.specs.Kinds.{never_first_of}
+use Rattle.control_flow_theory.specs.language.Control.{control_of}
+use Rattle.control_flow_theory.specs.language.Structured.{IsStructured}
+use Rattle.program_facts.specs.whole_counts.Whole.{counts_whole}
+use Rattle.cobol_theory.specs.fit_programs.Fit.{IsFit}
+use Rattle.program_points.specs.paths.Flow.{IsFaulty}
+use Rattle.program_points.specs.numbering.Kinds.{never_first_of}
 use Rattle.pending_returns.specs.declared.facts.Summary.{Summary}
 use Rattle.pending_returns.specs.Summary.{IsSummary}
-use Rattle.cobol_laws.specs.cobol_meaning.Same.{SameBehaviour}
-use Rattle.cobol_laws.specs.cobol_headline.Alike.{IsProper}
+use Rattle.cobol_theory.specs.cobol_meaning.Same.{SameBehaviour}
+use Rattle.cobol_theory.specs.cobol_headline.Alike.{IsProper}
 use Rattle.procedure_split.specs.Split.{IsSplit}
 
 -- a program as it is read

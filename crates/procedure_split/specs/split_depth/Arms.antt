@@ -1,8 +1,8 @@
 -- The arms that choices have for certain: IF its first, READ its AT END where it stands, EVALUATE and
 -- its kind some arm that is given, and READ and arithmetic some arm, be it missing.
 use Rattle.std.specs.Prelude.{ℕ, ◌≡◌, Bool, true, false, List, Some, slice_get}
-use Rattle.language.specs.Language.{Evaluate, Read, Arith, Depending, Picker, If, By, ByCell, Stmt, Do, Choose, Loop, Perform, Go, GoDepending, NextSentence, ExitParagraph, ExitSection, ExitPerform, StopRun, Stmts, none, also, Arms, done, given, missing, Body, Nested, Performed}
-use Rattle.control.specs.Graph.{body_of}
+use Rattle.control_flow_theory.specs.language.Language.{Evaluate, Read, Arith, Depending, Picker, If, By, ByCell, Stmt, Do, Choose, Loop, Perform, Go, GoDepending, NextSentence, ExitParagraph, ExitSection, ExitPerform, StopRun, Stmts, none, also, Arms, done, given, missing, Body, Nested, Performed}
+use Rattle.control_flow_theory.specs.semantics.Graph.{body_of}
 use Rattle.branch_tree.specs.Trees.{seen_tree}
 use Rattle.procedure_split.specs.declared.shaped_ranges.shaping.Closed.{Closed}
 

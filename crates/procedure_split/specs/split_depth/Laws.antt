@@ -3,13 +3,13 @@ use Rattle.std.specs.Prelude.{ℕ, ◌≡◌, ◌≤◌, true, List}
 use Rattle.cob_tree.specs.Depth.{program_depth}
 use Rattle.cob_tree.specs.declared.program.Program.{Program}
 use Rattle.cob_tree.specs.declared.stmt.Stmt.{Stmt}
-use Rattle.language.specs.Control.{seen_stmts}
-use Rattle.language.specs.Language.{Stmts}
+use Rattle.control_flow_theory.specs.language.Control.{seen_stmts}
+use Rattle.control_flow_theory.specs.language.Language.{Stmts}
 use Rattle.pending_returns.specs.declared.facts.Summary.{Summary}
-use Rattle.named_programs.specs.Part.{Counts}
-use Rattle.named_programs.specs.Named.{stmts_named}
-use Rattle.tree_nesting.specs.Nesting.{nesting}
-use Rattle.choice_writing.specs.Written.{Way, all_written}
+use Rattle.program_facts.specs.well_scoped.Part.{Counts}
+use Rattle.program_facts.specs.well_scoped.Named.{stmts_named}
+use Rattle.region_rewrite.specs.written_nesting.Nesting.{nesting}
+use Rattle.statement_builders.specs.arms.Written.{Way, all_written}
 use Rattle.region_rewrite.specs.Shape.{max_nesting}
 use Rattle.procedure_split.specs.shaped_ranges.Laws.{HasFlow}
 use Rattle.procedure_split.specs.Split.{IsSplit}

@@ -2,7 +2,7 @@
 use Rattle.std.specs.Prelude.{◌≡◌, true}
 use Rattle.cob_tree.specs.declared.program.Program.{Program}
 use Rattle.struct_form.specs.Structured.{IsStructured}
-use Rattle.few_stmts.specs.lone_exits.Alone.{exits_alone}
+use Rattle.grammar_laws.specs.short_lists.lone_exits.Alone.{exits_alone}
 use Rattle.pending_returns.specs.declared.facts.Summary.{Summary}
 use Rattle.procedure_split.specs.Split.{IsSplit}
 use Rattle.procedure_split.specs.split_behaviour.Alike.{IsWellMade, FlowsSo}

@@ -1,8 +1,8 @@
 -- When what is written of a body is no level more than is judged of it.
 use Rattle.std.specs.Prelude.{ℕ, suc, ◌≡◌, ◌≤◌, Bool, true, false, List}
-use Rattle.language.specs.Language.{Chooser, Picker, By, Stmt, Do, Choose, Loop, Perform, Go, GoDepending, NextSentence, ExitParagraph, ExitSection, ExitPerform, StopRun, Stmts, none, also, Arms, done, given, missing, Body, Nested, Performed, Range}
-use Rattle.control_laws.specs.rendering.Rendering.{Empty, Continues, Goes, Naming}
-use Rattle.tree_nesting.specs.Nesting.{leaves_out, arms_nesting}
+use Rattle.control_flow_theory.specs.language.Language.{Chooser, Picker, By, Stmt, Do, Choose, Loop, Perform, Go, GoDepending, NextSentence, ExitParagraph, ExitSection, ExitPerform, StopRun, Stmts, none, also, Arms, done, given, missing, Body, Nested, Performed, Range}
+use Rattle.control_flow_theory.specs.rendering.Rendering.{Empty, Continues, Goes, Naming}
+use Rattle.region_rewrite.specs.written_nesting.Nesting.{leaves_out, arms_nesting}
 use Rattle.procedure_split.specs.written_depth.Levels.{least_levels}
 
 -- an empty arm that is judged to be left out goes; READ and arithmetic stay what they are

@@ -3,10 +3,10 @@ use Rattle.std.specs.Prelude.{ℕ, ◌≡◌, ◌≤◌, List, Some, slice_get}
 use Rattle.cob_tree.specs.Depth.{stmts_depth, program_depth}
 use Rattle.cob_tree.specs.declared.program.Program as trees
 use Rattle.cob_tree.specs.declared.stmt.Stmt as stmts
-use Rattle.language.specs.Control.{control_of, seen_stmts}
-use Rattle.language.specs.Language.{Stmts, Range}
-use Rattle.control_laws.specs.rendering.Rendering.{Naming, Procedure, rendered, written_stmts}
-use Rattle.tree_nesting.specs.Nesting.{nesting}
+use Rattle.control_flow_theory.specs.language.Control.{control_of, seen_stmts}
+use Rattle.control_flow_theory.specs.language.Language.{Stmts, Range}
+use Rattle.control_flow_theory.specs.rendering.Rendering.{Naming, Procedure, rendered, written_stmts}
+use Rattle.region_rewrite.specs.written_nesting.Nesting.{nesting}
 use Rattle.procedure_split.specs.written_depth.Levels.{levels, program_levels}
 use Rattle.procedure_split.specs.written_depth.Fits.{LeavesOut, StmtsFit}
 

@@ -2,7 +2,7 @@
 -- level more than the deepest of them.
 use Rattle.std.specs.Prelude.{ℕ, suc, max, map}
 use Rattle.cob_tree.specs.Depth.{largest}
-use Rattle.language.specs.Language.{Evaluate, Read, Arith, Depending, Picker, If, By, ByCell, Stmt, Do, Choose, Loop, Perform, Go, GoDepending, NextSentence, ExitParagraph, ExitSection, ExitPerform, StopRun, Stmts, none, also, Arms, done, given, missing, Body, Nested, Performed, Paragraph, Program}
+use Rattle.control_flow_theory.specs.language.Language.{Evaluate, Read, Arith, Depending, Picker, If, By, ByCell, Stmt, Do, Choose, Loop, Perform, Go, GoDepending, NextSentence, ExitParagraph, ExitSection, ExitPerform, StopRun, Stmts, none, also, Arms, done, given, missing, Body, Nested, Performed, Paragraph, Program}
 
 -- an EVALUATE is a level even where no WHEN stands in it, which no text has; a READ and arithmetic
 -- are none without an arm

@@ -2,31 +2,31 @@
 
 ghost use Rattle.std.specs.Prelude.{[], ◌∷◌, ◌++◌, ◌≡◌, ◌<◌, ◌-◌, ◌*◌, ◌^◌, length, IfOk, IfSome, OnOk, MatchResult};
 ghost use Rattle.cob_tree.specs.declared.program.Program.{Program};
-ghost use Rattle.language.specs.Control.{control_of};
-ghost use Rattle.language.specs.OwnItems.{NamesOwnItems};
-ghost use Rattle.control_laws.specs.closing.Closes.{IsClosed};
+ghost use Rattle.control_flow_theory.specs.language.Control.{control_of};
+ghost use Rattle.control_flow_theory.specs.language.OwnItems.{NamesOwnItems};
+ghost use Rattle.control_flow_theory.specs.closing.Closes.{IsClosed};
 ghost use Rattle.branch_tree.specs.Graphs.{seen_graph};
-ghost use Rattle.cut_lists.specs.Told.{told_of};
-ghost use Rattle.cobol_laws.specs.cobol_parts.Named.{NamesOwnParagraphs};
-ghost use Rattle.flow_levels.specs.Reaching.{IsMarked};
-ghost use Rattle.range_trees.specs.Nodes.{IsWhole};
+ghost use Rattle.program_facts.specs.completion.Told.{told_of};
+ghost use Rattle.cobol_theory.specs.cobol_parts.Named.{NamesOwnParagraphs};
+ghost use Rattle.pending_returns.specs.levels.Reaching.{IsMarked};
+ghost use Rattle.flow_graph.specs.label_trees.Nodes.{IsWhole};
 ghost use Rattle.flow_graph.specs.Reaching.{IsRangeIn};
 ghost use Rattle.procedure_split.specs.shaped_ranges.Limit.{AreLowered, IsLoweringFault, nodes_passed};
 ghost use Rattle.procedure_split.specs.shaped_ranges.Shaped.{AllClosed};
 ghost use Rattle.procedure_split.specs.shaped_ranges.Steps.{AreLoweredIn, AreRangesIn, AreRangesOf, IsCountedOn, IsGraphWithin, IsLoweringFaultIn, IsPastBy};
 
+use crate::plan::RangePlan;
+use added_items::counters::number_counters;
 use branch_tree::Graph;
 use cob_base::{Limit, LimitKind, NoMemory};
 use cob_tree::{Program, Range, SplitFault};
-use counter_cells::number_counters;
+use flow_graph::graph_sizes::graph_size;
 use flow_graph::lower_within;
-use flow_levels::Reach;
-use graph_sizes::graph_size;
-use lower_places::layout_of;
-use lower_stmts::Telling;
-use range_plan::RangePlan;
-use range_sizes::{Known, range_size};
-use rest_table::{Spot, spots_of};
+use flow_graph::range_sizes::{Known, range_size};
+use lowering_labels::points::layout_of;
+use pending_returns::levels::Reach;
+use statement_lowering::Telling;
+use statement_lowering::continuations::{Spot, spots_of};
 use std::alloc::Global;
 
 /// The most labels and statements of all lowered ranges.

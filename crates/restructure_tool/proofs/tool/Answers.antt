@@ -1,7 +1,7 @@
 use Rattle.std.proofs.Common.{◌≡◌, ◌∙◌, map, take, true, false, Some, ap, refl, subst}
 use Rattle.cob_base.specs.Source.{source_call}
 use Rattle.cob_base.specs.Sink.{sink_call}
-use Rattle.file_desk.specs.contracts.watched.BoxDynDeviceWatched.TheImpl.{seen-value}
+use Rattle.file_model.specs.contracts.operations.watched.BoxDynDeviceWatched.TheImpl.{seen-value}
 use Rattle.restructure_tool.specs.declared.ask.Ask.TheVariants.{Run, Generate, Trial}
 use Rattle.restructure_tool.specs.Ask.{is_run}
 use Rattle.restructure_tool.specs.Tool.{Ends, EndsWithFiles}

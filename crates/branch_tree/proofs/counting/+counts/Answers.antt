@@ -1,5 +1,5 @@
 use Rattle.std.proofs.Common.{◌+◌, ◌≤◌, length, take, ap, sym, ◌∙◌, arith}
-use Rattle.control_laws.specs.graph_rules.Shapes.{leaves_to, end_leaves_to, arms_leaves_to}
+use Rattle.control_flow_theory.specs.graph_rules.Shapes.{leaves_to, end_leaves_to, arms_leaves_to}
 use Rattle.branch_tree.specs.Trees.{seen_tree, seen_trees}
 use Rattle.branch_tree.specs.Countings.{once_at}
 use Rattle.branch_tree.specs.declared.tree.End.TheVariants.{Pick, Jump, Return, Stop, Dead}

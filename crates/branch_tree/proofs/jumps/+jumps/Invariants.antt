@@ -1,6 +1,6 @@
 use Rattle.std.proofs.Common.{◌≡◌, drop}
-use Rattle.control.specs.Doing.{is_above}
-use Rattle.control_laws.specs.graph_rules.Shapes.{arms_leaves_to}
+use Rattle.control_flow_theory.specs.semantics.Doing.{is_above}
+use Rattle.control_flow_theory.specs.graph_rules.Shapes.{arms_leaves_to}
 use Rattle.branch_tree.specs.Trees.{seen_trees}
 use Rattle.branch_tree.proofs.jumps.+jumps.Given as goal
 

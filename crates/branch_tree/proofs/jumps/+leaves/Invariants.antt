@@ -1,5 +1,5 @@
 use Rattle.std.proofs.Common.{◌≡◌, ◌+◌, ◌-◌, ◌^◌, ◌<◌, min, drop}
-use Rattle.control_laws.specs.graph_rules.Shapes.{arms_leaves_to}
+use Rattle.control_flow_theory.specs.graph_rules.Shapes.{arms_leaves_to}
 use Rattle.branch_tree.specs.Trees.{seen_trees}
 use Rattle.branch_tree.proofs.jumps.+leaves.Given as goal
 

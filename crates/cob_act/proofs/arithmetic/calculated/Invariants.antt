@@ -1,5 +1,5 @@
 use Rattle.std.proofs.Common.{◌≡◌, drop, false}
-use Rattle.statements.specs.Arithmetic.{all_targeted}
+use Rattle.meanings.specs.statements.Arithmetic.{all_targeted}
 use Rattle.cob_act.specs.Arithmetic.{seen_basis}
 use Rattle.cob_act.proofs.arithmetic.calculated.Given as goal
 

@@ -1,7 +1,7 @@
 use Rattle.std.proofs.Common.{◌≡◌, ◌+◌, drop, map}
 use Rattle.cob_tree.specs.declared.stmt.When.{out-When}
 use Rattle.cob_store.specs.Place.{memory_of}
-use Rattle.statements.specs.Choice.{when_chosen}
+use Rattle.meanings.specs.statements.Choice.{when_chosen}
 use Rattle.cob_act.specs.Choice.{seen_asked}
 use Rattle.cob_act.proofs.choice.evaluated.Given as goal
 

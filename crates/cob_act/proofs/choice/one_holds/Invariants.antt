@@ -1,6 +1,6 @@
 use Rattle.std.proofs.Common.{◌≡◌, drop}
 use Rattle.cob_store.specs.Place.{memory_of}
-use Rattle.statements.specs.Choice.{one_holds}
+use Rattle.meanings.specs.statements.Choice.{one_holds}
 use Rattle.cob_act.specs.Choice.{seen_asked}
 use Rattle.cob_act.proofs.choice.one_holds.Given as goal
 

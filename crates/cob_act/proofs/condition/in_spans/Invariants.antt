@@ -1,6 +1,6 @@
 use Rattle.std.proofs.Common.{◌≡◌, drop}
 use Rattle.cob_store.specs.Place.{memory_of}
-use Rattle.statements.specs.Condition.{in_spans}
+use Rattle.meanings.specs.statements.Condition.{in_spans}
 use Rattle.cob_act.specs.Side.{seen}
 use Rattle.cob_act.proofs.condition.in_spans.Given as goal
 

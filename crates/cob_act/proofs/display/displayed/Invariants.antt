@@ -1,6 +1,6 @@
 use Rattle.std.proofs.Common.{◌≡◌, [], drop}
 use Rattle.cob_store.specs.Place.{memory_of}
-use Rattle.statements.specs.Display.{shown_on}
+use Rattle.meanings.specs.statements.Display.{shown_on}
 use Rattle.cob_act.proofs.display.displayed.Given as goal
 
 abbrev pub invariant-loop-operand : goal.invariant-loop-operand

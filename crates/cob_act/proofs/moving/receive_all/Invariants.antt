@@ -1,7 +1,7 @@
 use Rattle.std.proofs.Common.{◌≡◌, drop}
 use Rattle.cob_store.specs.Place.{reached}
-use Rattle.statements.specs.Moving.{receive}
-use Rattle.statements.specs.Outcome.{each}
+use Rattle.meanings.specs.statements.Moving.{receive}
+use Rattle.meanings.specs.statements.Outcome.{each}
 use Rattle.cob_act.specs.Moving.{seen_sender}
 use Rattle.cob_act.proofs.moving.receive_all.Given as goal
 

@@ -1,5 +1,5 @@
 use Rattle.std.proofs.Common.{◌≡◌, drop}
-use Rattle.statements.specs.Text.{beside_spaces}
+use Rattle.meanings.specs.statements.Text.{beside_spaces}
 use Rattle.cob_act.proofs.text.beside_spaces.Given as goal
 
 abbrev pub invariant-loop-byte : goal.invariant-loop-byte

@@ -1,5 +1,5 @@
 use Rattle.std.proofs.Common.{◌≡◌, drop, length, replicate}
-use Rattle.statements.specs.Text.{text_order}
+use Rattle.meanings.specs.statements.Text.{text_order}
 use Rattle.cob_act.proofs.text.filler_order.Given as goal
 
 abbrev pub invariant-loop-other : goal.invariant-loop-other

@@ -1,5 +1,5 @@
 use Rattle.std.proofs.Common.{◌≡◌, drop}
-use Rattle.statements.specs.Text.{spaces_beside}
+use Rattle.meanings.specs.statements.Text.{spaces_beside}
 use Rattle.cob_act.proofs.text.spaces_beside.Given as goal
 
 abbrev pub invariant-loop-byte : goal.invariant-loop-byte

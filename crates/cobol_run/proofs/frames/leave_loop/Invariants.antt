@@ -1,6 +1,6 @@
 use Rattle.std.proofs.Common.{◌≡◌, ℕ, length}
 use Rattle.cob_tree.specs.declared.program.Program.{Program}
-use Rattle.language.specs.Items.{from_loop}
+use Rattle.control_flow_theory.specs.language.Items.{from_loop}
 use Rattle.cobol_run.specs.Frames.{rest_of, pending_of}
 use Rattle.cobol_run.proofs.frames.leave_loop.Given as goal
 

@@ -1,6 +1,6 @@
 use Rattle.std.proofs.Common.{◌≡◌, ℕ, length}
 use Rattle.cob_tree.specs.declared.program.Program.{Program}
-use Rattle.language.specs.Items.{past_sentence}
+use Rattle.control_flow_theory.specs.language.Items.{past_sentence}
 use Rattle.cobol_run.specs.Frames.{rest_of, pending_of}
 use Rattle.cobol_run.proofs.frames.leave_sentence.Given as goal
 

@@ -1,5 +1,5 @@
 use Rattle.std.proofs.Common.{◌∙◌, ap}
-use Rattle.cobol_laws.specs.cobol_meaning.Acting.{answered}
+use Rattle.cobol_theory.specs.cobol_meaning.Acting.{answered}
 use Rattle.cobol_run.specs.Plan.{declared_by, memory_in}
 use Rattle.cobol_run.proofs.HeldLemmas.{augments_as}
 use Rattle.cobol_run.proofs.held.augments.Goals as goal

@@ -1,6 +1,6 @@
 use Rattle.std.proofs.Common.{◌≡◌, drop, map}
 use Rattle.cob_tree.specs.declared.program.Sentence.{Sentence}
-use Rattle.language.specs.All.{all}
+use Rattle.control_flow_theory.specs.language.All.{all}
 use Rattle.cobol_run.specs.PlainTests.{are_plain_stmts}
 use Rattle.cobol_run.proofs.plain.is_plain_paragraph.Given as goal
 

@@ -1,5 +1,5 @@
 use Rattle.std.proofs.Common.{◌≡◌, ◌∙◌, arith, false, length, refl, sym}
-use Rattle.file_desk.specs.Calls.{addresses_of}
+use Rattle.file_model.specs.operations.Calls.{addresses_of}
 use Rattle.cobol_run.specs.Falling.{breaks_off}
 use Rattle.cobol_run.specs.Filing.{some_open}
 use Rattle.cobol_run.proofs.FallLemmas.{closed_on, fails_late}

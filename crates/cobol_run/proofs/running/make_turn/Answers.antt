@@ -1,5 +1,5 @@
 use Rattle.std.proofs.Common.{arith, refl, subst}
-use Rattle.sink_giving.specs.Giving.{Gained, Takes}
+use Rattle.cob_base.specs.giving.Giving.{Gained, Takes}
 use Rattle.cobol_run.proofs.RunningLemmas.{breaks_off, broke_within, ended, never_failed, showed, turn_kept, went_on}
 use Rattle.cobol_run.proofs.OverRunLemmas.{over_breaks_off, over_broke_within, over_ended, over_showed, over_went_on}
 use Rattle.cobol_run.proofs.running.make_turn.Goals as goal

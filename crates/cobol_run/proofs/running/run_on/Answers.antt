@@ -1,6 +1,6 @@
 use Rattle.std.proofs.Common.{◌∙◌, arith, map, refl, take}
 use Rattle.cob_base.specs.Sink.{sink_call}
-use Rattle.file_desk.specs.contracts.watched.BoxDynDeviceWatched.TheImpl.{seen-value}
+use Rattle.file_model.specs.contracts.operations.watched.BoxDynDeviceWatched.TheImpl.{seen-value}
 use Rattle.cobol_run.specs.declared.running.Turned.TheVariants as turned
 use Rattle.cobol_run.proofs.FallLemmas.{fell_named, turn_after}
 use Rattle.cobol_run.proofs.OverRunLemmas.{over_failed, over_goes_on_yet, over_one_more}

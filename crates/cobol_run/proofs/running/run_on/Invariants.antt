@@ -1,8 +1,8 @@
 use Rattle.std.proofs.Common.{◌≡◌, ◌≤◌, map, take}
-use Rattle.file_desk.specs.Falling.{SameBench}
-use Rattle.file_desk.specs.contracts.watched.BoxDynDeviceWatched.TheImpl.{seen-value}
+use Rattle.file_model.specs.operations.Falling.{SameBench}
+use Rattle.file_model.specs.contracts.operations.watched.BoxDynDeviceWatched.TheImpl.{seen-value}
 use Rattle.cob_tree.specs.declared.program.Program.{Program}
-use Rattle.cobol_laws.specs.cobol_meaning.Runs.{Files}
+use Rattle.cobol_theory.specs.cobol_meaning.Runs.{Files}
 use Rattle.cobol_run.specs.Over.{SoFarOver}
 use Rattle.cobol_run.specs.Own.{IsOwn}
 use Rattle.cobol_run.specs.Plain.{IsPlain}

@@ -1,9 +1,9 @@
 use Rattle.std.proofs.lemmas.Result.{err_from_is_err_and}
-use Rattle.grammar_forms.proofs.Loops.{goes_on, ends_err, is_done, shrinks}
-use Rattle.grammar_forms.proofs.MakerLaws.{added}
-use Rattle.word_forms.specs.Constant.{is_digits}
-use Rattle.statement_grammar.specs.data_forms.Entry as entry_forms
-use Rattle.statement_grammar.proofs.data_forms_lemmas.EntryLaws as laws
+use Rattle.parser_combinators.proofs.Loops.{goes_on, ends_err, is_done, shrinks}
+use Rattle.parser_combinators.proofs.MakerLaws.{added}
+use Rattle.parser_combinators.specs.words.Constant.{is_digits}
+use Rattle.cobol_grammar.specs.data_forms.Entry as entry_forms
+use Rattle.cobol_grammar.proofs.data_forms_lemmas.EntryLaws as laws
 use Rattle.data_parse.proofs.fd.entries_from.Goals as goal
 
 pub returns-in_err-found : goal.returns-in_err-found

@@ -1,7 +1,7 @@
 use Rattle.std.proofs.Common.{◌≡◌, length}
-use Rattle.grammar_forms.specs.Form.{loop, added}
-use Rattle.word_forms.specs.Constant.{is_digits}
-use Rattle.statement_grammar.specs.data_forms.Entry as entry_forms
+use Rattle.parser_combinators.specs.Form.{loop, added}
+use Rattle.parser_combinators.specs.words.Constant.{is_digits}
+use Rattle.cobol_grammar.specs.data_forms.Entry as entry_forms
 use Rattle.data_parse.proofs.fd.entries_from.Given as goal
 
 abbrev pub invariant-items : goal.invariant-items

@@ -1,6 +1,6 @@
 use Rattle.std.proofs.Common.{◌≡◌, length}
-use Rattle.grammar_forms.specs.Form.{loop}
-use Rattle.statement_grammar.specs.data_forms.Data as datas
+use Rattle.parser_combinators.specs.Form.{loop}
+use Rattle.cobol_grammar.specs.data_forms.Data as datas
 use Rattle.data_parse.proofs.fd.fd_clauses.Given as goal
 
 abbrev pub invariant-items : goal.invariant-items

@@ -1,10 +1,10 @@
 use Rattle.std.proofs.lemmas.Result.{err_from_is_err_and}
-use Rattle.grammar_forms.proofs.Loops.{goes_on, ends_err, is_done, shrinks}
-use Rattle.grammar_forms.proofs.MakerLaws.{added}
+use Rattle.parser_combinators.proofs.Loops.{goes_on, ends_err, is_done, shrinks}
+use Rattle.parser_combinators.proofs.MakerLaws.{added}
 use Rattle.std.specs.Prelude.{codes}
-use Rattle.grammar_forms.specs.Part.{is_key}
-use Rattle.statement_grammar.specs.data_forms.Data as datas
-use Rattle.statement_grammar.proofs.data_forms_lemmas.DivisionLaws as laws
+use Rattle.parser_combinators.specs.Part.{is_key}
+use Rattle.cobol_grammar.specs.data_forms.Data as datas
+use Rattle.cobol_grammar.proofs.data_forms_lemmas.DivisionLaws as laws
 use Rattle.data_parse.proofs.fd.fds_from.Goals as goal
 
 pub returns-in_err-found : goal.returns-in_err-found

@@ -1,7 +1,7 @@
 use Rattle.std.proofs.lemmas.Result.{err_from_is_err_and}
-use Rattle.grammar_forms.proofs.Loops.{goes_on, ends_err, is_done, shrinks}
-use Rattle.word_forms.specs.Word.{is_name}
-use Rattle.statement_grammar.proofs.data_forms_lemmas.DivisionLaws as laws
+use Rattle.parser_combinators.proofs.Loops.{goes_on, ends_err, is_done, shrinks}
+use Rattle.parser_combinators.specs.words.Word.{is_name}
+use Rattle.cobol_grammar.proofs.data_forms_lemmas.DivisionLaws as laws
 use Rattle.data_parse.proofs.fd.more_names.Goals as goal
 
 pub returns-in_err-next_name : goal.returns-in_err-next_name

@@ -1,7 +1,7 @@
 use Rattle.std.proofs.Common.{◌≡◌, length}
-use Rattle.grammar_forms.specs.Form.{loop}
-use Rattle.word_forms.specs.Word.{is_name}
-use Rattle.statement_grammar.specs.data_forms.Data as datas
+use Rattle.parser_combinators.specs.Form.{loop}
+use Rattle.parser_combinators.specs.words.Word.{is_name}
+use Rattle.cobol_grammar.specs.data_forms.Data as datas
 use Rattle.data_parse.proofs.fd.more_names.Given as goal
 
 abbrev pub invariant-items : goal.invariant-items

@@ -1,8 +1,8 @@
 use Rattle.std.specs.Prelude.{codes}
-use Rattle.grammar_forms.specs.Form.{◌>>◌}
-use Rattle.grammar_forms.specs.Part.{key, maybe, is_key}
-use Rattle.statement_grammar.specs.data_forms.Environment as environments
-use Rattle.entry_parse.proofs.ChoiceLemmas.{chosen_other}
+use Rattle.parser_combinators.specs.Form.{◌>>◌}
+use Rattle.parser_combinators.specs.Part.{key, maybe, is_key}
+use Rattle.cobol_grammar.specs.data_forms.Environment as environments
+use Rattle.data_parse.proofs.entries_lemmas.ChoiceLemmas.{chosen_other}
 use Rattle.data_parse.proofs.file_control.organization.Goals as goal
 
 pub returns-else-sees : goal.returns-else-sees

@@ -1,7 +1,7 @@
 use Rattle.std.proofs.lemmas.Result.{err_from_is_err_and}
-use Rattle.grammar_forms.proofs.Loops.{goes_on, ends_err, is_done, shrinks}
-use Rattle.statement_grammar.specs.data_forms.Environment.{begins_select_clause}
-use Rattle.statement_grammar.proofs.data_forms_lemmas.DivisionLaws as laws
+use Rattle.parser_combinators.proofs.Loops.{goes_on, ends_err, is_done, shrinks}
+use Rattle.cobol_grammar.specs.data_forms.Environment.{begins_select_clause}
+use Rattle.cobol_grammar.proofs.data_forms_lemmas.DivisionLaws as laws
 use Rattle.data_parse.proofs.file_control.select_clauses.Goals as goal
 
 pub returns-in_err-found : goal.returns-in_err-found

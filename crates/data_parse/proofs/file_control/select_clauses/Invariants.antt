@@ -1,6 +1,6 @@
 use Rattle.std.proofs.Common.{◌≡◌, length}
-use Rattle.grammar_forms.specs.Form.{loop}
-use Rattle.statement_grammar.specs.data_forms.Environment as environments
+use Rattle.parser_combinators.specs.Form.{loop}
+use Rattle.cobol_grammar.specs.data_forms.Environment as environments
 use Rattle.data_parse.proofs.file_control.select_clauses.Given as goal
 
 abbrev pub invariant-items : goal.invariant-items

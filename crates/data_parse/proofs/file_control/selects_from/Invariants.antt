@@ -1,8 +1,8 @@
 use Rattle.std.proofs.Common.{◌≡◌, length}
-use Rattle.grammar_forms.specs.Form.{loop, added}
+use Rattle.parser_combinators.specs.Form.{loop, added}
 use Rattle.std.specs.Prelude.{codes}
-use Rattle.grammar_forms.specs.Part.{is_key}
-use Rattle.statement_grammar.specs.data_forms.Environment as environments
+use Rattle.parser_combinators.specs.Part.{is_key}
+use Rattle.cobol_grammar.specs.data_forms.Environment as environments
 use Rattle.data_parse.proofs.file_control.selects_from.Given as goal
 
 abbrev pub invariant-items : goal.invariant-items

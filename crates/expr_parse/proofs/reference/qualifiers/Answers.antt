@@ -1,7 +1,7 @@
 use Rattle.std.proofs.lemmas.Result.{err_from_is_err_and}
-use Rattle.grammar_forms.proofs.Loops.{item_goes_on, item_ends_err, item_is_done, shrinks}
-use Rattle.statement_grammar.specs.expr_forms.Token as tokens
-use Rattle.statement_grammar.proofs.expr_forms_lemmas.ExpressionLaws as laws
+use Rattle.parser_combinators.proofs.Loops.{item_goes_on, item_ends_err, item_is_done, shrinks}
+use Rattle.cobol_grammar.specs.expr_forms.Token as tokens
+use Rattle.cobol_grammar.proofs.expr_forms_lemmas.ExpressionLaws as laws
 use Rattle.expr_parse.proofs.reference.qualifiers.Goals as goal
 
 pub returns-in_err-qualifier : goal.returns-in_err-qualifier

@@ -1,7 +1,7 @@
 use Rattle.std.proofs.Common.{◌≡◌, length}
-use Rattle.grammar_forms.specs.Form.{loop, added}
-use Rattle.statement_grammar.specs.expr_forms.Reference as references
-use Rattle.statement_grammar.specs.expr_forms.Token as tokens
+use Rattle.parser_combinators.specs.Form.{loop, added}
+use Rattle.cobol_grammar.specs.expr_forms.Reference as references
+use Rattle.cobol_grammar.specs.expr_forms.Token as tokens
 use Rattle.expr_parse.proofs.reference.qualifiers.Given as goal
 
 abbrev pub invariant-words : goal.invariant-words

@@ -1,8 +1,8 @@
 use Rattle.std.proofs.lemmas.Result.{err_from_is_err_and}
-use Rattle.grammar_forms.proofs.Loops.{goes_on, ends_err, is_done, shrinks}
-use Rattle.grammar_forms.proofs.MakerLaws.{added}
-use Rattle.statement_grammar.specs.expr_forms.Subscript as subscripts
-use Rattle.statement_grammar.proofs.expr_forms_lemmas.ExpressionLaws as laws
+use Rattle.parser_combinators.proofs.Loops.{goes_on, ends_err, is_done, shrinks}
+use Rattle.parser_combinators.proofs.MakerLaws.{added}
+use Rattle.cobol_grammar.specs.expr_forms.Subscript as subscripts
+use Rattle.cobol_grammar.proofs.expr_forms_lemmas.ExpressionLaws as laws
 use Rattle.expr_parse.proofs.subscript.more_subs.Goals as goal
 
 pub returns-in_err-subs : goal.returns-in_err-subs

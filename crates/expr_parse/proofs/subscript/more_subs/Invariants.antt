@@ -1,5 +1,5 @@
 use Rattle.std.proofs.Common.{◌≡◌, length}
-use Rattle.statement_grammar.specs.expr_forms.Subscript as subscripts
+use Rattle.cobol_grammar.specs.expr_forms.Subscript as subscripts
 use Rattle.expr_parse.proofs.subscript.more_subs.Given as goal
 
 abbrev pub invariant-subs : goal.invariant-subs

@@ -1,6 +1,6 @@
 use Rattle.std.proofs.Common.{◌≡◌, length}
-use Rattle.flow_levels.specs.Reaching.{IsMarked}
-use Rattle.control.specs.Graph.{end_of}
+use Rattle.pending_returns.specs.levels.Reaching.{IsMarked}
+use Rattle.control_flow_theory.specs.semantics.Graph.{end_of}
 use Rattle.branch_tree.specs.Trees.{seen_tree, seen_trees}
 use Rattle.flow_graph.proofs.JumpRows.{ArmsSoFar, arms_depth, end_depth}
 use Rattle.flow_graph.proofs.reaching.+jumps.Given as goal

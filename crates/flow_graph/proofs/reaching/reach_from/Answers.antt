@@ -1,6 +1,6 @@
 use Rattle.std.proofs.Common.{◌<◌, ◌≤◌, ◌+◌, ◌-◌, ◌^◌, min, length, true, refl, sym, ap, ◌∙◌, arith}
 use Rattle.std.proofs.lemmas.Option.{slice_get_within, slice_get_read}
-use Rattle.flow_levels.proofs.Searching.{few}
+use Rattle.pending_returns.proofs.levels_lemmas.Searching.{few}
 use Rattle.flow_graph.proofs.CountRows.{counts-all, counts-more, counts-none}
 use Rattle.flow_graph.proofs.KeptSums.{larger}
 use Rattle.flow_graph.proofs.MadeRows.{made_all, made_more, made_none}

@@ -1,5 +1,5 @@
 use Rattle.std.proofs.Common.{true, ap, sym, ◌∙◌}
-use Rattle.control.specs.Graph.{tree}
+use Rattle.control_flow_theory.specs.semantics.Graph.{tree}
 use Rattle.branch_tree.specs.Trees.{seen_tree, seen_body, seen_end}
 use Rattle.branch_tree.proofs.TreeRows.{seen_tree_is, seen_dead}
 use Rattle.tree_rules.specs.Targets.{seen_targets}

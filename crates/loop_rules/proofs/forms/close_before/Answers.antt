@@ -1,6 +1,6 @@
 use Rattle.std.proofs.Common.{◌≡◌, slice_get, Some, false, ap, sym, ◌∙◌, arith}
-use Rattle.control.specs.Graph.{tree}
-use Rattle.control_laws.specs.graph_rules.Shapes.{followed, alone}
+use Rattle.control_flow_theory.specs.semantics.Graph.{tree}
+use Rattle.control_flow_theory.specs.graph_rules.Shapes.{followed, alone}
 use Rattle.branch_tree.specs.Trees.{seen_tree, seen_body, seen_end}
 use Rattle.branch_tree.proofs.TreeRows.{seen_tree_is}
 use Rattle.tree_rules.specs.Targets.{seen_targets}

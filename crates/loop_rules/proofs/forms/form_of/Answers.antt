@@ -1,6 +1,6 @@
 use Rattle.std.proofs.Common.{◌≡◌, ap, sym, ◌∙◌}
-use Rattle.control.specs.Graph.{tree, Pick}
-use Rattle.language.specs.Language.{If}
+use Rattle.control_flow_theory.specs.semantics.Graph.{tree, Pick}
+use Rattle.control_flow_theory.specs.language.Language.{If}
 use Rattle.branch_tree.specs.Choosers.{seen_test, seen_picker}
 use Rattle.branch_tree.specs.Trees.{seen_tree, seen_trees, seen_body, seen_end}
 use Rattle.branch_tree.proofs.TreeRows.{seen_tree_is, seen_pick}

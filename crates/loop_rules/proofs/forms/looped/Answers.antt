@@ -1,6 +1,6 @@
 use Rattle.std.proofs.Common.{ap, ◌∙◌}
-use Rattle.control.specs.Graph as graph
-use Rattle.control_laws.specs.graph_rules.Shapes.{followed, alone}
+use Rattle.control_flow_theory.specs.semantics.Graph as graph
+use Rattle.control_flow_theory.specs.graph_rules.Shapes.{followed, alone}
 use Rattle.branch_tree.specs.Trees.{seen_tree, seen_body, seen_end}
 use Rattle.branch_tree.proofs.TreeRows.{seen_tree_is}
 use Rattle.loop_rules.specs.Forms.{loop_by}

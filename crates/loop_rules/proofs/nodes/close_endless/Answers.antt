@@ -1,6 +1,6 @@
 use Rattle.std.proofs.Common.{false, ap, sym, ◌∙◌, refl}
-use Rattle.control.specs.Graph.{tree, Dead}
-use Rattle.language.specs.Language.{also, none, Loop, Until, Is, Nested}
+use Rattle.control_flow_theory.specs.semantics.Graph.{tree, Dead}
+use Rattle.control_flow_theory.specs.language.Language.{also, none, Loop, Until, Is, Nested}
 use Rattle.branch_tree.specs.declared.chooser.Test.TheVariants as test
 use Rattle.branch_tree.specs.declared.tree.Leaves.TheVariants as leaves
 use Rattle.branch_tree.specs.Trees.{seen_tree, seen_body}

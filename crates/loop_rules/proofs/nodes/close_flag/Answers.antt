@@ -1,7 +1,7 @@
 use Rattle.std.proofs.Common.{false, ap, sym, ◌∙◌, ◌++◌, ◌∷◌, [], refl}
-use Rattle.control.specs.Graph.{tree}
-use Rattle.language.specs.Language.{also, none, Do, Set, Loop, Until, Is, Nested}
-use Rattle.control_laws.specs.graph_rules.Shapes.{alone}
+use Rattle.control_flow_theory.specs.semantics.Graph.{tree}
+use Rattle.control_flow_theory.specs.language.Language.{also, none, Do, Set, Loop, Until, Is, Nested}
+use Rattle.control_flow_theory.specs.graph_rules.Shapes.{alone}
 use Rattle.branch_tree.specs.declared.tree.Piece.TheVariants as piece
 use Rattle.branch_tree.specs.declared.chooser.Test.TheVariants as test
 use Rattle.branch_tree.specs.declared.tree.Leaves.TheVariants as leaves

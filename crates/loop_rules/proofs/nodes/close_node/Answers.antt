@@ -1,6 +1,6 @@
 use Rattle.std.proofs.Common.{◌≡◌, ◌≤◌, ◌∷◌, [], length, None, Some, rules, true, refl, ap, sym, ◌∙◌, subst}
-use Rattle.control_laws.specs.graph_rules.Shapes.{leaves_to}
-use Rattle.control_laws.specs.graph_rules.Reduced.{count, close_graph}
+use Rattle.control_flow_theory.specs.graph_rules.Shapes.{leaves_to}
+use Rattle.control_flow_theory.specs.graph_rules.Reduced.{count, close_graph}
 use Rattle.branch_tree.specs.Helds.{seen_work}
 use Rattle.branch_tree.specs.Trees.{seen_tree}
 use Rattle.loop_rules.specs.Closed.{Closes, closed, may_loop, with_kinds}

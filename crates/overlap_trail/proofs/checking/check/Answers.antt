@@ -1,6 +1,6 @@
 use Rattle.std.proofs.Common.{refl}
-use Rattle.language.specs.Control.{control_of}
-use Rattle.flow_numbers.specs.Kinds.{never_first_of}
+use Rattle.control_flow_theory.specs.language.Control.{control_of}
+use Rattle.program_points.specs.numbering.Kinds.{never_first_of}
 use Rattle.overlap_trail.proofs.Trails.{accepted, accepted-parts}
 use Rattle.overlap_trail.proofs.checking.check.Goals as goal
 

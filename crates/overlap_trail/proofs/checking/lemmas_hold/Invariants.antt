@@ -1,7 +1,7 @@
 use Rattle.std.proofs.Common.{[], take, drop}
-use Rattle.language.specs.Control.{control_of}
-use Rattle.flow_numbers.specs.Kinds.{never_first_of}
-use Rattle.flow_paths.specs.Accepted.{LemmasHold, lemma_ranges}
+use Rattle.control_flow_theory.specs.language.Control.{control_of}
+use Rattle.program_points.specs.numbering.Kinds.{never_first_of}
+use Rattle.program_points.specs.paths.Accepted.{LemmasHold, lemma_ranges}
 use Rattle.overlap_trail.proofs.checking.lemmas_hold.Given as goal
 
 abbrev pub invariant-loop-number : goal.invariant-loop-number

@@ -1,5 +1,5 @@
 use Rattle.std.proofs.Common.{◌+◌, length, arith}
-use Rattle.language.specs.Language.{Performed}
+use Rattle.control_flow_theory.specs.language.Language.{Performed}
 use Rattle.overlap_trail.specs.declared.follow.Way.TheVariants.{Through, Lost}
 use Rattle.overlap_trail.specs.Following.{knowing}
 use Rattle.overlap_trail.proofs.Steps.{taken-from, as-turned, cycled-taken}

@@ -1,5 +1,5 @@
 use Rattle.std.proofs.Common.{◌≤◌, ◌-◌, Bool, length}
-use Rattle.language.specs.Language.{Chooser, Performed}
+use Rattle.control_flow_theory.specs.language.Language.{Chooser, Performed}
 use Rattle.overlap_trail.specs.Following.{knowing}
 use Rattle.overlap_trail.proofs.Turning.{TurnsOn}
 use Rattle.overlap_trail.proofs.follow.follow_calls.Given as goal

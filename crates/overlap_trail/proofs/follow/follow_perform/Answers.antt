@@ -1,6 +1,6 @@
 use Rattle.std.proofs.Common.{◌∙◌, length}
-use Rattle.language.specs.Language.{Performed, Perform, Loop}
-use Rattle.language.specs.Control.{control_in, perform_of}
+use Rattle.control_flow_theory.specs.language.Language.{Performed, Perform, Loop}
+use Rattle.control_flow_theory.specs.language.Control.{control_in, perform_of}
 use Rattle.overlap_trail.specs.Following.{knowing}
 use Rattle.overlap_trail.proofs.Steps.{as-turned}
 use Rattle.overlap_trail.proofs.Rows.{perform-once, perform-loop}

@@ -1,6 +1,6 @@
 use Rattle.std.proofs.Common.{drop, subst}
-use Rattle.flow_paths.specs.Step.{Calls}
-use Rattle.flow_paths.specs.Accepted.{Meets}
+use Rattle.program_points.specs.paths.Step.{Calls}
+use Rattle.program_points.specs.paths.Accepted.{Meets}
 use Rattle.overlap_trail.specs.Checking.{aim_of}
 use Rattle.overlap_trail.proofs.Meeting.{some-left}
 use Rattle.overlap_trail.proofs.judge.meets_call.Goals as goal

@@ -1,6 +1,6 @@
 use Rattle.std.proofs.Common.{drop, refl, sym, subst}
-use Rattle.flow_paths.specs.Accepted.{walk, Meets}
-use Rattle.flow_paths.specs.Accepted as accepted
+use Rattle.program_points.specs.paths.Accepted.{walk, Meets}
+use Rattle.program_points.specs.paths.Accepted as accepted
 use Rattle.overlap_trail.specs.Following.{sought_of}
 use Rattle.overlap_trail.specs.Checking.{aim_of}
 use Rattle.overlap_trail.proofs.Legs.{never-stuck, arrives-behind}

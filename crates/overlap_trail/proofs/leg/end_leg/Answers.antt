@@ -1,7 +1,7 @@
 use Rattle.std.proofs.Common.{[], drop, refl, sym, arith}
-use Rattle.flow_paths.specs.Step.{at}
-use Rattle.flow_paths.specs.Accepted.{walk}
-use Rattle.flow_paths.specs.Accepted as accepted
+use Rattle.program_points.specs.paths.Step.{at}
+use Rattle.program_points.specs.paths.Accepted.{walk}
+use Rattle.program_points.specs.paths.Accepted as accepted
 use Rattle.overlap_trail.specs.Checking.{aim_of}
 use Rattle.overlap_trail.proofs.Legs.{falls-on, falls-off, at-exit}
 use Rattle.overlap_trail.proofs.leg.end_leg.Goals as goal

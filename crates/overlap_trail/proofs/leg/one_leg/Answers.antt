@@ -1,10 +1,10 @@
 use Rattle.std.proofs.Common.{◌≤◌, suc, List, [], map, drop, length, ap, sym, subst, arith}
 use Rattle.cob_tree.specs.declared.file.FileEntry.{FileEntry}
 use Rattle.cob_tree.specs.declared.program.Paragraph.{Paragraph}
-use Rattle.language.specs.Control.{control_of, section_last, seen_sentence}
-use Rattle.language.specs.Items.{items_of}
-use Rattle.flow_paths.specs.Step.{Point, at}
-use Rattle.flow_paths.specs.Accepted.{walk}
+use Rattle.control_flow_theory.specs.language.Control.{control_of, section_last, seen_sentence}
+use Rattle.control_flow_theory.specs.language.Items.{items_of}
+use Rattle.program_points.specs.paths.Step.{Point, at}
+use Rattle.program_points.specs.paths.Accepted.{walk}
 use Rattle.overlap_trail.specs.declared.leg.Leg.TheVariants.{On}
 use Rattle.overlap_trail.specs.declared.leg.Out.TheVariants.{ToEnd, ToSectionEnd, ToStart, Met, Lost}
 use Rattle.overlap_trail.specs.Following.{known_of, sought_of}

@@ -1,7 +1,7 @@
 use Rattle.std.proofs.Common.{◌≡◌, ◌∙◌, suc, drop, get_or, slice_get, Some, refl, ap, sym, arith}
 use Rattle.std.proofs.lemmas.Option.{slice_get-get_or}
-use Rattle.language.specs.Control.{section_last}
-use Rattle.flow_table.proofs.Sections.{last-later}
+use Rattle.control_flow_theory.specs.language.Control.{section_last}
+use Rattle.program_points.proofs.table_building_lemmas.Sections.{last-later}
 use Rattle.overlap_trail.proofs.leg.section_last.Goals as goal
 
 pub loop-next-preserved : goal.loop-next-preserved

@@ -1,5 +1,5 @@
 use Rattle.std.proofs.Common.{◌≡◌, ◌+◌, suc, drop}
-use Rattle.language.specs.Control.{section_last}
+use Rattle.control_flow_theory.specs.language.Control.{section_last}
 use Rattle.overlap_trail.proofs.leg.section_last.Given as goal
 
 abbrev pub invariant-loop-next : goal.invariant-loop-next

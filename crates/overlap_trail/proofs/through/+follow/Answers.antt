@@ -2,12 +2,12 @@ use Rattle.std.proofs.Common.{◌≤◌, ◌+◌, ◌∙◌, ℕ, true, false, L
 use Rattle.cob_tree.specs.declared.stmt.Arms.{out-Arms}
 use Rattle.cob_tree.specs.declared.stmt.When.{When}
 use Rattle.cob_tree.specs.declared.stmt.Stmt.TheVariants as tree
-use Rattle.language.specs.Language.{also, none, Stmt, Choose, If, Holds, given, done, Loop, Nested, Go, GoDepending, Depending, NextSentence, StopRun, ExitParagraph, ExitSection, ExitPerform, Own}
-use Rattle.language.specs.Control.{always, control_in, loop_of, perform_of, move_of, arith_stmt, Both, both_arms, seen, seen_stmts}
-use Rattle.language.specs.Language as language
-use Rattle.language.proofs.Rows.{seen_both_is, seen_arith, seen_read, seen_if, seen_evaluate, seen_loop, seen_perform, seen_go, seen_go_depending, seen_next_sentence, seen_stop_run, seen_exit_paragraph, seen_exit_section, seen_exit_perform, seen_display, seen_move, seen_set_true, seen_opens, seen_closes, seen_write, seen_rewrite, seen_exit, seen_continue}
-use Rattle.flow_numbers.specs.Kinds.{never_first_of}
-use Rattle.flow_numbers.specs.Building.{seen_branches, seen_maybe}
+use Rattle.control_flow_theory.specs.language.Language.{also, none, Stmt, Choose, If, Holds, given, done, Loop, Nested, Go, GoDepending, Depending, NextSentence, StopRun, ExitParagraph, ExitSection, ExitPerform, Own}
+use Rattle.control_flow_theory.specs.language.Control.{always, control_in, loop_of, perform_of, move_of, arith_stmt, Both, both_arms, seen, seen_stmts}
+use Rattle.control_flow_theory.specs.language.Language as language
+use Rattle.control_flow_theory.proofs.language_lemmas.Rows.{seen_both_is, seen_arith, seen_read, seen_if, seen_evaluate, seen_loop, seen_perform, seen_go, seen_go_depending, seen_next_sentence, seen_stop_run, seen_exit_paragraph, seen_exit_section, seen_exit_perform, seen_display, seen_move, seen_set_true, seen_opens, seen_closes, seen_write, seen_rewrite, seen_exit, seen_continue}
+use Rattle.program_points.specs.numbering.Kinds.{never_first_of}
+use Rattle.program_points.specs.numbering.Building.{seen_branches, seen_maybe}
 use Rattle.overlap_trail.specs.declared.follow.Way.TheVariants.{Through, To, Left, Ended, SectionEnded, Broken, Cycled, Lost}
 use Rattle.overlap_trail.specs.Following.{known_of, Follows, FollowsArm, IsBetween}
 use Rattle.overlap_trail.proofs.Steps.{taken-from, as-turned, cycled-taken}

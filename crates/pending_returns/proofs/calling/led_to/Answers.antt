@@ -1,6 +1,6 @@
 use Rattle.std.proofs.Common.{◌<◌, ◌≤◌, ℕ, List, get_or, length, true, refl, subst, ◌∙◌, arith}
 use Rattle.std.proofs.lemmas.Option.{slice_get-get_or, slice_get_within, slice_get_read}
-use Rattle.flow_levels.proofs.Searching.{few}
+use Rattle.pending_returns.proofs.levels_lemmas.Searching.{few}
 use Rattle.pending_returns.specs.Tabled.{AddsCalls}
 use Rattle.pending_returns.proofs.Kept.{kept-calls}
 use Rattle.pending_returns.proofs.Leveling.{led-begins, led-more, led-all}

@@ -1,15 +1,15 @@
 use Rattle.std.proofs.Common.{◌≡◌, ℕ, List, Option, Some, None, refl, sym, ap, subst, ◌∙◌}
 use Rattle.cobol_lex.specs.declared.token.Token.{Token}
 use Rattle.cob_tree.specs.declared.fault.NameFault.{NameFault}
-use Rattle.grammar_forms.specs.declared.note.Note.{Note}
-use Rattle.grammar_forms.specs.declared.why.Why.{Why}
-use Rattle.grammar_forms.specs.declared.why.Why.TheVariants as whys
-use Rattle.grammar_forms.specs.Form.{Form}
-use Rattle.grammar_forms.specs.Reading.{start_at}
-use Rattle.grammar_forms.proofs.Reader.{spelled, the_only, stops, none}
-use Rattle.statement_grammar.specs.stmt_forms.Paragraph as forms
-use Rattle.statement_grammar.proofs.stmt_forms_lemmas.ParagraphLaws as laws
-use Rattle.read_faults.specs.Fault.{stop_fault}
+use Rattle.parser_combinators.specs.declared.note.Note.{Note}
+use Rattle.parser_combinators.specs.declared.why.Why.{Why}
+use Rattle.parser_combinators.specs.declared.why.Why.TheVariants as whys
+use Rattle.parser_combinators.specs.Form.{Form}
+use Rattle.parser_combinators.specs.Reading.{start_at}
+use Rattle.parser_combinators.proofs.Reader.{spelled, the_only, stops, none}
+use Rattle.cobol_grammar.specs.stmt_forms.Paragraph as forms
+use Rattle.cobol_grammar.proofs.stmt_forms_lemmas.ParagraphLaws as laws
+use Rattle.parser_combinators.specs.faults.Fault.{stop_fault}
 use Rattle.procedure_parse.specs.Answer.{first_fault, IsStop, IsFault}
 use Rattle.procedure_parse.proofs.DivisionEnds.{division_ends}
 use Rattle.procedure_parse.proofs.answer.read_division.Goals as goal

@@ -1,7 +1,7 @@
-use Rattle.statement_grammar.specs.stmt_forms.Jump as jump
+use Rattle.cobol_grammar.specs.stmt_forms.Jump as jump
 use Rattle.std.proofs.lemmas.Result.{err_from_is_err_and}
-use Rattle.statement_grammar.proofs.stmt_forms_lemmas.ParagraphLaws as laws
-use Rattle.grammar_forms.proofs.Loops.{goes_on, ends_err, is_done, shrinks}
+use Rattle.cobol_grammar.proofs.stmt_forms_lemmas.ParagraphLaws as laws
+use Rattle.parser_combinators.proofs.Loops.{goes_on, ends_err, is_done, shrinks}
 use Rattle.procedure_parse.proofs.paragraph.headed_from.Goals as goal
 
 pub returns-in_err-state : goal.returns-in_err-state

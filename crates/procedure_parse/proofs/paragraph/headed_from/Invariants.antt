@@ -1,7 +1,7 @@
-use Rattle.statement_grammar.specs.stmt_forms.Jump as jump
+use Rattle.cobol_grammar.specs.stmt_forms.Jump as jump
 use Rattle.std.proofs.Common.{◌≡◌, length}
-use Rattle.grammar_forms.specs.Form.{loop}
-use Rattle.statement_grammar.specs.stmt_forms.Paragraph as forms
+use Rattle.parser_combinators.specs.Form.{loop}
+use Rattle.cobol_grammar.specs.stmt_forms.Paragraph as forms
 use Rattle.procedure_parse.proofs.paragraph.headed_from.Given as goal
 
 abbrev pub invariant-headers : goal.invariant-headers

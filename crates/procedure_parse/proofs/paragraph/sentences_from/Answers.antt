@@ -1,8 +1,8 @@
-use Rattle.statement_grammar.specs.stmt_forms.Verb.{begins_stmt}
+use Rattle.cobol_grammar.specs.stmt_forms.Verb.{begins_stmt}
 use Rattle.std.proofs.lemmas.Result.{err_from_is_err_and}
-use Rattle.statement_grammar.proofs.stmt_forms_lemmas.ParagraphLaws as laws
-use Rattle.grammar_forms.proofs.Loops.{goes_on, ends_err, is_done, shrinks}
-use Rattle.grammar_forms.proofs.MakerLaws.{added}
+use Rattle.cobol_grammar.proofs.stmt_forms_lemmas.ParagraphLaws as laws
+use Rattle.parser_combinators.proofs.Loops.{goes_on, ends_err, is_done, shrinks}
+use Rattle.parser_combinators.proofs.MakerLaws.{added}
 use Rattle.procedure_parse.proofs.paragraph.sentences_from.Goals as goal
 
 pub returns-in_err-found : goal.returns-in_err-found

@@ -1,7 +1,7 @@
-use Rattle.statement_grammar.specs.stmt_forms.Verb.{begins_stmt}
+use Rattle.cobol_grammar.specs.stmt_forms.Verb.{begins_stmt}
 use Rattle.std.proofs.Common.{◌≡◌, length}
-use Rattle.grammar_forms.specs.Form.{loop, added}
-use Rattle.statement_grammar.specs.stmt_forms.Paragraph as forms
+use Rattle.parser_combinators.specs.Form.{loop, added}
+use Rattle.cobol_grammar.specs.stmt_forms.Paragraph as forms
 use Rattle.procedure_parse.proofs.paragraph.sentences_from.Given as goal
 
 abbrev pub invariant-items : goal.invariant-items

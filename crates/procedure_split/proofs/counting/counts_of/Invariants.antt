@@ -1,5 +1,5 @@
 use Rattle.std.proofs.Common.{◌≡◌, drop, map}
-use Rattle.cell_table.specs.Names.{item_kind}
+use Rattle.added_items.specs.item_table.Names.{item_kind}
 use Rattle.procedure_split.specs.Counted.{counted_on, counts_of}
 use Rattle.procedure_split.proofs.counting.counts_of.Given as goal
 

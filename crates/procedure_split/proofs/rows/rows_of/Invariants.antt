@@ -1,5 +1,5 @@
 use Rattle.std.proofs.Common.{◌≡◌, ◌++◌, drop}
-use Rattle.cell_table.specs.Seen.{seen_ranges}
+use Rattle.added_items.specs.item_table.Seen.{seen_ranges}
 use Rattle.procedure_split.specs.Rows.{rows_of}
 use Rattle.procedure_split.proofs.rows.rows_of.Given as goal
 

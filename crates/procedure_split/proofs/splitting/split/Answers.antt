@@ -1,6 +1,6 @@
 use Rattle.std.proofs.Common.{ap, sym, subst, ◌∙◌, length}
-use Rattle.cut_lists.specs.Told.{told_of}
-use Rattle.language.specs.Control.{control_of}
+use Rattle.program_facts.specs.completion.Told.{told_of}
+use Rattle.control_flow_theory.specs.language.Control.{control_of}
 use Rattle.procedure_split.proofs.Planning.{as-many, ranges-are, too-deep, too-large}
 use Rattle.procedure_split.specs.Written.{IsWrittenWith}
 use Rattle.procedure_split.proofs.splitting.split.Goals as goal

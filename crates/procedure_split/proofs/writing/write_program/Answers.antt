@@ -1,9 +1,9 @@
 use Rattle.std.proofs.Common.{◌≡◌, [], ap, sym, subst, ◌∙◌, length, map, arith}
 use Rattle.std.proofs.lemmas.Result.{IfOk-weaker}
-use Rattle.cell_table.specs.CellItems.{AreCellItems}
-use Rattle.cell_table.specs.Items.{item_kinds}
-use Rattle.cell_table.specs.Names.{item_kind, seen_item}
-use Rattle.cell_table.specs.Seen.{seen_ranges}
+use Rattle.added_items.specs.item_table.CellItems.{AreCellItems}
+use Rattle.added_items.specs.item_table.Items.{item_kinds}
+use Rattle.added_items.specs.item_table.Names.{item_kind, seen_item}
+use Rattle.added_items.specs.item_table.Seen.{seen_ranges}
 use Rattle.out_names.specs.Words.{program_words, table_of}
 use Rattle.procedure_split.specs.made_procedures.Made.{ArePlacesIn}
 use Rattle.procedure_split.specs.Counted.{counts_of}

@@ -1,6 +1,6 @@
 use Rattle.std.proofs.Common.{◌++◌, sym, ap, subst, ◌∙◌}
 use Rattle.std.specs.Prelude.{codes}
-use Rattle.numbered_words.specs.Stem.{IsStem}
+use Rattle.cob_words.specs.numbered.Stem.{IsStem}
 use Rattle.program_gen.proofs.NameLemmas.{group_is_stem}
 use Rattle.program_gen.proofs.parts.group_word.Goals as goal
 

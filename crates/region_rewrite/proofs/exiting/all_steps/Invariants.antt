@@ -1,5 +1,5 @@
 use Rattle.std.proofs.Common.{◌≡◌}
-use Rattle.control_laws.specs.closing.Closes.{reduced_by_all}
+use Rattle.control_flow_theory.specs.closing.Closes.{reduced_by_all}
 use Rattle.region_rewrite.specs.Reducings.{StateHolds, graph_in}
 use Rattle.region_rewrite.proofs.exiting.all_steps.Given as goal
 

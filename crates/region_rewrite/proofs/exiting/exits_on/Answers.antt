@@ -1,5 +1,5 @@
 use Rattle.std.proofs.Common.{ap, ◌∙◌, sym, subst}
-use Rattle.control_laws.specs.graph_rules.Reduced.{has_node}
+use Rattle.control_flow_theory.specs.graph_rules.Reduced.{has_node}
 use Rattle.branch_tree.specs.Helds.{seen_work}
 use Rattle.region_rewrite.specs.Candidates.{HoldsBut}
 use Rattle.region_rewrite.specs.Reducings.{graph_in}

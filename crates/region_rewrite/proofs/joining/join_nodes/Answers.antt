@@ -1,8 +1,8 @@
 use Rattle.std.proofs.Common.{◌≡◌, ◌<◌, ◌≤◌, ◌++◌, length, take, drop, get_or, set, ap, sym, ◌∙◌, arith, add-one}
 use Rattle.std.proofs.lemmas.Grind.{common_steps}
 use Rattle.std.proofs.lemmas.List.{map-set, length-map}
-use Rattle.control_laws.specs.graph_rules.Reduced.{each_tree}
-use Rattle.control_laws.specs.graph_rules.Shapes.{joined}
+use Rattle.control_flow_theory.specs.graph_rules.Reduced.{each_tree}
+use Rattle.control_flow_theory.specs.graph_rules.Shapes.{joined}
 use Rattle.branch_tree.specs.Graphs.{seen_node, seen_nodes}
 use Rattle.branch_tree.specs.Trees.{seen_tree}
 use Rattle.tree_rules.proofs.JoinRows.{joins_joined}

@@ -1,6 +1,6 @@
 use Rattle.std.proofs.Common.{◌≡◌, ◌++◌, take, drop}
-use Rattle.control_laws.specs.graph_rules.Reduced.{each_tree}
-use Rattle.control_laws.specs.graph_rules.Shapes.{joined}
+use Rattle.control_flow_theory.specs.graph_rules.Reduced.{each_tree}
+use Rattle.control_flow_theory.specs.graph_rules.Shapes.{joined}
 use Rattle.branch_tree.specs.Graphs.{seen_nodes}
 use Rattle.region_rewrite.proofs.joining.join_nodes.Given as goal
 

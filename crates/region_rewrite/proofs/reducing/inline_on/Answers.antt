@@ -1,5 +1,5 @@
 use Rattle.std.proofs.Common.{Ok, ap, ◌∙◌, sym, subst}
-use Rattle.control_laws.specs.graph_rules.Reduced.{has_node}
+use Rattle.control_flow_theory.specs.graph_rules.Reduced.{has_node}
 use Rattle.branch_tree.specs.Helds.{seen_work}
 use Rattle.tree_rules.specs.Inlines.{InlinesInto}
 use Rattle.region_rewrite.specs.Candidates.{HoldsBut}

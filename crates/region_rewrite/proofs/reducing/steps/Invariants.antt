@@ -1,5 +1,5 @@
 use Rattle.std.proofs.Common.{◌≡◌}
-use Rattle.control_laws.specs.graph_rules.Reduced.{reduced}
+use Rattle.control_flow_theory.specs.graph_rules.Reduced.{reduced}
 use Rattle.region_rewrite.specs.Reducings.{StateHolds, graph_in}
 use Rattle.region_rewrite.proofs.reducing.steps.Given as goal
 

@@ -1,7 +1,7 @@
 use Rattle.std.proofs.Common.{map, take, subst}
 use Rattle.cob_base.specs.Sink.{sink_call}
-use Rattle.file_desk.specs.contracts.watched.BoxDynDeviceWatched.TheImpl.{seen-value}
-use Rattle.run_answer.specs.Answers.{Comes, ComesOver}
+use Rattle.file_model.specs.contracts.operations.watched.BoxDynDeviceWatched.TheImpl.{seen-value}
+use Rattle.restructure_core.specs.run.Answers.{Comes, ComesOver}
 use Rattle.restructure_tool.proofs.DeviceLemmas.{device_told, unrun_never}
 use Rattle.restructure_tool.proofs.RunLemmas.{told-run, over-run}
 use Rattle.restructure_tool.proofs.running.answer_run.Goals as goal

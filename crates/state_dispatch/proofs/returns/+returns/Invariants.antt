@@ -1,5 +1,5 @@
 use Rattle.std.proofs.Common.{◌≡◌, drop}
-use Rattle.control_laws.specs.closing.Dispatches.{trees_return}
+use Rattle.control_flow_theory.specs.closing.Dispatches.{trees_return}
 use Rattle.branch_tree.specs.Trees.{seen_trees}
 use Rattle.state_dispatch.proofs.returns.+returns.Given as goal
 

@@ -1,5 +1,5 @@
 use Rattle.std.proofs.Common.{◌≡◌, ap, sym, ◌∙◌}
-use Rattle.control_laws.specs.graph_rules.Reduced.{Graph, has_node, tree_in, inline_graph, with_tree}
+use Rattle.control_flow_theory.specs.graph_rules.Reduced.{Graph, has_node, tree_in, inline_graph, with_tree}
 use Rattle.branch_tree.specs.Graphs.{seen_nodes}
 use Rattle.branch_tree.specs.Helds.{seen_work, Held}
 use Rattle.branch_tree.specs.Trees.{seen_tree}

@@ -4,8 +4,8 @@ use Rattle.std.proofs.lemmas.Grind.{common_steps}
 use Rattle.std.proofs.lemmas.List.{map-set, length-map}
 use Rattle.branch_tree.specs.Trees.{seen_tree, seen_trees, trees_of}
 use Rattle.branch_tree.specs.declared.tree.End.TheViews.{the_lemmas}
-use Rattle.control.specs.Graph as graph
-use Rattle.control_laws.specs.graph_rules.Shapes.{joined, joined_arms}
+use Rattle.control_flow_theory.specs.semantics.Graph as graph
+use Rattle.control_flow_theory.specs.graph_rules.Shapes.{joined, joined_arms}
 use Rattle.tree_rules.specs.Joins.{may_join, arms_may_join}
 use Rattle.tree_rules.specs.Rooms.{HasRoom}
 use Rattle.tree_rules.proofs.Arms.{changed_next, changed_all, joined_each, seen_at}

@@ -3,8 +3,8 @@ use Rattle.std.proofs.lemmas.Grind.{common_steps}
 use Rattle.std.proofs.lemmas.List.{map-set, length-map, take-map}
 use Rattle.std.proofs.Math.Seq.{map-set_same}
 use denote.Param.Weighed.{at_most}
-use Rattle.control.specs.Graph as graph
-use Rattle.control_laws.specs.graph_rules.Shapes.{inlined, leaves_to, arms_leaves_to}
+use Rattle.control_flow_theory.specs.semantics.Graph as graph
+use Rattle.control_flow_theory.specs.graph_rules.Shapes.{inlined, leaves_to, arms_leaves_to}
 use Rattle.branch_tree.proofs.tree.Tree.TheLaws.{the_size}
 use Rattle.branch_tree.specs.Trees.{seen_tree, trees_of}
 use Rattle.tree_rules.proofs.Arms.{seen_at}

@@ -1,5 +1,5 @@
 use Rattle.std.proofs.Common.{◌≡◌, ◌+◌, ◌-◌, ◌^◌, ◌<◌, min, drop}
-use Rattle.control_laws.specs.graph_rules.Reduced.{all_leaves_to}
+use Rattle.control_flow_theory.specs.graph_rules.Reduced.{all_leaves_to}
 use Rattle.branch_tree.specs.Graphs.{seen_nodes}
 use Rattle.branch_tree.proofs.graph.Graph.leaves_to.Given as goal
 

@@ -1,5 +1,5 @@
 use Rattle.std.proofs.Common.{ap, sym, ◌∙◌}
-use Rattle.control.specs.Graph as graph
+use Rattle.control_flow_theory.specs.semantics.Graph as graph
 use Rattle.branch_tree.specs.Changes.{gone_on}
 use Rattle.branch_tree.specs.Trees.{seen_tree, seen_body, seen_end}
 use Rattle.branch_tree.proofs.TreeRows.{seen_tree_is, seen_body-append}

@@ -1,5 +1,5 @@
 use Rattle.std.proofs.Common.{List, refl, ap}
-use Rattle.control_laws.specs.graph_rules.Reduced.{Node, Graph}
+use Rattle.control_flow_theory.specs.graph_rules.Reduced.{Node, Graph}
 use Rattle.branch_tree.specs.Graphs.{seen_graph}
 use Rattle.branch_tree.specs.declared.work.Work.TheInside.{Inside}
 use Rattle.branch_tree.proofs.StoredRows.{made_stored}

@@ -1,6 +1,6 @@
 use Rattle.std.proofs.Common.{ap, sym, ◌∙◌}
 use Rattle.std.specs.Option.{option_copied}
-use Rattle.control_laws.specs.graph_rules.Reduced.{all_leaves_to}
+use Rattle.control_flow_theory.specs.graph_rules.Reduced.{all_leaves_to}
 use Rattle.branch_tree.specs.Helds.{seen_work}
 use Rattle.branch_tree.proofs.WorkRows.{no_leaves, no_slot, its_count}
 use Rattle.branch_tree.proofs.work.Work.incoming.Goals as goal

@@ -1,6 +1,6 @@
 use Rattle.std.proofs.Common.{◌≡◌, sym, ◌∙◌}
 use Rattle.std.specs.Map.{keys_of}
-use Rattle.control_laws.specs.closing.Dispatches.{labels_of}
+use Rattle.control_flow_theory.specs.closing.Dispatches.{labels_of}
 use Rattle.branch_tree.specs.Graphs.{seen_nodes}
 use Rattle.branch_tree.proofs.FindRows.{if_ok, labels_seen}
 use Rattle.branch_tree.proofs.work.Work.labels.Goals as goal

@@ -1,5 +1,5 @@
 use Rattle.std.proofs.Common.{◌≡◌, ◌≢◌, refl, ap, sym, ◌∙◌, subst}
-use Rattle.control_laws.specs.graph_rules.Reduced.{has_node, tree_in, without, all_leaves_to}
+use Rattle.control_flow_theory.specs.graph_rules.Reduced.{has_node, tree_in, without, all_leaves_to}
 use Rattle.branch_tree.specs.Helds.{seen_work}
 use Rattle.branch_tree.specs.Sounds.{bare}
 use Rattle.branch_tree.proofs.WorkRows.{no_key, no_slot}

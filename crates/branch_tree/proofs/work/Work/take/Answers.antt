@@ -1,6 +1,6 @@
 use Rattle.std.proofs.Common.{refl, ap, sym, ◌∙◌}
 use Rattle.std.specs.Option.{option_copied}
-use Rattle.control_laws.specs.graph_rules.Reduced.{has_node, tree_in, with_tree}
+use Rattle.control_flow_theory.specs.graph_rules.Reduced.{has_node, tree_in, with_tree}
 use Rattle.branch_tree.specs.Helds.{seen_work}
 use Rattle.branch_tree.specs.Sounds.{bare}
 use Rattle.branch_tree.proofs.WorkRows.{no_key, some_key, no_slot}

@@ -2,8 +2,8 @@ use Rattle.std.proofs.Common.{◌∙◌, ap, subst, sym}
 use Rattle.cobol_run.specs.Frames.{body_seen, heads, last_of, rest_of, turning_seen}
 use Rattle.cobol_run.specs.Own.{StandsAlone}
 use Rattle.cobol_run.specs.Plan.{declared_by, memory_in}
-use Rattle.language.specs.Control.{seen}
-use Rattle.language.specs.Items.{Do, Turn}
+use Rattle.control_flow_theory.specs.language.Control.{seen}
+use Rattle.control_flow_theory.specs.language.Items.{Do, Turn}
 use Rattle.cobol_run.proofs.MachineLemmas.{head_goes, headed}
 use Rattle.cobol_run.proofs.StatementLemmas.{turn_led}
 use Rattle.cobol_run.proofs.machine.Machine.head_step.Goals as goal

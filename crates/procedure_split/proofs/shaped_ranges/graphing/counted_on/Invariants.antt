@@ -1,6 +1,6 @@
 use Rattle.std.proofs.Common.{◌≡◌, ◌*◌, length}
-use Rattle.flow_levels.specs.Reaching.{IsMarked}
-use Rattle.range_sizes.specs.Known.{IsKnown}
+use Rattle.pending_returns.specs.levels.Reaching.{IsMarked}
+use Rattle.flow_graph.specs.range_sizes.Known.{IsKnown}
 use Rattle.procedure_split.proofs.shaped_ranges_lemmas.GraphRows.{CountedSoFar}
 use Rattle.procedure_split.proofs.shaped_ranges.graphing.counted_on.Given as goal
 

@@ -1,5 +1,5 @@
 use Rattle.std.proofs.Common.{◌≡◌, ◌*◌, length}
-use Rattle.flow_levels.specs.Reaching.{IsMarked}
+use Rattle.pending_returns.specs.levels.Reaching.{IsMarked}
 use Rattle.procedure_split.specs.shaped_ranges.Shaped.{AllClosed}
 use Rattle.procedure_split.proofs.shaped_ranges_lemmas.GraphRows.{SoFar}
 use Rattle.procedure_split.proofs.shaped_ranges.graphing.graphs_of.Given as goal

@@ -1,1 +1,0 @@
--- Its definitions are the forms of `stmt_forms`; it has none of its own.

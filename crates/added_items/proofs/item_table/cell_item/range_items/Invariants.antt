@@ -1,0 +1,19 @@
+use Rattle.std.proofs.Common.{◌≡◌, ℕ, ◌+◌, map, length, Some}
+use Rattle.std.specs.Prelude.{slice_get}
+use Rattle.branch_tree.specs.Graphs.{seen_added}
+use Rattle.added_items.specs.mentions.Mentions.{first_arms}
+use Rattle.added_items.specs.item_table.CellItems.{IsAsked}
+use Rattle.added_items.specs.item_table.Items.{kind_in}
+use Rattle.added_items.specs.item_table.Numbering.{number_at}
+use Rattle.added_items.specs.item_table.Tables.{ends_in_other, most_by}
+use Rattle.statement_builders.specs.declared.item_words.cells.CellItem.{CellItem}
+use Rattle.added_items.proofs.item_table.cell_item.range_items.Given as goal
+
+abbrev pub invariant-loop-cell : goal.invariant-loop-cell
+invariant-loop-cell l = record {
+  count : length l.items ≡ l.cell;
+  each : (cell : ℕ) (found : CellItem) → slice_get l.items cell ≡ Some found →
+      IsAsked (l.first + number_at l.numbering (l.before + cell))
+      (most_by (first_arms cell l.told) (kind_in (map seen_added l.added) cell))
+      (ends_in_other (kind_in (map seen_added l.added) cell)) found;
+}

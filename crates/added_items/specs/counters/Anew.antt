@@ -1,0 +1,20 @@
+-- Cells that are numbered anew, in what leaves of a loop are, and in a node.
+use Rattle.std.specs.Prelude.{ℕ, ◌≡◌}
+use Rattle.control_flow_theory.specs.language.Language.{Stmt}
+use Rattle.control_flow_theory.specs.graph_rules.Reduced.{Node}
+use Rattle.control_flow_theory.specs.lowering.Renamed.{stmt_anew, tree_anew}
+use Rattle.branch_tree.specs.declared.tree.Leaves.{Leaves}
+use Rattle.branch_tree.specs.declared.tree.Leaves.TheVariants as leaves
+
+abbrev pub leaves_anew : (ℕ → ℕ) → Leaves → Leaves
+leaves_anew number leaves.Silent = leaves.Silent
+leaves_anew number (leaves.Flag cell label) = leaves.Flag (number cell) label
+leaves_anew number (leaves.Exit cell label targets) = leaves.Exit (number cell) label targets
+leaves_anew number (leaves.State cell labels) = leaves.State (number cell) labels
+
+abbrev pub node_anew : (ℕ → ℕ) → Node → Node
+node_anew number node = record { label = node.label; tree = tree_anew number node.tree }
+
+-- it stays, however cells are numbered
+abbrev pub NamesNoCell : Stmt → Type 0
+NamesNoCell stmt = (number : ℕ → ℕ) → stmt_anew number stmt ≡ stmt

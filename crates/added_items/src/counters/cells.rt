@@ -1,0 +1,44 @@
+//! The numbers of cells.
+
+ghost use Rattle.std.specs.Prelude.{◌≡◌, ◌+◌, length, IfOk, OnOk};
+ghost use Rattle.control_flow_theory.specs.headline.Numbering.{place_among};
+ghost use Rattle.added_items.specs.counters.Counters.{Rises};
+
+use cob_base::NoMemory;
+
+/// The number behind all of these that the cell, which isn't there, has.
+fn number_behind(cells: &[u32], cell: u32) -> Result<u32, NoMemory>
+    ensures { IfOk result (λ number. number ≡ length cells.now + cell) }
+{
+    match u32::try_from(cells.len()) {
+        Ok(count) => match count.checked_add(cell) {
+            Some(number) => Ok(number),
+            None => Err(NoMemory),
+        },
+        Err(_) => Err(NoMemory),
+    }
+}
+
+/// The place of the cell among the counters, or a number behind all of these. A number past those
+/// of its type is out of memory.
+fn number_of(cells: &[u32], cell: u32) -> Result<u32, NoMemory>
+    requires { Rises 0 cells.now }
+    ensures { IfOk result (λ number. number ≡ place_among cells.now cell) }
+{
+    match cells.binary_search(&cell) {
+        Ok(at) => match u32::try_from(at) {
+            Ok(number) => Ok(number),
+            Err(_) => Err(NoMemory),
+        },
+        Err(_) => number_behind(cells, cell),
+    }
+}
+
+/// Gives the cell its number.
+pub fn number_cell(cell: &mut u32, cells: &[u32]) -> Result<(), NoMemory>
+    requires { Rises 0 cells.now }
+    ensures { OnOk result (cell.new ≡ place_among cells.now cell.old) }
+{
+    *cell = number_of(cells, *cell)?;
+    Ok(())
+}

@@ -1,0 +1,15 @@
+//! Laws of the table of cells.
+
+ghost use Rattle.added_items.specs.item_table.Laws.{CellsHaveEntries, ClosedCellsAreServed};
+
+/// Each cell of the ranges has one of the entries, with room for its values, and each that changes
+/// shares it with no other.
+pub fn cells_have_entries()
+    ensures { CellsHaveEntries }
+{}
+
+/// What the rules write of the cells of closed graphs may be written with their table, where each
+/// graph has fewer than 999,999 nodes.
+pub fn closed_cells_are_served()
+    ensures { ClosedCellsAreServed }
+{}

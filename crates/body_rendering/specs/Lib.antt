@@ -1,0 +1,7 @@
+-- what is written of a body
+pub mod Bodies
+-- what is written of a procedure
+pub mod Procedures
+-- The program's own statements as they stand in a structured program: each PERFORM of paragraphs
+-- names its procedure, and empty arms are written by `statement_builders::arms`.
+pub mod own_statements

@@ -1,0 +1,15 @@
+//! The closed body of a range as statements of a program, and the one sentence of its procedure.
+//!
+//! A body has no jump: it is a tree of pieces, choices, loops and what their leaves leave behind.
+//! The definition that the contracts hold the statements against is the theory's `written_stmts`
+//! and `written_paragraph`, in `control_flow_theory/specs/rendering/Rendering.antt`, with the names of
+//! `statement_builders/specs/arms/Written.antt`. Statements are moved out of the trees, so none is copied.
+#![tactic(auto)]
+
+mod leaves;
+pub mod own_statements;
+mod pieces;
+mod procedure;
+
+pub use pieces::write_body;
+pub use procedure::write_procedure;

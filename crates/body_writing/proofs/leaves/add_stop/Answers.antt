@@ -1,6 +1,0 @@
-use Rattle.std.proofs.lemmas.Result.{on_ok_weaker}
-use Rattle.body_writing.proofs.BodyRows.{stop_added}
-use Rattle.body_writing.proofs.leaves.add_stop.Goals as goal
-
-pub returns : goal.returns
-returns c = on_ok_weaker c.push.result (λ e. stop_added c.args.made.now c.push.new.self e) c.push.ensures.ok

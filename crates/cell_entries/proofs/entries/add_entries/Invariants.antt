@@ -1,8 +1,0 @@
-use Rattle.std.proofs.Common.{◌≡◌, ◌++◌, drop, map}
-use Rattle.cobol_laws.specs.cell_serving.Entries.{entries_of}
-use Rattle.cell_table.specs.Names.{seen_item}
-use Rattle.cell_entries.proofs.entries.add_entries.Given as goal
-
-abbrev pub invariant-loop-item : goal.invariant-loop-item
-invariant-loop-item l =
-    l.entries ++ entries_of (map seen_item (drop l.item-index l.items)) ≡ l.fn.entries ++ entries_of (map seen_item l.items)

@@ -1,9 +1,0 @@
-//! The entries of added items, as they stand behind a program's own: level 01, PIC 9 or S9 and
-//! VALUE 0.
-//!
-//! `entries_of` in `cobol_laws/specs/cell_serving/Entries.antt` is the definition.
-#![tactic(auto)]
-
-mod entries;
-
-pub use entries::add_entries;

@@ -1,9 +1,0 @@
-use Rattle.std.proofs.Common.{◌≡◌, ◌++◌, drop}
-use Rattle.cell_table.specs.Row.{in_row}
-use Rattle.cell_table.specs.Seen.{cells_of}
-use Rattle.cell_table.proofs.row.add_named.Given as goal
-
-abbrev pub invariant-loop-mention : goal.invariant-loop-mention
-invariant-loop-mention l =
-    l.named ++ in_row l.before l.count (cells_of (drop l.mention-index l.told))
-    ≡ l.fn.named ++ in_row l.before l.count (cells_of l.told)

@@ -1,9 +1,0 @@
-use Rattle.std.proofs.Common.{◌≡◌, ◌++◌, drop, map}
-use Rattle.branch_tree.specs.Graphs.{seen_added}
-use Rattle.cell_table.specs.Row.{kinds_of_row}
-use Rattle.cell_table.specs.Seen.{seen_ranges}
-use Rattle.cell_table.proofs.row.kinds_of_row.Given as goal
-
-abbrev pub invariant-loop-at : goal.invariant-loop-at
-invariant-loop-at l =
-    map seen_added l.kinds ++ kinds_of_row (seen_ranges (drop l.at l.ranges)) ≡ kinds_of_row (seen_ranges l.ranges)

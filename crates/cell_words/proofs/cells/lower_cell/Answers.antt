@@ -1,8 +1,0 @@
-use Rattle.std.proofs.lemmas.Result.{IfOk-weaker}
-use Rattle.cell_words.proofs.WordRows.{lower_row}
-use Rattle.cell_words.proofs.cells.lower_cell.Goals as goal
-
-pub returns : goal.returns
-returns c =
-    IfOk-weaker c.subtract_one.result _ _
-    (λ made e. lower_row c.args.cells.now c.args.cell c.in_ok-found.found c.in_ok-found.ensures made e) c.subtract_one.ensures

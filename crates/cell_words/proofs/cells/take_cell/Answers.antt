@@ -1,9 +1,0 @@
-use Rattle.std.proofs.lemmas.Result.{IfOk-weaker}
-use Rattle.cell_words.proofs.WordRows.{take_row}
-use Rattle.cell_words.proofs.cells.take_cell.Goals as goal
-
-pub returns-in-Ok : goal.returns-in-Ok
-returns-in-Ok c =
-    IfOk-weaker c.move_to.result _ _
-    (λ made e. take_row c.args.cells.now c.args.cell c.in-Ok.found c.in-Ok.ensures c.args.amount made e)
-    c.move_to.ensures

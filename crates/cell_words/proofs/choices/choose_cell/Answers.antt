@@ -1,8 +1,0 @@
-use Rattle.std.proofs.lemmas.Result.{IfOk-weaker}
-use Rattle.cell_words.proofs.ChoiceRows.{cell_row}
-use Rattle.cell_words.proofs.choices.choose_cell.Goals as goal
-
-pub returns-in-Ok : goal.returns-in-Ok
-returns-in-Ok c =
-    IfOk-weaker c.choose_item.result _ _
-    (λ made h. cell_row c.args.cells.now c.args.cell c.in-Ok.found c.args.arms.items made c.in-Ok.ensures h) c.choose_item.ensures

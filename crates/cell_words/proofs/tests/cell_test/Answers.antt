@@ -1,6 +1,0 @@
-use Rattle.std.proofs.lemmas.Result.{IfOk-weaker}
-use Rattle.cell_words.proofs.tests.cell_test.Goals as goal
-
-pub returns : goal.returns
-returns c =
-    IfOk-weaker c.relation.result _ _ (λ made e. (c.in_ok-found.found, c.in_ok-found.ensures, e)) c.relation.ensures

@@ -1,9 +1,0 @@
-use Rattle.std.proofs.Common.{sym, ◌∙◌}
-use Rattle.language.specs.Control.{seen_stmts}
-use Rattle.choice_writing.proofs.ChoiceRows.{arith_row}
-use Rattle.choice_writing.proofs.choosing.arith_stmt.Goals as goal
-
-pub returns-then-has_arm : goal.returns-then-has_arm
-returns-then-has_arm c =
-    arith_row c.args.calc c.args.into c.args.has_first (seen_stmts 0 c.args.first) (seen_stmts 0 c.args.second) c.in_ok-first.first c.in_ok-second.second
-    c.in_ok-first.ensures c.in_ok-second.ensures (sym c.has_arm.ensures ∙ c.if-has_arm.true)

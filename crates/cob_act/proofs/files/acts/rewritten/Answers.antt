@@ -1,0 +1,19 @@
+use Rattle.std.proofs.Common.{Ok, map, take}
+use Rattle.std.specs.Prelude.{option_copied}
+use Rattle.file_model.specs.Attempts.{rewritten_at}
+use Rattle.file_model.specs.World.{Rewrite}
+use Rattle.meanings.specs.statements.Does.{declared_with}
+use Rattle.meanings.specs.statements.Filing.{file_of, from_by}
+use Rattle.file_model.specs.contracts.operations.watched.BoxDynDeviceWatched.TheImpl.{seen-value}
+use Rattle.cob_act.proofs.files_lemmas.EffectLemmas.{put_did, tried_at}
+use Rattle.cob_act.proofs.files.acts.rewritten.Goals as goal
+
+pub returns-in_ok-status-in-Ok-clause-does : goal.returns-in_ok-status-in-Ok-clause-does
+returns-in_ok-status-in-Ok-clause-does g c = λ world over.
+    let declared = declared_with c.args.program.now c.args.areas.now in
+    let puts = rw c.in-Ok.is at c.in_ok-abend.ensures in
+    put_did declared c.args.program.now.files Rewrite (rewritten_at world) c.args.entry (from_by declared c.args.entry c.args.store.now (option_copied c.args.from)) c.put_out.new.store c.settled.new.store c.put_out.new.scratch.items c.in-Ok.item c.in_ok-status-in-Ok.status c.settled.result world (take c.rewrite.new.bench.left (map (seen-value g.dyn-1).it c.rewrite.new.bench.devices.items)) c.rewrite.new.table.rows
+    puts
+    (tried_at (rewritten_at world) c.args.program.now.files c.as_slice-files.result.now (Ok c.in_ok-status-in-Ok.status) (file_of declared c.args.entry) c.file_of-file.result c.put_out.new.scratch.items c.as_slice.result.now
+    (take c.args.bench.now.left (map (seen-value g.dyn-1).it c.args.bench.now.devices.items)) (take c.rewrite.new.bench.left (map (seen-value g.dyn-1).it c.rewrite.new.bench.devices.items)) c.args.table.now.rows c.rewrite.new.table.rows world c.as_slice-files.ensures c.file_of-file.ensures c.as_slice.ensures.value (c.in_ok-status-in-Ok.ensures.does world) over)
+    c.settled.ensures.end c.settled.ensures.store

@@ -1,0 +1,25 @@
+use Rattle.std.proofs.Common.{◌<◌, false, length, refl}
+use Rattle.file_model.specs.Attempts.{Address, read_at}
+use Rattle.file_model.specs.Status.{may_read}
+use Rattle.file_model.proofs.operations_lemmas.FallLemmas.{falls}
+use Rattle.cob_act.proofs.files_lemmas.DeskLemmas.{beyond, past_row, record_came, tried_over}
+use Rattle.cob_act.proofs.files.desk.read.Goals as goal
+
+pub returns-clause-bench : goal.returns-clause-bench
+returns-clause-bench g c =
+    let within : c.args.file < length c.args.files.now = c.if-not-has_row.ensures.file refl in
+    c.status_of.ensures.bench _ _ _ _ (falls c.read-tried.result c.args.files.now c.args.file _ _ _ _ within c.read-tried.ensures.bench)
+
+pub returns-clause-does : goal.returns-clause-does
+returns-clause-does g c = λ world.
+    tried_over c.args.files.now c.args.file c.status_of.result c.read-tried.result _ _ _ _ c.args.table.now.rows c.read-tried.new.table.rows world (λ (address : Address). read_at world c.args.file address (length c.args.into.now)) (c.if-not-has_row.ensures.file refl) c.status_of.ensures.answer c.read-tried.ensures.rows c.read-tried.ensures.bench
+    (c.read-tried.ensures.world world)
+
+pub returns-clause-record : goal.returns-clause-record
+returns-clause-record g c = λ world.
+    record_came c.args.files.now c.args.file c.status_of.result c.read-tried.result _ _ c.args.table.now.rows world c.read-tried.new.into (λ (address : Address). read_at world c.args.file address (length c.args.into.now)) (c.if-not-has_row.ensures.file refl) c.status_of.ensures.answer
+    (c.read-tried.ensures.record world)
+
+pub returns-then-not-has_row-clause-does : goal.returns-then-not-has_row-clause-does
+returns-then-not-has_row-clause-does g c = λ world over.
+    past_row c.args.files.now _ c.args.table.now.rows world c.args.file 47 may_read _ refl refl (beyond false (length c.args.table.now.rows) (length c.args.files.now) c.args.file c.if-not-has_row.ensures.has refl over.rows over.few) over

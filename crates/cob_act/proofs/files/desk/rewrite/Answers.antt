@@ -1,0 +1,20 @@
+use Rattle.std.proofs.Common.{◌<◌, false, length, refl}
+use Rattle.file_model.specs.Attempts.{Address, rewritten_at}
+use Rattle.file_model.specs.Status.{may_rewrite}
+use Rattle.file_model.proofs.operations_lemmas.FallLemmas.{falls}
+use Rattle.cob_act.proofs.files_lemmas.DeskLemmas.{beyond, past_row, tried_over}
+use Rattle.cob_act.proofs.files.desk.rewrite.Goals as goal
+
+pub returns-clause-bench : goal.returns-clause-bench
+returns-clause-bench g c =
+    let within : c.args.file < length c.args.files.now = c.if-not-has_row.ensures.file refl in
+    c.status_of.ensures.bench _ _ _ _ (falls c.rewrite-tried.result c.args.files.now c.args.file _ _ _ _ within c.rewrite-tried.ensures.bench)
+
+pub returns-clause-does : goal.returns-clause-does
+returns-clause-does g c = λ world.
+    tried_over c.args.files.now c.args.file c.status_of.result c.rewrite-tried.result _ _ _ _ c.args.table.now.rows c.rewrite-tried.new.table.rows world (λ (address : Address). rewritten_at world c.args.file address c.args.bytes.now) (c.if-not-has_row.ensures.file refl) c.status_of.ensures.answer c.rewrite-tried.ensures.rows c.rewrite-tried.ensures.bench
+    (λ address here stands told. c.rewrite-tried.ensures.world world address here stands)
+
+pub returns-then-not-has_row-clause-does : goal.returns-then-not-has_row-clause-does
+returns-then-not-has_row-clause-does g c = λ world over.
+    past_row c.args.files.now _ c.args.table.now.rows world c.args.file 49 may_rewrite _ refl refl (beyond false (length c.args.table.now.rows) (length c.args.files.now) c.args.file c.if-not-has_row.ensures.has refl over.rows over.few) over

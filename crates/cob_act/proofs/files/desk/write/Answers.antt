@@ -1,0 +1,20 @@
+use Rattle.std.proofs.Common.{◌<◌, false, length, refl}
+use Rattle.file_model.specs.Attempts.{Address, written_at}
+use Rattle.file_model.specs.Status.{may_write}
+use Rattle.file_model.proofs.operations_lemmas.FallLemmas.{falls}
+use Rattle.cob_act.proofs.files_lemmas.DeskLemmas.{beyond, past_row, tried_over}
+use Rattle.cob_act.proofs.files.desk.write.Goals as goal
+
+pub returns-clause-bench : goal.returns-clause-bench
+returns-clause-bench g c =
+    let within : c.args.file < length c.args.files.now = c.if-not-has_row.ensures.file refl in
+    c.status_of.ensures.bench _ _ _ _ (falls c.write-tried.result c.args.files.now c.args.file _ _ _ _ within c.write-tried.ensures.bench)
+
+pub returns-clause-does : goal.returns-clause-does
+returns-clause-does g c = λ world.
+    tried_over c.args.files.now c.args.file c.status_of.result c.write-tried.result _ _ _ _ c.args.table.now.rows c.write-tried.new.table.rows world (λ (address : Address). written_at world c.args.file address c.args.bytes.now) (c.if-not-has_row.ensures.file refl) c.status_of.ensures.answer c.write-tried.ensures.rows c.write-tried.ensures.bench
+    (λ address here stands told. c.write-tried.ensures.world world address here stands)
+
+pub returns-then-not-has_row-clause-does : goal.returns-then-not-has_row-clause-does
+returns-then-not-has_row-clause-does g c = λ world over.
+    past_row c.args.files.now _ c.args.table.now.rows world c.args.file 48 may_write _ refl refl (beyond false (length c.args.table.now.rows) (length c.args.files.now) c.args.file c.if-not-has_row.ensures.has refl over.rows over.few) over

@@ -1,0 +1,377 @@
+//! The statements.
+
+ghost use Rattle.std.specs.Prelude.{◌≡◌, ◌≤◌, ◌==◌, ◌&&◌, IfOk, Ok, if◌then◌else◌, length, map, option_copied, slice_get, take, vec_len};
+ghost use Rattle.cob_store.specs.Store.{fitted, put_at};
+ghost use Rattle.file_model.specs.Attempts.{read_at};
+ghost use Rattle.file_model.specs.World.{World};
+ghost use Rattle.meanings.specs.statements.Does.{declared_with};
+ghost use Rattle.meanings.specs.statements.Filing.{Chose, Went, address_by, each_file, from_by, opened, read, rewritten, shut, written};
+ghost use Rattle.cob_act.specs.files.Ends.{DoneOver, ended_as};
+ghost use Rattle.cob_act.specs.files.Over.{Did, EndsAs, IsOver, PutsOut, Tries, read_then};
+
+use crate::Done;
+use crate::files::desk::{close, open, read, rewrite, write};
+use crate::files::fault::Fault;
+use crate::files::record::{file_of, moved_into, moved_out, record_spot, take_record};
+use crate::files::status::{settled, status_spot};
+use cob_base::NoMemory;
+use cob_store::{Areas, Spot, Store};
+use cob_tree::{Abend, FileEntry, Opening, Operand, Place, Program};
+use file_model::operations::Watched;
+use file_model::{Bench, Device, FileTable};
+
+// OPEN of one file.
+fn opened(
+    program: &Program,
+    areas: &Areas,
+    store: &mut Store,
+    bench: &mut Bench,
+    table: &mut FileTable,
+    opening: Opening,
+) -> Result<Done, Fault>
+    ensures bench { DoneOver result bench.old.left bench.new.left
+        (map ⟦<Box<dyn Device> as Watched>⟧.seen bench.old.devices.items)
+        (map ⟦<Box<dyn Device> as Watched>⟧.seen bench.new.devices.items) }
+    ensures does { (world : World) → IsOver program.now.files
+        (take bench.old.left (map ⟦<Box<dyn Device> as Watched>⟧.seen bench.old.devices.items))
+        table.old.rows world →
+        Did program.now.files result world
+        (opened (declared_with program.now areas.now) store.old world opening)
+        store.new
+        (take bench.new.left (map ⟦<Box<dyn Device> as Watched>⟧.seen bench.new.devices.items))
+        table.new.rows }
+{
+    match status_spot(program, areas, store, opening.file) {
+        Err(abend) => Ok(Done::Abended(abend)),
+        Ok(item) => {
+            let status = open(bench, table, program.files.as_slice(), opening)?;
+            Ok(settled(store, item, false, status))
+        }
+    }
+}
+
+/// OPEN: each file in turn, up to one that ends the run.
+#[tactic(auto, using(crate::proofs::files_lemmas::BenchLemmas::broke_after))]
+pub fn all_opened(
+    program: &Program,
+    areas: &Areas,
+    store: &mut Store,
+    bench: &mut Bench,
+    table: &mut FileTable,
+    openings: &[Opening],
+) -> Result<Done, Fault>
+    requires within { bench.old.left ≤ vec_len bench.old.devices }
+    ensures bench { DoneOver result bench.old.left bench.new.left
+        (map ⟦<Box<dyn Device> as Watched>⟧.seen bench.old.devices.items)
+        (map ⟦<Box<dyn Device> as Watched>⟧.seen bench.new.devices.items) }
+    ensures does { (world : World) → IsOver program.now.files
+        (take bench.old.left (map ⟦<Box<dyn Device> as Watched>⟧.seen bench.old.devices.items))
+        table.old.rows world →
+        Did program.now.files result world
+        (each_file (opened (declared_with program.now areas.now)) store.old world openings.now)
+        store.new
+        (take bench.new.left (map ⟦<Box<dyn Device> as Watched>⟧.seen bench.new.devices.items))
+        table.new.rows }
+{
+    for opening in openings {
+        if let Done::Abended(abend) = opened(program, areas, store, bench, table, *opening)? {
+            return Ok(Done::Abended(abend));
+        }
+    }
+    Ok(Done::Went)
+}
+
+// CLOSE of one file.
+fn shut(
+    program: &Program,
+    areas: &Areas,
+    store: &mut Store,
+    bench: &mut Bench,
+    table: &mut FileTable,
+    file: u32,
+) -> Result<Done, Fault>
+    ensures bench { DoneOver result bench.old.left bench.new.left
+        (map ⟦<Box<dyn Device> as Watched>⟧.seen bench.old.devices.items)
+        (map ⟦<Box<dyn Device> as Watched>⟧.seen bench.new.devices.items) }
+    ensures does { (world : World) → IsOver program.now.files
+        (take bench.old.left (map ⟦<Box<dyn Device> as Watched>⟧.seen bench.old.devices.items))
+        table.old.rows world →
+        Did program.now.files result world
+        (shut (declared_with program.now areas.now) store.old world file)
+        store.new
+        (take bench.new.left (map ⟦<Box<dyn Device> as Watched>⟧.seen bench.new.devices.items))
+        table.new.rows }
+{
+    match status_spot(program, areas, store, file) {
+        Err(abend) => Ok(Done::Abended(abend)),
+        Ok(item) => {
+            let status = close(bench, table, program.files.as_slice(), file)?;
+            Ok(settled(store, item, false, status))
+        }
+    }
+}
+
+/// CLOSE: each file in turn, up to one that ends the run.
+#[tactic(auto, using(crate::proofs::files_lemmas::BenchLemmas::broke_after))]
+pub fn all_shut(
+    program: &Program,
+    areas: &Areas,
+    store: &mut Store,
+    bench: &mut Bench,
+    table: &mut FileTable,
+    files: &[u32],
+) -> Result<Done, Fault>
+    requires within { bench.old.left ≤ vec_len bench.old.devices }
+    ensures bench { DoneOver result bench.old.left bench.new.left
+        (map ⟦<Box<dyn Device> as Watched>⟧.seen bench.old.devices.items)
+        (map ⟦<Box<dyn Device> as Watched>⟧.seen bench.new.devices.items) }
+    ensures does { (world : World) → IsOver program.now.files
+        (take bench.old.left (map ⟦<Box<dyn Device> as Watched>⟧.seen bench.old.devices.items))
+        table.old.rows world →
+        Did program.now.files result world
+        (each_file (shut (declared_with program.now areas.now)) store.old world files.now)
+        store.new
+        (take bench.new.left (map ⟦<Box<dyn Device> as Watched>⟧.seen bench.new.devices.items))
+        table.new.rows }
+{
+    for file in files {
+        if let Done::Abended(abend) = shut(program, areas, store, bench, table, *file)? {
+            return Ok(Done::Abended(abend));
+        }
+    }
+    Ok(Done::Went)
+}
+
+fn make_room(scratch: &mut Vec<u8>, size: usize) -> Result<(), NoMemory>
+    ensures { IfOk result (λ u. length scratch.new.items ≡ size) }
+{
+    scratch.clear();
+    scratch.resize(size, b' ')?;
+    Ok(())
+}
+
+/// READ, as its program has it.
+#[derive(Clone, Copy)]
+pub struct Reading<'a> {
+    pub file: u32,
+    pub into: Option<&'a Place>,
+    /// It has AT END.
+    pub at_end: bool,
+    /// It has AT END or NOT AT END.
+    pub arms: bool,
+}
+
+// The record is put before the status is.
+fn record_put(store: &mut Store, spot: Spot, status: u8, bytes: &[u8])
+    ensures { store.new ≡ (if status == 0
+        then put_at store.old spot (fitted spot.length bytes.now) else store.old) }
+{
+    if status == 0 {
+        store.put_bytes(spot, bytes);
+    }
+}
+
+fn chosen(arms: bool, arm: usize) -> Done
+    ensures { ended_as result ≡ (if arms then Chose arm else Went) }
+{
+    if arms { Done::Chose(arm) } else { Done::Went }
+}
+
+// What follows the status: INTO where a record came, and an arm where there are arms.
+fn read_end(
+    program: &Program,
+    areas: &Areas,
+    store: &mut Store,
+    scratch: &mut Vec<u8>,
+    reading: Reading,
+    status: u8,
+) -> Result<Done, NoMemory>
+    ensures { IfOk result (λ done. EndsAs done store.new
+        (read_then (declared_with program.now areas.now) reading.entry.file
+        (option_copied reading.entry.into) reading.entry.arms status store.old)) }
+{
+    if status != 0 {
+        return Ok(chosen(reading.arms, 1));
+    }
+    match moved_into(program, areas, store, scratch, reading.file, reading.into)? {
+        Err(abend) => Ok(Done::Abended(abend)),
+        Ok(()) => Ok(chosen(reading.arms, 2)),
+    }
+}
+
+// The next record of a file, in `scratch`, which is made as long.
+fn next_record(
+    bench: &mut Bench,
+    table: &mut FileTable,
+    files: &[FileEntry],
+    file: u32,
+    scratch: &mut Vec<u8>,
+    size: usize,
+) -> Result<u8, Fault>
+    ensures bench { DoneOver result bench.old.left bench.new.left
+        (map ⟦<Box<dyn Device> as Watched>⟧.seen bench.old.devices.items)
+        (map ⟦<Box<dyn Device> as Watched>⟧.seen bench.new.devices.items) }
+    ensures does { (world : World) → IsOver files.now
+        (take bench.old.left (map ⟦<Box<dyn Device> as Watched>⟧.seen bench.old.devices.items))
+        table.old.rows world →
+        Tries files.now result
+        (read_at world file (address_by (slice_get files.now file)) size)
+        (take bench.new.left (map ⟦<Box<dyn Device> as Watched>⟧.seen bench.new.devices.items))
+        table.new.rows }
+    ensures came { (world : World) → IsOver files.now
+        (take bench.old.left (map ⟦<Box<dyn Device> as Watched>⟧.seen bench.old.devices.items))
+        table.old.rows world → result ≡ Ok 0 → scratch.new.items
+        ≡ (read_at world file (address_by (slice_get files.now file)) size).bytes }
+    ensures room { IfOk result (λ status. length scratch.new.items ≡ size) }
+{
+    make_room(scratch, size)?;
+    let status = read(bench, table, files, file, scratch.as_mut_slice())?;
+    Ok(status)
+}
+
+// AT END takes care of the end.
+fn is_cared(at_end: bool, status: u8) -> bool
+    ensures { result ≡ (at_end && status == 10) }
+{
+    at_end && status == 10
+}
+
+/// READ. It chooses arm 1 at the end, and 2 where a record came.
+pub fn read_one(
+    program: &Program,
+    areas: &Areas,
+    store: &mut Store,
+    scratch: &mut Vec<u8>,
+    bench: &mut Bench,
+    table: &mut FileTable,
+    reading: Reading,
+) -> Result<Done, Fault>
+    requires within { bench.old.left ≤ vec_len bench.old.devices }
+    ensures bench { DoneOver result bench.old.left bench.new.left
+        (map ⟦<Box<dyn Device> as Watched>⟧.seen bench.old.devices.items)
+        (map ⟦<Box<dyn Device> as Watched>⟧.seen bench.new.devices.items) }
+    ensures does { (world : World) → IsOver program.now.files
+        (take bench.old.left (map ⟦<Box<dyn Device> as Watched>⟧.seen bench.old.devices.items))
+        table.old.rows world →
+        Did program.now.files result world
+        (read (declared_with program.now areas.now) store.old world reading.entry.file
+        (option_copied reading.entry.into) reading.entry.at_end reading.entry.arms)
+        store.new
+        (take bench.new.left (map ⟦<Box<dyn Device> as Watched>⟧.seen bench.new.devices.items))
+        table.new.rows }
+{
+    let item = match status_spot(program, areas, store, reading.file) {
+        Err(abend) => return Ok(Done::Abended(abend)),
+        Ok(item) => item,
+    };
+    let spot = record_spot(program, areas, reading.file);
+    let files = program.files.as_slice();
+    let status = next_record(
+        bench,
+        table,
+        files,
+        reading.file,
+        scratch,
+        spot.length as usize,
+    )?;
+    record_put(store, spot, status, scratch.as_slice());
+    let cared = is_cared(reading.at_end, status);
+    match settled(store, item, cared, status) {
+        Done::Abended(abend) => Ok(Done::Abended(abend)),
+        _ => Ok(read_end(program, areas, store, scratch, reading, status)?),
+    }
+}
+
+// FROM, then the record that is to be put out, in `scratch`.
+fn put_out(
+    program: &Program,
+    areas: &Areas,
+    store: &mut Store,
+    scratch: &mut Vec<u8>,
+    entry: u32,
+    from: Option<&Operand>,
+) -> Result<Result<Option<Spot>, Abend>, NoMemory>
+    ensures { IfOk result (λ answer. PutsOut (declared_with program.now areas.now) entry
+        (from_by (declared_with program.now areas.now) entry store.old (option_copied from.entry))
+        answer store.new scratch.new.items) }
+{
+    if let Err(abend) = moved_out(program, areas, store, scratch, entry, from)? {
+        return Ok(Err(abend));
+    }
+    let file = file_of(program, areas, entry);
+    let item = status_spot(program, areas, store, file);
+    take_record(program, areas, store, file, entry, scratch)?;
+    Ok(item)
+}
+
+/// WRITE.
+pub fn written(
+    program: &Program,
+    areas: &Areas,
+    store: &mut Store,
+    scratch: &mut Vec<u8>,
+    bench: &mut Bench,
+    table: &mut FileTable,
+    entry: u32,
+    from: Option<&Operand>,
+) -> Result<Done, Fault>
+    requires within { bench.old.left ≤ vec_len bench.old.devices }
+    ensures bench { DoneOver result bench.old.left bench.new.left
+        (map ⟦<Box<dyn Device> as Watched>⟧.seen bench.old.devices.items)
+        (map ⟦<Box<dyn Device> as Watched>⟧.seen bench.new.devices.items) }
+    ensures does { (world : World) → IsOver program.now.files
+        (take bench.old.left (map ⟦<Box<dyn Device> as Watched>⟧.seen bench.old.devices.items))
+        table.old.rows world →
+        Did program.now.files result world
+        (written (declared_with program.now areas.now) store.old world entry
+        (option_copied from.entry))
+        store.new
+        (take bench.new.left (map ⟦<Box<dyn Device> as Watched>⟧.seen bench.new.devices.items))
+        table.new.rows }
+{
+    match put_out(program, areas, store, scratch, entry, from)? {
+        Err(abend) => Ok(Done::Abended(abend)),
+        Ok(item) => {
+            let file = file_of(program, areas, entry);
+            let files = program.files.as_slice();
+            let status = write(bench, table, files, file, scratch.as_slice())?;
+            Ok(settled(store, item, false, status))
+        }
+    }
+}
+
+/// REWRITE.
+pub fn rewritten(
+    program: &Program,
+    areas: &Areas,
+    store: &mut Store,
+    scratch: &mut Vec<u8>,
+    bench: &mut Bench,
+    table: &mut FileTable,
+    entry: u32,
+    from: Option<&Operand>,
+) -> Result<Done, Fault>
+    requires within { bench.old.left ≤ vec_len bench.old.devices }
+    ensures bench { DoneOver result bench.old.left bench.new.left
+        (map ⟦<Box<dyn Device> as Watched>⟧.seen bench.old.devices.items)
+        (map ⟦<Box<dyn Device> as Watched>⟧.seen bench.new.devices.items) }
+    ensures does { (world : World) → IsOver program.now.files
+        (take bench.old.left (map ⟦<Box<dyn Device> as Watched>⟧.seen bench.old.devices.items))
+        table.old.rows world →
+        Did program.now.files result world
+        (rewritten (declared_with program.now areas.now) store.old world entry
+        (option_copied from.entry))
+        store.new
+        (take bench.new.left (map ⟦<Box<dyn Device> as Watched>⟧.seen bench.new.devices.items))
+        table.new.rows }
+{
+    match put_out(program, areas, store, scratch, entry, from)? {
+        Err(abend) => Ok(Done::Abended(abend)),
+        Ok(item) => {
+            let file = file_of(program, areas, entry);
+            let files = program.files.as_slice();
+            let status = rewrite(bench, table, files, file, scratch.as_slice())?;
+            Ok(settled(store, item, false, status))
+        }
+    }
+}

@@ -1,0 +1,205 @@
+//! What devices are asked. A file that the program hasn't is never open, and has no name.
+
+ghost use Rattle.std.specs.Prelude.{ℕ, List, ◌≡◌, ◌<◌, ◌≤◌, ◌^◌, IsTrue, Ok, false, length, map, slice_get, take, vec_len};
+ghost use Rattle.file_model.specs.Attempts.{closed_at, opened_at, read_at, rewritten_at, written_at};
+ghost use Rattle.file_model.specs.World.{World};
+ghost use Rattle.file_model.specs.operations.Calls.{addresses_of};
+ghost use Rattle.file_model.specs.operations.Falling.{Falls, FallsIf};
+ghost use Rattle.file_model.specs.operations.Seen.{Seen};
+ghost use Rattle.file_model.specs.operations.Shutting.{ShutsAll, ShutsOnShelves};
+ghost use Rattle.file_model.specs.operations.Standing.{Stands, TellAll};
+ghost use Rattle.meanings.specs.statements.Filing.{address_by};
+ghost use Rattle.cob_act.specs.files.Ends.{DoneOver, answered};
+ghost use Rattle.cob_act.specs.files.Over.{IsOver, Tries};
+
+use crate::files::fault::Fault;
+use cob_tree::{FileEntry, Opening};
+use file_model::operations::{Tried, Watched};
+use file_model::{Bench, Device, FileTable};
+
+fn status_of(tried: Tried) -> Result<u8, Fault>
+    ensures answer { result ≡ answered tried }
+    ensures bench { (left left_now : ℕ) (old new : List Seen) →
+        Falls tried left left_now old new → DoneOver result left left_now old new }
+{
+    match tried {
+        Tried::Status(status) => Ok(status),
+        Tried::Failed => Err(Fault::Device),
+        Tried::NoMemory => Err(Fault::NoMemory),
+    }
+}
+
+// Whether the table has a row for each file.
+fn has_rows(table: &FileTable, files: &[FileEntry]) -> bool
+    ensures rows { IsTrue result → length table.now.rows ≡ length files.now }
+    ensures few { IsTrue result → length files.now < 2 ^ 32 }
+    ensures has { length table.now.rows ≡ length files.now → length files.now < 2 ^ 32 →
+        IsTrue result }
+{
+    table.rows.len() == files.len() && files.len() < 1 << 32
+}
+
+// Whether this file is one of them.
+fn has_row(table: &FileTable, files: &[FileEntry], file: u32) -> bool
+    ensures rows { IsTrue result → length table.now.rows ≡ length files.now }
+    ensures few { IsTrue result → length files.now < 2 ^ 32 }
+    ensures file { IsTrue result → file < length files.now }
+    ensures has { length table.now.rows ≡ length files.now → length files.now < 2 ^ 32 →
+        file < length files.now → IsTrue result }
+{
+    has_rows(table, files) && (file as usize) < files.len()
+}
+
+pub fn open(
+    bench: &mut Bench,
+    table: &mut FileTable,
+    files: &[FileEntry],
+    opening: Opening,
+) -> Result<u8, Fault>
+    ensures bench { DoneOver result bench.old.left bench.new.left
+        (map ⟦<Box<dyn Device> as Watched>⟧.seen bench.old.devices.items)
+        (map ⟦<Box<dyn Device> as Watched>⟧.seen bench.new.devices.items) }
+    ensures does { (world : World) → IsOver files.now
+        (take bench.old.left (map ⟦<Box<dyn Device> as Watched>⟧.seen bench.old.devices.items))
+        table.old.rows world →
+        Tries files.now result (opened_at world (addresses_of files.now) opening.file
+        (address_by (slice_get files.now opening.file)) opening.how)
+        (take bench.new.left (map ⟦<Box<dyn Device> as Watched>⟧.seen bench.new.devices.items))
+        table.new.rows }
+{
+    if !has_row(table, files, opening.file) {
+        return Ok(30);
+    }
+    let tried = file_model::operations::open(bench, table, files, opening.file, opening.how);
+    status_of(tried)
+}
+
+pub fn close(
+    bench: &mut Bench,
+    table: &mut FileTable,
+    files: &[FileEntry],
+    file: u32,
+) -> Result<u8, Fault>
+    ensures bench { DoneOver result bench.old.left bench.new.left
+        (map ⟦<Box<dyn Device> as Watched>⟧.seen bench.old.devices.items)
+        (map ⟦<Box<dyn Device> as Watched>⟧.seen bench.new.devices.items) }
+    ensures does { (world : World) → IsOver files.now
+        (take bench.old.left (map ⟦<Box<dyn Device> as Watched>⟧.seen bench.old.devices.items))
+        table.old.rows world →
+        Tries files.now result (closed_at world file)
+        (take bench.new.left (map ⟦<Box<dyn Device> as Watched>⟧.seen bench.new.devices.items))
+        table.new.rows }
+{
+    if !has_row(table, files, file) {
+        return Ok(42);
+    }
+    let tried = file_model::operations::close(bench, table, files, file);
+    status_of(tried)
+}
+
+pub fn read(
+    bench: &mut Bench,
+    table: &mut FileTable,
+    files: &[FileEntry],
+    file: u32,
+    into: &mut [u8],
+) -> Result<u8, Fault>
+    ensures bench { DoneOver result bench.old.left bench.new.left
+        (map ⟦<Box<dyn Device> as Watched>⟧.seen bench.old.devices.items)
+        (map ⟦<Box<dyn Device> as Watched>⟧.seen bench.new.devices.items) }
+    ensures does { (world : World) → IsOver files.now
+        (take bench.old.left (map ⟦<Box<dyn Device> as Watched>⟧.seen bench.old.devices.items))
+        table.old.rows world →
+        Tries files.now result
+        (read_at world file (address_by (slice_get files.now file)) (length into.old))
+        (take bench.new.left (map ⟦<Box<dyn Device> as Watched>⟧.seen bench.new.devices.items))
+        table.new.rows }
+    ensures record { (world : World) → IsOver files.now
+        (take bench.old.left (map ⟦<Box<dyn Device> as Watched>⟧.seen bench.old.devices.items))
+        table.old.rows world → result ≡ Ok 0 →
+        into.new ≡ (read_at world file (address_by (slice_get files.now file))
+        (length into.old)).bytes }
+{
+    if !has_row(table, files, file) {
+        return Ok(47);
+    }
+    let tried = file_model::operations::read(bench, table, files, file, into);
+    status_of(tried)
+}
+
+pub fn write(
+    bench: &mut Bench,
+    table: &mut FileTable,
+    files: &[FileEntry],
+    file: u32,
+    bytes: &[u8],
+) -> Result<u8, Fault>
+    ensures bench { DoneOver result bench.old.left bench.new.left
+        (map ⟦<Box<dyn Device> as Watched>⟧.seen bench.old.devices.items)
+        (map ⟦<Box<dyn Device> as Watched>⟧.seen bench.new.devices.items) }
+    ensures does { (world : World) → IsOver files.now
+        (take bench.old.left (map ⟦<Box<dyn Device> as Watched>⟧.seen bench.old.devices.items))
+        table.old.rows world →
+        Tries files.now result
+        (written_at world file (address_by (slice_get files.now file)) bytes.now)
+        (take bench.new.left (map ⟦<Box<dyn Device> as Watched>⟧.seen bench.new.devices.items))
+        table.new.rows }
+{
+    if !has_row(table, files, file) {
+        return Ok(48);
+    }
+    let tried = file_model::operations::write(bench, table, files, file, bytes);
+    status_of(tried)
+}
+
+pub fn rewrite(
+    bench: &mut Bench,
+    table: &mut FileTable,
+    files: &[FileEntry],
+    file: u32,
+    bytes: &[u8],
+) -> Result<u8, Fault>
+    ensures bench { DoneOver result bench.old.left bench.new.left
+        (map ⟦<Box<dyn Device> as Watched>⟧.seen bench.old.devices.items)
+        (map ⟦<Box<dyn Device> as Watched>⟧.seen bench.new.devices.items) }
+    ensures does { (world : World) → IsOver files.now
+        (take bench.old.left (map ⟦<Box<dyn Device> as Watched>⟧.seen bench.old.devices.items))
+        table.old.rows world →
+        Tries files.now result
+        (rewritten_at world file (address_by (slice_get files.now file)) bytes.now)
+        (take bench.new.left (map ⟦<Box<dyn Device> as Watched>⟧.seen bench.new.devices.items))
+        table.new.rows }
+{
+    if !has_row(table, files, file) {
+        return Ok(49);
+    }
+    let tried = file_model::operations::rewrite(bench, table, files, file, bytes);
+    status_of(tried)
+}
+
+/// Closes the files that are open, on the devices that are left, and says whether one failed.
+pub fn close_left(bench: &mut Bench, table: &mut FileTable, files: &[FileEntry]) -> bool
+    requires within { bench.old.left ≤ vec_len bench.old.devices }
+    ensures bench { FallsIf result bench.old.left bench.new.left
+        (map ⟦<Box<dyn Device> as Watched>⟧.seen bench.old.devices.items)
+        (map ⟦<Box<dyn Device> as Watched>⟧.seen bench.new.devices.items) }
+    ensures world { length table.old.rows ≡ length files.now → length files.now < 2 ^ 32 →
+        (world : World) → Stands (addresses_of files.now)
+        (take bench.old.left (map ⟦<Box<dyn Device> as Watched>⟧.seen bench.old.devices.items))
+        table.old.rows world →
+        ShutsAll (addresses_of files.now)
+        (take bench.new.left (map ⟦<Box<dyn Device> as Watched>⟧.seen bench.new.devices.items))
+        table.new.rows (length files.now) result world }
+    ensures shelves { result ≡ false → (world : World) → IsOver files.now
+        (take bench.old.left (map ⟦<Box<dyn Device> as Watched>⟧.seen bench.old.devices.items))
+        table.old.rows world →
+        ShutsOnShelves (addresses_of files.now)
+        (take bench.new.left (map ⟦<Box<dyn Device> as Watched>⟧.seen bench.new.devices.items))
+        table.new.rows world }
+    ensures telling { TellAll (take bench.old.left
+        (map ⟦<Box<dyn Device> as Watched>⟧.seen bench.old.devices.items))
+        → TellAll (take bench.new.left
+        (map ⟦<Box<dyn Device> as Watched>⟧.seen bench.new.devices.items)) }
+{
+    has_rows(table, files) && file_model::operations::close_open(bench, table, files)
+}

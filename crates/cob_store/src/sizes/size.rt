@@ -1,0 +1,140 @@
+//! How long items are.
+
+ghost use Rattle.std.specs.Prelude.{◌≡◌};
+ghost use Rattle.cob_base.specs.Answers.{Makes};
+ghost use Rattle.cob_store.specs.sizes.Size.{added, behind, inside, is_apart, is_bare, picture_size, sign_size, size_by, sized, times};
+
+use crate::sizes::stack::Stack;
+use cob_base::{Items, NoMemory};
+use cob_tree::{Entry, Picture, Sign};
+use std::alloc::Global;
+
+/// An item with all its occurrences, among others behind one another. One that redefines adds
+/// nothing.
+#[derive(Clone, Copy, Debug)]
+pub struct Piece {
+    pub depth: u8,
+    pub bytes: u32,
+}
+
+fn sign_size(sign: Sign) -> u32
+    ensures { result ≡ sign_size sign }
+{
+    match sign {
+        Sign::Within => 0,
+        Sign::SeparateLeading => 1,
+        Sign::SeparateTrailing => 1,
+    }
+}
+
+fn picture_size(picture: Picture, sign: Sign) -> u32
+    ensures { result ≡ picture_size picture sign }
+{
+    match picture {
+        Picture::Number { whole, part, .. } => u32::from(whole) + u32::from(part) + sign_size(sign),
+        Picture::Letters(size) => size,
+        Picture::Any(size) => size,
+    }
+}
+
+fn is_bare(entry: &Entry) -> bool
+    ensures { result ≡ is_bare entry.now }
+{
+    entry.level == 88 || entry.level == 0
+}
+
+fn is_apart(entry: &Entry) -> bool
+    ensures { result ≡ is_apart entry.now }
+{
+    entry.level == 77
+}
+
+fn times(occurs: Option<u32>, size: u32) -> u32
+    ensures { result ≡ times occurs size }
+{
+    match occurs {
+        None => size,
+        Some(count) => size.saturating_mul(count),
+    }
+}
+
+fn added(redefines: Option<u32>, bytes: u32) -> u32
+    ensures { result ≡ added redefines bytes }
+{
+    match redefines {
+        None => bytes,
+        Some(_) => 0,
+    }
+}
+
+fn size_by(picture: Option<Picture>, sign: Sign, bytes: u32) -> u32
+    ensures { result ≡ size_by picture sign bytes }
+{
+    match picture {
+        None => bytes,
+        Some(picture) => picture_size(picture, sign),
+    }
+}
+
+// Takes the pieces below an item, and answers their bytes.
+fn take_inside(pieces: &mut Stack<Piece>, depth: u8) -> u32
+    ensures bytes { result ≡ inside depth 0 pieces.old }
+    ensures left { pieces.new ≡ behind depth pieces.old }
+{
+    let mut bytes = 0u32;
+    while let Some(piece) = pieces.top() {
+        if piece.depth <= depth {
+            return bytes;
+        }
+        bytes = bytes.saturating_add(piece.bytes);
+        pieces.pop();
+    }
+    bytes
+}
+
+// The sizes of all entries, the first in front.
+fn sizes_back(alloc: Global, entries: &[Entry]) -> Result<Stack<u32>, NoMemory>
+    ensures { Makes (sized entries.now).sizes result }
+{
+    let mut sizes = Stack::new(alloc);
+    let mut pieces = Stack::new(alloc);
+    let mut at = entries.len();
+    while at > 0 {
+        at -= 1;
+        let entry = &entries[at];
+        if is_bare(entry) {
+            sizes.push(0)?;
+        } else if is_apart(entry) {
+            sizes.push(size_by(entry.picture, entry.sign, 0))?;
+        } else {
+            let bytes = take_inside(&mut pieces, entry.level);
+            let size = size_by(entry.picture, entry.sign, bytes);
+            sizes.push(size)?;
+            pieces.push(Piece {
+                depth: entry.level,
+                bytes: added(entry.redefines, times(entry.occurs, size)),
+            })?;
+        }
+    }
+    Ok(sizes)
+}
+
+// What is stacked, from the front on.
+fn in_order(alloc: Global, mut stack: Stack<u32>) -> Result<Items<u32>, NoMemory>
+    ensures { Makes stack result }
+{
+    let mut sizes = Items::new(alloc);
+    while let Some(size) = stack.pop() {
+        sizes.push(size)?;
+    }
+    Ok(sizes)
+}
+
+/// The bytes of one occurrence of each entry; a size past the last number of 32 bits counts as
+/// that.
+pub fn sizes_of(alloc: Global, entries: &[Entry]) -> Result<Items<u32>, NoMemory>
+    ensures { Makes (sized entries.now).sizes result }
+{
+    let sizes = sizes_back(alloc, entries)?;
+    in_order(alloc, sizes)
+}

@@ -1,0 +1,112 @@
+-- What is wrong with how operands are used in statements, as far as their kinds say so; what is
+-- made of them in the tree.
+use Rattle.std.specs.Prelude.{ℕ, ◌==◌, Bool, false, List, [], ◌∷◌, Option, Some, None, if◌then◌else◌}
+use Rattle.cob_tree.specs.declared.entry.Entry.{Entry}
+use Rattle.cob_tree.specs.declared.place.Figure.TheVariants as figures
+use Rattle.cob_tree.specs.declared.place.Operand.{Operand}
+use Rattle.cob_tree.specs.declared.place.Operand.TheVariants as operands
+use Rattle.cob_tree.specs.declared.place.Place.{Place, out-Place, roll-Place}
+use Rattle.parser_combinators.specs.declared.note.Note.{Note}
+use Rattle.parser_combinators.specs.declared.note.Position.{Position}
+use Rattle.symbol_tables.specs.data_names.Names.{kind_of}
+use Rattle.cobol_grammar.specs.declared.expr_forms.side.Make.{Make}
+use Rattle.cobol_grammar.specs.declared.expr_forms.side.Make.TheVariants as makes
+use Rattle.cobol_grammar.specs.declared.expr_forms.side.Side.{Side}
+use Rattle.cobol_grammar.specs.declared.expr_forms.side.ValueKind.{ValueKind}
+use Rattle.cobol_grammar.specs.declared.expr_forms.side.ValueKind.TheVariants as kinds
+use Rattle.cobol_grammar.specs.declared.expr_forms.side.What.{What}
+use Rattle.cobol_grammar.specs.declared.expr_forms.side.What.TheVariants as whats
+use Rattle.cobol_grammar.specs.expr_forms.Fault.{usage, inexact_fault, compared_as, item_kind}
+use Rattle.cobol_grammar.specs.declared.known.Known.{Known}
+
+-- ---- what stands in the tree
+
+-- an item without qualifiers, subscripts and window
+abbrev pub bare_place : ℕ → Place
+bare_place item = roll-Place (record { item = item; of = []; subs = []; window = None })
+
+-- no operand is a sum
+abbrev pub operand_of : What → Operand
+operand_of (whats.Ref place) = operands.Place place
+operand_of (whats.Literal operand) = operand
+operand_of (whats.Enclosed place) = operands.Place place
+operand_of (whats.Sum expr) = operands.Figure figures.Zero
+
+-- every reference is a place
+abbrev pub place_of : What → Place
+place_of (whats.Ref place) = place
+place_of (whats.Literal operand) = bare_place 0
+place_of (whats.Enclosed place) = place
+place_of (whats.Sum expr) = bare_place 0
+
+abbrev pub entry_of : What → ℕ
+entry_of (whats.Ref place) = (out-Place place).item
+entry_of (whats.Literal operand) = 0
+entry_of (whats.Enclosed place) = (out-Place place).item
+entry_of (whats.Sum expr) = 0
+
+-- ---- moves
+
+abbrev pub unless_whole : (whole : Bool) → Position → Option Note
+unless_whole whole position = if whole then None else usage position
+
+-- only an item's number may go to a group whatever its decimals
+abbrev pub to_group_fault : Make → (whole : Bool) → Position → Option Note
+to_group_fault makes.Literal whole position = unless_whole whole position
+to_group_fault _ whole position = None
+
+-- a number with decimals moved to text
+abbrev pub number_moved : Make → (whole : Bool) → (to : ValueKind) → Position → Option Note
+number_moved make whole kinds.Text position = unless_whole whole position
+number_moved make whole kinds.Group position = to_group_fault make whole position
+number_moved make whole _ position = None
+
+-- a figurative constant other than ZERO moved to a number
+abbrev pub figure_moved : (to : ValueKind) → Position → Option Note
+figure_moved (kinds.Number whole) position = usage position
+figure_moved _ position = None
+
+-- the fault of a move, which stands at the position
+abbrev pub moved_fault : Make → (from to : ValueKind) → Position → Option Note
+moved_fault make (kinds.Number whole) to position = number_moved make whole to position
+moved_fault make kinds.Figure to position = figure_moved to position
+moved_fault make _ to position = None
+
+-- it stands at the sender
+abbrev pub move_fault : (from to : Side) → Option Note
+move_fault from to = moved_fault from.make from.kind to.kind from.position
+
+abbrev pub is_of_file : ℕ → Option ℕ → Bool
+is_of_file file None = false
+is_of_file file (Some other) = other == file
+
+-- what a file's first record holds
+abbrev pub record_kind : List Entry → (file : ℕ) → ValueKind
+record_kind [] file = kinds.Unknown
+record_kind (entry ∷ behind) file =
+    if is_of_file file entry.file then item_kind (kind_of entry behind) else record_kind behind file
+
+-- READ INTO moves the file's first record; the fault stands at the receiver
+abbrev pub into_fault : List Entry → (file : Option ℕ) → (to : Side) → Option Note
+into_fault entries None to = None
+into_fault entries (Some file) to =
+    moved_fault makes.Item (record_kind entries file) to.kind to.position
+
+-- ---- EVALUATE
+
+abbrev pub known_of : Side → Known
+known_of side = record { kind = side.kind; make = side.make; position = side.position }
+
+abbrev pub compared_fault : ValueKind → ValueKind → Known → Side → Option Note
+compared_fault kinds.Text (kinds.Number whole) known side =
+    inexact_fault side.make side.kind side.position
+compared_fault (kinds.Number whole) kinds.Text known side =
+    inexact_fault known.make known.kind known.position
+compared_fault (kinds.Number whole) kinds.Figure known side = usage side.position
+compared_fault kinds.Figure (kinds.Number whole) known side = usage known.position
+compared_fault _ _ known side = None
+
+-- a subject and what it is compared with
+unfoldable pub subject_fault : Known → Side → Option Note
+subject_fault known side =
+    compared_fault (compared_as known.kind) (compared_as side.kind) known side

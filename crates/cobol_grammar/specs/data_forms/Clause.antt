@@ -1,0 +1,145 @@
+-- Clauses of a data description entry (ISO 1989:1985, the data description entry). The USAGE clause
+-- has DISPLAY alone; other usages come in here.
+use Rattle.std.specs.Prelude.{Bool, true, false, ◌||◌, codes, List, Option, Some, None}
+use Rattle.cobol_lex.specs.declared.token.TokenKind.{TokenKind}
+use Rattle.cobol_grammar.specs.declared.data_forms.draft.Clause.{Clause}
+use Rattle.cobol_grammar.specs.declared.data_forms.draft.Clause.TheVariants as clauses
+use Rattle.cobol_grammar.specs.declared.data_forms.draft.SpanDraft.{SpanDraft}
+use Rattle.cobol_grammar.specs.declared.data_forms.draft.ThruDraft.{ThruDraft}
+use Rattle.parser_combinators.specs.declared.note.Position.{Position}
+use Rattle.parser_combinators.specs.Form.{Form, pure, ◌>>=◌, ◌>>◌, where_next, some}
+use Rattle.parser_combinators.specs.Part.{key, maybe, digits, picture, is_key}
+use Rattle.parser_combinators.specs.words.Word.{name}
+use Rattle.parser_combinators.specs.words.Constant.{literal, begins_literal}
+use Rattle.cobol_grammar.specs.data_forms.Choice.{either, is_either, maybe_either}
+
+-- ---- REDEFINES word
+
+unfoldable pub redefines_clause : Form Clause
+redefines_clause = do
+  at ← key (codes "REDEFINES")
+  found ← name
+  pure (clauses.Redefines at found.0 found.1)
+
+-- ---- (PIC | PICTURE) [IS] picture
+
+abbrev pub is_pic : TokenKind → Bool
+is_pic kind = is_either (codes "PIC") (codes "PICTURE") kind
+
+unfoldable pub picture_clause : Form Clause
+picture_clause = do
+  at ← either (codes "PIC") (codes "PICTURE")
+  maybe (codes "IS")
+  found ← picture
+  pure (clauses.Picture at found.0 found.1)
+
+-- ---- [USAGE [IS]] DISPLAY
+
+abbrev pub is_usage : TokenKind → Bool
+is_usage kind = is_either (codes "USAGE") (codes "DISPLAY") kind
+
+unfoldable pub usage_behind : Position → Form Clause
+usage_behind at = maybe (codes "IS") >> key (codes "DISPLAY") >> pure (clauses.Usage at)
+
+unfoldable pub usage_clause : Form Clause
+usage_clause =
+    where_next (is_key (codes "USAGE")) (key (codes "USAGE") >>= usage_behind)
+    (key (codes "DISPLAY") >>= (λ at. pure (clauses.Usage at)))
+
+-- ---- [SIGN [IS]] (LEADING | TRAILING) [SEPARATE [CHARACTER]]
+
+abbrev pub is_side : TokenKind → Bool
+is_side kind = is_either (codes "LEADING") (codes "TRAILING") kind
+
+abbrev pub is_sign : TokenKind → Bool
+is_sign kind = is_key (codes "SIGN") kind || is_side kind
+
+-- whether it is LEADING, and where the word stands
+unfoldable pub side : Form (Bool × Position)
+side =
+    where_next (is_key (codes "LEADING")) (key (codes "LEADING") >>= (λ at. pure (true, at)))
+    (key (codes "TRAILING") >>= (λ at. pure (false, at)))
+
+unfoldable pub separate : Form Bool
+separate =
+    where_next (is_key (codes "SEPARATE"))
+    (key (codes "SEPARATE") >> maybe (codes "CHARACTER") >> pure true)
+    (pure false)
+
+unfoldable pub sign_behind : Position → Form Clause
+sign_behind at = do
+  maybe (codes "IS")
+  found ← side
+  apart ← separate
+  pure (clauses.Sign at found.0 apart)
+
+unfoldable pub side_clause : Form Clause
+side_clause = do
+  found ← side
+  apart ← separate
+  pure (clauses.Sign found.1 found.0 apart)
+
+unfoldable pub sign_clause : Form Clause
+sign_clause =
+    where_next (is_key (codes "SIGN")) (key (codes "SIGN") >>= sign_behind) side_clause
+
+-- ---- OCCURS n [TIMES]
+
+unfoldable pub occurs_clause : Form Clause
+occurs_clause = do
+  at ← key (codes "OCCURS")
+  found ← digits
+  maybe (codes "TIMES")
+  pure (clauses.Occurs at found.0 found.1)
+
+-- ---- (VALUE | VALUES) [IS | ARE] lit [THRU lit] {lit [THRU lit]}
+
+abbrev pub is_value : TokenKind → Bool
+is_value kind = is_either (codes "VALUE") (codes "VALUES") kind
+
+abbrev pub is_thru : TokenKind → Bool
+is_thru kind = is_either (codes "THRU") (codes "THROUGH") kind
+
+unfoldable pub thru : Form ThruDraft
+thru = do
+  at ← either (codes "THRU") (codes "THROUGH")
+  found ← literal
+  pure (record { at = at; to = found.0; to_at = found.1 })
+
+unfoldable pub maybe_thru : Form (Option ThruDraft)
+maybe_thru = where_next is_thru (thru >>= (λ found. pure (Some found))) (pure None)
+
+unfoldable pub span : Form SpanDraft
+span = do
+  found ← literal
+  end ← maybe_thru
+  pure (record { from = found.0; from_at = found.1; thru = end })
+
+unfoldable pub spans : Form (List SpanDraft)
+spans = some begins_literal span
+
+unfoldable pub value_clause : Form Clause
+value_clause = do
+  at ← either (codes "VALUE") (codes "VALUES")
+  maybe_either (codes "IS") (codes "ARE")
+  found ← spans
+  pure (clauses.Value at found)
+
+-- ---- a clause
+
+unfoldable pub begins_clause : TokenKind → Bool
+begins_clause kind =
+    is_key (codes "REDEFINES") kind
+    || (is_pic kind || (is_usage kind || (is_sign kind
+    || (is_key (codes "OCCURS") kind || is_value kind))))
+
+unfoldable pub counted_clause : Form Clause
+counted_clause = where_next (is_key (codes "OCCURS")) occurs_clause value_clause
+
+unfoldable pub stored_clause : Form Clause
+stored_clause = where_next is_usage usage_clause (where_next is_sign sign_clause counted_clause)
+
+unfoldable pub clause : Form Clause
+clause =
+    where_next (is_key (codes "REDEFINES")) redefines_clause
+    (where_next is_pic picture_clause stored_clause)

@@ -1,0 +1,110 @@
+-- Operands and expressions as they are read, with what is known of them.
+use Rattle.std.specs.Prelude.{ℕ, ◌==◌, Bool, true, false, List, Option, Some, None}
+use Rattle.cob_tree.specs.declared.number.Number.{Number}
+use Rattle.cob_tree.specs.declared.place.Expr.{Expr}
+use Rattle.cob_tree.specs.declared.place.Expr.TheVariants as exprs
+use Rattle.cob_tree.specs.declared.place.Figure.{Figure}
+use Rattle.cob_tree.specs.declared.place.Figure.TheVariants as figures
+use Rattle.cob_tree.specs.declared.place.Operand.{Operand}
+use Rattle.cob_tree.specs.declared.place.Operand.TheVariants as operands
+use Rattle.cob_tree.specs.declared.place.Place.{Place, roll-Place}
+use Rattle.cob_tree.specs.declared.place.Sub.{Sub}
+use Rattle.cob_tree.specs.declared.place.Window.{Window}
+use Rattle.parser_combinators.specs.declared.note.Position.{Position}
+use Rattle.symbol_tables.specs.declared.data_names.name.Found.{Found}
+use Rattle.cobol_grammar.specs.declared.expr_forms.side.Make.TheVariants as makes
+use Rattle.cobol_grammar.specs.declared.expr_forms.side.Shape.{Shape}
+use Rattle.cobol_grammar.specs.declared.expr_forms.side.Shape.TheVariants as shapes
+use Rattle.cobol_grammar.specs.declared.expr_forms.side.Side.{Side}
+use Rattle.cobol_grammar.specs.declared.expr_forms.side.ValueKind.{ValueKind}
+use Rattle.cobol_grammar.specs.declared.expr_forms.side.ValueKind.TheVariants as kinds
+use Rattle.cobol_grammar.specs.declared.expr_forms.side.What.{What}
+use Rattle.cobol_grammar.specs.declared.expr_forms.side.What.TheVariants as whats
+use Rattle.cobol_grammar.specs.expr_forms.Fault.{is_whole, kind_of, item_of}
+
+abbrev pub windowed : ValueKind → ValueKind
+windowed kinds.Condition = kinds.Condition
+windowed kinds.Unknown = kinds.Unknown
+windowed _ = kinds.Text
+
+abbrev pub kind_within : Option Window → ValueKind → ValueKind
+kind_within None kind = kind
+kind_within (Some window) kind = windowed kind
+
+-- ---- what is read
+
+abbrev pub expr_of : What → Expr
+expr_of (whats.Ref place) = exprs.Leaf (operands.Place place)
+expr_of (whats.Literal operand) = exprs.Leaf operand
+expr_of (whats.Enclosed place) = exprs.Leaf (operands.Place place)
+expr_of (whats.Sum expr) = expr
+
+abbrev pub shape_of : What → Shape
+shape_of (whats.Ref place) = shapes.Ref
+shape_of (whats.Literal operand) = shapes.Literal
+shape_of (whats.Enclosed place) = shapes.Enclosed
+shape_of (whats.Sum expr) = shapes.Sum
+
+abbrev pub place_of : Found → List (List ℕ) → List Sub → Option Window → Place
+place_of found of subs window =
+    roll-Place (record { item = item_of found; of = of; subs = subs; window = window })
+
+unfoldable pub ref_side : Found → List (List ℕ) → List Sub → Option Window → Position → Side
+ref_side found of subs window position = record {
+  what = whats.Ref (place_of found of subs window);
+  kind = kind_within window (kind_of found);
+  make = makes.Item;
+  position = position;
+  leaf = position;
+}
+
+unfoldable pub literal_side : Operand → ValueKind → Position → Side
+literal_side operand kind position = record {
+  what = whats.Literal operand;
+  kind = kind;
+  make = makes.Literal;
+  position = position;
+  leaf = position;
+}
+
+abbrev pub number_of : Bool → List ℕ → Number
+number_of negative digits = record { negative = negative; digits = digits; scale = 0 }
+
+abbrev pub digits_side : List ℕ → Position → Side
+digits_side digits position =
+    literal_side (operands.Number (number_of false digits)) (kinds.Number true) position
+
+abbrev pub figure_kind : Figure → ValueKind
+figure_kind figures.Zero = kinds.Number true
+figure_kind _ = kinds.Figure
+
+abbrev pub literal_kind : Operand → ValueKind
+literal_kind (operands.Number number) = kinds.Number (number.scale == 0)
+literal_kind (operands.Text text) = kinds.Text
+literal_kind (operands.Figure figure) = figure_kind figure
+literal_kind (operands.Place place) = kinds.Unknown
+
+-- ---- signs and parentheses
+
+-- in parentheses, or behind a sign that is dropped
+unfoldable pub sum_side : Position → Side → Side
+sum_side position side = record side { what = whats.Sum (expr_of side.what); position = position }
+
+unfoldable pub negated : Position → Side → Side
+negated position side = record {
+  what = whats.Sum (exprs.Minus (expr_of side.what));
+  kind = kinds.Number (is_whole side.kind);
+  make = makes.Joined;
+  position = position;
+  leaf = position;
+}
+
+abbrev pub enclosed_what : What → What
+enclosed_what (whats.Ref place) = whats.Enclosed place
+enclosed_what (whats.Enclosed place) = whats.Enclosed place
+enclosed_what (whats.Literal operand) = whats.Sum (exprs.Leaf operand)
+enclosed_what (whats.Sum expr) = whats.Sum expr
+
+-- in parentheses in which a condition may stand too
+unfoldable pub enclosed : Position → Side → Side
+enclosed position side = record side { what = enclosed_what side.what; position = position }

@@ -1,0 +1,107 @@
+-- All statements. Those that hold others take lists of one level less.
+use Rattle.std.specs.Prelude.{ℕ, zero, suc, false, codes, List, [], ◌∷◌, ◌++◌}
+use Rattle.cob_tree.specs.declared.stmt.Stmt.{Stmt}
+use Rattle.parser_combinators.specs.declared.why.Why.TheVariants.{Syntax, Nesting}
+use Rattle.parser_combinators.specs.Form.{Form, pure, refuse, ◌>>=◌, loop, chosen, where_next, added}
+use Rattle.parser_combinators.specs.Part.{is_key}
+use Rattle.cobol_grammar.specs.declared.stmt_forms.scope.Scope.{Scope}
+use Rattle.cobol_grammar.specs.stmt_forms.Part.{Parts}
+use Rattle.cobol_grammar.specs.stmt_forms.Verb.{begins_stmt, begins_simple, begins_moving, begins_filing}
+use Rattle.cobol_grammar.specs.stmt_forms.Verb.{begins_arithmetic, begins_choice}
+use Rattle.cobol_grammar.specs.stmt_forms.Move.{display_stmt, move_stmt, set_stmts}
+use Rattle.cobol_grammar.specs.stmt_forms.File.{open_stmt, close_stmt, write_stmt, rewrite_stmt}
+use Rattle.cobol_grammar.specs.stmt_forms.Jump.{jump_stmt}
+use Rattle.cobol_grammar.specs.stmt_forms.Arms.{Level, Found, FoundOne, arithmetic_stmt, read_stmt}
+use Rattle.cobol_grammar.specs.stmt_forms.Choice.{choice_stmt}
+use Rattle.cobol_grammar.specs.stmt_forms.Loop.{perform_stmt}
+
+-- how deep statements may nest
+abbrev pub max_nesting : ℕ
+max_nesting = 500
+
+-- ---- statements that hold no others
+
+unfoldable pub moving_stmt : {Side Known : Type 0} → Parts Side Known → Form Stmt
+moving_stmt parts =
+    where_next (is_key (codes "DISPLAY")) (display_stmt parts) (move_stmt parts)
+
+-- behind those before
+unfoldable pub moving_stmts : {Side Known : Type 0} → Parts Side Known →
+    List Stmt → Form (List Stmt)
+moving_stmts parts before =
+    where_next (is_key (codes "SET")) (set_stmts parts before) (added (moving_stmt parts) before)
+
+unfoldable pub writing_stmt : {Side Known : Type 0} → Parts Side Known → Form Stmt
+writing_stmt parts =
+    where_next (is_key (codes "WRITE")) (write_stmt parts) (rewrite_stmt parts)
+
+unfoldable pub filing_stmt : {Side Known : Type 0} → Parts Side Known → Form Stmt
+filing_stmt parts =
+    where_next (is_key (codes "OPEN")) (open_stmt parts)
+    (where_next (is_key (codes "CLOSE")) (close_stmt parts) (writing_stmt parts))
+
+unfoldable pub filing_or_jump : {Side Known : Type 0} → Parts Side Known → Scope → Form Stmt
+filing_or_jump parts scope =
+    where_next begins_filing (filing_stmt parts) (jump_stmt parts scope)
+
+unfoldable pub simple_stmts : {Side Known : Type 0} → Parts Side Known →
+    Scope → List Stmt → Form (List Stmt)
+simple_stmts parts scope before =
+    where_next begins_moving (moving_stmts parts before) (added (filing_or_jump parts scope) before)
+
+-- ---- statements that hold others
+
+unfoldable pub holding_stmt : {Side Known : Type 0} → Parts Side Known →
+    Level → Scope → Form FoundOne
+holding_stmt parts level scope =
+    where_next begins_arithmetic (arithmetic_stmt parts level scope)
+    (where_next begins_choice (choice_stmt parts level scope) (perform_stmt parts level scope))
+
+abbrev pub behind : List Stmt → FoundOne → Found
+behind before found = (before ++ found.0 ∷ [], found.1)
+
+unfoldable pub held_stmts : {Side Known : Type 0} → Parts Side Known →
+    Level → Scope → List Stmt → Form Found
+held_stmts parts level scope before =
+    where_next (is_key (codes "READ")) (read_stmt parts level scope before)
+    (holding_stmt parts level scope >>= (λ found. pure (behind before found)))
+
+-- ---- stmt
+
+unfoldable pub stmt : {Side Known : Type 0} → Parts Side Known →
+    Level → Scope → List Stmt → Form Found
+stmt parts level scope before =
+    where_next begins_simple (simple_stmts parts scope before >>= (λ found. pure (found, false)))
+    (held_stmts parts level scope before)
+
+-- behind a NOT that isn't theirs no statement goes on
+unfoldable pub stmts_turn : {Side Known : Type 0} → Parts Side Known →
+    Level → Scope → Found → Form Found
+stmts_turn parts level scope found =
+    chosen found.1 (refuse Syntax) (stmt parts level scope found.0)
+
+-- as many statements as there are, behind those before
+abbrev pub stmts_from : {Side Known : Type 0} → Parts Side Known →
+    Level → Scope → Found → Form Found
+stmts_from parts level scope before = loop begins_stmt (stmts_turn parts level scope) before
+
+-- stmt+
+unfoldable pub stmts_with : {Side Known : Type 0} → Parts Side Known → Level → Scope → Form Found
+stmts_with parts level scope = stmt parts level scope [] >>= stmts_from parts level scope
+
+-- nothing, where a level is left
+unfoldable pub enter : ℕ → Form (Unit {0})
+enter zero = refuse Nesting
+enter (suc n) = pure tt
+
+-- what is held, with one level less
+unfoldable pub held : {Side Known : Type 0} → Parts Side Known → ℕ → Scope → Form Found
+held parts zero scope = refuse Nesting
+held parts (suc n) scope =
+    stmts_with parts (record { enter = enter n; stmts = held parts n }) scope
+
+abbrev pub level : {Side Known : Type 0} → Parts Side Known → ℕ → Level
+level parts levels = record { enter = enter levels; stmts = held parts levels }
+
+abbrev pub stmts : {Side Known : Type 0} → Parts Side Known → ℕ → Scope → Form Found
+stmts parts levels scope = stmts_with parts (level parts levels) scope

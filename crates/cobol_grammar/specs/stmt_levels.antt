@@ -1,0 +1,1 @@
+-- Its law is said in the words of `parser_combinators` and `stmt_forms`; it has none of its own.

@@ -1,0 +1,91 @@
+//! An operand or expression as it is read, and what is known of it.
+
+ghost use Rattle.cob_base.specs.Answers.{Makes};
+
+use cob_base::{Copied, NoMemory};
+use cob_tree::{Expr, Operand, Place};
+use parser_combinators::Position;
+use std::alloc::Global;
+
+/// What a value is, as far as its uses go.
+#[derive(Clone, Copy, Debug, PartialEq, Eq)]
+pub enum ValueKind {
+    /// A number, and whether it is without decimals.
+    Number(bool),
+    /// A lowest item of characters, a literal in quotation marks, or what a window shows.
+    Text,
+    /// An item with items below it, without a window.
+    Group,
+    /// A figurative constant other than ZERO.
+    Figure,
+    /// The name of a level 88.
+    Condition,
+    /// A name that fits nothing that is declared, or more than one thing.
+    Unknown,
+}
+
+/// How an expression is written.
+#[derive(Debug, Drop)]
+pub enum What {
+    /// A reference alone.
+    Ref(Place),
+    /// A literal alone.
+    Literal(Operand),
+    /// A reference alone in parentheses, which may be a condition too.
+    Enclosed(Place),
+    /// Anything else.
+    Sum(Expr),
+}
+
+/// In which of these ways an expression is written.
+#[derive(Clone, Copy, Debug, PartialEq, Eq)]
+pub enum Shape {
+    Ref,
+    Literal,
+    Enclosed,
+    Sum,
+}
+
+/// What an expression is made of.
+#[derive(Clone, Copy, Debug, PartialEq, Eq)]
+pub enum Make {
+    Item,
+    Literal,
+    /// With an operator or a sign.
+    Joined,
+}
+
+/// An expression, and what is known of it.
+#[derive(Debug, Drop)]
+pub struct Side {
+    pub what: What,
+    pub kind: ValueKind,
+    pub make: Make,
+    /// Where it begins.
+    pub position: Position,
+    /// Where its operand stands, if it is one.
+    pub leaf: Position,
+}
+
+impl Copied for What {
+    fn copy(&self, alloc: Global) -> Result<What, NoMemory> {
+        match self {
+            What::Ref(place) => Ok(What::Ref(place.copy(alloc)?)),
+            What::Literal(operand) => Ok(What::Literal(operand.copy(alloc)?)),
+            What::Enclosed(place) => Ok(What::Enclosed(place.copy(alloc)?)),
+            What::Sum(expr) => Ok(What::Sum(expr.copy(alloc)?)),
+        }
+    }
+}
+
+impl Copied for Side {
+    fn copy(&self, alloc: Global) -> Result<Side, NoMemory> {
+        Ok(Side {
+            what: self.what.copy(alloc)?,
+            kind: self.kind,
+            make: self.make,
+            position: self.position,
+            leaf: self.leaf,
+        })
+    }
+}

@@ -1,5 +1,0 @@
-use Rattle.cobol_laws.proofs.added_items_lemmas.Starts.{starts-behind}
-use Rattle.cobol_laws.proofs.added_items.added_items_start_behind.Goals as goal
-
-pub returns : goal.returns
-returns c = starts-behind

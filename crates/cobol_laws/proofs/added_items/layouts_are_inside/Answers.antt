@@ -1,5 +1,0 @@
-use Rattle.cobol_laws.proofs.added_items_lemmas.Layouts.{inside-of}
-use Rattle.cobol_laws.proofs.added_items.layouts_are_inside.Goals as goal
-
-pub returns : goal.returns
-returns c = inside-of

@@ -1,6 +1,0 @@
-use Rattle.cobol_laws.proofs.cell_serving_lemmas.Serving.{serves}
-use Rattle.cobol_laws.proofs.cell_serving.written_parts_serve.Goals as goal
-
-pub returns : goal.returns
-returns c declared added table literal chooser empty kinds whole apart are worth of starts =
-    serves declared added table literal chooser empty kinds whole apart are worth of starts

@@ -1,5 +1,0 @@
-use Rattle.cobol_laws.proofs.cobol_parts_lemmas.SomeArm.{gives-some}
-use Rattle.cobol_laws.proofs.cobol_parts.cobol_choosers_give_some_arm.Goals as goal
-
-pub returns : goal.returns
-returns c = gives-some

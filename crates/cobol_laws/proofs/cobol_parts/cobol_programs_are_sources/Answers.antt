@@ -1,5 +1,0 @@
-use Rattle.cobol_laws.proofs.cobol_parts_lemmas.Sources.{source}
-use Rattle.cobol_laws.proofs.cobol_parts.cobol_programs_are_sources.Goals as goal
-
-pub returns : goal.returns
-returns c = source

@@ -1,5 +1,0 @@
-use Rattle.cobol_laws.proofs.stored_numbers_lemmas.ReadBack.{read-back}
-use Rattle.cobol_laws.proofs.stored_numbers.stored_numbers_are_read_back.Goals as goal
-
-pub returns : goal.returns
-returns c = read-back

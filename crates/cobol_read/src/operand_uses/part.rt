@@ -1,0 +1,184 @@
+//! What is wrong with how operands are used in statements, and what is made of them in the tree.
+
+ghost use Rattle.std.specs.Prelude.{◌≡◌};
+ghost use Rattle.cobol_grammar.specs.expr_forms.Fault as faults;
+ghost use Rattle.cobol_grammar.specs.Use as uses;
+
+use crate::operand_uses::record::Records;
+use cob_base::Items;
+use cob_tree::{Figure, Operand, Place};
+use cobol_grammar::Known;
+use cobol_grammar::expr_forms::{Make, Side, ValueKind, What};
+use expr_parse::actions::whole_fault_at;
+use parser_combinators::{NameKind, Note, Position};
+use std::alloc::Global;
+
+fn bare_place(alloc: Global) -> Place
+    ensures { result ≡ uses.bare_place 0 }
+{
+    Place {
+        item: 0,
+        of: Items::new(alloc),
+        subs: Items::new(alloc),
+        window: None,
+    }
+}
+
+/// An operand as it stands in the tree.
+pub fn operand_of(what: What) -> Operand
+    ensures { result ≡ uses.operand_of what }
+{
+    match what {
+        What::Ref(place) => Operand::Place(place),
+        What::Literal(operand) => operand,
+        What::Enclosed(place) => Operand::Place(place),
+        What::Sum(_) => Operand::Figure(Figure::Zero),
+    }
+}
+
+/// A reference as it stands in the tree.
+pub fn place_of(alloc: Global, what: What) -> Place
+    ensures { result ≡ uses.place_of what }
+{
+    match what {
+        What::Ref(place) => place,
+        What::Literal(_) => bare_place(alloc),
+        What::Enclosed(place) => place,
+        What::Sum(_) => bare_place(alloc),
+    }
+}
+
+/// The item that a reference names.
+pub fn entry_of(side: &Side) -> u32
+    ensures { result ≡ uses.entry_of side.now.what }
+{
+    match &side.what {
+        What::Ref(place) => place.item,
+        What::Literal(_) => 0,
+        What::Enclosed(place) => place.item,
+        What::Sum(_) => 0,
+    }
+}
+
+fn usage(position: Position) -> Option<Note>
+    ensures { result ≡ faults.usage position }
+{
+    Some(Note {
+        kind: NameKind::Usage,
+        position,
+    })
+}
+
+fn unless_whole(whole: bool, position: Position) -> Option<Note>
+    ensures { result ≡ uses.unless_whole whole position }
+{
+    if whole { None } else { usage(position) }
+}
+
+fn to_group_fault(make: Make, whole: bool, position: Position) -> Option<Note>
+    ensures { result ≡ uses.to_group_fault make whole position }
+{
+    match make {
+        Make::Literal => unless_whole(whole, position),
+        _ => None,
+    }
+}
+
+fn number_moved(make: Make, whole: bool, to: ValueKind, position: Position) -> Option<Note>
+    ensures { result ≡ uses.number_moved make whole to position }
+{
+    match to {
+        ValueKind::Text => unless_whole(whole, position),
+        ValueKind::Group => to_group_fault(make, whole, position),
+        _ => None,
+    }
+}
+
+fn figure_moved(to: ValueKind, position: Position) -> Option<Note>
+    ensures { result ≡ uses.figure_moved to position }
+{
+    match to {
+        ValueKind::Number(_) => usage(position),
+        _ => None,
+    }
+}
+
+fn moved_fault(make: Make, from: ValueKind, to: ValueKind, position: Position) -> Option<Note>
+    ensures { result ≡ uses.moved_fault make from to position }
+{
+    match from {
+        ValueKind::Number(whole) => number_moved(make, whole, to, position),
+        ValueKind::Figure => figure_moved(to, position),
+        _ => None,
+    }
+}
+
+/// The fault of a move.
+pub fn move_fault(from: &Side, to: &Side) -> Option<Note>
+    ensures { result ≡ uses.move_fault from.now to.now }
+{
+    moved_fault(from.make, from.kind, to.kind, from.position)
+}
+
+/// What is kept of a subject of EVALUATE.
+pub fn known_of(side: &Side) -> Known
+    ensures { result ≡ uses.known_of side.now }
+{
+    Known {
+        kind: side.kind,
+        make: side.make,
+        position: side.position,
+    }
+}
+
+/// The fault of a move of a file's first record.
+pub fn into_fault(records: &Records<'_>, file: Option<u32>, to: &Side) -> Option<Note>
+    ensures { result ≡ uses.into_fault records.now file to.now }
+{
+    match file {
+        None => None,
+        Some(file) => moved_fault(Make::Item, records.kind(file), to.kind, to.position),
+    }
+}
+
+fn inexact_fault(make: Make, kind: ValueKind, position: Position) -> Option<Note>
+    ensures { result ≡ faults.inexact_fault make kind position }
+{
+    match make {
+        Make::Joined => usage(position),
+        _ => whole_fault_at(position, kind),
+    }
+}
+
+fn compared_as(kind: ValueKind) -> ValueKind
+    ensures { result ≡ faults.compared_as kind }
+{
+    match kind {
+        ValueKind::Group => ValueKind::Text,
+        _ => kind,
+    }
+}
+
+fn compared_fault(left: ValueKind, right: ValueKind, known: &Known, side: &Side) -> Option<Note>
+    ensures { result ≡ uses.compared_fault left right known.now side.now }
+{
+    match (left, right) {
+        (ValueKind::Text, ValueKind::Number(_)) => {
+            inexact_fault(side.make, side.kind, side.position)
+        }
+        (ValueKind::Number(_), ValueKind::Text) => {
+            inexact_fault(known.make, known.kind, known.position)
+        }
+        (ValueKind::Number(_), ValueKind::Figure) => usage(side.position),
+        (ValueKind::Figure, ValueKind::Number(_)) => usage(known.position),
+        _ => None,
+    }
+}
+
+/// The fault of a subject and what it is compared with.
+#[tactic(auto, unfolding(cobol_grammar::specs::Use::subject_fault))]
+pub fn subject_fault(known: &Known, side: &Side) -> Option<Note>
+    ensures { result ≡ uses.subject_fault known.now side.now }
+{
+    compared_fault(compared_as(known.kind), compared_as(side.kind), known, side)
+}

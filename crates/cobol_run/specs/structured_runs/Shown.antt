@@ -1,0 +1,64 @@
+-- What runs of structured programs show.
+use Rattle.std.specs.Prelude.{ℕ, ◌≡◌, List, ◌++◌}
+use Rattle.cob_base.specs.Sink.{SinkCall}
+use Rattle.cob_tree.specs.declared.program.Program.{Program}
+use Rattle.control_flow_theory.specs.language.Control.{control_of}
+use Rattle.control_flow_theory.specs.language.Structured.{IsStructured}
+use Rattle.file_model.specs.operations.Seen.{Seen}
+use Rattle.control_flow_theory.specs.runs.Run.{Over}
+use Rattle.cobol_theory.specs.cobol_meaning.Runs.{Files, structural_run}
+use Rattle.cob_base.specs.giving.Giving.{Gains}
+use Rattle.cobol_run.specs.declared.machine.Ending.{Ending}
+use Rattle.cobol_run.specs.declared.machine.Ending.TheVariants as ending
+use Rattle.cobol_run.specs.declared.running.Ran.{Ran}
+use Rattle.cobol_run.specs.declared.running.Ran.TheVariants as ran
+use Rattle.cobol_run.specs.Machine.{ending_seen}
+use Rattle.cobol_run.specs.Over.{RunsOver, TellFiles}
+use Rattle.cobol_run.specs.Running.{displayed, RunsAs}
+
+-- its nested statements end so within some units, and the sink gained what they display
+abbrev pub EndsNested : Program → Files → SinkCall → Ending → Type 0
+EndsNested program files sink (ending.Faulted fault) = ⊥
+EndsNested program files sink how =
+    (units : ℕ)
+    × ((structural_run program files units).standing ≡ Over (ending_seen how files))
+    × Gains (displayed (structural_run program files units).trace) sink
+
+-- the sink gained a front of what they display within some units
+abbrev pub BeginsNested : Program → Files → SinkCall → Type 0
+BeginsNested program files sink =
+    (units : ℕ) × (bytes more : List ℕ)
+    × (displayed (structural_run program files units).trace ≡ bytes ++ more) × Gains bytes sink
+
+abbrev pub ShowsNested : Program → Files → SinkCall → Ran → Type 0
+ShowsNested program files sink (ran.Ended how) = EndsNested program files sink how
+ShowsNested program files sink _ = BeginsNested program files sink
+
+-- whatever steps its run makes
+abbrev pub RunsShowNestedStatements : Type 0
+RunsShowNestedStatements =
+    (program : Program) → IsStructured (control_of program) → (files : Files) (steps : ℕ)
+    (sink : SinkCall) (came : Ran) → RunsAs program files steps sink came →
+    ShowsNested program files sink came
+
+-- ---- over devices that tell their files
+
+-- its nested statements end so and leave the files that the devices tell
+abbrev pub EndsNestedOver : Program → Files → SinkCall → List Seen → Ending → Type 0
+EndsNestedOver program files sink devices (ending.Faulted fault) = ⊥
+EndsNestedOver program files sink devices how =
+    (units : ℕ) × (left : Files)
+    × ((structural_run program files units).standing ≡ Over (ending_seen how left))
+    × Gains (displayed (structural_run program files units).trace) sink × TellFiles devices left
+
+abbrev pub ShowsNestedOver : Program → Files → SinkCall → List Seen → Ran → Type 0
+ShowsNestedOver program files sink devices (ran.Ended how) =
+    EndsNestedOver program files sink devices how
+ShowsNestedOver program files sink devices _ = BeginsNested program files sink
+
+abbrev pub RunsOverFilesShowNestedStatements : Type 0
+RunsOverFilesShowNestedStatements =
+    (program : Program) → IsStructured (control_of program) → (files : Files) (steps : ℕ)
+    (sink : SinkCall) (devices : List Seen) (came : Ran) →
+    RunsOver program files steps sink devices came →
+    ShowsNestedOver program files sink devices came

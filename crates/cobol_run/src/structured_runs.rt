@@ -1,0 +1,22 @@
+//! What a run of a structured program shows is what its nested statements show. The crate has no
+//! code.
+
+ghost use Rattle.cobol_run.specs.structured_runs.Shown.{RunsOverFilesShowNestedStatements, RunsShowNestedStatements};
+
+use cobol_theory::cobol_meaning::a_structured_program_behaves_as_itself;
+
+/// A run of a structured program that ends ends as its nested statements do, and shows what they
+/// show; whatever else it comes to, they show all that it showed.
+pub fn runs_show_nested_statements()
+    ensures { RunsShowNestedStatements }
+{
+    a_structured_program_behaves_as_itself();
+}
+
+/// The same over devices that tell their files: they tell in the end what the nested statements
+/// leave.
+pub fn runs_over_files_show_nested_statements()
+    ensures { RunsOverFilesShowNestedStatements }
+{
+    a_structured_program_behaves_as_itself();
+}

@@ -1,0 +1,82 @@
+-- The headline for COBOL programs: what a program is written as behaves as it did.
+use Rattle.std.specs.Prelude.{ℕ, ◌≡◌, ◌<◌, List, ◌∷◌, ◌++◌, length, IsTrue}
+use Rattle.cob_tree.specs.declared.program.Program.{Program}
+use Rattle.control_flow_theory.specs.language.Control.{control_of}
+use Rattle.control_flow_theory.specs.language.Language.{Picker, Range, Main}
+use Rattle.control_flow_theory.specs.language.OwnItems.{NamesOwnItems}
+use Rattle.control_flow_theory.specs.language.Structured.{IsStructured}
+use Rattle.control_flow_theory.specs.lowering.flow.Paths.{IsFaulty}
+use Rattle.program_facts.specs.completion.Told.{told_of}
+use Rattle.control_flow_theory.specs.rendering.Rendering.{Empty, Naming, rendered}
+use Rattle.control_flow_theory.specs.rendering.Procedures.{Writable}
+use Rattle.control_flow_theory.specs.headline.Chain.{IsPlan, EachCellServed, GraphsServed}
+use Rattle.control_flow_theory.specs.headline.CallsReached.{CalledByPaths}
+use Rattle.control_flow_theory.specs.headline.Headline.{Plan, graphs_by, procedures_by}
+use Rattle.cobol_theory.specs.cobol_parts.Named.{NamesOwnParagraphs}
+use Rattle.cobol_theory.specs.cobol_meaning.Same.{SameBehaviour}
+use Rattle.meanings.specs.statements.Does.{declared_in}
+use Rattle.cobol_theory.specs.added_items.Laying.{begins_with_item, have_levels}
+use Rattle.cobol_theory.specs.added_items.Own.{items}
+use Rattle.cobol_theory.specs.added_items.Within.{entries_within, files_within}
+use Rattle.cobol_theory.specs.cell_serving.Choosing.{written_chooser}
+use Rattle.cobol_theory.specs.cell_serving.Entries.{whole_literal, CellEntry, entries_of, added_to, AreEntries}
+use Rattle.cobol_theory.specs.cell_serving.Naming.{cell_naming}
+use Rattle.cobol_theory.specs.cell_serving.Table.{CellTable}
+use Rattle.cobol_theory.specs.cell_serving.Tested.{kinds_of}
+
+-- a program as it is read: it names its own items and paragraphs, each entry has a level, the first
+-- is no level 88, and level 88s and status items are of its own
+pub record IsProper (program : Program) : Type 0 where
+  pub own_items : NamesOwnItems program
+  pub own_paragraphs : NamesOwnParagraphs program
+  pub begins : IsTrue (begins_with_item program.entries)
+  pub levels : IsTrue (have_levels program.entries)
+  pub values : IsTrue (entries_within (items (declared_in program)) program.entries)
+  pub statuses : IsTrue (files_within (items (declared_in program)) program.files)
+
+-- how a program is written: which ranges return, which nodes are kept and in which order the ranges
+-- stand; the items of its cells; and what becomes of empty arms
+pub record Writing : Type 0 where
+  pub returning : List (List ℕ)
+  pub plan : Plan
+  pub cells : List CellEntry
+  pub table : CellTable
+  pub empty : Range → Picker → ℕ → Empty
+
+abbrev pub naming_of : Program → Writing → Naming
+naming_of program writing =
+    cell_naming whole_literal (items (declared_in program)) writing.table
+    (written_chooser whole_literal) writing.empty
+
+abbrev pub writable_of : Program → Writing → Writable
+writable_of program writing =
+    kinds_of (declared_in program) (added_to program writing.cells) writing.table
+
+-- the program has a paragraph, isn't faulty, and is written so
+pub record CanBeWritten (program : Program) (writing : Writing) : Type 0 where
+  pub told : writing.plan.told ≡ told_of program.files writing.returning
+  pub some : 0 < length (control_of program).paragraphs
+  pub fair : IsFaulty writing.plan.told (control_of program) → ⊥
+  pub planned : IsPlan writing.plan.told (control_of program) writing.plan.keep writing.plan.others
+  pub called : CalledByPaths writing.plan.told (control_of program) (Main ∷ writing.plan.others)
+  -- the cells of the closed graphs have items that serve, and so do the parts of the lowered ones
+  pub entries : AreEntries writing.cells writing.table
+  pub cells : EachCellServed (writable_of program writing) (Main ∷ writing.plan.others)
+      (graphs_by writing.plan (control_of program))
+  pub parts : GraphsServed (naming_of program writing) (writable_of program writing)
+      (Main ∷ writing.plan.others) (graphs_by writing.plan (control_of program))
+
+-- the result has the program's files, its entries and behind them those of the cells, and the
+-- control that is written of the closed graphs
+pub record IsWrittenOf (program result : Program) (writing : Writing) : Type 0 where
+  pub files : result.files ≡ program.files
+  pub entries : result.entries ≡ program.entries ++ entries_of writing.cells
+  pub control : control_of result
+      ≡ rendered (naming_of program writing) (procedures_by writing.plan (control_of program))
+
+-- then the result is structured, and behaves as the program over all files
+abbrev pub WhatAProgramIsWrittenAsBehavesAlike : Type 0
+WhatAProgramIsWrittenAsBehavesAlike =
+    (program result : Program) (writing : Writing) →
+    IsProper program → CanBeWritten program writing → IsWrittenOf program result writing →
+    IsStructured (control_of result) × SameBehaviour program result

@@ -1,0 +1,9 @@
+-- Two programs behave the same.
+use Rattle.cob_tree.specs.declared.program.Program.{Program}
+use Rattle.control_flow_theory.specs.agreement.Same as meanings
+use Rattle.cobol_theory.specs.cobol_meaning.Runs.{source_run, structural_run}
+
+-- over all files each run of the source is matched by one of the result's nested statements, and
+-- the other way round, each within a number of times as long that is chosen beforehand
+abbrev pub SameBehaviour : Program → Program → Type 0
+SameBehaviour source result = meanings.SameBehaviour (source_run source) (structural_run result)

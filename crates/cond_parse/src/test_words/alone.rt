@@ -1,0 +1,345 @@
+//! What a side is that no test follows.
+//!
+//! What isn't used is let go by `drop`, and no `?` stands where a tree is alive: a tree that goes
+//! by itself is checked with the drops of all that may be in it.
+
+ghost use Rattle.std.specs.Prelude.{◌≡◌, None, Some};
+ghost use Rattle.cob_base.specs.Answers.{Makes};
+ghost use Rattle.cob_tree.specs.declared.cond.Cond.TheVariants as conds;
+ghost use Rattle.parser_combinators.specs.Form.{chosen};
+ghost use Rattle.parser_combinators.specs.Reading.{Reads};
+ghost use Rattle.cobol_grammar.specs.expr_forms.Fault.{is_condition};
+ghost use Rattle.cobol_grammar.specs.cond_forms.Test as tests;
+ghost use Rattle.cobol_grammar.specs.cond_forms.Alone as alones;
+
+use crate::test_words::test::relation_of;
+use cob_base::{Boxed, Copied, NoMemory};
+use cob_tree::{Cond, Place, Rel};
+use cobol_grammar::cond_forms::{Part, Primary, Setting};
+use cobol_grammar::expr_forms::{Shape, Side, What};
+use expr_parse::actions::{
+    condition_fault, is_condition, relation_fault, shape_of, tally, value_fault,
+};
+use parser_combinators::{Cursor, Unread, Why};
+use std::alloc::Global;
+
+fn with_not(alloc: Global, negated: bool, cond: Cond) -> Result<Cond, NoMemory>
+    ensures { Makes (alones.with_not negated cond) result }
+{
+    if negated {
+        Ok(Cond::Not(Boxed::new(alloc, cond)?))
+    } else {
+        Ok(cond)
+    }
+}
+
+/// A condition and what was found of it.
+pub fn part_of(cond: Cond, setting: Option<Setting>, count: u32, not_read: bool) -> Part
+    ensures { result ≡ alones.part_of cond setting count not_read }
+{
+    Part {
+        cond,
+        setting,
+        count,
+        not_read,
+    }
+}
+
+/// The same left side with another sign.
+pub fn with_rel(setting: Setting, sign: Rel) -> Setting
+    ensures { result ≡ tests.setting_of setting.left sign setting.terms }
+{
+    let Setting { left, terms, .. } = setting;
+    Setting {
+        left,
+        rel: sign,
+        terms,
+    }
+}
+
+fn carried_part(
+    alloc: Global,
+    setting: Setting,
+    right: Side,
+    count: u32,
+    not_read: bool,
+) -> Result<Part, NoMemory>
+    ensures { Makes (alones.part_of (tests.relation_of setting.left setting.rel right) (Some
+        setting) count not_read) result }
+{
+    match setting.left.copy(alloc) {
+        Ok(left) => {
+            let cond = relation_of(left, setting.rel, right);
+            Ok(part_of(cond, Some(setting), count, not_read))
+        }
+        Err(fault) => {
+            drop(setting);
+            drop(right);
+            Err(fault)
+        }
+    }
+}
+
+/// A relation with the left side and the sign that were set.
+#[tactic(auto, unfolding(cobol_grammar::specs::cond_forms::Alone::carried))]
+fn carried(
+    alloc: Global,
+    cursor: &mut Cursor<'_>,
+    setting: Setting,
+    right: Side,
+    count: u32,
+    not_read: bool,
+) -> Result<Part, Unread>
+    ensures { Reads ((alones.carried setting right count not_read).reads cursor.old)
+        result cursor.new }
+{
+    match tally(cursor, count, setting.terms) {
+        Ok(more) => {
+            cursor.note(value_fault(&right));
+            cursor.note(relation_fault(&setting.left, &right));
+            Ok(carried_part(alloc, setting, right, more, not_read)?)
+        }
+        Err(stop) => {
+            drop(setting);
+            drop(right);
+            Err(stop)
+        }
+    }
+}
+
+fn named_place(
+    alloc: Global,
+    negated: bool,
+    place: Place,
+    count: u32,
+    not_read: bool,
+) -> Result<Part, NoMemory>
+    ensures { Makes (alones.part_of (alones.with_not negated (conds.Named place)) None count
+        not_read) result }
+{
+    let cond = with_not(alloc, negated, Cond::Named(place))?;
+    Ok(part_of(cond, None, count, not_read))
+}
+
+#[tactic(auto, unfolding(cobol_grammar::specs::cond_forms::Alone::named_by))]
+fn named_by(
+    alloc: Global,
+    cursor: &Cursor<'_>,
+    negated: bool,
+    what: What,
+    count: u32,
+    not_read: bool,
+) -> Result<Part, Unread>
+    ensures { Reads ((alones.named_by negated what count not_read).reads cursor.now)
+        result cursor.now }
+{
+    match what {
+        What::Ref(place) => Ok(named_place(alloc, negated, place, count, not_read)?),
+        What::Enclosed(place) => Ok(named_place(alloc, negated, place, count, not_read)?),
+        What::Literal(operand) => {
+            drop(operand);
+            Err(Unread::Stop(Why::Syntax))
+        }
+        What::Sum(expr) => {
+            drop(expr);
+            Err(Unread::Stop(Why::Syntax))
+        }
+    }
+}
+
+#[tactic(auto, unfolding(cobol_grammar::specs::cond_forms::Alone::named))]
+fn named(
+    alloc: Global,
+    cursor: &mut Cursor<'_>,
+    negated: bool,
+    side: Side,
+    count: u32,
+    not_read: bool,
+) -> Result<Part, Unread>
+    ensures { Reads ((alones.named negated side count not_read).reads cursor.old)
+        result cursor.new }
+{
+    cursor.note(condition_fault(&side));
+    named_by(alloc, cursor, negated, side.what, count, not_read)
+}
+
+#[tactic(auto, unfolding(cobol_grammar::specs::cond_forms::Alone::kept))]
+fn kept(
+    cursor: &Cursor<'_>,
+    setting: Setting,
+    what: What,
+    count: u32,
+    not_read: bool,
+) -> Result<Part, Unread>
+    ensures { Reads ((alones.kept setting what count not_read).reads cursor.now)
+        result cursor.now }
+{
+    match what {
+        What::Ref(place) => Ok(part_of(Cond::Named(place), Some(setting), count, not_read)),
+        other => {
+            drop(other);
+            drop(setting);
+            Err(Unread::Stop(Why::Syntax))
+        }
+    }
+}
+
+fn set_ref_part(
+    alloc: Global,
+    cursor: &mut Cursor<'_>,
+    setting: Setting,
+    side: Side,
+    count: u32,
+    not_read: bool,
+) -> Result<Part, Unread>
+    ensures { Reads ((chosen (is_condition side.kind) (alones.kept setting side.what count
+        not_read) (alones.carried setting side count not_read)).reads cursor.old) result
+        cursor.new }
+{
+    if is_condition(side.kind) {
+        kept(cursor, setting, side.what, count, not_read)
+    } else {
+        carried(alloc, cursor, setting, side, count, not_read)
+    }
+}
+
+#[tactic(auto, unfolding(cobol_grammar::specs::cond_forms::Alone::ref_part))]
+fn ref_part(
+    alloc: Global,
+    cursor: &mut Cursor<'_>,
+    negated: bool,
+    setting: Option<Setting>,
+    side: Side,
+    count: u32,
+    not_read: bool,
+) -> Result<Part, Unread>
+    ensures { Reads ((alones.ref_part negated setting side count not_read).reads cursor.old)
+        result cursor.new }
+{
+    if negated {
+        drop(setting);
+        return named(alloc, cursor, true, side, count, not_read);
+    }
+    match setting {
+        None => named(alloc, cursor, false, side, count, not_read),
+        Some(setting) => set_ref_part(alloc, cursor, setting, side, count, not_read),
+    }
+}
+
+#[tactic(auto, unfolding(cobol_grammar::specs::cond_forms::Alone::literal_part))]
+fn literal_part(
+    alloc: Global,
+    cursor: &mut Cursor<'_>,
+    negated: bool,
+    setting: Option<Setting>,
+    side: Side,
+    count: u32,
+    not_read: bool,
+) -> Result<Part, Unread>
+    ensures { Reads ((alones.literal_part negated setting side count not_read).reads cursor.old)
+        result cursor.new }
+{
+    if negated {
+        drop(setting);
+        drop(side);
+        return Err(Unread::Stop(Why::Syntax));
+    }
+    match setting {
+        None => {
+            drop(side);
+            Err(Unread::Stop(Why::Syntax))
+        }
+        Some(setting) => carried(alloc, cursor, setting, side, count, not_read),
+    }
+}
+
+#[tactic(auto, unfolding(cobol_grammar::specs::cond_forms::Alone::part_by_shape))]
+fn part_by_shape(
+    alloc: Global,
+    cursor: &mut Cursor<'_>,
+    shape: Shape,
+    negated: bool,
+    setting: Option<Setting>,
+    side: Side,
+    count: u32,
+    not_read: bool,
+) -> Result<Part, Unread>
+    ensures { Reads ((alones.part_by_shape shape negated setting side count not_read).reads
+        cursor.old) result cursor.new }
+{
+    match shape {
+        Shape::Ref => ref_part(alloc, cursor, negated, setting, side, count, not_read),
+        Shape::Literal => literal_part(alloc, cursor, negated, setting, side, count, not_read),
+        Shape::Enclosed => {
+            drop(setting);
+            named(alloc, cursor, negated, side, count, not_read)
+        }
+        Shape::Sum => {
+            drop(setting);
+            drop(side);
+            Err(Unread::Stop(Why::Syntax))
+        }
+    }
+}
+
+/// What an expression is that no test follows.
+#[tactic(auto, unfolding(cobol_grammar::specs::cond_forms::Alone::alone_part))]
+pub fn alone_part(
+    alloc: Global,
+    cursor: &mut Cursor<'_>,
+    negated: bool,
+    setting: Option<Setting>,
+    side: Side,
+    count: u32,
+    not_read: bool,
+) -> Result<Part, Unread>
+    ensures { Reads ((alones.alone_part negated setting side count not_read).reads cursor.old)
+        result cursor.new }
+{
+    let shape = shape_of(&side);
+    part_by_shape(
+        alloc, cursor, shape, negated, setting, side, count, not_read,
+    )
+}
+
+fn test_part(
+    alloc: Global,
+    negated: bool,
+    cond: Cond,
+    after: Option<Setting>,
+    count: u32,
+    not_read: bool,
+) -> Result<Part, NoMemory>
+    ensures { Makes (alones.part_of (alones.with_not negated cond) after count not_read) result }
+{
+    match with_not(alloc, negated, cond) {
+        Ok(cond) => Ok(part_of(cond, after, count, not_read)),
+        Err(fault) => {
+            drop(after);
+            Err(fault)
+        }
+    }
+}
+
+/// The condition that was read, or what the side is.
+#[tactic(auto, unfolding(cobol_grammar::specs::cond_forms::Alone::part_by))]
+pub fn part_by(
+    alloc: Global,
+    cursor: &mut Cursor<'_>,
+    negated: bool,
+    setting: Option<Setting>,
+    prim: Primary,
+    count: u32,
+    not_read: bool,
+) -> Result<Part, Unread>
+    ensures { Reads ((alones.part_by negated setting prim count not_read).reads cursor.old)
+        result cursor.new }
+{
+    match prim {
+        Primary::Test(cond, after) => {
+            drop(setting);
+            Ok(test_part(alloc, negated, cond, after, count, not_read)?)
+        }
+        Primary::Alone(side) => alone_part(alloc, cursor, negated, setting, side, count, not_read),
+    }
+}

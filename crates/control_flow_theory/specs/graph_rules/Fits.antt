@@ -1,0 +1,96 @@
+-- What the statements of a range may name: the ranges that they perform, and the cells that they
+-- read and write. No jump is among them.
+use Rattle.std.specs.Prelude.{ℕ, List, [], ◌∷◌}
+use Rattle.control_flow_theory.specs.language.Language.{Act, Own, Set, Take, Lower, Test, Holds, Not, Is, Above, Picker, If, By, ByCell, Control, Times, Until, Varying, Stmt, Choose, Loop, Perform, Go, GoDepending, NextSentence, ExitParagraph, ExitSection, ExitPerform, StopRun, Stmts, none, also, Arms, done, given, missing, Body, Nested, Performed, Range, Part}
+use Rattle.control_flow_theory.specs.language.Language as language
+use Rattle.control_flow_theory.specs.language.Items.{Turning, Counted, Tests, Steps, StepsAfter, Item, Do, SentenceEnd, Turn}
+use Rattle.control_flow_theory.specs.semantics.Items.{Way, On, Halts, Into, To, ToEnd}
+use Rattle.control_flow_theory.specs.semantics.Graph.{Tree, tree, End, Pick, Jump, Return, Stop, Dead, Trees, no_more, more}
+
+module _ (Calls : Range → Type 0) (Reads Writes : ℕ → Type 0) where
+  abbrev pub ActFits : Act → Type 0
+  ActFits (Own simple) = Unit {0}
+  ActFits (Set cell value) = Writes cell
+  ActFits (Take cell amount) = Writes cell
+  ActFits (Lower cell) = Reads cell × Writes cell
+
+  abbrev pub TestFits : Test → Type 0
+  TestFits (Holds cond) = Unit {0}
+  TestFits (Not test) = TestFits test
+  TestFits (Is cell value) = Reads cell
+  TestFits (Above cell) = Reads cell
+
+  abbrev pub PickerFits : Picker → Type 0
+  PickerFits (If test) = TestFits test
+  PickerFits (By chooser) = Unit {0}
+  PickerFits (ByCell cell) = Reads cell
+
+  abbrev pub ControlFits : Control → Type 0
+  ControlFits (Times amount) = Unit {0}
+  ControlFits (Until after test) = TestFits test
+  ControlFits (Varying after set step test) = ActFits set × ActFits step × TestFits test
+
+  abbrev mutual
+    pub StmtFits : Stmt → Type 0
+    StmtFits (language.Do act) = ActFits act
+    StmtFits (Choose picker arms) = PickerFits picker × ArmsFit arms
+    StmtFits (Loop control body) = ControlFits control × BodyFits body
+    StmtFits (Perform entry exit) = Calls (Part entry exit)
+    StmtFits (Go to) = ⊥
+    StmtFits (GoDepending to chooser) = ⊥
+    StmtFits NextSentence = ⊥
+    StmtFits ExitParagraph = ⊥
+    StmtFits (ExitSection last) = ⊥
+    StmtFits (ExitPerform cycle) = ⊥
+    StmtFits StopRun = Unit {0}
+
+    pub StmtsFit : Stmts → Type 0
+    StmtsFit none = Unit {0}
+    StmtsFit (also stmt stmts) = StmtFits stmt × StmtsFit stmts
+
+    pub ArmsFit : Arms → Type 0
+    ArmsFit done = Unit {0}
+    ArmsFit (given arm others) = StmtsFit arm × ArmsFit others
+    ArmsFit (missing others) = ArmsFit others
+
+    pub BodyFits : Body → Type 0
+    BodyFits (Nested stmts) = StmtsFit stmts
+    BodyFits (Performed entry exit) = Calls (Part entry exit)
+
+  abbrev pub TurningFits : Turning → Type 0
+  TurningFits (Counted turns) = Unit {0}
+  TurningFits (Tests test) = TestFits test
+  TurningFits (Steps reached step test) = ActFits step × TestFits test
+  TurningFits (StepsAfter step test) = ActFits step × TestFits test
+
+  abbrev pub ItemFits : Item → Type 0
+  ItemFits (Do stmt) = StmtFits stmt
+  ItemFits SentenceEnd = ⊥
+  ItemFits (Turn turning body) = TurningFits turning × BodyFits body
+
+  abbrev pub ItemsFit : List Item → Type 0
+  ItemsFit [] = Unit {0}
+  ItemsFit (item ∷ items) = ItemFits item × ItemsFit items
+
+  abbrev mutual
+    pub TreeFits : Tree → Type 0
+    TreeFits (tree body end) = StmtsFit body × EndFits end
+
+    pub EndFits : End → Type 0
+    EndFits (Pick picker arms) = PickerFits picker × TreesFit arms
+    EndFits (Jump to) = Unit {0}
+    EndFits Return = Unit {0}
+    EndFits Stop = Unit {0}
+    EndFits Dead = Unit {0}
+
+    pub TreesFit : Trees → Type 0
+    TreesFit no_more = Unit {0}
+    TreesFit (more first others) = TreeFits first × TreesFit others
+
+  -- what such a statement comes to goes on with such statements, and is no jump
+  abbrev pub WayFits : {Memory : Type 0} → Way Memory → Type 0
+  WayFits (On trace memory items) = ItemsFit items
+  WayFits (Halts trace how memory) = Unit {0}
+  WayFits (Into entry exit items) = Calls (Part entry exit) × ItemsFit items
+  WayFits (To trace memory paragraph) = ⊥
+  WayFits (ToEnd trace memory paragraph) = ⊥

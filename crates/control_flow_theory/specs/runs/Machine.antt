@@ -1,0 +1,46 @@
+-- A machine makes one step after the other.
+use Rattle.std.specs.Prelude.{ℕ, zero, suc, ◌≡◌, ◌+◌, ◌*◌, ◌≤◌}
+use Rattle.control_flow_theory.specs.runs.Run.{Going, Run, IsOver, Covers}
+use Rattle.control_flow_theory.specs.runs.Tied.{Meaning}
+
+abbrev pub iterate : {State : Type 0} → (State → State) → ℕ → State → State
+iterate step zero state = state
+iterate step (suc n) state = iterate step n (step state)
+
+-- from the first state the steps come to the second
+abbrev pub Reaches : {State : Type 0} → (State → State) → State → State → Type 0
+Reaches step from to = (n : ℕ) × (iterate step n from ≡ to)
+
+-- the same, in at most so many steps
+abbrev pub ReachesWithin : {State : Type 0} → ℕ → (State → State) → State → State → Type 0
+ReachesWithin most step from to = (n : ℕ) × (n ≤ most) × (iterate step n from ≡ to)
+
+-- its step, what a state has shown, and where it begins
+pub record Machine (World Event End State : Type 0) : Type 0 where
+  pub step : State → State
+  pub run : State → Run Event End
+  pub begun : World → State
+
+abbrev pub meaning : {World Event End State : Type 0} → Machine World Event End State →
+    Meaning World Event End
+meaning machine world n = machine.run (iterate machine.step n (machine.begun world))
+
+-- a step shows more, and a state that is over stays
+pub record Grows {World Event End State : Type 0} (machine : Machine World Event End State) : Type 0
+  where
+    pub more : (state : State) → Covers (machine.run state) (machine.run (machine.step state))
+    pub stays : (state : State) → IsOver (machine.run state) → machine.step state ≡ state
+
+-- each step of the first machine is some steps of the second; where it is none, the weight falls
+pub record Simulates {World Event End A B : Type 0} (a : Machine World Event End A)
+    (b : Machine World Event End B) (Related : A → B → Type 0) : Type 0 where
+  pub weight : A → ℕ
+  pub first : ℕ
+  pub most : ℕ
+  pub growth : ℕ
+  pub light : (world : World) → weight (a.begun world) ≤ first
+  pub starts : (world : World) → Related (a.begun world) (b.begun world)
+  pub agree : (s : A) (t : B) → Related s t → a.run s ≡ b.run t
+  pub moves : (s : A) (t : B) → Related s t → (a.run s).standing ≡ Going →
+      (j : ℕ) × Related (a.step s) (iterate b.step j t) × (j ≤ most)
+      × (weight (a.step s) + 1 ≤ weight s + (growth + 1) * j)

@@ -1,5 +1,0 @@
-use Rattle.control_laws.proofs.graph_rules_lemmas.rules.Sounds.{inline-keeps}
-use Rattle.control_laws.proofs.graph_rules.inline_keeps.Goals as goal
-
-pub returns : goal.returns
-returns g c = inline-keeps

@@ -1,5 +1,0 @@
-use Rattle.control_laws.proofs.graph_rules_lemmas.rules.Sounds.{join-keeps}
-use Rattle.control_laws.proofs.graph_rules.join_keeps.Goals as goal
-
-pub returns : goal.returns
-returns g c = join-keeps

@@ -1,5 +1,0 @@
-use Rattle.control_laws.proofs.graph_rules_lemmas.rules.Sounds.{loop-keeps}
-use Rattle.control_laws.proofs.graph_rules.loop_keeps.Goals as goal
-
-pub returns : goal.returns
-returns g c = loop-keeps

@@ -1,5 +1,0 @@
-use Rattle.control_laws.proofs.graph_rules_lemmas.rules.Sounds.{prune-keeps}
-use Rattle.control_laws.proofs.graph_rules.prune_keeps.Goals as goal
-
-pub returns : goal.returns
-returns g c = prune-keeps

@@ -1,5 +1,0 @@
-use Rattle.control_laws.proofs.graph_rules_lemmas.rules.Sounds.{tested-keeps}
-use Rattle.control_laws.proofs.graph_rules.tested_keeps.Goals as goal
-
-pub returns : goal.returns
-returns g c = tested-keeps

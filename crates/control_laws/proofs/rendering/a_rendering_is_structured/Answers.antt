@@ -1,5 +1,0 @@
-use Rattle.control_laws.proofs.rendering_lemmas.Structure.{rendered-structured}
-use Rattle.control_laws.proofs.rendering.a_rendering_is_structured.Goals as goal
-
-pub returns : goal.returns
-returns c = rendered-structured

@@ -1,5 +1,0 @@
-use Rattle.control_laws.proofs.rendering_lemmas.WholeExample.{jump-restructured}
-use Rattle.control_laws.proofs.rendering.a_small_program_is_restructured.Goals as goal
-
-pub returns : goal.returns
-returns c = jump-restructured

@@ -1,8 +1,0 @@
-use Rattle.control_laws.proofs.rendering_lemmas.Chained.{follows-sound, alike-sound}
-use Rattle.control_laws.proofs.rendering.followers_are_sound.Goals as goal
-
-pub returns-clause-follows : goal.returns-clause-follows
-returns-clause-follows g c = follows-sound
-
-pub returns-clause-alike : goal.returns-clause-alike
-returns-clause-alike g c = alike-sound

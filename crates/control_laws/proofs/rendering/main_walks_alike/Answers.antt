@@ -1,5 +1,0 @@
-use Rattle.control_laws.proofs.rendering_lemmas.Chained.{main-walks-alike}
-use Rattle.control_laws.proofs.rendering.main_walks_alike.Goals as goal
-
-pub returns : goal.returns
-returns g c = main-walks-alike

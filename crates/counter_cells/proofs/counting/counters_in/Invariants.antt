@@ -1,9 +1,0 @@
-use Rattle.std.proofs.Common.{◌≡◌, ◌++◌, drop}
-use Rattle.branch_tree.specs.Graphs.{seen_nodes}
-use Rattle.counter_cells.specs.Counters.{counters_from, counters_in}
-use Rattle.counter_cells.proofs.counting.counters_in.Given as goal
-
-abbrev pub invariant-loop-node : goal.invariant-loop-node
-invariant-loop-node l =
-    l.cells.items ++ counters_from l.least (seen_nodes (drop l.node-index l.nodes))
-    ≡ counters_in (seen_nodes l.nodes)

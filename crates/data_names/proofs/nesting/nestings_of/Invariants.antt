@@ -1,9 +1,0 @@
-use Rattle.std.proofs.Common.{◌≡◌, length, take}
-use Rattle.data_names.specs.Nesting.{nestings_of}
-use Rattle.data_names.proofs.nesting.nestings_of.Given as goal
-
-abbrev pub invariant-loop-entry : goal.invariant-loop-entry
-invariant-loop-entry l = record {
-  count : length l.nestings ≡ l.entry-index;
-  table : l.nestings ≡ take l.entry-index (nestings_of l.entries);
-}

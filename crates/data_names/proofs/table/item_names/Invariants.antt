@@ -1,6 +1,0 @@
-use Rattle.std.proofs.Common.{◌≡◌, ◌++◌, [], drop, reverse, take}
-use Rattle.data_names.specs.Names.{names_from}
-use Rattle.data_names.proofs.table.item_names.Given as goal
-
-abbrev pub invariant-loop-at : goal.invariant-loop-at
-invariant-loop-at l = l.items ++ names_from l.files (reverse (take l.at l.entries)) (drop l.at l.entries) ≡ names_from l.files [] l.entries

@@ -1,0 +1,21 @@
+use Rattle.std.proofs.lemmas.Result.{err_from_is_err_and}
+use Rattle.parser_combinators.proofs.Loops.{goes_on, ends_err, is_done, shrinks}
+use Rattle.parser_combinators.proofs.MakerLaws.{added}
+use Rattle.parser_combinators.specs.words.Constant.{begins_literal}
+use Rattle.cobol_grammar.specs.data_forms.Clause as clauses
+use Rattle.cobol_grammar.proofs.data_forms_lemmas.EntryLaws as laws
+use Rattle.data_parse.proofs.entries.clause.spans_from.Goals as goal
+
+pub returns-in_err-found : goal.returns-in_err-found
+returns-in_err-found c =
+    let p = err_from_is_err_and c.from_residual.result c.from_residual.ensures.1 in
+    rw (p.1, p.2) (ends_err begins_literal (λ front. added front laws.span) c.items.found c.in_err-found.field-0.0 c.items.cursor c.span_behind.new.cursor _ c.items-test.ensures c.in_err-found.ensures c.items.invariant)
+
+pub items-smaller : goal.items-smaller
+items-smaller c = shrinks (added c.items.found laws.span) _ _ _ c.in_ok-found.ensures
+
+pub items-preserved : goal.items-preserved
+items-preserved c = goes_on begins_literal (λ front. added front laws.span) c.items.found _ c.items.cursor _ _ c.items-test.ensures c.in_ok-found.ensures c.items.invariant
+
+pub returns : goal.returns
+returns c = is_done begins_literal (λ front. added front laws.span) c.items.found c.items.cursor _ c.items-test.ensures c.items.invariant

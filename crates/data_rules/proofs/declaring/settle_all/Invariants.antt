@@ -1,6 +1,0 @@
-use Rattle.std.proofs.Common.{◌≡◌, take}
-use Rattle.data_rules.specs.Declaring.{settle_all}
-use Rattle.data_rules.proofs.declaring.settle_all.Given as goal
-
-abbrev pub invariant-loop-draft : goal.invariant-loop-draft
-invariant-loop-draft l = l.entries ≡ settle_all l.bases l.initial.entries (take l.draft-index l.drafts)

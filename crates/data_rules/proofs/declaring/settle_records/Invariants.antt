@@ -1,7 +1,0 @@
-use Rattle.std.proofs.Common.{◌≡◌, [], take}
-use Rattle.std.specs.List.{fold}
-use Rattle.data_rules.specs.Declaring.{settle_records}
-use Rattle.data_rules.proofs.declaring.settle_records.Given as goal
-
-abbrev pub invariant-loop-fd : goal.invariant-loop-fd
-invariant-loop-fd l = l.entries ≡ fold (settle_records l.bases) [] (take l.fd-index l.fds)

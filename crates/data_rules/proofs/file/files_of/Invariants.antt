@@ -1,6 +1,0 @@
-use Rattle.std.proofs.Common.{◌≡◌, map, take}
-use Rattle.data_rules.specs.File.{file_of}
-use Rattle.data_rules.proofs.file.files_of.Given as goal
-
-abbrev pub invariant-loop-select : goal.invariant-loop-select
-invariant-loop-select l = l.files ≡ map file_of (take l.select-index l.selects)

@@ -1,6 +1,0 @@
-use Rattle.std.proofs.Common.{◌≡◌, take}
-use Rattle.data_rules.specs.Declaring.{judge_all}
-use Rattle.data_rules.proofs.judging.judge_all.Given as goal
-
-abbrev pub invariant-loop-draft : goal.invariant-loop-draft
-invariant-loop-draft l = l.found ≡ judge_all l.bases l.sizes l.fn.judged (take l.draft-index l.drafts)

@@ -1,9 +1,0 @@
-use Rattle.std.proofs.Common.{◌≡◌, length, take}
-use Rattle.data_rules.specs.Tables.{alikes_of}
-use Rattle.data_rules.proofs.table.alikes_of.Given as goal
-
-abbrev pub invariant-loop-entry : goal.invariant-loop-entry
-invariant-loop-entry l = record {
-  count : length l.alikes ≡ l.entry-index;
-  table : l.alikes ≡ take l.entry-index (alikes_of l.entries);
-}

@@ -1,0 +1,129 @@
+-- What a draft says of its entry by itself. 0 stands for each item that is redefined.
+use Rattle.std.specs.Prelude.{ℕ, ◌+◌, ◌-◌, ◌*◌, ◌^◌, min, Bool, true, false, ◌&&◌, ◌||◌, ◌==◌, nat_lt, nat_le, List, [], ◌∷◌, length, map, Option, Some, None, Result, Ok, Err, if◌then◌else◌}
+use Rattle.std.specs.List.{fold, list_any}
+use Rattle.cob_base.specs.Bytes.{digit_0}
+use Rattle.cob_tree.specs.declared.entry.Entry.{Entry}
+use Rattle.cob_tree.specs.declared.entry.Span.{Span}
+use Rattle.cob_tree.specs.declared.picture.Picture.{Picture}
+use Rattle.cob_tree.specs.declared.picture.Sign.{Sign}
+use Rattle.cob_tree.specs.declared.picture.Sign.TheVariants as signs
+use Rattle.cob_tree.specs.declared.place.Operand.{Operand}
+use Rattle.cobol_grammar.specs.declared.data_forms.draft.Clause.{Clause}
+use Rattle.cobol_grammar.specs.declared.data_forms.draft.Clause.TheVariants as drafts
+use Rattle.cobol_grammar.specs.declared.data_forms.draft.EntryDraft.{EntryDraft}
+use Rattle.cobol_grammar.specs.declared.data_forms.draft.SpanDraft.{SpanDraft}
+use Rattle.cobol_grammar.specs.declared.data_forms.draft.ThruDraft.{ThruDraft}
+use Rattle.picture_data.specs.declared.fault.PictureFault.{PictureFault}
+use Rattle.picture_data.specs.Reading.{picture_of as picture_of_text}
+use Rattle.declaration_checks.specs.declared.clause.ClauseKind.TheVariants as kinds
+use Rattle.declaration_checks.specs.Clause.{clause_of, is_of}
+
+-- the number that digits spell; one past the last of 32 bits counts as that
+abbrev pub with_digit : ℕ → ℕ → ℕ
+with_digit number digit = min (min (number * 10) (2 ^ 32 - 1) + (digit - digit_0)) (2 ^ 32 - 1)
+
+abbrev pub number_of : List ℕ → ℕ
+number_of digits = fold with_digit 0 digits
+
+-- levels are 01 to 49, 77 and 88; 0 stands for any other number
+abbrev pub level_by : ℕ → ℕ
+level_by number = if nat_lt number 50 || (number == 77 || number == 88) then number else 0
+
+abbrev pub level_of : List ℕ → ℕ
+level_of digits = level_by (number_of digits)
+
+abbrev pub picture_if : Result Picture PictureFault → Option Picture
+picture_if (Ok picture) = Some picture
+picture_if (Err fault) = None
+
+-- a text of 2^31 bytes, which no source has, is none
+abbrev pub picture_by : List ℕ → Option Picture
+picture_by text = if nat_lt (length text) (2 ^ 31) then picture_if (picture_of_text text) else None
+
+abbrev pub picture_in : Option Clause → Option Picture
+picture_in (Some (drafts.Picture at text text_at)) = picture_by text
+picture_in _ = None
+
+-- the picture of the first PICTURE clause, where it is one
+abbrev pub picture_of : List Clause → Option Picture
+picture_of clauses = picture_in (clause_of kinds.Picture clauses)
+
+abbrev pub sign_by : (leading separate : Bool) → Sign
+sign_by leading false = signs.Within
+sign_by true true = signs.SeparateLeading
+sign_by false true = signs.SeparateTrailing
+
+abbrev pub sign_in : Option Clause → Sign
+sign_in (Some (drafts.Sign at leading separate)) = sign_by leading separate
+sign_in _ = signs.Within
+
+abbrev pub sign_of : List Clause → Sign
+sign_of clauses = sign_in (clause_of kinds.Sign clauses)
+
+-- from 1 to 65,535 times; 1 stands for any other count
+abbrev pub is_count : ℕ → Bool
+is_count number = nat_le 1 number && nat_le number 65535
+
+abbrev pub count_of : List ℕ → ℕ
+count_of digits = if is_count (number_of digits) then number_of digits else 1
+
+abbrev pub occurs_in : Option Clause → Option ℕ
+occurs_in (Some (drafts.Occurs at count count_at)) = Some (count_of count)
+occurs_in _ = None
+
+abbrev pub occurs_of : List Clause → Option ℕ
+occurs_of clauses = occurs_in (clause_of kinds.Occurs clauses)
+
+abbrev pub spans_in : Option Clause → List SpanDraft
+spans_in (Some (drafts.Value at spans)) = spans
+spans_in _ = []
+
+abbrev pub spans_of : List Clause → List SpanDraft
+spans_of clauses = spans_in (clause_of kinds.Value clauses)
+
+abbrev pub value_of : List SpanDraft → Option Operand
+value_of [] = None
+value_of (span ∷ spans) = Some span.from
+
+abbrev pub to_of : Option ThruDraft → Option Operand
+to_of None = None
+to_of (Some thru) = Some thru.to
+
+abbrev pub span_of : SpanDraft → Span
+span_of span = record { from = span.from; to = to_of span.thru }
+
+abbrev pub redefines_of : List Clause → Option ℕ
+redefines_of clauses = if list_any (is_of kinds.Redefines) clauses then Some 0 else None
+
+abbrev pub condition_of : EntryDraft → Option ℕ → Entry
+condition_of draft file = record {
+  level = 88;
+  name = draft.name;
+  file = file;
+  redefines = None;
+  picture = None;
+  sign = signs.Within;
+  occurs = None;
+  value = None;
+  ranges = map span_of (spans_of draft.clauses);
+}
+
+abbrev pub item_of : EntryDraft → ℕ → Option ℕ → Entry
+item_of draft level file = record {
+  level = level;
+  name = draft.name;
+  file = file;
+  redefines = redefines_of draft.clauses;
+  picture = picture_of draft.clauses;
+  sign = sign_of draft.clauses;
+  occurs = occurs_of draft.clauses;
+  value = value_of (spans_of draft.clauses);
+  ranges = [];
+}
+
+abbrev pub base_by : EntryDraft → ℕ → Option ℕ → Entry
+base_by draft level file =
+    if level == 88 then condition_of draft file else item_of draft level file
+
+abbrev pub base_of : Option ℕ → EntryDraft → Entry
+base_of file draft = base_by draft (level_of draft.level) file

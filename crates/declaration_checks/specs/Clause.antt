@@ -1,0 +1,65 @@
+-- Clauses by their kind.
+use Rattle.std.specs.Prelude.{ℕ, Bool, not, ◌==◌, List, [], ◌∷◌, ◌++◌, Option, Some, None, if◌then◌else◌}
+use Rattle.std.specs.List.{find, list_any}
+use Rattle.cobol_grammar.specs.declared.data_forms.draft.Clause.{Clause}
+use Rattle.cobol_grammar.specs.declared.data_forms.draft.Clause.TheVariants as drafts
+use Rattle.declaration_checks.specs.declared.clause.ClauseKind.{ClauseKind}
+use Rattle.declaration_checks.specs.declared.clause.ClauseKind.TheVariants as kinds
+use Rattle.parser_combinators.specs.declared.note.NameKind.TheVariants.{Usage}
+use Rattle.parser_combinators.specs.declared.note.Note.{Note}
+use Rattle.parser_combinators.specs.declared.note.Position.{Position}
+use Rattle.declaration_checks.specs.Fault.{fault_at}
+
+abbrev pub kind_of : Clause → ClauseKind
+kind_of (drafts.Redefines at name name_at) = kinds.Redefines
+kind_of (drafts.Picture at text text_at) = kinds.Picture
+kind_of (drafts.Usage at) = kinds.Usage
+kind_of (drafts.Sign at leading separate) = kinds.Sign
+kind_of (drafts.Occurs at count count_at) = kinds.Occurs
+kind_of (drafts.Value at spans) = kinds.Value
+
+-- kinds are told apart by numbers
+abbrev pub kind_number : ClauseKind → ℕ
+kind_number kinds.Redefines = 0
+kind_number kinds.Picture = 1
+kind_number kinds.Usage = 2
+kind_number kinds.Sign = 3
+kind_number kinds.Occurs = 4
+kind_number kinds.Value = 5
+
+abbrev pub position_of : Clause → Position
+position_of (drafts.Redefines at name name_at) = at
+position_of (drafts.Picture at text text_at) = at
+position_of (drafts.Usage at) = at
+position_of (drafts.Sign at leading separate) = at
+position_of (drafts.Occurs at count count_at) = at
+position_of (drafts.Value at spans) = at
+
+abbrev pub is_of : ClauseKind → Clause → Bool
+is_of kind clause = kind_number (kind_of clause) == kind_number kind
+
+-- the first clause of a kind
+abbrev pub clause_of : ClauseKind → List Clause → Option Clause
+clause_of kind clauses = find (is_of kind) clauses
+
+-- a clause twice in one entry is wrong at its second's first token
+abbrev pub again_from : (before clauses : List Clause) → Option Note
+again_from before [] = None
+again_from before (clause ∷ clauses) =
+    if list_any (is_of (kind_of clause)) before
+    then fault_at Usage (position_of clause)
+    else again_from (before ++ clause ∷ []) clauses
+
+abbrev pub again_fault : List Clause → Option Note
+again_fault clauses = again_from [] clauses
+
+abbrev pub is_other : Clause → Bool
+is_other clause = not (is_of kinds.Value clause)
+
+abbrev pub at_clause : Option Clause → Option Note
+at_clause None = None
+at_clause (Some clause) = fault_at Usage (position_of clause)
+
+-- a level 88 has no clause other than VALUE
+abbrev pub other_fault : List Clause → Option Note
+other_fault clauses = at_clause (find is_other clauses)

@@ -1,0 +1,128 @@
+-- What drafts declare, and their first fault.
+use Rattle.std.specs.Prelude.{ℕ, ◌+◌, ◌==◌, List, [], ◌∷◌, ◌++◌, length, map, Option, Some, None, slice_get, if◌then◌else◌}
+use Rattle.std.specs.List.{fold}
+use Rattle.cob_store.specs.sizes.Size.{sized}
+use Rattle.cob_tree.specs.declared.entry.Entry.{Entry}
+use Rattle.cob_tree.specs.declared.picture.Picture.{Picture}
+use Rattle.cobol_grammar.specs.declared.data_forms.draft.Divisions.{Divisions}
+use Rattle.cobol_grammar.specs.declared.data_forms.draft.EntryDraft.{EntryDraft}
+use Rattle.cobol_grammar.specs.declared.data_forms.draft.FdDraft.{FdDraft}
+use Rattle.cobol_grammar.specs.declared.data_forms.draft.SelectDraft.{SelectDraft}
+use Rattle.symbol_tables.specs.data_names.Names.{is_group}
+use Rattle.parser_combinators.specs.Note.{earliest}
+use Rattle.parser_combinators.specs.declared.note.Note.{Note}
+use Rattle.declaration_checks.specs.declared.declaring.Declared.{Declared}
+use Rattle.declaration_checks.specs.declared.judging.Judged.{Judged}
+use Rattle.declaration_checks.specs.Base.{base_of}
+use Rattle.declaration_checks.specs.File.{fds_fault, file_number, file_of, selects_fault}
+use Rattle.declaration_checks.specs.Redefining.{redefined_in}
+use Rattle.declaration_checks.specs.Rule.{entry_fault}
+use Rattle.declaration_checks.specs.Standing.{behind}
+
+-- ---- the entries by their drafts alone, the records of files first
+
+abbrev pub section_bases : Option ℕ → List EntryDraft → List Entry
+section_bases file drafts = map (base_of file) drafts
+
+abbrev pub record_bases : List SelectDraft → (at : ℕ) → List FdDraft → List Entry
+record_bases selects at [] = []
+record_bases selects at (fd ∷ fds) =
+    section_bases (Some (file_number selects fd at)) fd.entries ++ record_bases selects (at + 1) fds
+
+abbrev pub bases_of : Divisions → List Entry
+bases_of divisions =
+    record_bases divisions.selects 0 divisions.data_part.fds
+    ++ section_bases None divisions.data_part.storage
+
+-- ---- the entries with what they redefine
+
+-- a group has no picture
+abbrev pub picture_of : List Entry → ℕ → Entry → Option Picture
+picture_of bases at entry = if is_group entry (behind bases at) then None else entry.picture
+
+abbrev pub redefines_of : List Entry → ℕ → Entry → EntryDraft → Option ℕ
+redefines_of bases at entry draft =
+    if entry.level == 88 then None
+    else redefined_in bases at entry draft.clauses
+
+abbrev pub settled : List Entry → ℕ → EntryDraft → Entry → Entry
+settled bases at draft entry = record {
+  level = entry.level;
+  name = entry.name;
+  file = entry.file;
+  redefines = redefines_of bases at entry draft;
+  picture = picture_of bases at entry;
+  sign = entry.sign;
+  occurs = entry.occurs;
+  value = entry.value;
+  ranges = entry.ranges;
+}
+
+-- the next entry behind those that are settled
+abbrev pub settled_at : List Entry → List Entry → EntryDraft → Option Entry → List Entry
+settled_at bases entries draft None = entries
+settled_at bases entries draft (Some entry) =
+    entries ++ settled bases (length entries) draft entry ∷ []
+
+abbrev pub settle : List Entry → List Entry → EntryDraft → List Entry
+settle bases entries draft = settled_at bases entries draft (slice_get bases (length entries))
+
+abbrev pub settle_all : List Entry → List Entry → List EntryDraft → List Entry
+settle_all bases entries drafts = fold (settle bases) entries drafts
+
+abbrev pub settle_records : List Entry → List Entry → FdDraft → List Entry
+settle_records bases entries fd = settle_all bases entries fd.entries
+
+abbrev pub settled_by : List Entry → Divisions → List Entry
+settled_by bases divisions =
+    settle_all bases (fold (settle_records bases) [] divisions.data_part.fds)
+    divisions.data_part.storage
+
+abbrev pub entries_of : Divisions → List Entry
+entries_of divisions = settled_by (bases_of divisions) divisions
+
+-- ---- their faults
+
+abbrev pub judged_at : List Entry → List ℕ → Judged → EntryDraft → Option Entry → Judged
+judged_at bases sizes judged draft None = judged
+judged_at bases sizes judged draft (Some entry) = record {
+  at = judged.at + 1;
+  fault = earliest judged.fault (entry_fault bases sizes judged.at entry draft);
+}
+
+-- the next entry is judged too
+abbrev pub judge : List Entry → List ℕ → Judged → EntryDraft → Judged
+judge bases sizes judged draft =
+    judged_at bases sizes judged draft (slice_get bases judged.at)
+
+abbrev pub judge_all : List Entry → List ℕ → Judged → List EntryDraft → Judged
+judge_all bases sizes judged drafts = fold (judge bases sizes) judged drafts
+
+abbrev pub judge_records : List Entry → List ℕ → Judged → FdDraft → Judged
+judge_records bases sizes judged fd = judge_all bases sizes judged fd.entries
+
+abbrev pub judged_by : List Entry → List ℕ → Judged → Divisions → Judged
+judged_by bases sizes judged divisions =
+    judge_all bases sizes (fold (judge_records bases sizes) judged divisions.data_part.fds)
+    divisions.data_part.storage
+
+abbrev pub files_fault : Divisions → Option Note
+files_fault divisions =
+    earliest (selects_fault divisions.data_part.fds divisions.selects)
+    (fds_fault divisions.selects divisions.data_part.fds)
+
+-- no entry is judged yet
+abbrev pub start_of : Divisions → Judged
+start_of divisions = record { at = 0; fault = files_fault divisions }
+
+abbrev pub fault_of : Divisions → Option Note
+fault_of divisions =
+    (judged_by (bases_of divisions) (sized (entries_of divisions)).sizes (start_of divisions)
+    divisions).fault
+
+abbrev pub declared_of : Divisions → Declared
+declared_of divisions = record {
+  files = map file_of divisions.selects;
+  entries = entries_of divisions;
+  fault = fault_of divisions;
+}

@@ -1,0 +1,28 @@
+-- What entries are judged by, in tables that are made once.
+use Rattle.std.specs.Prelude.{ℕ, List, [], ◌∷◌, ◌++◌, Option}
+use Rattle.cob_tree.specs.declared.entry.Entry.{Entry}
+use Rattle.symbol_tables.specs.data_names.Grouping.{word_list}
+use Rattle.symbol_tables.specs.data_names.Nesting.{nestings_of}
+use Rattle.declaration_checks.specs.declared.table.Tables.{Tables}
+use Rattle.declaration_checks.specs.Redefining.{last_alike}
+
+-- for each entry the last before it that it could redefine, where this is such an entry itself
+unfoldable pub alikes_from : (before entries : List Entry) → List (Option ℕ)
+alikes_from before [] = []
+alikes_from before (entry ∷ behind) =
+    last_alike entry before ∷ alikes_from (entry ∷ before) behind
+
+abbrev pub alikes_of : List Entry → List (Option ℕ)
+alikes_of entries = alikes_from [] entries
+
+-- the names of entries, without FILLER
+abbrev pub names_in : List Entry → List (List ℕ)
+names_in [] = []
+names_in (entry ∷ entries) = word_list entry.name ++ names_in entries
+
+abbrev pub tables_of : List Entry → Tables
+tables_of entries = record {
+  nestings = nestings_of entries;
+  alikes = alikes_of entries;
+  names = names_in entries;
+}

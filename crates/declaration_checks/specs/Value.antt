@@ -1,0 +1,77 @@
+-- The rules on VALUE.
+use Rattle.std.specs.Prelude.{Bool, not, ◌&&◌, ◌||◌, List, ◌∷◌, [], Option, Some, None}
+use Rattle.std.specs.List.{fold}
+use Rattle.std.specs.Option.{is_some}
+use Rattle.cob_tree.specs.declared.entry.Entry.{Entry}
+use Rattle.cobol_grammar.specs.declared.data_forms.draft.Clause.{Clause}
+use Rattle.cobol_grammar.specs.declared.data_forms.draft.Clause.TheVariants as drafts
+use Rattle.cobol_grammar.specs.declared.data_forms.draft.SpanDraft.{SpanDraft}
+use Rattle.cobol_grammar.specs.declared.data_forms.draft.ThruDraft.{ThruDraft}
+use Rattle.parser_combinators.specs.declared.note.NameKind.TheVariants.{Value}
+use Rattle.parser_combinators.specs.Note.{earliest}
+use Rattle.parser_combinators.specs.declared.note.Note.{Note}
+use Rattle.parser_combinators.specs.declared.note.Position.{Position}
+use Rattle.declaration_checks.specs.declared.clause.ClauseKind.TheVariants as kinds
+use Rattle.declaration_checks.specs.declared.literal.Target.{Target}
+use Rattle.declaration_checks.specs.Clause.{clause_of}
+use Rattle.declaration_checks.specs.Fault.{fault_at, fault_unless, first_of}
+use Rattle.declaration_checks.specs.Literal.{fits}
+
+-- ---- of a level 88: there are values, and each fits its item
+
+abbrev pub missing_by : Position → Option Clause → Option Note
+missing_by at None = fault_at Value at
+missing_by at (Some clause) = None
+
+abbrev pub missing_fault : Position → List Clause → Option Note
+missing_fault at clauses = missing_by at (clause_of kinds.Value clauses)
+
+abbrev pub to_fault : Target → Option ThruDraft → Option Note
+to_fault target None = None
+to_fault target (Some thru) = fault_unless (fits thru.to target) Value thru.to_at
+
+abbrev pub span_fault : Target → SpanDraft → Option Note
+span_fault target span =
+    first_of
+    (fault_unless (fits span.from target) Value span.from_at ∷ to_fault target span.thru ∷ [])
+
+abbrev pub and_span : Target → Option Note → SpanDraft → Option Note
+and_span target fault span = earliest fault (span_fault target span)
+
+abbrev pub spans_fault : Target → List SpanDraft → Option Note
+spans_fault target spans = fold (and_span target) None spans
+
+-- ---- of an item: one literal, which fits
+
+-- outside the FILE SECTION, not under REDEFINES, not under OCCURS of a group, and not below a group
+-- that has one
+abbrev pub may_have_value : Entry → (group barred : Bool) → Bool
+may_have_value entry group barred =
+    not (is_some entry.file || (is_some entry.redefines || (group && is_some entry.occurs)))
+    && not barred
+
+abbrev pub thru_fault : Option ThruDraft → Option Note
+thru_fault None = None
+thru_fault (Some thru) = fault_at Value thru.at
+
+abbrev pub second_fault : List SpanDraft → Option Note
+second_fault [] = None
+second_fault (span ∷ spans) = fault_at Value span.from_at
+
+abbrev pub literals_fault : Target → List SpanDraft → Option Note
+literals_fault target [] = None
+literals_fault target (span ∷ spans) =
+    first_of
+    (fault_unless (fits span.from target) Value span.from_at
+    ∷ thru_fault span.thru ∷ second_fault spans ∷ [])
+
+abbrev pub value_by : Entry → Target → (barred : Bool) → Option Clause → Option Note
+value_by entry target barred (Some (drafts.Value at spans)) =
+    first_of
+    (fault_unless (may_have_value entry target.group barred) Value at
+    ∷ literals_fault target spans ∷ [])
+value_by entry target barred _ = None
+
+abbrev pub value_fault : Entry → Target → (barred : Bool) → List Clause → Option Note
+value_fault entry target barred clauses =
+    value_by entry target barred (clause_of kinds.Value clauses)

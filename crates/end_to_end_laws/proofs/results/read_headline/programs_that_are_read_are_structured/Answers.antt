@@ -1,0 +1,5 @@
+use Rattle.end_to_end_laws.proofs.results_lemmas.read_headline_lemmas.WellMade.{read-structured}
+use Rattle.end_to_end_laws.proofs.results.read_headline.programs_that_are_read_are_structured.Goals as goal
+
+pub returns : goal.returns
+returns c = read-structured

@@ -1,0 +1,12 @@
+-- How much is printed of generated programs: no more bytes and tokens than a source may have.
+use Rattle.std.specs.Prelude.{ℕ, ◌≤◌, length}
+use Rattle.cobol_print.specs.Program.{printed}
+use Rattle.cobol_print.specs.Unit.{all_tokens}
+use Rattle.program_gen.specs.Generated.{generated}
+use Rattle.cobol_print.specs.units.Division.{program_units}
+
+abbrev pub GeneratedProgramsAreShort : Type 0
+GeneratedProgramsAreShort =
+    (n : ℕ) → n ≤ 1249 →
+    (length (printed (generated n)) ≤ 4194304)
+    × (length (all_tokens (program_units (generated n))) ≤ 500000)

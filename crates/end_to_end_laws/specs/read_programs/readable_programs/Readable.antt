@@ -1,0 +1,92 @@
+-- Readable programs: what is printed of them can be read.
+use Rattle.std.specs.Prelude.{ℕ, ◌≡◌, ◌≤◌, false, List, [], ◌∷◌, ◌++◌, length, drop, None, codes}
+use Rattle.cob_tree.specs.declared.entry.Entry.{Entry}
+use Rattle.cob_tree.specs.declared.program.Program.{Program}
+use Rattle.cobol_lex.specs.declared.token.Token.{Token}
+use Rattle.cobol_print.specs.declared.units.unit.PrintUnit.{PrintUnit}
+use Rattle.cobol_print.specs.units.Unit.{header}
+use Rattle.cobol_print.specs.units.Division.{program_id, environment_units, data_units, program_units}
+use Rattle.cobol_print.specs.Printed.{printed_tokens}
+use Rattle.cobol_print.specs.Program.{printed}
+use Rattle.cobol_print.specs.Unit.{all_tokens}
+use Rattle.symbol_tables.specs.data_names.Names.{Names, names_of}
+use Rattle.cobol_grammar.specs.declared.expr_forms.side.Side.{Side}
+use Rattle.cob_store.specs.sizes.Storage.{storage_limit, storage_of}
+use Rattle.symbol_tables.specs.declared.procedure_names.table.ProcedureTable.{ProcedureTable}
+use Rattle.symbol_tables.specs.procedure_names.Procedures.{procedures_of}
+use Rattle.cobol_grammar.specs.stmt_forms.Part.{Parts}
+use Rattle.cobol_grammar.specs.declared.known.Known.{Known}
+use Rattle.cobol_grammar.specs.Whole.{parts_of}
+use Rattle.cobol_read.specs.LeftOut.{first_left_out}
+use Rattle.cobol_read.specs.Limit.{source_limit, token_limit, paragraph_limit}
+use Rattle.cobol_read.specs.Status.{status}
+use Rattle.round_trip.specs.printable.Whole.{IsPrintableProgram}
+use Rattle.round_trip.specs.spelling.data_spelling.Sections.{Fd}
+use Rattle.round_trip.specs.declarations.printed_declarations.FileRules.{KeepsRules}
+use Rattle.round_trip.specs.declarations.Named.{IsTitled, AreStated}
+use Rattle.round_trip.specs.spelling.stmt_spelling.Division.{SpellsDivision}
+use Rattle.round_trip.specs.spelling.Kept.{kept_of}
+
+-- the units before its paragraphs, and how many tokens they have
+abbrev pub units_before : Program → List PrintUnit
+units_before program =
+    header (codes "IDENTIFICATION") (codes "DIVISION") ∷ program_id program.name
+    ∷ environment_units program program.files ++ data_units program program.entries
+    ++ header (codes "PROCEDURE") (codes "DIVISION") ∷ []
+
+abbrev pub tokens_before : Program → ℕ
+tokens_before program = length (all_tokens (units_before program))
+
+-- the tokens that its printed bytes are cut into
+abbrev pub own_tokens : Program → List Token
+own_tokens program = printed_tokens 0 (program_units program)
+
+-- the names of its files and entries
+abbrev pub own_names : Program → Names
+own_names program = names_of program.files program.entries
+
+-- the paragraphs and sections that its printed tokens tell
+abbrev pub own_procedures : Program → ProcedureTable
+own_procedures program =
+    procedures_of (drop (tokens_before program) (own_tokens program)) (tokens_before program)
+
+-- ---- what stands before its paragraphs
+
+-- its status items are spelled over these names
+abbrev pub IsStated : Program → Type 0
+IsStated program = AreStated (status (own_names program) program.entries) program program.files
+
+-- its names, numbers, literals and pictures are what a text can have, and no word that it is printed
+-- with is left out; its entries stand in such sections that they keep the rules
+pub record IsFit (program : Program) : Type 0 where
+  pub printable : IsPrintableProgram program
+  pub titled : IsTitled program
+  pub fds : List Fd
+  pub storage : List Entry
+  pub keeps : KeepsRules program fds storage
+  pub stated : IsStated program
+  pub none_left_out : first_left_out (own_tokens program) ≡ None
+  pub stored : storage_limit false (storage_of program.entries) ≡ None
+  pub few : length program.paragraphs ≤ paragraph_limit
+
+-- ---- its paragraphs
+
+-- what its statements are made of
+abbrev pub own_parts : Program → Parts Side Known
+own_parts program = parts_of (own_names program) program.entries (own_procedures program)
+
+abbrev pub IsSpelled : Program → Type 0
+IsSpelled program =
+    SpellsDivision (own_parts program) (kept_of (own_names program) program) program
+    (tokens_before program) program.paragraphs
+
+-- ---- within the limits of reading
+
+pub record IsShort (program : Program) : Type 0 where
+  pub bytes : length (printed program) ≤ source_limit
+  pub tokens : length (all_tokens (program_units program)) ≤ token_limit
+
+pub record IsReadable (program : Program) : Type 0 where
+  pub fit : IsFit program
+  pub spelled : IsSpelled program
+  pub short : IsShort program

@@ -1,0 +1,29 @@
+-- What holds of programs that are read.
+use Rattle.std.specs.Prelude.{ℕ, List}
+use Rattle.cob_tree.specs.declared.program.Program.{Program}
+use Rattle.cobol_read.specs.Reading.{Reads}
+use Rattle.control_flow_theory.specs.language.Control.{control_of}
+use Rattle.control_flow_theory.specs.language.Structured.{IsStructured}
+use Rattle.struct_form.specs.Structured as tree
+use Rattle.pending_returns.specs.declared.facts.Summary.{Summary}
+use Rattle.cobol_theory.specs.cobol_meaning.Same.{SameBehaviour}
+use Rattle.procedure_split.specs.Split.{IsSplit}
+use Rattle.procedure_split.specs.split_behaviour.Alike.{IsWellMade, FlowsSo}
+
+abbrev pub ProgramsThatAreReadAreWellMade : Type 0
+ProgramsThatAreReadAreWellMade =
+    (bytes : List ℕ) (program : Program) → Reads bytes program → IsWellMade program
+
+-- where flow has no fault, what the bytes are split into is structured, and behaves as they do over
+-- all files
+abbrev pub ProgramsThatAreReadBehaveAlike : Type 0
+ProgramsThatAreReadBehaveAlike =
+    (bytes : List ℕ) (program made : Program) (summary : Summary) → Reads bytes program →
+    FlowsSo program summary → IsSplit program summary made →
+    IsStructured (control_of made) × SameBehaviour program made
+
+-- and it is structured as the tests of the tree tell it, without EXIT
+abbrev pub ProgramsThatAreReadAreStructured : Type 0
+ProgramsThatAreReadAreStructured =
+    (bytes : List ℕ) (program made : Program) (summary : Summary) → Reads bytes program →
+    FlowsSo program summary → IsSplit program summary made → tree.IsStructured made

@@ -1,0 +1,13 @@
+//! What the generated programs have in them, so that what is printed of them can be read: their
+//! names and numbers can be printed, the entry of the counter keeps the rules, each paragraph is
+//! told by its name, and their statements are spelled. The crate has no code.
+
+mod laws;
+pub mod readable_generated;
+pub mod short_generated;
+
+pub use crate::generated::laws::{
+    generated_programs_are_printable, generated_programs_are_spelled,
+    generated_programs_are_titled, generated_programs_have_procedures,
+    generated_programs_keep_rules,
+};

@@ -1,0 +1,18 @@
+//! What is printed of a generated program reads to that very program. The crate has no code.
+
+ghost use Rattle.end_to_end_laws.specs.generated.readable_generated.Laws.{GeneratedProgramsAreReadable, GeneratedProgramsReadBack};
+
+use crate::read_programs::readable_programs::readable_programs_read_back;
+
+/// A generated program is readable.
+pub fn generated_programs_are_readable()
+    ensures { GeneratedProgramsAreReadable }
+{}
+
+/// Printed bytes of a generated program are that program.
+pub fn generated_programs_read_back()
+    ensures { GeneratedProgramsReadBack }
+{
+    readable_programs_read_back();
+    generated_programs_are_readable();
+}

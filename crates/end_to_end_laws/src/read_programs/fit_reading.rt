@@ -1,0 +1,21 @@
+//! A program that is read is as it is asked so that its own parts may be written: each of its files
+//! has a record, its entries are as they can be written, and each of them has an item. How many
+//! paragraphs GO TO DEPENDING names isn't said here. The crate has no code.
+
+ghost use Rattle.end_to_end_laws.specs.read_programs.fit_reading.Laws.{EntriesThatAreReadFit, ProgramsThatAreReadHaveItems, ProgramsThatAreReadHaveRecords};
+
+/// Each file of a program that is read has a record.
+pub fn programs_that_are_read_have_records()
+    ensures { ProgramsThatAreReadHaveRecords }
+{}
+
+/// In a program that is read no level 88 has a picture, and a sign that takes a byte stands with a
+/// number that has a sign.
+pub fn entries_that_are_read_fit()
+    ensures { EntriesThatAreReadFit }
+{}
+
+/// A program that is read has as many items as entries.
+pub fn programs_that_are_read_have_items()
+    ensures { ProgramsThatAreReadHaveItems }
+{}

@@ -1,0 +1,9 @@
+//! The words that programs are printed with: none of them is a word that this profile leaves out.
+//! The crate has no code.
+
+ghost use Rattle.end_to_end_laws.specs.read_programs.printed_words.Laws.{NoPrintedWordIsLeftOut};
+
+/// A program that can be printed is printed without words that are left out.
+pub fn no_printed_word_is_left_out()
+    ensures { NoPrintedWordIsLeftOut }
+{}

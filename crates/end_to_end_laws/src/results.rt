@@ -1,0 +1,15 @@
+//! What a program that is read is split into is structured, behaves as the program, and reads back.
+//!
+//! Begin with `specs/results/read_headline/Laws.antt` and `specs/results/readable_results/Laws.antt`; hold them
+//! against "The headline" in docs/PROMISES.md. The other modules say from what the second follows:
+//! what a result declares, that its words and parts fit, and what its procedures are called.
+//! Nothing here runs.
+
+pub mod added_reading;
+pub mod fit_sources;
+pub mod read_headline;
+pub mod readable_results;
+pub mod result_bodies;
+pub mod result_entries;
+pub mod result_procedures;
+pub mod result_words;

@@ -1,9 +1,0 @@
-use Rattle.std.proofs.Common.{◌≡◌}
-use Rattle.exit_rules.proofs.ExitRows.{Further}
-use Rattle.exit_rules.proofs.targets.insert_label.Given as goal
-
-abbrev pub invariant-loop-at : goal.invariant-loop-at
-invariant-loop-at l = record {
-  same : l.labels ≡ l.fn.labels;
-  further : Further l.label l.fn.labels.items l.at;
-}

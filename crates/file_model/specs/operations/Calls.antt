@@ -1,0 +1,88 @@
+-- What a call makes of the devices of a bench.
+use Rattle.std.specs.Prelude.{ℕ, suc, ◌≡◌, Bool, true, List, ◌∷◌, ◌++◌, map, take, drop, Option, Some, None, IsSome, slice_get, slice_set}
+use Rattle.cob_tree.specs.declared.file.FileEntry.{FileEntry}
+use Rattle.file_model.specs.declared.mem_file.MemFile.{MemFile}
+use Rattle.file_model.specs.declared.table.FileRow.{FileRow}
+use Rattle.file_model.specs.Attempts.{Address, Attempt, address_of}
+use Rattle.file_model.specs.Told.{Counts}
+use Rattle.file_model.specs.World.{World}
+use Rattle.file_model.specs.declared.operations.tried.Tried.{Tried}
+use Rattle.file_model.specs.declared.operations.tried.Tried.TheVariants as tried
+use Rattle.file_model.specs.operations.Seen.{Seen, device_found, device_put, device_taken}
+use Rattle.file_model.specs.operations.Standing.{Stands, without}
+
+-- where each file of a program is
+abbrev pub addresses_of : List FileEntry → List Address
+addresses_of files = map (λ file. address_of file.assign) files
+
+-- the device at a place was called, and what its call says of the files holds; where it told them
+-- it still does
+pub record Called (at : ℕ) (Tells : Option (List MemFile) → Option (List MemFile) → Type 0)
+    (fails : Bool) (old new : List Seen) : Type 0 where
+  pub before : Seen
+  pub after : Seen
+  pub here : slice_get old at ≡ Some before
+  pub there : new ≡ slice_set old at after
+  pub named : after.name ≡ before.name
+  pub tells : Tells before.files after.files
+  pub telling : IsSome before.files → IsSome after.files
+  pub counted : Counts fails before.faults after.faults
+
+-- the device at a place was taken off: it stands right behind the bench
+pub record TakenOff (at left left_now : ℕ) (old new : List Seen) : Type 0 where
+  pub device : Seen
+  pub less : suc left_now ≡ left
+  pub here : slice_get old at ≡ Some device
+  pub bench : take left_now new ≡ take at (take left old) ++ drop (suc at) (take left old)
+  pub behind : drop left_now new ≡ device ∷ drop left old
+
+-- ---- the devices after an operation
+
+-- a device's name and its count stay, and where it told its files it still does
+abbrev pub SameBut : Option Seen → Seen → Type 0
+SameBut None now = Unit {0}
+SameBut (Some device) now =
+    (now.name ≡ device.name) × (now.faults ≡ device.faults)
+    × (IsSome device.files → IsSome now.files)
+
+-- at most the files of the first device of that name changed
+pub record Kept (name : List ℕ) (left left_now : ℕ) (old new : List Seen) : Type 0 where
+  pub device : Seen
+  pub count : left_now ≡ left
+  pub bench : take left new ≡ device_put name device (take left old)
+  pub behind : drop left new ≡ drop left old
+  pub same : SameBut (device_found name (take left old)) device
+
+-- the first device of that name failed: it stands right behind the bench
+pub record TookOff (name : List ℕ) (left left_now : ℕ) (old new : List Seen) : Type 0 where
+  pub before : Seen
+  pub after : Seen
+  pub less : suc left_now ≡ left
+  pub found : device_found name (take left old) ≡ Some before
+  pub bench : take left_now new ≡ device_taken name (take left old)
+  pub behind : drop left_now new ≡ after ∷ drop left old
+  pub named : after.name ≡ before.name
+  pub counted : Counts true before.faults after.faults
+
+abbrev pub Leaves : Tried → List ℕ → (left left_now : ℕ) → (old new : List Seen) → Type 0
+Leaves tried.Failed name left left_now old new = TookOff name left left_now old new
+Leaves (tried.Status status) name left left_now old new = Kept name left left_now old new
+Leaves tried.NoMemory name left left_now old new = Kept name left left_now old new
+
+-- ---- what an operation comes to in a world
+
+-- the attempt, or a device that is gone, or nothing
+abbrev pub Comes : Tried → List Address → List ℕ → List Seen → List FileRow → World → Attempt → Type 0
+Comes (tried.Status status) addresses name devices table world attempt =
+    (status ≡ attempt.status) × Stands addresses devices table attempt.world
+Comes tried.Failed addresses name devices table world attempt =
+    Stands addresses devices table (without name (device_found name devices) addresses world)
+Comes tried.NoMemory addresses name devices table world attempt =
+    Stands addresses devices table world
+
+-- the same of what breaks off alone: a device that is gone, or nothing
+abbrev pub Breaks : Tried → List Address → List ℕ → List Seen → List FileRow → World → Type 0
+Breaks (tried.Status status) addresses name devices table world = Unit {0}
+Breaks tried.Failed addresses name devices table world =
+    Stands addresses devices table (without name (device_found name devices) addresses world)
+Breaks tried.NoMemory addresses name devices table world = Stands addresses devices table world

@@ -1,0 +1,132 @@
+//! CLOSE, and the end of a run.
+
+ghost use Rattle.std.specs.Prelude.{◌≡◌, ◌≢◌, ◌<◌, ◌^◌, Some, false, length, map, slice_get, slice_set, take};
+ghost use Rattle.file_model.specs.Status.{closed_row};
+ghost use Rattle.file_model.specs.Attempts.{Address, closed_at};
+ghost use Rattle.file_model.specs.World.{World};
+ghost use Rattle.file_model.specs.operations.Calls.{Comes, Leaves, addresses_of};
+ghost use Rattle.file_model.specs.operations.Falling.{FallsIf};
+ghost use Rattle.file_model.specs.operations.Shutting.{ShutsAll, ShutsOnShelves, ShutsOne};
+ghost use Rattle.file_model.specs.operations.Standing.{Stands, TellAll};
+
+use crate::operations::address::{device_of, name_of};
+use crate::operations::calls::close_at;
+use crate::operations::finding::first_of;
+use crate::operations::taking::fail;
+use crate::operations::tried::{Tried, noted};
+use crate::operations::watched::Watched;
+use crate::{Bench, Device, FileTable, Put};
+use cob_tree::FileEntry;
+
+fn shut(table: &mut FileTable, file: u32) -> Tried
+    requires { file < length table.old.rows }
+    ensures rows { length table.new.rows ≡ length table.old.rows }
+    ensures answer { result ≡ Tried.Status 0 }
+    ensures table { table.new.rows ≡ slice_set table.old.rows file closed_row }
+{
+    table.note_close(file);
+    Tried::Status(0)
+}
+
+/// CLOSE: 42 where the file isn't open. It takes no memory.
+pub fn close(bench: &mut Bench, table: &mut FileTable, files: &[FileEntry], file: u32) -> Tried
+    requires rows { length table.old.rows ≡ length files.now }
+    requires few { length files.now < 2 ^ 32 }
+    requires file { file < length files.now }
+    ensures rows { length table.new.rows ≡ length table.old.rows }
+    ensures memory { result ≢ Tried.NoMemory }
+    ensures bench { (address : Address) → slice_get (addresses_of files.now) file ≡ Some address →
+        Leaves result address.device bench.old.left bench.new.left
+        (map ⟦<Box<dyn Device> as Watched>⟧.seen bench.old.devices.items)
+        (map ⟦<Box<dyn Device> as Watched>⟧.seen bench.new.devices.items) }
+    ensures world { (world : World) (address : Address) →
+        slice_get (addresses_of files.now) file ≡ Some address →
+        Stands (addresses_of files.now)
+        (take bench.old.left (map ⟦<Box<dyn Device> as Watched>⟧.seen bench.old.devices.items))
+        table.old.rows world →
+        Comes result (addresses_of files.now) address.device
+        (take bench.new.left (map ⟦<Box<dyn Device> as Watched>⟧.seen bench.new.devices.items))
+        table.new.rows world (closed_at world file) }
+{
+    let status = table.may_close(file);
+    if status != 0 {
+        return noted(table, file, status);
+    }
+    let assign = files[file as usize].assign.as_slice();
+    match first_of(bench, device_of(assign)) {
+        None => noted(table, file, 30),
+        Some(at) => match close_at(bench, at, name_of(assign)) {
+            Put::Done => shut(table, file),
+            Put::Failed => fail(bench, table, files, at),
+            Put::NoMemory => Tried::NoMemory,
+        },
+    }
+}
+
+// Closes a file where it is open, and says whether its device failed.
+fn close_if_open(bench: &mut Bench, table: &mut FileTable, files: &[FileEntry], file: u32) -> bool
+    requires rows { length table.old.rows ≡ length files.now }
+    requires few { length files.now < 2 ^ 32 }
+    requires file { file < length files.now }
+    ensures rows { length table.new.rows ≡ length table.old.rows }
+    ensures bench { FallsIf result bench.old.left bench.new.left
+        (map ⟦<Box<dyn Device> as Watched>⟧.seen bench.old.devices.items)
+        (map ⟦<Box<dyn Device> as Watched>⟧.seen bench.new.devices.items) }
+    ensures world { (world : World) →
+        Stands (addresses_of files.now)
+        (take bench.old.left (map ⟦<Box<dyn Device> as Watched>⟧.seen bench.old.devices.items))
+        table.old.rows world →
+        ShutsOne (addresses_of files.now)
+        (take bench.new.left (map ⟦<Box<dyn Device> as Watched>⟧.seen bench.new.devices.items))
+        table.new.rows file result world }
+    ensures telling { TellAll (take bench.old.left
+        (map ⟦<Box<dyn Device> as Watched>⟧.seen bench.old.devices.items))
+        → TellAll (take bench.new.left
+        (map ⟦<Box<dyn Device> as Watched>⟧.seen bench.new.devices.items)) }
+{
+    if table.may_close(file) != 0 {
+        return false;
+    }
+    match close(bench, table, files, file) {
+        Tried::Failed => true,
+        Tried::Status(_) => false,
+        Tried::NoMemory => false,
+    }
+}
+
+/// Closes every file that is open, in their order, on the devices that are left, and says whether a
+/// device failed.
+pub fn close_open(bench: &mut Bench, table: &mut FileTable, files: &[FileEntry]) -> bool
+    requires rows { length table.old.rows ≡ length files.now }
+    requires few { length files.now < 2 ^ 32 }
+    ensures rows { length table.new.rows ≡ length table.old.rows }
+    ensures bench { FallsIf result bench.old.left bench.new.left
+        (map ⟦<Box<dyn Device> as Watched>⟧.seen bench.old.devices.items)
+        (map ⟦<Box<dyn Device> as Watched>⟧.seen bench.new.devices.items) }
+    ensures world { (world : World) →
+        Stands (addresses_of files.now)
+        (take bench.old.left (map ⟦<Box<dyn Device> as Watched>⟧.seen bench.old.devices.items))
+        table.old.rows world →
+        ShutsAll (addresses_of files.now)
+        (take bench.new.left (map ⟦<Box<dyn Device> as Watched>⟧.seen bench.new.devices.items))
+        table.new.rows (length files.now) result world }
+    ensures shelves { result ≡ false → (world : World) →
+        Stands (addresses_of files.now)
+        (take bench.old.left (map ⟦<Box<dyn Device> as Watched>⟧.seen bench.old.devices.items))
+        table.old.rows world →
+        ShutsOnShelves (addresses_of files.now)
+        (take bench.new.left (map ⟦<Box<dyn Device> as Watched>⟧.seen bench.new.devices.items))
+        table.new.rows world }
+    ensures telling { TellAll (take bench.old.left
+        (map ⟦<Box<dyn Device> as Watched>⟧.seen bench.old.devices.items))
+        → TellAll (take bench.new.left
+        (map ⟦<Box<dyn Device> as Watched>⟧.seen bench.new.devices.items)) }
+{
+    let mut failed = false;
+    for file in 0..files.len() {
+        if close_if_open(bench, table, files, file as u32) {
+            failed = true;
+        }
+    }
+    failed
+}

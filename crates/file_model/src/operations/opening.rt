@@ -1,0 +1,83 @@
+//! OPEN.
+
+ghost use Rattle.std.specs.Prelude.{◌≡◌, ◌<◌, ◌^◌, Some, length, map, slice_get, slice_set, take};
+ghost use Rattle.file_model.specs.Attempts.{Address, opened_at};
+ghost use Rattle.file_model.specs.Status.{opened_row};
+ghost use Rattle.file_model.specs.World.{World};
+ghost use Rattle.file_model.specs.operations.Calls.{Breaks, Comes, Leaves, addresses_of};
+ghost use Rattle.file_model.specs.operations.Standing.{IsTold, Stands};
+ghost use Rattle.file_model.specs.operations.Seen.{device_found};
+
+use crate::operations::address::{device_of, is_refused, name_of};
+use crate::operations::calls::open_at;
+use crate::operations::finding::first_of;
+use crate::operations::taking::fail;
+use crate::operations::tried::{Tried, noted};
+use crate::operations::watched::Watched;
+use crate::{Bench, Device, FileTable, Opened};
+use cob_tree::{FileEntry, How};
+
+fn opened(table: &mut FileTable, file: u32, how: How) -> Tried
+    requires { file < length table.old.rows }
+    ensures rows { length table.new.rows ≡ length table.old.rows }
+    ensures answer { result ≡ Tried.Status 0 }
+    ensures table { table.new.rows ≡ slice_set table.old.rows file (opened_row how) }
+{
+    table.note_open(file, how);
+    Tried::Status(0)
+}
+
+/// OPEN: 41 where the file is open; 30 where its name can't be opened, another file of the program
+/// is open there, or no device of the name is on the bench; 35 where it is missing.
+pub fn open(
+    bench: &mut Bench,
+    table: &mut FileTable,
+    files: &[FileEntry],
+    file: u32,
+    how: How,
+) -> Tried
+    requires rows { length table.old.rows ≡ length files.now }
+    requires few { length files.now < 2 ^ 32 }
+    requires file { file < length files.now }
+    ensures rows { length table.new.rows ≡ length table.old.rows }
+    ensures bench { (address : Address) → slice_get (addresses_of files.now) file ≡ Some address →
+        Leaves result address.device bench.old.left bench.new.left
+        (map ⟦<Box<dyn Device> as Watched>⟧.seen bench.old.devices.items)
+        (map ⟦<Box<dyn Device> as Watched>⟧.seen bench.new.devices.items) }
+    ensures world { (world : World) (address : Address) →
+        slice_get (addresses_of files.now) file ≡ Some address →
+        Stands (addresses_of files.now)
+        (take bench.old.left (map ⟦<Box<dyn Device> as Watched>⟧.seen bench.old.devices.items))
+        table.old.rows world →
+        IsTold (device_found address.device
+        (take bench.old.left (map ⟦<Box<dyn Device> as Watched>⟧.seen bench.old.devices.items))) →
+        Comes result (addresses_of files.now) address.device
+        (take bench.new.left (map ⟦<Box<dyn Device> as Watched>⟧.seen bench.new.devices.items))
+        table.new.rows world (opened_at world (addresses_of files.now) file address how) }
+    ensures gone { (world : World) (address : Address) →
+        slice_get (addresses_of files.now) file ≡ Some address →
+        Stands (addresses_of files.now)
+        (take bench.old.left (map ⟦<Box<dyn Device> as Watched>⟧.seen bench.old.devices.items))
+        table.old.rows world →
+        Breaks result (addresses_of files.now) address.device
+        (take bench.new.left (map ⟦<Box<dyn Device> as Watched>⟧.seen bench.new.devices.items))
+        table.new.rows world }
+{
+    let status = table.may_open(file);
+    if status != 0 {
+        return noted(table, file, status);
+    }
+    let assign = files[file as usize].assign.as_slice();
+    if is_refused(files, table.rows.as_slice(), assign) {
+        return noted(table, file, 30);
+    }
+    match first_of(bench, device_of(assign)) {
+        None => noted(table, file, 30),
+        Some(at) => match open_at(bench, at, name_of(assign), how) {
+            Opened::Ready => opened(table, file, how),
+            Opened::Missing => noted(table, file, 35),
+            Opened::Failed => fail(bench, table, files, at),
+            Opened::NoMemory => Tried::NoMemory,
+        },
+    }
+}

@@ -1,5 +1,0 @@
-use Rattle.fit_stmts.proofs.fit_control_lemmas.Written.{sentence-fits}
-use Rattle.fit_stmts.proofs.fit_control.written_sentences_fit.Goals as goal
-
-pub returns : goal.returns
-returns c naming kinds begins enough fits procedures names procedure h s = sentence-fits naming kinds begins enough fits procedures names procedure h s

@@ -1,0 +1,22 @@
+-- How large what stands in trees is.
+use Rattle.std.specs.Prelude.{ℕ, Bool, if◌then◌else◌}
+use Rattle.control_flow_theory.specs.lowering.Completes.{size, sizes}
+use Rattle.control_flow_theory.specs.graph_rules.Shapes.{arm_stmts}
+use Rattle.branch_tree.specs.Trees.{seen_piece, seen_tree, stated}
+use Rattle.branch_tree.specs.declared.tree.Leaves.{Leaves}
+use Rattle.branch_tree.specs.declared.tree.Piece.{Piece}
+use Rattle.branch_tree.specs.declared.tree.Tree.{Tree}
+
+abbrev pub piece_size : Piece → ℕ
+piece_size piece = size (seen_piece piece)
+
+-- an arm that became statements
+abbrev pub arm_size : Tree → ℕ
+arm_size arm = sizes (arm_stmts (seen_tree arm))
+
+-- a tree within a loop
+abbrev pub within_size : Leaves → Tree → ℕ
+within_size leaves tree = sizes (stated leaves (seen_tree tree))
+
+abbrev pub unless : Bool → ℕ
+unless nothing = if nothing then 0 else 1

@@ -1,0 +1,8 @@
+//! How large graphs are: their labels, and the statements in their trees.
+//!
+//! Statements are counted as they are written in the theory of control, those that a statement
+//! holds included; a choice at the end of a tree is none (`specs/graph_sizes/Sizes.antt`).
+
+mod sizing;
+
+pub use crate::graph_sizes::sizing::{graph_size, tree_size};

@@ -1,5 +1,0 @@
-use Rattle.flow_paths.proofs.Finding.{faulty-trail}
-use Rattle.flow_paths.proofs.laws.faulty_has_trail.Goals as goal
-
-pub returns : goal.returns
-returns c = λ never_first program main_is there faulty. faulty-trail never_first program main_is there faulty

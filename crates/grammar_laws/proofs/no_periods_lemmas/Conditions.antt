@@ -1,0 +1,388 @@
+-- Conditions take no period.
+use Rattle.std.proofs.Common.{ℕ, zero, suc, Bool, true, false, List, Option, Some, None, refl}
+use Rattle.std.specs.Prelude.{codes}
+use Rattle.cob_base.specs.Bytes.{left_parenthesis, right_parenthesis}
+use Rattle.cob_tree.specs.declared.cond.ClassKind.{ClassKind}
+use Rattle.cob_tree.specs.declared.cond.Cond.{Cond}
+use Rattle.cob_tree.specs.declared.cond.Rel.{Rel}
+use Rattle.parser_combinators.specs.declared.note.Position.{Position}
+use Rattle.parser_combinators.specs.Form.{Form}
+use Rattle.grammar_laws.proofs.no_periods_lemmas.Makers.{pure, refuse, note, one, key, mark, maybe, chosen, where_next, loop, too_deep, ◌>>=◌, ◌>>◌, ◌<$>◌}
+use Rattle.symbol_tables.specs.data_names.Names.{Names}
+use Rattle.cobol_grammar.specs.declared.expr_forms.side.Shape.{Shape}
+use Rattle.cobol_grammar.specs.declared.expr_forms.side.Shape.TheVariants as shapes
+use Rattle.cobol_grammar.specs.declared.expr_forms.side.Side.{Side}
+use Rattle.cobol_grammar.specs.declared.expr_forms.side.What.{What}
+use Rattle.cobol_grammar.specs.declared.expr_forms.side.What.TheVariants as whats
+use Rattle.cobol_grammar.specs.expr_forms.Fault as faults
+use Rattle.cobol_grammar.specs.expr_forms.Limit as limits
+use Rattle.cobol_grammar.specs.expr_forms.Limit.{Inner}
+use Rattle.grammar_laws.proofs.no_periods_lemmas.Expressions as law
+use Rattle.grammar_laws.proofs.no_periods_lemmas.Expressions.{InnerPlain, tally}
+use Rattle.cobol_grammar.specs.declared.cond_forms.part.Joined.{Joined}
+use Rattle.cobol_grammar.specs.declared.cond_forms.part.Part.{Part}
+use Rattle.cobol_grammar.specs.declared.cond_forms.test.Primary.{Primary}
+use Rattle.cobol_grammar.specs.declared.cond_forms.test.Primary.TheVariants as prims
+use Rattle.cobol_grammar.specs.declared.cond_forms.test.Read.{Read}
+use Rattle.cobol_grammar.specs.declared.cond_forms.test.Setting.{Setting}
+use Rattle.cobol_grammar.specs.cond_forms.Token as tokens
+use Rattle.cobol_grammar.specs.cond_forms.Relation as relations
+use Rattle.cobol_grammar.specs.cond_forms.Test as tests
+use Rattle.cobol_grammar.specs.cond_forms.Primary as primaries
+use Rattle.cobol_grammar.specs.cond_forms.Alone as alones
+use Rattle.cobol_grammar.specs.cond_forms.Neg as negs
+use Rattle.cobol_grammar.specs.cond_forms.Condition as conditions
+use Rattle.grammar_laws.specs.no_periods.Plain.{Plain}
+
+-- ---- rel
+
+pub or_equal : (negated : Bool) (narrow wide : Rel) →
+    Plain (relations.or_equal negated narrow wide)
+unfolding relations.or_equal
+or_equal true narrow wide = pure
+or_equal false narrow wide =
+    where_next (key (codes "OR") >> (key (codes "EQUAL") >> (maybe
+    (codes "TO") >> pure))) pure
+
+pub equal : (negated : Bool) → Plain (relations.equal negated)
+unfolding relations.equal
+equal negated = key (codes "EQUAL") >> (maybe (codes "TO") >> pure)
+
+pub ordered : (word : List ℕ) (negated : Bool) (narrow wide : Rel) →
+    Plain (relations.ordered word negated narrow wide)
+unfolding relations.ordered
+ordered word negated narrow wide =
+    key word >> (maybe (codes "THAN") >> or_equal negated narrow wide)
+
+pub sign_rel : (negated : Bool) → Plain (relations.sign_rel negated)
+unfolding relations.sign_rel
+sign_rel negated = _ <$> one (λ position kind. tokens.rel_of kind) (λ position. refl)
+
+pub other_rel : (negated : Bool) → Plain (relations.other_rel negated)
+unfolding relations.other_rel
+other_rel negated = where_next (ordered _ negated _ _) (sign_rel negated)
+
+pub rel : (negated : Bool) → Plain (relations.rel negated)
+unfolding relations.rel
+rel negated = where_next (equal negated) (where_next (ordered _ negated _ _) (other_rel negated))
+
+-- ---- tests
+
+pub relation : (names : Names) {inner : Inner} → InnerPlain inner →
+    (negated : Bool) (left : Side) (before count : ℕ) →
+    Plain (tests.relation names inner negated left before count)
+unfolding tests.relation
+relation names I negated left before count = do
+  sign ← rel negated
+  right ← law.expr names I count
+  note
+  note
+  note
+  pure
+
+pub sign_test : (negated : Bool) (left : Side) (count : ℕ) →
+    Plain (tests.sign_test negated left count)
+unfolding tests.sign_test
+sign_test negated left count = one (λ position kind. tokens.sign_of kind) (λ position. refl) >>= (λ sign. note >> pure)
+
+pub class_of_ref : (negated : Bool) (class : ClassKind) (what : What) (count : ℕ) →
+    Plain (tests.class_of_ref negated class what count)
+unfolding tests.class_of_ref
+class_of_ref negated class (whats.Ref place) count = pure
+class_of_ref negated class (whats.Literal operand) count = refuse
+class_of_ref negated class (whats.Enclosed place) count = refuse
+class_of_ref negated class (whats.Sum expr) count = refuse
+
+pub class_test : (negated : Bool) (left : Side) (count : ℕ) →
+    Plain (tests.class_test negated left count)
+unfolding tests.class_test
+class_test negated left count =
+    one (λ position kind. tokens.class_of kind) (λ position. refl) >>=
+    (λ class. note >> class_of_ref negated class left.what count)
+
+pub untested : (end : Option Bool) (left : Side) (count : ℕ) →
+    Plain (tests.untested end left count)
+unfolding tests.untested
+untested None left count = refuse
+untested (Some not_read) left count = pure
+
+pub class_or : (shape : Shape) (negated : Bool) (end : Option Bool) (left : Side) (count : ℕ) →
+    Plain (tests.class_or shape negated end left count)
+unfolding tests.class_or
+class_or shapes.Ref negated end left count =
+    where_next (class_test negated left count) (untested end left count)
+class_or shapes.Literal negated end left count = untested end left count
+class_or shapes.Enclosed negated end left count = untested end left count
+class_or shapes.Sum negated end left count = untested end left count
+
+pub one_test : (names : Names) {inner : Inner} → InnerPlain inner →
+    (negated : Bool) (end : Option Bool) (left : Side) (before count : ℕ) →
+    Plain (tests.one_test names inner negated end left before count)
+unfolding tests.one_test
+one_test names I negated end left before count =
+    where_next (relation names I negated left before count)
+    (where_next (sign_test negated left count)
+    (class_or _ negated end left count))
+
+pub not_test : (names : Names) {inner : Inner} → InnerPlain inner →
+    (end : Option Bool) (left : Side) (before count : ℕ) →
+    Plain (tests.not_test names inner end left before count)
+unfolding tests.not_test
+not_test names I end left before count =
+    key (codes "NOT") >> one_test names I true end left before count
+
+pub behind_is : (names : Names) {inner : Inner} → InnerPlain inner →
+    (left : Side) (before count : ℕ) → Plain (tests.behind_is names inner left before count)
+unfolding tests.behind_is
+behind_is names I left before count =
+    key (codes "IS") >> where_next (not_test names I None left before count)
+    (one_test names I false None left before count)
+
+pub tested : (names : Names) {inner : Inner} → InnerPlain inner → (left : Side) (before count : ℕ) →
+    Plain (tests.tested names inner left before count)
+unfolding tests.tested
+tested names I left before count =
+    where_next (behind_is names I left before count)
+    (where_next (not_test names I (Some true) left before count) (one_test names I false
+    (Some false) left before count))
+
+-- ---- prim
+
+pub side_prim : (names : Names) {inner : Inner} → InnerPlain inner →
+    (before : ℕ) (side : Side) (count : ℕ) →
+    Plain (primaries.side_prim names inner before side count)
+unfolding primaries.side_prim
+side_prim names I before side count =
+    law.sum names I side count >>= (λ left. tested names I left.0 before left.1)
+
+pub prim_behind : (names : Names) {inner : Inner} → InnerPlain inner →
+    (before : ℕ) (prim : Primary) (count : ℕ) →
+    Plain (primaries.prim_behind names inner before prim count)
+unfolding primaries.prim_behind
+prim_behind names I before (prims.Test cond setting) count = pure
+prim_behind names I before (prims.Alone side) count = side_prim names I before side count
+
+pub expr_prim : (names : Names) {inner : Inner} → InnerPlain inner → (count : ℕ) →
+    Plain (primaries.expr_prim names inner count)
+unfolding primaries.expr_prim
+expr_prim names I count =
+    law.unary names I count >>= (λ first. side_prim names I count first.0 first.1)
+
+pub parens_prim : (names : Names) {inner : Inner} → InnerPlain inner → {content : ℕ → Form Read} →
+    ((count : ℕ) → Plain (content count)) → (count : ℕ) →
+    Plain (primaries.parens_prim names inner content count)
+unfolding primaries.parens_prim
+parens_prim names I C count = C count >>= (λ read. prim_behind names I count read.prim read.count)
+
+pub prim : (names : Names) {inner : Inner} → InnerPlain inner → {content : ℕ → Form Read} →
+    ((count : ℕ) → Plain (content count)) → (count : ℕ) →
+    Plain (primaries.prim names inner content count)
+unfolding primaries.prim
+prim names I C count = where_next (parens_prim names I C count) (expr_prim names I count)
+
+-- ---- an expression without test
+
+pub carried : (setting : Setting) (right : Side) (count : ℕ) (not_read : Bool) →
+    Plain (alones.carried setting right count not_read)
+unfolding alones.carried
+carried setting right count not_read = do
+  more ← tally count setting.terms
+  note
+  note
+  pure
+
+pub named_by : (negated : Bool) (what : What) (count : ℕ) (not_read : Bool) →
+    Plain (alones.named_by negated what count not_read)
+unfolding alones.named_by
+named_by negated (whats.Ref place) count not_read = pure
+named_by negated (whats.Enclosed place) count not_read = pure
+named_by negated (whats.Literal operand) count not_read = refuse
+named_by negated (whats.Sum expr) count not_read = refuse
+
+pub named : (negated : Bool) (side : Side) (count : ℕ) (not_read : Bool) →
+    Plain (alones.named negated side count not_read)
+unfolding alones.named
+named negated side count not_read = note >> named_by negated side.what count not_read
+
+pub kept : (setting : Setting) (what : What) (count : ℕ) (not_read : Bool) →
+    Plain (alones.kept setting what count not_read)
+unfolding alones.kept
+kept setting (whats.Ref place) count not_read = pure
+kept setting (whats.Enclosed place) count not_read = refuse
+kept setting (whats.Literal operand) count not_read = refuse
+kept setting (whats.Sum expr) count not_read = refuse
+
+pub ref_part : (negated : Bool) (setting : Option Setting) (side : Side) (count : ℕ)
+    (not_read : Bool) → Plain (alones.ref_part negated setting side count not_read)
+unfolding alones.ref_part
+ref_part false (Some setting) side count not_read =
+    chosen (faults.is_condition side.kind) (kept setting side.what count not_read)
+    (carried setting side count not_read)
+ref_part false None side count not_read = named false side count not_read
+ref_part true setting side count not_read = named true side count not_read
+
+pub literal_part : (negated : Bool) (setting : Option Setting) (side : Side) (count : ℕ)
+    (not_read : Bool) → Plain (alones.literal_part negated setting side count not_read)
+unfolding alones.literal_part
+literal_part false (Some setting) side count not_read = carried setting side count not_read
+literal_part false None side count not_read = refuse
+literal_part true setting side count not_read = refuse
+
+pub part_by_shape : (shape : Shape) (negated : Bool) (setting : Option Setting) (side : Side)
+    (count : ℕ) (not_read : Bool) →
+    Plain (alones.part_by_shape shape negated setting side count not_read)
+unfolding alones.part_by_shape
+part_by_shape shapes.Ref negated setting side count not_read =
+    ref_part negated setting side count not_read
+part_by_shape shapes.Literal negated setting side count not_read =
+    literal_part negated setting side count not_read
+part_by_shape shapes.Enclosed negated setting side count not_read =
+    named negated side count not_read
+part_by_shape shapes.Sum negated setting side count not_read = refuse
+
+pub alone_part : (negated : Bool) (setting : Option Setting) (side : Side) (count : ℕ)
+    (not_read : Bool) → Plain (alones.alone_part negated setting side count not_read)
+unfolding alones.alone_part
+alone_part negated setting side count not_read = part_by_shape _ negated setting side count not_read
+
+pub part_by : (negated : Bool) (setting : Option Setting) (prim : Primary) (count : ℕ)
+    (not_read : Bool) → Plain (alones.part_by negated setting prim count not_read)
+unfolding alones.part_by
+part_by negated setting (prims.Test cond after) count not_read = pure
+part_by negated setting (prims.Alone side) count not_read =
+    alone_part negated setting side count not_read
+
+-- ---- neg
+
+pub abbreviated_by : (names : Names) {inner : Inner} → InnerPlain inner →
+    (negated : Bool) (setting : Setting) (count : ℕ) →
+    Plain (negs.abbreviated_by names inner negated setting count)
+unfolding negs.abbreviated_by
+abbreviated_by names I negated setting count = do
+  more ← tally count setting.terms
+  sign ← rel negated
+  right ← law.operand names I more
+  note
+  note
+  pure
+
+pub abbreviated : (names : Names) {inner : Inner} → InnerPlain inner →
+    (negated : Bool) (setting : Option Setting) (count : ℕ) →
+    Plain (negs.abbreviated names inner negated setting count)
+unfolding negs.abbreviated
+abbreviated names I negated None count = refuse
+abbreviated names I negated (Some setting) count = abbreviated_by names I negated setting count
+
+pub close_cond : (part : Part) → Plain (conditions.close_cond part)
+unfolding conditions.close_cond
+close_cond part = chosen part.not_read refuse (mark right_parenthesis >> pure)
+
+pub close_side : (position : Position) (side : Side) (count : ℕ) →
+    Plain (conditions.close_side position side count)
+unfolding conditions.close_side
+close_side position side count = mark right_parenthesis >> pure
+
+module _ (names : Names) {inner : Inner} (I : InnerPlain inner) {content : ℕ → Form Read} (C :
+    (count : ℕ) → Plain (content count)) where
+  pub prim_part : (negated : Bool) (setting : Option Setting) (count : ℕ) →
+      Plain (negs.prim_part names inner content negated setting count)
+  unfolding negs.prim_part
+  prim_part negated setting count = prim names I C count >>=
+      (λ read. part_by negated setting read.prim read.count read.not_read)
+
+  pub behind_not : (setting : Option Setting) (count : ℕ) →
+      Plain (negs.behind_not names inner content setting count)
+  unfolding negs.behind_not
+  behind_not setting count = where_next (abbreviated names I true setting count)
+      (tally count 1 >>= (λ more. prim_part true setting more))
+
+  pub not_neg : (setting : Option Setting) (count : ℕ) →
+      Plain (negs.not_neg names inner content setting count)
+  unfolding negs.not_neg
+  not_neg setting count = key (codes "NOT") >> behind_not setting count
+
+  pub neg : (setting : Option Setting) (count : ℕ) →
+      Plain (negs.neg names inner content setting count)
+  unfolding negs.neg
+  neg setting count =
+      where_next (not_neg setting count)
+      (where_next (abbreviated names I false setting count) (prim_part false setting count))
+
+  -- ---- cond
+
+  pub and_part : (before : Option Cond) (left : Cond) (setting : Option Setting) (count : ℕ) →
+      Plain (conditions.and_part names inner content before left setting count)
+  unfolding conditions.and_part
+  and_part before left setting count = do
+    key (codes "AND")
+    next ← neg setting count
+    pure
+
+  pub or_part : (before : Option Cond) (left : Cond) (setting : Option Setting) (count : ℕ) →
+      Plain (conditions.or_part names inner content before left setting count)
+  unfolding conditions.or_part
+  or_part before left setting count = do
+    key (codes "OR")
+    next ← neg setting count
+    pure
+
+  pub join : (state : Joined) → Plain (conditions.join names inner content state)
+  unfolding conditions.join
+  join state = chosen state.part.not_read refuse
+      (where_next (and_part _ _ state.part.setting state.part.count)
+      (or_part _ _ state.part.setting state.part.count))
+
+  pub conds_from : (first : Part) → Plain (conditions.conds_from names inner content first)
+  unfolding conditions.conds_from
+  conds_from first = loop join >>= (λ state. pure)
+
+  pub cond_with : (count : ℕ) → Plain (conditions.cond_with names inner content count)
+  unfolding conditions.cond_with
+  cond_with count = neg None count >>= conds_from
+
+  -- ---- in parentheses
+
+  pub content_from : (first : Part) → Plain (conditions.content_from names inner content first)
+  unfolding conditions.content_from
+  content_from first = conds_from first >>= close_cond
+
+  pub alone_content : (side : Side) (count : ℕ) (not_read : Bool) →
+      Plain (conditions.alone_content names inner content side count not_read)
+  unfolding conditions.alone_content
+  alone_content side count not_read = alone_part false None side count not_read >>= content_from
+
+  pub content_by : (position : Position) (prim : Primary) (count : ℕ) (not_read : Bool) →
+      Plain (conditions.content_by names inner content position prim count not_read)
+  unfolding conditions.content_by
+  content_by position (prims.Alone side) count false = where_next (close_side position side count)
+      (alone_content side count false)
+  content_by position (prims.Alone side) count true = alone_content side count true
+  content_by position (prims.Test cond after) count not_read = content_from _
+
+  pub neg_content : (count : ℕ) → Plain (conditions.neg_content names inner content count)
+  unfolding conditions.neg_content
+  neg_content count = neg None count >>= content_from
+
+  pub prim_content : (position : Position) (count : ℕ) →
+      Plain (conditions.prim_content names inner content position count)
+  unfolding conditions.prim_content
+  prim_content position count = prim names I C count >>=
+      (λ read. content_by position read.prim read.count read.not_read)
+
+  pub in_content : (count : ℕ) → Plain (conditions.in_content names inner content count)
+  unfolding conditions.in_content
+  in_content count = mark left_parenthesis >>=
+      (λ position. where_next (neg_content count) (prim_content position count))
+
+pub content : (names : Names) (levels count : ℕ) → Plain (conditions.content names levels count)
+unfolding conditions.content
+content names zero count = too_deep
+content names (suc n) count = in_content names (law.inner names n) (content names n) count
+
+pub cond : (names : Names) → Plain (conditions.cond names)
+unfolding conditions.cond
+cond names = cond_with names (law.inner names limits.max_parens) (content names limits.max_parens) 0
+
+pub whole_cond : (names : Names) → Plain (conditions.whole_cond names)
+unfolding conditions.whole_cond
+whole_cond names = cond names >>= (λ part. pure)

@@ -1,0 +1,9 @@
+//! No token that statements take is a period, so that one ends each sentence. The crate has no
+//! code.
+
+ghost use Rattle.grammar_laws.specs.no_periods.Laws.{StatementsTakeNoPeriod};
+
+/// In a program with these names, entries and procedures no statement takes a period.
+pub fn statements_take_no_period()
+    ensures { StatementsTakeNoPeriod }
+{}

@@ -1,0 +1,11 @@
+//! The paragraphs that headers tell are those that the grammar reads: statements take no period and
+//! begin with no name, so that what stands behind a period is a header exactly where a paragraph or
+//! section begins. The crate has no code.
+
+ghost use Rattle.grammar_laws.specs.whole_counts.header_counts.Laws.{HeadersCountTheParagraphs};
+
+/// Where a PROCEDURE DIVISION is read, its headers tell as many paragraphs as it has, whatever
+/// names there are.
+pub fn headers_count_the_paragraphs()
+    ensures { HeadersCountTheParagraphs }
+{}

@@ -1,8 +1,0 @@
-use Rattle.std.proofs.Common.{◌≡◌, ◌-◌, ◌^◌, min, take, sum_by}
-use Rattle.branch_tree.specs.Graphs.{seen_node}
-use Rattle.graph_sizes.specs.Sizes.{node_size}
-use Rattle.graph_sizes.proofs.sizing.graph_size.Given as goal
-
-abbrev pub invariant-loop-node : goal.invariant-loop-node
-invariant-loop-node l =
-    l.count ≡ min (sum_by (λ node. node_size (seen_node node)) (take l.node-index l.node-items)) (2 ^ 64 - 1)

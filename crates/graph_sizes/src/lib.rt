@@ -1,9 +1,0 @@
-//! How large graphs are: their labels, and the statements in their trees.
-//!
-//! Statements are counted as they are written in the theory of control, those that a statement
-//! holds included; a choice at the end of a tree is none (`specs/Sizes.antt`).
-#![tactic(auto)]
-
-mod sizing;
-
-pub use sizing::{graph_size, tree_size};

@@ -1,5 +1,0 @@
-use Rattle.kept_rules.proofs.added_entries_lemmas.Kept.{added_entries_keep_rules}
-use Rattle.kept_rules.proofs.added_entries.added_entries_keep_rules.Goals as goal
-
-pub returns : goal.returns
-returns c = added_entries_keep_rules

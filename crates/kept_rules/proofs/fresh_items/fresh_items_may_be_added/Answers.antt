@@ -1,5 +1,0 @@
-use Rattle.kept_rules.proofs.fresh_items_lemmas.Program.{fresh_items_may_be_added}
-use Rattle.kept_rules.proofs.fresh_items.fresh_items_may_be_added.Goals as goal
-
-pub returns : goal.returns
-returns c = fresh_items_may_be_added

@@ -1,6 +1,0 @@
-use Rattle.kept_rules.proofs.printed_pictures_lemmas.Pictures.{pictures_read_back}
-use Rattle.kept_rules.proofs.printed_pictures_lemmas.Lengths.{picture-short}
-use Rattle.kept_rules.proofs.printed_pictures.pictures_read_back.Goals as goal
-
-pub returns : goal.returns
-returns c = record { back = pictures_read_back; short = picture-short }

@@ -1,9 +1,0 @@
-//! Items whose names are stems with the next numbers that make no word of a program may be added to
-//! it. The crate has no code.
-
-ghost use Rattle.kept_rules.specs.fresh_items.Laws.{FreshItemsMayBeAdded};
-
-/// Their names may be names, all are different, and none is a word of the program.
-pub fn fresh_items_may_be_added()
-    ensures { FreshItemsMayBeAdded }
-{}

@@ -1,9 +1,0 @@
-//! Drafts that say of a program's files and entries what these are declare exactly these, with no
-//! fault, where they keep the rules. The crate has no code.
-
-ghost use Rattle.kept_rules.specs.printed_declarations.Laws.{PrintedDivisionsDeclare};
-
-/// They declare the program's files and entries, with no fault.
-pub fn printed_divisions_declare()
-    ensures { PrintedDivisionsDeclare }
-{}

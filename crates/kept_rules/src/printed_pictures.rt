@@ -1,8 +1,0 @@
-//! The text that a picture is printed as is read back as that picture. The crate has no code.
-
-ghost use Rattle.kept_rules.specs.printed_pictures.Laws.{PicturesReadBack};
-
-/// The text that a picture is printed as is read back as that picture.
-pub fn pictures_read_back()
-    ensures { PicturesReadBack }
-{}

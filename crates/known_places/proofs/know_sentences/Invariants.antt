@@ -1,5 +1,0 @@
-use Rattle.std.proofs.Common.{◌≡◌}
-use Rattle.known_places.proofs.know_sentences.Given as goal
-
-abbrev pub invariant-loop-sentence : goal.invariant-loop-sentence
-invariant-loop-sentence l = l.areas ≡ l.initial.areas

@@ -1,9 +1,0 @@
-use Rattle.std.proofs.Common.{◌≡◌, ◌<◌, ◌^◌, ◌++◌, drop}
-use Rattle.lower_places.specs.Layout.{places_from, end_from}
-use Rattle.lower_places.proofs.layout.layout_of.Given as goal
-
-abbrev pub invariant-loop-paragraph : goal.invariant-loop-paragraph
-invariant-loop-paragraph l =
-    (l.places.items ++ places_from l.place (drop l.paragraph-index l.paragraph-items) ≡ places_from 0 l.paragraph-items)
-    × (end_from l.place (drop l.paragraph-index l.paragraph-items) ≡ end_from 0 l.paragraph-items)
-    × (end_from 0 l.paragraph-items < 2 ^ 31)

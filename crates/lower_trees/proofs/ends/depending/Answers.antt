@@ -1,8 +1,0 @@
-use Rattle.std.proofs.Common.{length, ap, ◌∙◌}
-use Rattle.language.specs.Language.{By, Depending}
-use Rattle.control.specs.Graph.{Pick}
-use Rattle.lower_trees.proofs.ends.depending.Goals as goal
-
-pub returns-in_ok-end-in-Ok : goal.returns-in_ok-end-in-Ok
-returns-in_ok-end-in-Ok c = λ files returning place_of at.
-    c.in_ok-end-in-Ok.ensures ∙ ap (λ arms. Pick (By (Depending c.args.on.now (length c.args.to.now))) arms) (c.in-Ok.ensures files returning place_of at)

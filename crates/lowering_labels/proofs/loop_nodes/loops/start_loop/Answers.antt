@@ -1,0 +1,26 @@
+use Rattle.std.proofs.Common.{◌++◌, [], ◌∷◌, ap, sym, ◌∙◌}
+use Rattle.control_flow_theory.specs.language.Control.{control_in}
+use Rattle.control_flow_theory.specs.language.Language.{Do, Take}
+use Rattle.control_flow_theory.specs.graph_rules.Shapes.{followed}
+use Rattle.branch_tree.specs.Trees.{seen_body}
+use Rattle.branch_tree.specs.declared.tree.Piece.TheVariants as piece
+use Rattle.lowering_labels.specs.loop_nodes.Loops.{start_by}
+use Rattle.lowering_labels.proofs.loop_nodes_lemmas.StartRows.{body_pushed, seen_take, followed_none}
+use Rattle.lowering_labels.proofs.loop_nodes.loops.start_loop.Goals as goal
+
+pub returns-in-Once : goal.returns-in-Once
+returns-in-Once c =
+    followed_none (seen_body c.args.body.now.items)
+    ∙ ap (λ control. followed (seen_body c.args.body.now.items) (start_by (control_in control) c.args.place)) (sym c.in-Once.is)
+
+pub returns-in-Until : goal.returns-in-Until
+returns-in-Until c =
+    followed_none (seen_body c.args.body.now.items)
+    ∙ ap (λ control. followed (seen_body c.args.body.now.items) (start_by (control_in control) c.args.place)) (sym c.in-Until.is)
+
+pub returns-in_ok-push-in-Times : goal.returns-in_ok-push-in-Times
+returns-in_ok-push-in-Times c =
+    body_pushed c.args.body.now.items c.push.new.self.items (piece.Take c.args.place c.in-Times.amount) (Do (Take c.args.place c.in-Times.amount))
+    (c.in_ok-push-in-Times.ensures.items ∙ ap (λ amount. c.args.body.now.items ++ piece.Take c.args.place amount ∷ []) c.in_ok-amount-in-Times.ensures)
+    (seen_take c.args.place c.in-Times.amount)
+    ∙ ap (λ control. followed (seen_body c.args.body.now.items) (start_by (control_in control) c.args.place)) (sym c.in-Times.is)

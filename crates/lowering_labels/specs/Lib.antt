@@ -1,0 +1,4 @@
+-- The places of a program, and where a rest of it goes on: the tables that lowering stands on.
+pub mod points
+-- The trees of a lowered graph.
+pub mod loop_nodes

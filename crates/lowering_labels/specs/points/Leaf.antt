@@ -1,0 +1,48 @@
+-- Where a rest goes on, in whatever section it stands.
+use Rattle.std.specs.Prelude.{ℕ, ◌≡◌, if◌then◌else◌, List}
+use Rattle.cob_tree.specs.declared.file.FileEntry.{FileEntry}
+use Rattle.cob_tree.specs.declared.stmt.Stmt.{Stmt}
+use Rattle.control_flow_theory.specs.language.Language as language
+use Rattle.control_flow_theory.specs.language.Control.{seen, seen_stmts}
+use Rattle.control_flow_theory.specs.semantics.Graph as graph
+use Rattle.control_flow_theory.specs.lowering.Told.{Told}
+use Rattle.control_flow_theory.specs.lowering.Completes.{skips}
+use Rattle.control_flow_theory.specs.lowering.Lower as lower
+use Rattle.program_facts.specs.completion.Told.{told_of}
+use Rattle.lowering_labels.specs.points.Layout.{AreAt}
+use Rattle.lowering_labels.specs.declared.points.leaf.Leaf.{Leaf}
+use Rattle.lowering_labels.specs.declared.points.leaf.Leaf.TheVariants as leaf
+use Rattle.lowering_labels.specs.declared.points.leaf.Going.{Going}
+use Rattle.lowering_labels.specs.declared.points.leaf.Going.TheVariants as going
+
+-- the point before a place
+abbrev pub point_of : ℕ → ℕ
+point_of place = lower.point place
+
+-- an end without a choice, as the theory has it
+abbrev pub seen_leaf : Leaf → graph.End
+seen_leaf (leaf.Jump to) = graph.Jump to
+seen_leaf leaf.Return = graph.Return
+seen_leaf leaf.Stop = graph.Stop
+
+-- how control comes by a statement, as far as a continuation goes
+abbrev pub going_by : Told → language.Stmt → Going
+going_by told (language.Do act) = if skips told act then going.Past else going.Here
+going_by told (language.Go to) = going.To to
+going_by told language.StopRun = going.Stops
+going_by told _ = going.Here
+
+-- whatever lowering is told, and in whatever section
+abbrev pub IsGoing : Stmt → Going → Type 0
+IsGoing stmt way =
+    (files : List FileEntry) (returning : List (List ℕ)) (last : ℕ) →
+    way ≡ going_by (told_of files returning) (seen last stmt)
+
+-- the continuation of a rest by the places of paragraphs, whatever lowering is told and in whatever
+-- section
+abbrev pub IsLeaf : (places : List ℕ) (end : ℕ) → List Stmt → ℕ → Leaf → Leaf → Type 0
+IsLeaf places end stmts place after found =
+    (files : List FileEntry) (returning : List (List ℕ)) (last : ℕ) (place_of : ℕ → ℕ) →
+    AreAt places end place_of →
+    seen_leaf found
+    ≡ lower.leaf (told_of files returning) place_of (seen_stmts last stmts) place (seen_leaf after)

@@ -1,0 +1,5 @@
+//! Lowering labels.
+#![tactic(auto)]
+
+pub mod loop_nodes;
+pub mod points;

@@ -1,8 +1,0 @@
-use Rattle.meanings.proofs.Growth.{source-grows, source-steady}
-use Rattle.meanings.proofs.more_steps_show_more.Goals as goal
-
-pub returns-clause-grows : goal.returns-clause-grows
-returns-clause-grows c = source-grows
-
-pub returns-clause-steady : goal.returns-clause-steady
-returns-clause-steady c = source-steady

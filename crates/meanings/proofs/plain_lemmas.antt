@@ -1,0 +1,5 @@
+pub mod Growth
+pub mod Units
+pub mod Tying
+pub mod Running
+pub mod Stepping

@@ -1,6 +1,0 @@
-use Rattle.std.proofs.Common.{◌≡◌, drop}
-use Rattle.meanings.specs.Stepped.{is_pending}
-use Rattle.meanings.proofs.rest.is_pending.Given as goal
-
-abbrev pub invariant-loop-waiting : goal.invariant-loop-waiting
-invariant-loop-waiting l = is_pending l.number (drop l.waiting-index l.pending) ≡ is_pending l.number l.pending

@@ -1,8 +1,0 @@
-use Rattle.meanings.proofs.Tying.{covers-matched, tied-same}
-use Rattle.meanings.proofs.tied_behaves_the_same.Goals as goal
-
-pub returns-clause-matches : goal.returns-clause-matches
-returns-clause-matches c = covers-matched
-
-pub returns-clause-same : goal.returns-clause-same
-returns-clause-same c = tied-same

@@ -1,0 +1,9 @@
+pub mod Language
+pub mod World
+pub mod Source
+pub mod Structural
+pub mod Seen
+pub mod Stepped
+pub mod Same
+pub mod Laws
+pub mod Example

@@ -1,0 +1,131 @@
+-- What ADD, SUBTRACT, MULTIPLY, DIVIDE and COMPUTE do.
+use Rattle.std.specs.Prelude.{ℕ, ◌+◌, Bool, true, false, ◌&&◌, ◌||◌, if◌then◌else◌, nat_le, List, [], ◌∷◌, Option, Some, None, option_and_then, Ok}
+use Rattle.cob_num.specs.declared.number.Dec.{Dec}
+use Rattle.cob_num.specs.declared.storing.Stored.{Stored}
+use Rattle.cob_num.specs.Exact.{sum_of, difference_of, product_of, quotient_of}
+use Rattle.cob_tree.specs.declared.picture.Sign.{Sign}
+use Rattle.cob_tree.specs.declared.calc.Calc.{Calc}
+use Rattle.cob_tree.specs.declared.calc.Calc.TheVariants as calcs
+use Rattle.cob_tree.specs.declared.place.Operand.{Operand}
+use Rattle.cob_tree.specs.declared.calc.Target.{Target}
+use Rattle.cob_store.specs.declared.area.Area.{Area}
+use Rattle.cob_store.specs.declared.area.Form.{Form}
+use Rattle.cob_store.specs.declared.area.Form.TheVariants as forms
+use Rattle.cob_store.specs.declared.spot.Spot.{Spot}
+use Rattle.cob_store.specs.Answer.{Answer, and_then}
+use Rattle.cob_store.specs.Number.{number_bytes}
+use Rattle.cob_store.specs.Store.{Roots, put_at}
+use Rattle.cob_store.specs.Place.{Memory, memory_of, Value, kept, number_at, operand_value, expr_value, reached}
+use Rattle.meanings.specs.statements.Outcome.{Outcome, done, go_on, then_do}
+
+-- what is worked out before the receivers: a value that each is given, or one that each is changed
+-- by
+pub data Basis : Type 0 where
+  Given : Value → Basis
+  Quotient : (dividend divisor : Value) → Basis
+  Plus : Value → Basis
+  Less : Value → Basis
+  Times : Value → Basis
+  Over : Value → Basis
+
+abbrev pub both : (Dec → Dec → Value) → Value → Value → Value
+both does (Some a) (Some b) = does a b
+both does _ _ = None
+
+-- ---- operands
+
+-- the sum from the left; every operand is read
+abbrev pub sum_on : Memory → Value → List Operand → Answer Value
+sum_on memory sum [] = Ok sum
+sum_on memory sum (operand ∷ operands) =
+    and_then (operand_value operand memory) (λ value.
+    sum_on memory (both sum_of sum value) operands)
+
+abbrev pub summed : Memory → List Operand → Answer Value
+summed memory [] = Ok None
+summed memory (operand ∷ operands) =
+    and_then (operand_value operand memory) (λ value. sum_on memory value operands)
+
+abbrev pub sum_read : Memory → List Operand → (Value → Basis) → Answer Basis
+sum_read memory operands basis = and_then (summed memory operands) (λ sum. Ok (basis sum))
+
+abbrev pub one_read : Memory → Operand → (Value → Basis) → Answer Basis
+one_read memory operand basis = and_then (operand_value operand memory) (λ value. Ok (basis value))
+
+abbrev pub two_read : Memory → Operand → Operand → (Value → Value → Basis) → Answer Basis
+two_read memory first second basis =
+    and_then (operand_value first memory) (λ a. and_then (operand_value second memory) (λ b.
+    Ok (basis a b)))
+
+abbrev pub basis_of : Memory → Calc → Answer Basis
+basis_of memory (calcs.Add operands) = sum_read memory operands Plus
+basis_of memory (calcs.AddGiving operands) = sum_read memory operands Given
+basis_of memory (calcs.Subtract operands) = sum_read memory operands Less
+basis_of memory (calcs.SubtractGiving operands from) =
+    and_then (summed memory operands) (λ sum. and_then (operand_value from memory) (λ value.
+    Ok (Given (both difference_of value sum))))
+basis_of memory (calcs.Multiply by) = one_read memory by Times
+basis_of memory (calcs.MultiplyGiving a b) =
+    two_read memory a b (λ x y. Given (both product_of x y))
+basis_of memory (calcs.Divide by) = one_read memory by Over
+basis_of memory (calcs.DivideGiving by a) = two_read memory by a (λ x y. Quotient y x)
+basis_of memory (calcs.Compute expr) = and_then (expr_value expr memory) (λ value. Ok (Given value))
+
+-- ---- receivers
+
+-- to one decimal place more than the receiver has
+abbrev pub divided : ℕ → Dec → Dec → Value
+divided part a b = if nat_le part 18 then quotient_of a b (part + 1) else None
+
+-- the value for a receiver with so many decimal places, which is worth what the answer says
+abbrev pub value_for : ℕ → Answer Value → Basis → Answer Value
+value_for part now (Given value) = Ok value
+value_for part now (Quotient dividend divisor) = Ok (both (divided part) dividend divisor)
+value_for part now (Plus value) = and_then now (λ old. Ok (both sum_of old value))
+value_for part now (Less value) = and_then now (λ old. Ok (both difference_of old value))
+value_for part now (Times value) = and_then now (λ old. Ok (both product_of old value))
+value_for part now (Over value) = and_then now (λ old. Ok (both (divided part) old value))
+
+-- a receiver without a value, or with a size error under a SIZE phrase, stays; the answer says
+-- whether it had a size error
+abbrev pub stored_in : Bool → Roots → Spot → Bool → Sign → Stored → Outcome Bool
+stored_in guarded store spot signed sign stored =
+    if stored.size_error && guarded
+    then done store true
+    else done (put_at store spot (number_bytes signed sign spot.length stored.value))
+    stored.size_error
+
+abbrev pub given_by : Bool → Roots → Spot → Bool → Sign → Option Stored → Outcome Bool
+given_by guarded store spot signed sign None = done store true
+given_by guarded store spot signed sign (Some stored) =
+    stored_in guarded store spot signed sign stored
+
+abbrev pub given : Bool → Roots → Spot → Form → Bool → Value → Outcome Bool
+given guarded store spot (forms.Number signed whole part sign) rounded value =
+    given_by guarded store spot signed sign (option_and_then (kept whole part rounded) value)
+given guarded store spot forms.Group rounded value = done store true
+given guarded store spot forms.Text rounded value = done store true
+
+abbrev pub part_of : Form → ℕ
+part_of (forms.Number signed whole part sign) = part
+part_of forms.Group = 0
+part_of forms.Text = 0
+
+abbrev pub targeted : List Area → Bool → Basis → Roots → Target → Outcome Bool
+targeted areas guarded basis store target =
+    go_on store (reached target.place (memory_of areas store)) (λ now place.
+    go_on now (value_for (part_of place.form) (number_at now place.spot place.form) basis)
+    (λ later value. given guarded later place.spot place.form target.rounded value))
+
+-- the receivers in order; whether one had a size error
+abbrev pub all_targeted : List Area → Bool → Basis → Bool → Roots → List Target → Outcome Bool
+all_targeted areas guarded basis failed store [] = done store failed
+all_targeted areas guarded basis failed store (target ∷ targets) =
+    then_do (targeted areas guarded basis store target) (λ now error.
+    all_targeted areas guarded basis (failed || error) now targets)
+
+-- guarded says that there is a SIZE phrase
+abbrev pub calculated : List Area → Calc → Bool → List Target → Roots → Outcome Bool
+calculated areas calc guarded targets store =
+    go_on store (basis_of (memory_of areas store) calc) (λ now basis.
+    all_targeted areas guarded basis false now targets)

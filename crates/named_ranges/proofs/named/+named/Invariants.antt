@@ -1,9 +1,0 @@
-use Rattle.std.proofs.Common.{◌≡◌, ◌++◌, drop}
-use Rattle.named_ranges.specs.Named.{named_stmts, named_whens}
-use Rattle.named_ranges.proofs.named.+named.Given as goal
-
-abbrev pub invariant-named_stmts-loop-stmt : goal.invariant-named_stmts-loop-stmt
-invariant-named_stmts-loop-stmt l = l.found.items ++ named_stmts (drop l.stmt-index l.stmt-items) ≡ l.fn.found.items ++ named_stmts l.stmt-items
-
-abbrev pub invariant-named_whens-loop-when : goal.invariant-named_whens-loop-when
-invariant-named_whens-loop-when l = l.found.items ++ named_whens (drop l.when-index l.when-items) ≡ l.fn.found.items ++ named_whens l.when-items

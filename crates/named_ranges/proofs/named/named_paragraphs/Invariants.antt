@@ -1,6 +1,0 @@
-use Rattle.std.proofs.Common.{◌≡◌, ◌++◌, drop}
-use Rattle.named_ranges.specs.Named.{named_paragraphs}
-use Rattle.named_ranges.proofs.named.named_paragraphs.Given as goal
-
-abbrev pub invariant-loop-paragraph : goal.invariant-loop-paragraph
-invariant-loop-paragraph l = l.found.items ++ named_paragraphs (drop l.paragraph-index l.paragraphs) ≡ l.fn.found.items ++ named_paragraphs l.paragraphs

@@ -1,5 +1,0 @@
-use Rattle.part_spelling.proofs.cond_spelling_lemmas.BeforeNot as before_not
-use Rattle.part_spelling.proofs.cond_spelling.conditions_stand_before_not.Goals as goal
-
-pub returns : goal.returns
-returns c names program cond fit few = before_not.whole_before names program cond fit few

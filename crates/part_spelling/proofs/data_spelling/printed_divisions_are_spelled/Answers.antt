@@ -1,5 +1,0 @@
-use Rattle.part_spelling.proofs.data_spelling_lemmas.Divisions.{divisions}
-use Rattle.part_spelling.proofs.data_spelling.printed_divisions_are_spelled.Goals as goal
-
-pub returns : goal.returns
-returns g c taken program fds storage h = divisions g.R.Refers.status program fds storage h

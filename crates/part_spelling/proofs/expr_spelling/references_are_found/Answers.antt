@@ -1,5 +1,0 @@
-use Rattle.part_spelling.proofs.expr_spelling_lemmas.Named.{references_are_found}
-use Rattle.part_spelling.proofs.expr_spelling.references_are_found.Goals as goal
-
-pub returns : goal.returns
-returns c = references_are_found

@@ -1,5 +1,0 @@
-use Rattle.part_spelling.proofs.stmt_spelling_lemmas.Paragraphs as paragraphs
-use Rattle.part_spelling.proofs.stmt_spelling.procedures_are_spelled.Goals as goal
-
-pub returns : goal.returns
-returns g c program taken T h = paragraphs.division T program taken program.paragraphs h

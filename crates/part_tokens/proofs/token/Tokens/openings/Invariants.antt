@@ -1,8 +1,0 @@
-use Rattle.std.proofs.Common.{◌≡◌, ◌++◌, drop}
-use Rattle.part_tokens.specs.File.{openings_tokens}
-use Rattle.part_tokens.proofs.token.Tokens.openings.Given as goal
-
-abbrev pub invariant-loop-opening : goal.invariant-loop-opening
-invariant-loop-opening l =
-    l.self ++ openings_tokens l.program l.before (drop l.opening-index l.openings)
-    ≡ l.initial.self ++ openings_tokens l.program l.initial.before l.openings

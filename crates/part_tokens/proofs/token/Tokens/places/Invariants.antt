@@ -1,8 +1,0 @@
-use Rattle.std.proofs.Common.{◌≡◌, ◌++◌, drop}
-use Rattle.part_tokens.specs.Head.{places_tokens}
-use Rattle.part_tokens.proofs.token.Tokens.places.Given as goal
-
-abbrev pub invariant-loop-place : goal.invariant-loop-place
-invariant-loop-place l =
-    l.self ++ places_tokens l.program (drop l.place-index l.places)
-    ≡ l.initial.self ++ places_tokens l.program l.places

@@ -1,0 +1,164 @@
+//! Which ranges return, found by looking again at what waits.
+
+ghost use Rattle.std.specs.Prelude.{◌≡◌, length};
+ghost use Rattle.program_points.specs.point_table.Table.{IsTidy};
+ghost use Rattle.pending_returns.specs.levels.Reaching.{IsMarked, StaysSound};
+
+use crate::levels::reach::{Reach, reached};
+use crate::levels::settling::has_end;
+use cob_base::NoMemory;
+use program_points::point_table::{Place, Table};
+use std::alloc::Global;
+
+/// A range that waits for another one to return, and the number of the next that waits for the
+/// same.
+#[derive(Clone, Copy, Debug)]
+pub struct Wait {
+    pub range: u32,
+    pub next: Option<u32>,
+}
+
+/// The ranges to look at, and those that wait: the first for each range.
+#[derive(Debug, Drop)]
+pub struct Work {
+    pub queue: Vec<u32>,
+    pub firsts: Vec<Option<u32>>,
+    pub waits: Vec<Wait>,
+}
+
+impl Work {
+    /// All of so many ranges, the last first: PERFORM mostly names later ones.
+    pub fn new(alloc: Global, count: u32) -> Result<Work, NoMemory> {
+        let mut queue = Vec::new(alloc);
+        for number in (0..count).rev() {
+            queue.push(number)?;
+        }
+        Ok(Work {
+            queue,
+            firsts: vec![in alloc; None; count as usize]?,
+            waits: Vec::new(alloc),
+        })
+    }
+
+    /// A range is looked at again once this one returns.
+    pub fn wait(&mut self, range: u32, called: u32) -> Result<(), NoMemory> {
+        let number = match u32::try_from(self.waits.len()) {
+            Ok(number) => number,
+            Err(_) => return Err(NoMemory),
+        };
+        match self.firsts.get_mut(called as usize) {
+            Some(first) => {
+                let next = *first;
+                *first = Some(number);
+                self.waits.push(Wait { range, next })?;
+                Ok(())
+            }
+            None => Ok(()),
+        }
+    }
+
+    /// This range returns: what waits for it is to be looked at again.
+    pub fn wake(&mut self, called: u32) -> Result<(), NoMemory> {
+        let mut next = match self.firsts.get(called as usize) {
+            Some(first) => *first,
+            None => None,
+        };
+        for turn in 0..self.waits.len() {
+            let number = match next {
+                Some(number) => number,
+                None => return Ok(()),
+            };
+            match self.waits.get(number as usize) {
+                Some(wait) => {
+                    let Wait { range, next: later } = *wait;
+                    self.queue.push(range)?;
+                    next = later;
+                }
+                None => return Ok(()),
+            }
+        }
+        Ok(())
+    }
+
+    /// The range waits for those that its level performs and that aren't said to return.
+    pub fn wait_all(
+        &mut self,
+        table: &Table,
+        returns: &[bool],
+        range: u32,
+        places: &[u32],
+    ) -> Result<(), NoMemory> {
+        for number in places {
+            match table.places.get(*number as usize) {
+                Some(Place::Calls { range: called, .. }) => {
+                    if returns.get(*called as usize) == Some(&false) {
+                        self.wait(range, *called)?;
+                    }
+                }
+                _ => {}
+            }
+        }
+        Ok(())
+    }
+}
+
+/// Says that the range with this number returns, where it does.
+pub fn look(
+    reach: &mut Reach,
+    table: &Table,
+    returns: &mut Vec<bool>,
+    work: &mut Work,
+    number: u32,
+) -> Result<(), NoMemory>
+    requires marked { IsMarked reach.old.places.items reach.old.marks.items }
+    requires places { length reach.old.marks.items ≡ length table.now.places }
+    requires tidy { IsTidy table.now }
+    requires size { length returns.old.items ≡ length table.now.ranges }
+    ensures size { length returns.new.items ≡ length table.now.ranges }
+    ensures sound { StaysSound table.now returns.old.items returns.new.items }
+    ensures marked { IsMarked reach.new.places.items reach.new.marks.items }
+    ensures places { length reach.new.marks.items ≡ length table.now.places }
+{
+    if number as usize >= returns.len() || returns[number as usize] {
+        return Ok(());
+    }
+    let range = table.ranges.as_slice()[number as usize];
+    reached(reach, table, returns.as_slice(), range)?;
+    if has_end(table, range, reach.places.as_slice()) {
+        returns[number as usize] = true;
+        work.wake(number)
+    } else {
+        work.wait_all(table, returns.as_slice(), number, reach.places.as_slice())
+    }
+}
+
+/// Looks at each range, and again at those that wait for one that comes to return.
+pub fn look_all(
+    alloc: Global,
+    reach: &mut Reach,
+    table: &Table,
+    returns: &mut Vec<bool>,
+) -> Result<(), NoMemory>
+    requires marked { IsMarked reach.old.places.items reach.old.marks.items }
+    requires places { length reach.old.marks.items ≡ length table.now.places }
+    requires tidy { IsTidy table.now }
+    requires size { length returns.old.items ≡ length table.now.ranges }
+    ensures size { length returns.new.items ≡ length table.now.ranges }
+    ensures sound { StaysSound table.now returns.old.items returns.new.items }
+    ensures marked { IsMarked reach.new.places.items reach.new.marks.items }
+    ensures places { length reach.new.marks.items ≡ length table.now.places }
+{
+    let count = match u32::try_from(table.ranges.len()) {
+        Ok(count) => count,
+        Err(_) => return Err(NoMemory),
+    };
+    let mut work = Work::new(alloc, count)?;
+    for at in 0..usize::MAX {
+        if at >= work.queue.len() {
+            return Ok(());
+        }
+        let number = work.queue[at];
+        look(reach, table, returns, &mut work, number)?;
+    }
+    Ok(())
+}

@@ -1,5 +1,0 @@
-use Rattle.printable_programs.proofs.printable_data_lemmas.Data as data_forms
-use Rattle.printable_programs.proofs.printable_data.divisions_print.Goals as goal
-
-pub returns : goal.returns
-returns g c S = data_forms.divisions S

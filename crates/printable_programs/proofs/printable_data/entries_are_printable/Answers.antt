@@ -1,5 +1,0 @@
-use Rattle.printable_programs.proofs.printable_data_lemmas.Declared.{entries_are_printable}
-use Rattle.printable_programs.proofs.printable_data.entries_are_printable.Goals as goal
-
-pub returns : goal.returns
-returns c = entries_are_printable

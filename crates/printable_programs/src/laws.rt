@@ -1,8 +1,0 @@
-//! What holds of programs that can be printed. This function does nothing; its contract is a law.
-
-ghost use Rattle.printable_programs.specs.Laws.{PrintableProgramsAreGiven};
-
-/// A text can have the names, numbers and literals of such a program.
-pub fn printable_programs_are_given()
-    ensures { PrintableProgramsAreGiven }
-{}

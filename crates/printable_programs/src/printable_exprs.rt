@@ -1,9 +1,0 @@
-//! What references, operands, expressions and conditions give of tokens that can be printed: they
-//! can be printed too. The crate has no code.
-
-ghost use Rattle.printable_programs.specs.printable_exprs.Laws.{ExpressionsArePrintable};
-
-/// Of tokens that can be printed, references, operands, expressions and conditions can be printed.
-pub fn expressions_are_printable()
-    ensures { ExpressionsArePrintable }
-{}

@@ -1,0 +1,22 @@
+//! What a statement that holds others is made of, in boxes, and what is read of it before and
+//! behind what it holds, over any readers of operands, references, conditions and names (`Parts`).
+//!
+//! Each function reads exactly by the form that its contract names, of `stmt_forms` (ISO 1989:1985,
+//! PROCEDURE DIVISION) or of `specs/drafts/Step`. Contracts see a `Draft` as the statement that it is of.
+//! The crates above let trees go, and add to lists of them, by the calls of `drops` and `lists`.
+
+mod drops;
+mod ending;
+mod lists;
+mod made;
+
+pub use crate::drafts::drops::{
+    drop_arm, drop_cond, drop_control, drop_outline, drop_paragraphs, drop_place, drop_sentences,
+    drop_stmts, drop_subject, drop_tests, drop_whens, drop_work,
+};
+pub use crate::drafts::ending::{draft_ended, stmts_ended, work_ended};
+pub use crate::drafts::lists::{paragraph_added, sentence_added, stmt_added, when_added};
+pub use crate::drafts::made::{
+    Begun, BoxedWork, Draft, added, begin_arithmetic, begin_evaluate, begin_if, begin_perform,
+    boxed_place, loop_closed, read_and_next, simple,
+};

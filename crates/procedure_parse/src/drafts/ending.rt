@@ -1,0 +1,76 @@
+//! Steps that let go what was found where they fail.
+//!
+//! The first is generic, so that a check opens no tree at its exits.
+
+ghost use Rattle.parser_combinators.specs.Reading.{Reads};
+ghost use Rattle.procedure_parse.specs.drafts.Step as steps;
+
+use crate::drafts::made::Draft;
+use cob_base::Items;
+use cob_tree::Stmt;
+use cobol_grammar::stmt_forms::ArithmeticVerb;
+use parser_combinators::{Cursor, Unread};
+use stmt_head_parse::heads::{end_word, end_work};
+
+fn ended<T: Drop>(
+    cursor: &mut Cursor<'_>,
+    word: &[u8],
+    found: T,
+    not_read: bool,
+) -> Result<(T, bool), Unread>
+    ensures { Reads ((steps.ended word.now found not_read).reads cursor.old)
+        result cursor.new }
+{
+    match end_word(cursor, word, not_read) {
+        Ok(()) => Ok((found, not_read)),
+        Err(stop) => {
+            drop(found);
+            Err(stop)
+        }
+    }
+}
+
+/// The word that ends a statement, unless NOT was read.
+pub fn draft_ended(
+    cursor: &mut Cursor<'_>,
+    word: &[u8],
+    found: Draft,
+    not_read: bool,
+) -> Result<(Draft, bool), Unread>
+    ensures { Reads ((steps.ended word.now found not_read).reads cursor.old)
+        result cursor.new }
+{
+    ended(cursor, word, found, not_read)
+}
+
+/// The same, where the statement stands among others already.
+pub fn stmts_ended(
+    cursor: &mut Cursor<'_>,
+    word: &[u8],
+    found: Items<Stmt>,
+    not_read: bool,
+) -> Result<(Items<Stmt>, bool), Unread>
+    ensures { Reads ((steps.ended word.now found not_read).reads cursor.old)
+        result cursor.new }
+{
+    ended(cursor, word, found, not_read)
+}
+
+/// The word that ends arithmetic, unless NOT was read.
+pub fn work_ended(
+    cursor: &mut Cursor<'_>,
+    verb: ArithmeticVerb,
+    found: Draft,
+    not_read: bool,
+) -> Result<(Draft, bool), Unread>
+    ensures { Reads ((steps.work_ended verb found not_read).reads cursor.old)
+        result cursor.new }
+{
+    match end_work(cursor, verb, not_read) {
+        Ok(()) => Ok((found, not_read)),
+        Err(stop) => {
+            drop(found);
+            Err(stop)
+        }
+    }
+}

@@ -1,0 +1,10 @@
+//! Reads statements to any level, over any readers of operands, references, conditions and names
+//! (`Parts`).
+//!
+//! Each function reads exactly by the form of its name in `stmt_forms` (ISO 1989:1985, PROCEDURE
+//! DIVISION), which is said by `Reads`. All but the lists of statements are private: they call each
+//! other in a circle.
+
+mod held;
+
+pub use crate::statements::held::{stmts_from, stmts_with};

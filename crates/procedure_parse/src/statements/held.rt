@@ -1,0 +1,796 @@
+//! Statements that hold others, and lists of statements.
+
+ghost use Rattle.parser_combinators.specs.Reading.{Reads};
+ghost use Rattle.cobol_grammar.specs.stmt_forms.Arms as arms;
+ghost use Rattle.cobol_grammar.specs.stmt_forms.Choice as choice;
+ghost use Rattle.cobol_grammar.specs.stmt_forms.Loop as loops;
+ghost use Rattle.cobol_grammar.specs.stmt_forms.Stmt as all;
+ghost use Rattle.procedure_parse.specs.drafts.Step as steps;
+
+use crate::drafts::{
+    Begun, Draft, added, begin_arithmetic, begin_evaluate, begin_if, begin_perform, boxed_place,
+    draft_ended, drop_arm, drop_cond, drop_control, drop_place, drop_stmts, drop_subject,
+    drop_tests, drop_whens, drop_work, loop_closed, read_and_next, simple, stmts_ended, when_added,
+    work_ended,
+};
+use cob_base::{Boxed, Items};
+use cob_tree::{Arms, Cond, Control, Place, Stmt, Subject, Test, When};
+use cobol_grammar::part_readers::{Parts, at_arithmetic, at_choice, at_simple, at_stmt};
+use cobol_grammar::stmt_forms::{NotPhrase, Phrase, ReadHead, Scope, Whens};
+use parser_combinators::{Cursor, Unread, Why};
+use std::alloc::Global;
+use stmt_head_parse::heads::{first_phrase, first_tests, not_phrase, read_head, when_head};
+
+/// The statements that a statement holds.
+#[cycle(stmt)]
+fn held<P: Parts>(
+    parts: &P,
+    alloc: Global,
+    cursor: &mut Cursor<'_>,
+    scope: Scope,
+    levels: u32,
+) -> Result<(Items<Stmt>, bool), Unread>
+    ensures { Reads ((all.held (P.parts parts.now) levels scope).reads cursor.old)
+        result cursor.new }
+{
+    if levels == 0 {
+        return Err(Unread::Stop(Why::Nesting));
+    }
+    stmts_with(parts, alloc, cursor, scope, levels - 1)
+}
+
+#[cycle(stmt)]
+#[tactic(auto, unfolding(cobol_grammar::specs::stmt_forms::Arms::held_arm))]
+fn held_arm<P: Parts>(
+    parts: &P,
+    alloc: Global,
+    cursor: &mut Cursor<'_>,
+    scope: Scope,
+    levels: u32,
+) -> Result<(Option<Items<Stmt>>, bool), Unread>
+    ensures { Reads ((arms.held_arm (all.level (P.parts parts.now) levels) scope).reads cursor.old)
+        result cursor.new }
+{
+    let (found, not_read) = held(parts, alloc, cursor, scope, levels)?;
+    Ok((Some(found), not_read))
+}
+
+#[cycle(stmt)]
+#[tactic(auto, unfolding(cobol_grammar::specs::stmt_forms::Arms::first_arm))]
+fn first_arm<P: Parts>(
+    parts: &P,
+    alloc: Global,
+    cursor: &mut Cursor<'_>,
+    scope: Scope,
+    levels: u32,
+    present: bool,
+) -> Result<(Option<Items<Stmt>>, bool), Unread>
+    ensures { Reads
+        ((arms.first_arm (all.level (P.parts parts.now) levels) scope present).reads cursor.old)
+        result cursor.new }
+{
+    if present {
+        held_arm(parts, alloc, cursor, scope, levels)
+    } else {
+        Ok((None, false))
+    }
+}
+
+#[cycle(stmt)]
+#[tactic(auto, unfolding(cobol_grammar::specs::stmt_forms::Arms::second_arm))]
+fn second_arm<P: Parts>(
+    parts: &P,
+    alloc: Global,
+    cursor: &mut Cursor<'_>,
+    scope: Scope,
+    levels: u32,
+    following: NotPhrase,
+) -> Result<(Option<Items<Stmt>>, bool), Unread>
+    ensures { Reads
+        ((arms.second_arm (all.level (P.parts parts.now) levels) scope following).reads cursor.old)
+        result cursor.new }
+{
+    match following {
+        NotPhrase::Missing => Ok((None, false)),
+        NotPhrase::Own => held_arm(parts, alloc, cursor, scope, levels),
+        NotPhrase::Foreign => Ok((None, true)),
+    }
+}
+
+#[cycle(stmt)]
+#[tactic(auto, unfolding(cobol_grammar::specs::stmt_forms::Arms::second_behind))]
+fn second_behind<P: Parts>(
+    parts: &P,
+    alloc: Global,
+    cursor: &mut Cursor<'_>,
+    scope: Scope,
+    levels: u32,
+    phrase: Phrase,
+    first: (Option<Items<Stmt>>, bool),
+) -> Result<(Arms, bool), Unread>
+    ensures { Reads
+        ((arms.second_behind phrase
+        (all.level (P.parts parts.now) levels) scope first).reads cursor.old)
+        result cursor.new }
+{
+    let (first, not_read) = first;
+    match not_phrase(cursor, phrase, levels, first.is_some(), not_read) {
+        Ok(following) => match second_arm(parts, alloc, cursor, scope, levels, following) {
+            Ok((second, not_read)) => Ok((Arms { first, second }, not_read)),
+            Err(stop) => {
+                drop_arm(first);
+                Err(stop)
+            }
+        },
+        Err(stop) => {
+            drop_arm(first);
+            Err(stop)
+        }
+    }
+}
+
+#[cycle(stmt)]
+#[tactic(auto, unfolding(cobol_grammar::specs::stmt_forms::Arms::arms))]
+fn arms<P: Parts>(
+    parts: &P,
+    alloc: Global,
+    cursor: &mut Cursor<'_>,
+    scope: Scope,
+    levels: u32,
+    phrase: Phrase,
+) -> Result<(Arms, bool), Unread>
+    ensures { Reads
+        ((arms.arms phrase (all.level (P.parts parts.now) levels) scope).reads cursor.old)
+        result cursor.new }
+{
+    let present = first_phrase(cursor, phrase, levels)?;
+    let first = first_arm(parts, alloc, cursor, scope, levels, present)?;
+    second_behind(parts, alloc, cursor, scope, levels, phrase, first)
+}
+
+#[cycle(stmt)]
+#[tactic(auto, unfolding(cobol_grammar::specs::stmt_forms::Arms::arithmetic_stmt))]
+fn arithmetic_stmt<P: Parts>(
+    parts: &P,
+    alloc: Global,
+    cursor: &mut Cursor<'_>,
+    scope: Scope,
+    levels: u32,
+) -> Result<(Draft, bool), Unread>
+    ensures { Reads
+        ((arms.arithmetic_stmt (P.parts parts.now)
+        (all.level (P.parts parts.now) levels) scope).reads cursor.old)
+        result cursor.new }
+{
+    let (verb, (calc, into)) = begin_arithmetic(parts, alloc, cursor)?;
+    match arms(parts, alloc, cursor, scope, levels, Phrase::Size) {
+        Ok((arms, not_read)) => {
+            work_ended(cursor, verb, Draft::arith(calc, into, arms), not_read)
+        }
+        Err(stop) => {
+            drop_work(calc, into);
+            Err(stop)
+        }
+    }
+}
+
+#[cycle(stmt)]
+#[tactic(auto, unfolding(cobol_grammar::specs::stmt_forms::Arms::read_arms))]
+fn read_arms<P: Parts>(
+    parts: &P,
+    alloc: Global,
+    cursor: &mut Cursor<'_>,
+    scope: Scope,
+    levels: u32,
+    found: Items<Stmt>,
+    file: u32,
+    into: Option<Boxed<Place>>,
+) -> Result<(Items<Stmt>, bool), Unread>
+    ensures { Reads
+        ((arms.read_arms
+        (all.level (P.parts parts.now) levels) scope found file into).reads cursor.old)
+        result cursor.new }
+{
+    match arms(parts, alloc, cursor, scope, levels, Phrase::End) {
+        Ok((arms, not_read)) => {
+            let found = added(found, Draft::read(file, into, arms))?;
+            stmts_ended(cursor, b"END-READ", found, not_read)
+        }
+        Err(stop) => {
+            drop_stmts(found);
+            drop_place(into);
+            Err(stop)
+        }
+    }
+}
+
+#[cycle(stmt)]
+#[tactic(auto, unfolding(cobol_grammar::specs::stmt_forms::Arms::read_by))]
+fn read_by<P: Parts>(
+    parts: &P,
+    alloc: Global,
+    cursor: &mut Cursor<'_>,
+    scope: Scope,
+    levels: u32,
+    found: Items<Stmt>,
+    head: ReadHead,
+) -> Result<(Items<Stmt>, bool), Unread>
+    ensures { Reads
+        ((arms.read_by (all.level (P.parts parts.now) levels) scope found head).reads cursor.old)
+        result cursor.new }
+{
+    match head {
+        ReadHead::WithSentence(file) => {
+            let found = read_and_next(found, file)?;
+            Ok((found, false))
+        }
+        ReadHead::Open { file, into } => match boxed_place(alloc, into) {
+            Ok(into) => read_arms(parts, alloc, cursor, scope, levels, found, file, into),
+            Err(fault) => {
+                drop_stmts(found);
+                Err(Unread::from(fault))
+            }
+        },
+    }
+}
+
+#[cycle(stmt)]
+#[tactic(auto, unfolding(cobol_grammar::specs::stmt_forms::Arms::read_stmt))]
+fn read_stmt<P: Parts>(
+    parts: &P,
+    alloc: Global,
+    cursor: &mut Cursor<'_>,
+    scope: Scope,
+    levels: u32,
+    found: Items<Stmt>,
+) -> Result<(Items<Stmt>, bool), Unread>
+    ensures { Reads
+        ((arms.read_stmt (P.parts parts.now)
+        (all.level (P.parts parts.now) levels) scope found).reads cursor.old)
+        result cursor.new }
+{
+    match read_head(parts, alloc, cursor) {
+        Ok(head) => read_by(parts, alloc, cursor, scope, levels, found, head),
+        Err(stop) => {
+            drop_stmts(found);
+            Err(stop)
+        }
+    }
+}
+
+#[cycle(stmt)]
+#[tactic(auto, unfolding(cobol_grammar::specs::stmt_forms::Choice::else_part))]
+fn else_part<P: Parts>(
+    parts: &P,
+    alloc: Global,
+    cursor: &mut Cursor<'_>,
+    scope: Scope,
+    levels: u32,
+) -> Result<(Items<Stmt>, bool), Unread>
+    ensures { Reads
+        ((choice.else_part (all.level (P.parts parts.now) levels) scope).reads cursor.old)
+        result cursor.new }
+{
+    if cursor.sees(b"ELSE") {
+        cursor.key(b"ELSE")?;
+        held(parts, alloc, cursor, scope, levels)
+    } else {
+        Ok((Items::new(alloc), false))
+    }
+}
+
+#[cycle(stmt)]
+#[tactic(auto, unfolding(cobol_grammar::specs::stmt_forms::Choice::if_ended))]
+fn if_ended<P: Parts>(
+    parts: &P,
+    alloc: Global,
+    cursor: &mut Cursor<'_>,
+    scope: Scope,
+    levels: u32,
+    cond: Boxed<Cond>,
+    yes: Items<Stmt>,
+) -> Result<(Draft, bool), Unread>
+    ensures { Reads
+        ((choice.if_ended (all.level (P.parts parts.now) levels) scope cond yes).reads cursor.old)
+        result cursor.new }
+{
+    match else_part(parts, alloc, cursor, scope, levels) {
+        Ok((no, not_read)) => {
+            let draft = Draft::choice(cond, yes, no);
+            draft_ended(cursor, b"END-IF", draft, not_read)
+        }
+        Err(stop) => {
+            drop_cond(cond);
+            drop_stmts(yes);
+            Err(stop)
+        }
+    }
+}
+
+#[cycle(stmt)]
+#[tactic(auto, unfolding(cobol_grammar::specs::stmt_forms::Choice::if_behind))]
+fn if_behind<P: Parts>(
+    parts: &P,
+    alloc: Global,
+    cursor: &mut Cursor<'_>,
+    scope: Scope,
+    levels: u32,
+    cond: Boxed<Cond>,
+    first: (Items<Stmt>, bool),
+) -> Result<(Draft, bool), Unread>
+    ensures { Reads
+        ((choice.if_behind
+        (all.level (P.parts parts.now) levels) scope cond first).reads cursor.old)
+        result cursor.new }
+{
+    let (yes, not_read) = first;
+    if not_read {
+        let no = Items::new(alloc);
+        Ok((Draft::choice(cond, yes, no), true))
+    } else {
+        if_ended(parts, alloc, cursor, scope, levels, cond, yes)
+    }
+}
+
+#[cycle(stmt)]
+#[tactic(auto, unfolding(cobol_grammar::specs::stmt_forms::Choice::if_stmt))]
+fn if_stmt<P: Parts>(
+    parts: &P,
+    alloc: Global,
+    cursor: &mut Cursor<'_>,
+    scope: Scope,
+    levels: u32,
+) -> Result<(Draft, bool), Unread>
+    ensures { Reads
+        ((choice.if_stmt (P.parts parts.now)
+        (all.level (P.parts parts.now) levels) scope).reads cursor.old)
+        result cursor.new }
+{
+    let cond = begin_if(parts, alloc, cursor, levels)?;
+    match held(parts, alloc, cursor, scope, levels) {
+        Ok(first) => if_behind(parts, alloc, cursor, scope, levels, cond, first),
+        Err(stop) => {
+            drop_cond(cond);
+            Err(stop)
+        }
+    }
+}
+
+#[cycle(stmt)]
+#[tactic(auto, unfolding(cobol_grammar::specs::stmt_forms::Choice::when_held))]
+fn when_held<P: Parts>(
+    parts: &P,
+    alloc: Global,
+    cursor: &mut Cursor<'_>,
+    scope: Scope,
+    levels: u32,
+    whens: Items<When>,
+    tests: Items<Test>,
+) -> Result<Whens, Unread>
+    ensures { Reads
+        ((choice.when_held
+        (all.level (P.parts parts.now) levels) scope whens tests).reads cursor.old)
+        result cursor.new }
+{
+    match held(parts, alloc, cursor, scope, levels) {
+        Ok((stmts, not_read)) => Ok(Whens {
+            whens: when_added(whens, When { tests, stmts })?,
+            other: false,
+            not_read,
+        }),
+        Err(stop) => {
+            drop_whens(whens);
+            drop_tests(tests);
+            Err(stop)
+        }
+    }
+}
+
+#[cycle(stmt)]
+#[tactic(auto, unfolding(cobol_grammar::specs::stmt_forms::Choice::whens_by))]
+fn whens_by<P: Parts>(
+    parts: &P,
+    alloc: Global,
+    cursor: &mut Cursor<'_>,
+    scope: Scope,
+    levels: u32,
+    whens: Items<When>,
+    head: Option<Items<Test>>,
+) -> Result<Whens, Unread>
+    ensures { Reads
+        ((choice.whens_by (all.level (P.parts parts.now) levels) scope whens head).reads cursor.old)
+        result cursor.new }
+{
+    match head {
+        None => Ok(Whens {
+            whens,
+            other: true,
+            not_read: false,
+        }),
+        Some(tests) => when_held(parts, alloc, cursor, scope, levels, whens, tests),
+    }
+}
+
+#[cycle(stmt)]
+#[tactic(auto, unfolding(cobol_grammar::specs::stmt_forms::Choice::when_next))]
+fn when_next<P: Parts>(
+    parts: &P,
+    alloc: Global,
+    cursor: &mut Cursor<'_>,
+    scope: Scope,
+    levels: u32,
+    known: &Option<P::Known>,
+    whens: Items<When>,
+) -> Result<Whens, Unread>
+    ensures { Reads
+        ((choice.when_next (P.parts parts.now)
+        (all.level (P.parts parts.now) levels) scope known.now whens).reads cursor.old)
+        result cursor.new }
+{
+    match when_head(parts, alloc, cursor, known) {
+        Ok(head) => whens_by(parts, alloc, cursor, scope, levels, whens, head),
+        Err(stop) => {
+            drop_whens(whens);
+            Err(stop)
+        }
+    }
+}
+
+#[cycle(stmt)]
+#[tactic(auto, unfolding(cobol_grammar::specs::stmt_forms::Choice::whens_turn))]
+fn whens_turn<P: Parts>(
+    parts: &P,
+    alloc: Global,
+    cursor: &mut Cursor<'_>,
+    scope: Scope,
+    levels: u32,
+    known: &Option<P::Known>,
+    state: Whens,
+) -> Result<Whens, Unread>
+    ensures { Reads
+        ((choice.whens_turn (P.parts parts.now)
+        (all.level (P.parts parts.now) levels) scope known.now state).reads cursor.old)
+        result cursor.new }
+{
+    let Whens {
+        whens,
+        other,
+        not_read,
+    } = state;
+    if other || not_read {
+        drop_whens(whens);
+        Err(Unread::Stop(Why::Syntax))
+    } else {
+        when_next(parts, alloc, cursor, scope, levels, known, whens)
+    }
+}
+
+#[cycle(stmt)]
+fn whens_from<P: Parts>(
+    parts: &P,
+    alloc: Global,
+    cursor: &mut Cursor<'_>,
+    scope: Scope,
+    levels: u32,
+    known: &Option<P::Known>,
+    mut state: Whens,
+) -> Result<Whens, Unread>
+    ensures { Reads
+        ((choice.whens_from (P.parts parts.now)
+        (all.level (P.parts parts.now) levels) scope known.now state).reads cursor.old)
+        result cursor.new }
+{
+    'whens: while cursor.sees(b"WHEN") {
+        state = whens_turn(parts, alloc, cursor, scope, levels, known, state)?;
+    }
+    Ok(state)
+}
+
+#[cycle(stmt)]
+#[tactic(auto, unfolding(cobol_grammar::specs::stmt_forms::Choice::whens))]
+fn whens<P: Parts>(
+    parts: &P,
+    alloc: Global,
+    cursor: &mut Cursor<'_>,
+    scope: Scope,
+    levels: u32,
+    known: &Option<P::Known>,
+) -> Result<Whens, Unread>
+    ensures { Reads
+        ((choice.whens (P.parts parts.now)
+        (all.level (P.parts parts.now) levels) scope known.now).reads cursor.old)
+        result cursor.new }
+{
+    let tests = first_tests(parts, alloc, cursor, known)?;
+    let first = when_held(
+        parts,
+        alloc,
+        cursor,
+        scope,
+        levels,
+        Items::new(alloc),
+        tests,
+    )?;
+    whens_from(parts, alloc, cursor, scope, levels, known, first)
+}
+
+#[cycle(stmt)]
+#[tactic(auto, unfolding(cobol_grammar::specs::stmt_forms::Choice::other_part))]
+fn other_part<P: Parts>(
+    parts: &P,
+    alloc: Global,
+    cursor: &mut Cursor<'_>,
+    scope: Scope,
+    levels: u32,
+    state: &Whens,
+) -> Result<(Option<Items<Stmt>>, bool), Unread>
+    ensures { Reads
+        ((choice.other_part
+        (all.level (P.parts parts.now) levels) scope state.now).reads cursor.old)
+        result cursor.new }
+{
+    if state.other {
+        held_arm(parts, alloc, cursor, scope, levels)
+    } else {
+        Ok((None, state.not_read))
+    }
+}
+
+#[cycle(stmt)]
+#[tactic(auto, unfolding(cobol_grammar::specs::stmt_forms::Choice::evaluated))]
+fn evaluated<P: Parts>(
+    parts: &P,
+    alloc: Global,
+    cursor: &mut Cursor<'_>,
+    scope: Scope,
+    levels: u32,
+    subject: Boxed<Subject>,
+    state: Whens,
+) -> Result<(Draft, bool), Unread>
+    ensures { Reads
+        ((choice.evaluated
+        (all.level (P.parts parts.now) levels) scope subject state).reads cursor.old)
+        result cursor.new }
+{
+    match other_part(parts, alloc, cursor, scope, levels, &state) {
+        Ok((other, not_read)) => {
+            let Whens { whens, .. } = state;
+            let draft = Draft::evaluate(subject, whens, other);
+            draft_ended(cursor, b"END-EVALUATE", draft, not_read)
+        }
+        Err(stop) => {
+            let Whens { whens, .. } = state;
+            drop_subject(subject);
+            drop_whens(whens);
+            Err(stop)
+        }
+    }
+}
+
+#[cycle(stmt)]
+#[tactic(auto, unfolding(cobol_grammar::specs::stmt_forms::Choice::evaluate_stmt))]
+fn evaluate_stmt<P: Parts>(
+    parts: &P,
+    alloc: Global,
+    cursor: &mut Cursor<'_>,
+    scope: Scope,
+    levels: u32,
+) -> Result<(Draft, bool), Unread>
+    ensures { Reads
+        ((choice.evaluate_stmt (P.parts parts.now)
+        (all.level (P.parts parts.now) levels) scope).reads cursor.old)
+        result cursor.new }
+{
+    let (subject, known) = begin_evaluate(parts, alloc, cursor, levels)?;
+    match whens(parts, alloc, cursor, scope, levels, &known) {
+        Ok(state) => {
+            drop(known);
+            evaluated(parts, alloc, cursor, scope, levels, subject, state)
+        }
+        Err(stop) => {
+            drop_subject(subject);
+            drop(known);
+            Err(stop)
+        }
+    }
+}
+
+#[cycle(stmt)]
+#[tactic(auto, unfolding(cobol_grammar::specs::stmt_forms::Choice::choice_stmt))]
+fn choice_stmt<P: Parts>(
+    parts: &P,
+    alloc: Global,
+    cursor: &mut Cursor<'_>,
+    scope: Scope,
+    levels: u32,
+) -> Result<(Draft, bool), Unread>
+    ensures { Reads
+        ((choice.choice_stmt (P.parts parts.now)
+        (all.level (P.parts parts.now) levels) scope).reads cursor.old)
+        result cursor.new }
+{
+    if cursor.sees(b"IF") {
+        if_stmt(parts, alloc, cursor, scope, levels)
+    } else {
+        evaluate_stmt(parts, alloc, cursor, scope, levels)
+    }
+}
+
+#[cycle(stmt)]
+#[tactic(auto, unfolding(cobol_grammar::specs::stmt_forms::Loop::loop_body, cobol_grammar::specs::stmt_forms::Loop::loop_end))]
+fn loop_body<P: Parts>(
+    parts: &P,
+    alloc: Global,
+    cursor: &mut Cursor<'_>,
+    scope: Scope,
+    levels: u32,
+    control: Boxed<Control>,
+) -> Result<(Draft, bool), Unread>
+    ensures { Reads
+        ((loops.loop_body (all.level (P.parts parts.now) levels) scope control).reads cursor.old)
+        result cursor.new }
+{
+    let scope = Scope {
+        in_loop: true,
+        in_section: scope.in_section,
+    };
+    match held(parts, alloc, cursor, scope, levels) {
+        Ok((body, not_read)) => {
+            if not_read {
+                drop_control(control);
+                drop_stmts(body);
+                Err(Unread::Stop(Why::Syntax))
+            } else {
+                loop_closed(cursor, control, body)
+            }
+        }
+        Err(stop) => {
+            drop_control(control);
+            Err(stop)
+        }
+    }
+}
+
+#[cycle(stmt)]
+fn perform_from<P: Parts>(
+    parts: &P,
+    alloc: Global,
+    cursor: &mut Cursor<'_>,
+    scope: Scope,
+    levels: u32,
+    head: Begun,
+) -> Result<(Draft, bool), Unread>
+    ensures { Reads
+        ((steps.perform_from (all.level (P.parts parts.now) levels) scope head).reads cursor.old)
+        result cursor.new }
+{
+    match head {
+        Begun::Whole(draft, not_read) => Ok((draft, not_read)),
+        Begun::Inline(control) => loop_body(parts, alloc, cursor, scope, levels, control),
+    }
+}
+
+// PERFORM is read by two calls here, without one between: Rattle's own compiler builds the first
+// calls of a function into it, up to a size, and the frame of a head would be held with them.
+#[cycle(stmt)]
+#[tactic(auto, using(crate::proofs::statements_lemmas::Begun::holding_read), unfolding(cobol_grammar::specs::stmt_forms::Stmt::holding_stmt))]
+fn holding_stmt<P: Parts>(
+    parts: &P,
+    alloc: Global,
+    cursor: &mut Cursor<'_>,
+    scope: Scope,
+    levels: u32,
+) -> Result<(Draft, bool), Unread>
+    ensures { Reads
+        ((all.holding_stmt (P.parts parts.now)
+        (all.level (P.parts parts.now) levels) scope).reads cursor.old)
+        result cursor.new }
+{
+    if at_arithmetic(cursor) {
+        arithmetic_stmt(parts, alloc, cursor, scope, levels)
+    } else if at_choice(cursor) {
+        choice_stmt(parts, alloc, cursor, scope, levels)
+    } else {
+        let head = begin_perform(parts, alloc, cursor, levels)?;
+        perform_from(parts, alloc, cursor, scope, levels, head)
+    }
+}
+
+#[cycle(stmt)]
+#[tactic(auto, unfolding(cobol_grammar::specs::stmt_forms::Stmt::held_stmts))]
+fn held_stmts<P: Parts>(
+    parts: &P,
+    alloc: Global,
+    cursor: &mut Cursor<'_>,
+    scope: Scope,
+    levels: u32,
+    found: Items<Stmt>,
+) -> Result<(Items<Stmt>, bool), Unread>
+    ensures { Reads
+        ((all.held_stmts (P.parts parts.now)
+        (all.level (P.parts parts.now) levels) scope found).reads cursor.old)
+        result cursor.new }
+{
+    if cursor.sees(b"READ") {
+        read_stmt(parts, alloc, cursor, scope, levels, found)
+    } else {
+        match holding_stmt(parts, alloc, cursor, scope, levels) {
+            Ok((draft, not_read)) => Ok((added(found, draft)?, not_read)),
+            Err(stop) => {
+                drop_stmts(found);
+                Err(stop)
+            }
+        }
+    }
+}
+
+#[cycle(stmt)]
+#[tactic(auto, unfolding(cobol_grammar::specs::stmt_forms::Stmt::stmt, cobol_grammar::specs::stmt_forms::Stmt::stmts_turn))]
+fn stmts_turn<P: Parts>(
+    parts: &P,
+    alloc: Global,
+    cursor: &mut Cursor<'_>,
+    scope: Scope,
+    levels: u32,
+    found: (Items<Stmt>, bool),
+) -> Result<(Items<Stmt>, bool), Unread>
+    ensures { Reads
+        ((all.stmts_turn (P.parts parts.now)
+        (all.level (P.parts parts.now) levels) scope found).reads cursor.old)
+        result cursor.new }
+{
+    let (stmts, not_read) = found;
+    if not_read {
+        drop_stmts(stmts);
+        Err(Unread::Stop(Why::Syntax))
+    } else if at_simple(cursor) {
+        simple(parts, alloc, cursor, scope, stmts)
+    } else {
+        held_stmts(parts, alloc, cursor, scope, levels, stmts)
+    }
+}
+
+/// As many statements as there are, behind those that were found.
+#[cycle(stmt)]
+pub fn stmts_from<P: Parts>(
+    parts: &P,
+    alloc: Global,
+    cursor: &mut Cursor<'_>,
+    scope: Scope,
+    levels: u32,
+    mut found: (Items<Stmt>, bool),
+) -> Result<(Items<Stmt>, bool), Unread>
+    ensures { Reads
+        ((all.stmts_from (P.parts parts.now)
+        (all.level (P.parts parts.now) levels) scope found).reads cursor.old)
+        result cursor.new }
+{
+    'stmts: while at_stmt(cursor) {
+        found = stmts_turn(parts, alloc, cursor, scope, levels, found)?;
+    }
+    Ok(found)
+}
+
+/// Statements, one or more.
+#[cycle(stmt)]
+#[tactic(auto, unfolding(cobol_grammar::specs::stmt_forms::Stmt::stmt, cobol_grammar::specs::stmt_forms::Stmt::stmts_with))]
+pub fn stmts_with<P: Parts>(
+    parts: &P,
+    alloc: Global,
+    cursor: &mut Cursor<'_>,
+    scope: Scope,
+    levels: u32,
+) -> Result<(Items<Stmt>, bool), Unread>
+    ensures { Reads
+        ((all.stmts_with (P.parts parts.now)
+        (all.level (P.parts parts.now) levels) scope).reads cursor.old)
+        result cursor.new }
+{
+    let none = Items::new(alloc);
+    let first = if at_simple(cursor) {
+        simple(parts, alloc, cursor, scope, none)?
+    } else {
+        held_stmts(parts, alloc, cursor, scope, levels, none)?
+    };
+    stmts_from(parts, alloc, cursor, scope, levels, first)
+}

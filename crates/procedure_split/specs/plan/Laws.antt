@@ -1,0 +1,93 @@
+-- The plan of a program that isn't faulty, by flow paths.
+use Rattle.std.specs.Prelude.{ℕ, Bool, ◌≡◌, ◌<◌, true, List, [], ◌∷◌, length, map, drop, Option, Some, None}
+use Rattle.cob_tree.specs.declared.program.Range as tree
+use Rattle.cob_tree.specs.declared.program.Program as cobol
+use Rattle.control_flow_theory.specs.language.Control.{control_of}
+use Rattle.control_flow_theory.specs.language.OwnItems.{NamesOwnItems}
+use Rattle.control_flow_theory.specs.language.Language.{Program, Range, Main, Part}
+use Rattle.control_flow_theory.specs.semantics.Graph.{Label}
+use Rattle.control_flow_theory.specs.lowering.Told.{Told, IsSource}
+use Rattle.control_flow_theory.specs.lowering.Lowered.{lowered}
+use Rattle.control_flow_theory.specs.lowering.Reached.{AreReached}
+use Rattle.control_flow_theory.specs.lowering.WellFormed.{AreJustReached}
+use Rattle.control_flow_theory.specs.lowering.flow.Entered.{FreelyComes, IsEntered}
+use Rattle.control_flow_theory.specs.lowering.flow.Paths.{IsFaulty}
+use Rattle.control_flow_theory.specs.graph_rules.Walked.{In}
+use Rattle.control_flow_theory.specs.headline.Chain.{CallsStandLater, IsPlan}
+use Rattle.control_flow_theory.specs.headline.CallsReached.{GivesSome, CalledByPaths}
+use Rattle.program_facts.specs.completion.Told.{told_of, returns_by}
+use Rattle.cobol_theory.specs.cobol_parts.Named.{NamesOwnParagraphs}
+use Rattle.program_points.specs.paths.Flow as flow
+use Rattle.program_points.specs.numbering.Kinds.{never_first_of}
+use Rattle.pending_returns.specs.declared.facts.Summary.{Summary}
+use Rattle.pending_returns.specs.Summary.{IsSummary}
+use Rattle.procedure_split.specs.plan.Planned.{IsPlanOf}
+
+-- the range of the theory
+abbrev pub ending_at : ℕ → Option ℕ → Range
+ending_at entry None = Main
+ending_at entry (Some exit) = Part entry exit
+
+abbrev pub as_control : tree.Range → Range
+as_control range = ending_at range.entry range.exit
+
+-- the ranges that stand behind main
+abbrev pub others_of : List tree.Range → List Range
+others_of order = map as_control (drop 1 order)
+
+-- what a plan is by flow paths: main first, each range but main performed by a path of an earlier
+-- one's level, none twice, and each that is performed in a range's level behind it; the table names
+-- the ranges that are entered and return, and none that doesn't return
+pub record IsPlannedByPaths (told : Told) (program : Program) (returning : List (List ℕ))
+    (order : List tree.Range) : Type 0 where
+  pub main : map as_control order ≡ Main ∷ others_of order
+  pub entered : (entry exit : ℕ) → In (Part entry exit) (Main ∷ others_of order) →
+      (entry < length program.paragraphs) × IsEntered told program (Part entry exit)
+  pub later : CallsStandLater told program (Main ∷ others_of order)
+  pub called : CalledByPaths told program (Main ∷ others_of order)
+  pub names : (entry exit : ℕ) → IsEntered told program (Part entry exit) →
+      FreelyComes told program (Part entry exit) exit [] →
+      returns_by returning entry exit ≡ true
+  pub exact : (entry exit : ℕ) → returns_by returning entry exit ≡ true →
+      FreelyComes told program (Part entry exit) exit []
+
+-- a source that isn't faulty is planned so by its summary, whatever else is told of it
+abbrev pub PlansAreByPaths : Type 0
+PlansAreByPaths =
+    (told : Told) (program : Program) (summary : Summary) (returning : List (List ℕ))
+    (order : List tree.Range) → IsSource told program → GivesSome told →
+    0 < length program.paragraphs → (IsFaulty told program → ⊥) →
+    IsSummary told.never_first program summary → IsPlanOf summary.ranges returning order →
+    IsPlannedByPaths told program returning order
+
+-- so a COBOL program that names its own items and paragraphs and isn't faulty: no flow path of the
+-- theory faults either, and its plan is one by paths, for what lowering is told of it
+abbrev pub CobolPlansAreByPaths : Type 0
+CobolPlansAreByPaths =
+    (program : cobol.Program) (summary : Summary) (returning : List (List ℕ))
+    (order : List tree.Range) → NamesOwnItems program → NamesOwnParagraphs program →
+    0 < length (control_of program).paragraphs →
+    (flow.IsFaulty (never_first_of program.files) (control_of program) → ⊥) →
+    IsSummary (never_first_of program.files) (control_of program) summary →
+    IsPlanOf summary.ranges returning order →
+    (IsFaulty (told_of program.files returning) (control_of program) → ⊥)
+    × IsPlannedByPaths (told_of program.files returning) (control_of program) returning order
+
+-- and with the nodes that are reached such a program has what the headline asks of its flow: it
+-- isn't faulty, this is a plan for it, and each range of the order is performed by an earlier one
+abbrev pub CobolProgramsHavePlans : Type 0
+CobolProgramsHavePlans =
+    (program : cobol.Program) (summary : Summary) (returning : List (List ℕ))
+    (order : List tree.Range) (keep : Range → Label → Bool) →
+    NamesOwnItems program → NamesOwnParagraphs program →
+    0 < length (control_of program).paragraphs →
+    (flow.IsFaulty (never_first_of program.files) (control_of program) → ⊥) →
+    IsSummary (never_first_of program.files) (control_of program) summary →
+    IsPlanOf summary.ranges returning order →
+    let told = told_of program.files returning in
+    let control = control_of program in
+    AreReached (lowered told control) keep →
+    ((range : Range) → In range (Main ∷ others_of order) →
+    AreJustReached told control range (keep range)) →
+    (IsFaulty told control → ⊥) × IsPlan told control keep (others_of order)
+    × CalledByPaths told control (Main ∷ others_of order)

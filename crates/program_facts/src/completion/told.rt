@@ -1,0 +1,39 @@
+//! What lowering is told.
+
+ghost use Rattle.std.specs.Prelude.{◌≡◌, false, slice_get};
+ghost use Rattle.program_facts.specs.completion.Told.{is_among, returns_by, status_missing};
+
+use cob_base::Items;
+use cob_tree::FileEntry;
+
+/// The number is one of these.
+fn is_among(number: u32, numbers: &[u32]) -> bool
+    ensures { result ≡ is_among number numbers.now }
+{
+    for other in numbers {
+        if *other == number {
+            return true;
+        }
+    }
+    false
+}
+
+/// The range returns: `returning` has, for each entry, the exits of those that do.
+pub fn returns(returning: &[Items<u32>], entry: u32, exit: u32) -> bool
+    ensures { result ≡ returns_by returning.now entry exit }
+{
+    match returning.get(entry as usize) {
+        None => false,
+        Some(exits) => is_among(exit, exits.as_slice()),
+    }
+}
+
+/// The file has no status item: without AT END its end ends the run.
+pub fn ends_at_end(files: &[FileEntry], file: u32) -> bool
+    ensures { result ≡ status_missing (slice_get files.now file) }
+{
+    match files.get(file as usize) {
+        None => false,
+        Some(file) => file.status.is_none(),
+    }
+}

@@ -1,0 +1,9 @@
+//! Whether a statement is one of the program's own, in which no word on an added item stands.
+//!
+//! `OwnStmt` of `control_flow_theory/specs/language/Own.antt` says it of what control sees of the statement.
+
+mod owning;
+mod statement;
+
+pub use crate::own_items::owning::is_own_test;
+pub use crate::own_items::statement::{is_own_stmt, is_own_stmts};

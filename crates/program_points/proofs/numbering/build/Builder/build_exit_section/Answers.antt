@@ -1,0 +1,15 @@
+use Rattle.std.proofs.Common.{Bool}
+use Rattle.control_flow_theory.specs.language.Language.{Chooser, also, none, ExitSection}
+use Rattle.program_points.specs.declared.point_table.table.Place.TheVariants.{Goes}
+use Rattle.program_points.specs.numbering.Building.{Builds}
+use Rattle.program_points.proofs.numbering_lemmas.Growing.{if-added}
+use Rattle.program_points.proofs.numbering_lemmas.Steps.{build-exit-section}
+use Rattle.program_points.proofs.numbering.build.Builder.build_exit_section.Goals as goal
+
+pub returns-clause-builds : goal.returns-clause-builds
+returns-clause-builds c =
+    let old = c.args.self.now in
+    if-added c.add.result old.places.items c.add.new.self.places.items (Goes c.in_ok-end.end) old.ranges.items c.add.new.self.ranges.items
+    (λ ps rs n. (never_first : Chooser → Bool) → Builds never_first old.count c.args.here.number old.places.items ps old.ranges.items rs (also (ExitSection c.args.here.last) none) c.args.exits n)
+    (λ never_first. build-exit-section never_first old.count c.args.here.number old.places.items old.ranges.items c.args.exits c.args.here.last c.in_ok-end.end c.in_ok-end.ensures.0 c.in_ok-end.ensures.1)
+    c.add.ensures.ranges c.add.ensures.added

@@ -1,0 +1,15 @@
+use Rattle.std.proofs.Common.{Bool, arith}
+use Rattle.control_flow_theory.specs.language.Language.{Chooser, also, none, Go}
+use Rattle.program_points.specs.declared.point_table.table.Place.TheVariants.{Goes}
+use Rattle.program_points.specs.numbering.Building.{Builds}
+use Rattle.program_points.proofs.numbering_lemmas.Growing.{if-added}
+use Rattle.program_points.proofs.numbering_lemmas.Steps.{build-go}
+use Rattle.program_points.proofs.numbering.build.Builder.build_go.Goals as goal
+
+pub returns-clause-builds : goal.returns-clause-builds
+returns-clause-builds c =
+    let old = c.args.self.now in
+    if-added c.add.result old.places.items c.add.new.self.places.items (Goes c.args.to) old.ranges.items c.add.new.self.ranges.items
+    (λ ps rs n. (never_first : Chooser → Bool) → Builds never_first old.count c.args.here.number old.places.items ps old.ranges.items rs (also (Go c.args.to) none) c.args.exits n)
+    (λ never_first. build-go never_first old.count c.args.here.number old.places.items old.ranges.items c.args.to c.args.exits (omega (arith, c.if-to-self.false)))
+    c.add.ensures.ranges c.add.ensures.added

@@ -1,0 +1,84 @@
+-- What is told of a program's places while they are numbered.
+use Rattle.std.specs.Prelude.{ℕ, suc, ◌≡◌, ◌<◌, ◌≤◌, ◌+◌, Bool, List, length, Some, slice_get}
+use Rattle.cob_tree.specs.declared.program.Range.{Range}
+use Rattle.control_flow_theory.specs.language.Language.{Chooser, Paragraph, Program, paragraph_at}
+use Rattle.program_points.specs.paths.Step.{Point, next}
+use Rattle.program_points.specs.declared.point_table.table.Place.{Place}
+use Rattle.program_points.specs.declared.point_table.table.Place.TheVariants.{Ends}
+use Rattle.program_points.specs.declared.point_table.table.Table.{Table}
+use Rattle.program_points.specs.point_table.Table.{Describes, IsTable}
+use Rattle.program_points.specs.numbering.Building.{HasParagraphs, part_of}
+
+-- as many places as starts and ends, and the ends behind the starts
+pub record HasEnds (count : ℕ) (places : List Place) : Type 0 where
+  pub size : length places ≡ count + count
+  pub ends : (number : ℕ) → number < count → slice_get places (count + number) ≡ Some (Ends number)
+
+-- the paragraphs of such places
+pub record CountsTwice (count : ℕ) (owners : List ℕ) : Type 0 where
+  pub size : length owners ≡ count + count
+  pub first : (number : ℕ) → number < count → slice_get owners number ≡ Some number
+  pub second : (number : ℕ) → number < count → slice_get owners (count + number) ≡ Some number
+
+-- the places of the starts from this one on, and those behind the starts, say what control does at
+-- their points, and each place stands in the paragraph that is told
+pub record IsNumbered (never_first : Chooser → Bool) (program : Program) (count : ℕ) (places : List
+    Place) (ranges : List Range) (owners : List ℕ) (from : ℕ) (points : ℕ → Point) : Type 0 where
+  pub paragraphs : HasParagraphs program count places points
+  pub told : (number : ℕ) → from ≤ number → number < length places →
+      (place : Place) × (slice_get places number ≡ Some place)
+      × Describes (part_of places ranges) points place (next never_first program (points number))
+  pub owned : (number : ℕ) → number < length places →
+      (slice_get owners number ≡ Some (points number).paragraph)
+      × ((points number).paragraph < count)
+
+abbrev pub Numbered : (Chooser → Bool) → Program → ℕ → List Place → List Range → List ℕ → ℕ →
+    Type 0
+Numbered never_first program count places ranges owners from = (points : ℕ → Point)
+    × IsNumbered never_first program count places ranges owners from points
+
+-- the ranges that are known keep their numbers
+abbrev pub KeepsRanges : List Range → List Range → Type 0
+KeepsRanges old new = (number : ℕ) (range : Range) → slice_get old number ≡ Some range →
+    slice_get new number ≡ Some range
+
+-- up to this number, the list goes on with this paragraph
+pub record Extends (old new : List ℕ) (until paragraph : ℕ) : Type 0 where
+  pub size : length new ≡ until
+  pub kept : (number : ℕ) → number < length old → slice_get new number ≡ slice_get old number
+  pub more : (number : ℕ) → length old ≤ number → number < until →
+      slice_get new number ≡ Some paragraph
+
+-- with this paragraph, one start more is told
+abbrev pub BuildsParagraph : (Chooser → Bool) → ℕ → List Place → List Place → List Range →
+    List Range → List ℕ → List ℕ → Paragraph → ℕ → Type 0
+BuildsParagraph never_first count old new old_ranges new_ranges old_owners new_owners paragraph
+    number =
+    (program : Program) → paragraph_at program number ≡ paragraph →
+    Numbered never_first program count old old_ranges old_owners (suc number) →
+    Numbered never_first program count new new_ranges new_owners number
+    × KeepsRanges old_ranges new_ranges
+
+-- with these paragraphs, all starts are told
+abbrev pub NumbersAll : (Chooser → Bool) → List Paragraph → ℕ → List Place → List Place →
+    List Range → List Range → List ℕ → List ℕ → Type 0
+NumbersAll never_first paragraphs count old new old_ranges new_ranges old_owners new_owners =
+    (program : Program) → program.paragraphs ≡ paragraphs →
+    Numbered never_first program count old old_ranges old_owners count →
+    Numbered never_first program count new new_ranges new_owners 0
+    × KeepsRanges old_ranges new_ranges
+
+-- each range's entry is one of so many paragraphs
+abbrev pub BoundsEntries : ℕ → List Range → Type 0
+BoundsEntries count ranges = (number : ℕ) (range : Range) →
+    slice_get ranges number ≡ Some range → range.entry < count
+
+-- each number below this one stands at its own number
+pub record Counts (count : ℕ) (starts : List ℕ) : Type 0 where
+  pub size : length starts ≡ count
+  pub each : (number : ℕ) → number < count → slice_get starts number ≡ Some number
+
+-- the table is one of the program
+abbrev pub HasTable : (Chooser → Bool) → Program → Table → Type 0
+HasTable never_first program table = (points : ℕ → Point)
+    × IsTable never_first program table points

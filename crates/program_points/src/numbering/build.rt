@@ -1,0 +1,534 @@
+//! Places, from the last statement of a list to its first.
+
+ghost use Rattle.std.specs.Prelude.{ℕ, Bool, ◌≡◌, ◌<◌, ◌≤◌, ◌+◌, ◌++◌, ◌∷◌, [], false, Some, None, length, slice_get, IfOk};
+ghost use Rattle.program_points.specs.declared.point_table.table.Place.TheVariants.{Chooses, Goes};
+ghost use Rattle.control_flow_theory.specs.language.Language.{Chooser, also, none, Loop, Perform, Performed, Go, GoDepending, ExitParagraph, ExitSection};
+ghost use Rattle.control_flow_theory.specs.language.Language as language;
+ghost use Rattle.cob_tree.specs.declared.stmt.Arms.{out-Arms};
+ghost use Rattle.control_flow_theory.specs.language.Control.{control_in, loop_of, perform_of, seen, seen_stmts};
+ghost use Rattle.program_points.specs.numbering.Kinds.{kind_in, never_first_of};
+ghost use Rattle.program_points.specs.numbering.Building.{Builds, BuildsBoth, BuildsBranches, IsClosed, after_at, inside, seen_branches, two_ways};
+
+use crate::numbering::kind::{Kind, is_silent, kind_of};
+use crate::perform_ranges::place_of;
+use crate::point_table::Place;
+use cob_base::{Items, NoMemory};
+use cob_tree::{Arms, Control, FileEntry, Range, Stmt, When};
+use std::alloc::Global;
+
+/// Places so far, and the ranges that they perform.
+#[derive(Debug, Drop)]
+pub struct Builder {
+    pub places: Vec<Place>,
+    pub ranges: Vec<Range>,
+    /// How many paragraphs there are; the first places are their starts, and the next their ends.
+    pub count: u32,
+}
+
+/// The paragraph in which statements stand, and the last one of its section.
+#[derive(Clone, Copy, Debug, PartialEq, Eq)]
+pub struct Here {
+    pub number: u32,
+    pub last: u32,
+}
+
+/// Where control goes on behind statements: behind them, behind their sentence, and behind the
+/// innermost loop around them or at its next turn.
+#[derive(Clone, Copy, Debug, PartialEq, Eq)]
+pub struct Exits {
+    pub after: u32,
+    pub leave: u32,
+    pub broken: u32,
+    pub cycled: u32,
+}
+
+impl Exits {
+    /// The exits of the body of a loop that turns at this place.
+    pub fn inside(self, turn: u32) -> Exits
+        ensures { result ≡ inside self turn }
+    {
+        Exits {
+            after: turn,
+            leave: self.leave,
+            broken: self.after,
+            cycled: turn,
+        }
+    }
+
+    /// The same exits behind statements that begin at this place.
+    pub fn behind(self, place: u32) -> Exits
+        ensures { result ≡ after_at self place }
+    {
+        Exits {
+            after: place,
+            leave: self.leave,
+            broken: self.broken,
+            cycled: self.cycled,
+        }
+    }
+}
+
+impl Builder {
+    /// Adds a place.
+    pub fn add(&mut self, place: Place) -> Result<u32, NoMemory>
+        ensures added { IfOk result (λ number. (number ≡ length self.old.places.items)
+            × (self.new.places.items ≡ self.old.places.items ++ place ∷ [])) }
+        ensures ranges { self.new.ranges.items ≡ self.old.ranges.items }
+        ensures count { self.new.count ≡ self.old.count }
+        ensures longer { length self.old.places.items ≤ length self.new.places.items }
+    {
+        let number = self.places.len();
+        if number >= u32::MAX as usize {
+            return Err(NoMemory);
+        }
+        self.places.push(place)?;
+        Ok(number as u32)
+    }
+
+    /// The number of a range: where ranges stand in their order it is found by halving, and any
+    /// other is added.
+    pub fn range_number(&mut self, range: Range) -> Result<u32, NoMemory>
+        ensures number { IfOk result
+            (λ number. slice_get self.new.ranges.items number ≡ Some range) }
+        ensures kept { (number : ℕ) (known : Range) → slice_get self.old.ranges.items number
+            ≡ Some known → slice_get self.new.ranges.items number ≡ Some known }
+        ensures places { self.new.places.items ≡ self.old.places.items }
+        ensures count { self.new.count ≡ self.old.count }
+        ensures longer { length self.old.places.items ≤ length self.new.places.items }
+    {
+        let place = place_of(self.ranges.as_slice(), range);
+        match self.ranges.get(place) {
+            Some(known) => {
+                if *known == range {
+                    return match u32::try_from(place) {
+                        Ok(number) => Ok(number),
+                        Err(_) => Err(NoMemory),
+                    };
+                }
+            }
+            None => {}
+        }
+        let number = self.ranges.len();
+        if number >= u32::MAX as usize {
+            return Err(NoMemory);
+        }
+        self.ranges.push(range)?;
+        Ok(number as u32)
+    }
+
+    /// The place at a paragraph's end.
+    pub fn end_place(&self, paragraph: u32) -> Result<u32, NoMemory>
+        ensures { IfOk result (λ place. (place ≡ self.now.count + paragraph)
+            × (paragraph < self.now.count)) }
+    {
+        if paragraph >= self.count {
+            return Err(NoMemory);
+        }
+        match self.count.checked_add(paragraph) {
+            Some(place) => Ok(place),
+            None => Err(NoMemory),
+        }
+    }
+
+    /// Adds a place with two ways, of which the first may be never taken.
+    pub fn choose_two(
+        &mut self,
+        alloc: Global,
+        barred: bool,
+        first: u32,
+        second: u32,
+    ) -> Result<u32, NoMemory>
+        ensures added { IfOk result (λ number. (number ≡ length self.old.places.items)
+            × (self.new.places.items ≡ self.old.places.items
+            ++ Chooses (two_ways barred first second) ∷ [])) }
+        ensures ranges { self.new.ranges.items ≡ self.old.ranges.items }
+        ensures count { self.new.count ≡ self.old.count }
+        ensures longer { length self.old.places.items ≤ length self.new.places.items }
+    {
+        let mut ways = Items::new(alloc);
+        let before = if barred { None } else { Some(first) };
+        ways.push(before)?;
+        ways.push(Some(second))?;
+        self.add(Place::Chooses(ways))
+    }
+
+    /// Adds a place with these ways and one more.
+    pub fn choose_last(&mut self, ways: Items<Option<u32>>, last: u32) -> Result<u32, NoMemory>
+        ensures added { IfOk result (λ number. (number ≡ length self.old.places.items)
+            × (self.new.places.items ≡ self.old.places.items ++ Chooses (ways ++ Some last ∷ []) ∷
+            [])) }
+        ensures ranges { self.new.ranges.items ≡ self.old.ranges.items }
+        ensures count { self.new.count ≡ self.old.count }
+        ensures longer { length self.old.places.items ≤ length self.new.places.items }
+    {
+        let mut all = ways;
+        all.push(Some(last))?;
+        self.add(Place::Chooses(all))
+    }
+
+    /// Tells what is left of a loop, and adds the loop.
+    pub fn close_loop(
+        &mut self,
+        alloc: Global,
+        kind: Kind,
+        turn: u32,
+        after: u32,
+        start: u32,
+    ) -> Result<u32, NoMemory>
+        requires { turn < length self.old.places.items }
+        ensures closed { IfOk result
+            (λ begin. IsClosed kind turn after start begin self.old.places.items
+            self.new.places.items) }
+        ensures ranges { self.new.ranges.items ≡ self.old.ranges.items }
+        ensures count { self.new.count ≡ self.old.count }
+        ensures longer { length self.old.places.items ≤ length self.new.places.items }
+    {
+        let mut ways = Items::new(alloc);
+        ways.push(Some(after))?;
+        ways.push(Some(start))?;
+        self.places[turn as usize] = Place::Chooses(ways);
+        match kind {
+            Kind::Before => self.add(Place::Goes(turn)),
+            Kind::After => self.add(Place::Goes(start)),
+            Kind::Again => {
+                let first = self.choose_two(alloc, false, after, start)?;
+                self.add(Place::Goes(first))
+            }
+        }
+    }
+
+    /// The place of a PERFORM of paragraphs without loop.
+    pub fn build_call(
+        &mut self,
+        here: Here,
+        entry: u32,
+        exit: u32,
+        exits: Exits,
+    ) -> Result<u32, NoMemory>
+        ensures builds { IfOk result
+            (λ begin. (never_first : Chooser → Bool) → Builds never_first self.old.count here.number
+            self.old.places.items self.new.places.items self.old.ranges.items self.new.ranges.items
+            (also (Perform entry exit) none) exits begin) }
+        ensures count { self.new.count ≡ self.old.count }
+        ensures longer { length self.old.places.items ≤ length self.new.places.items }
+    {
+        let range = self.range_number(Range {
+            entry,
+            exit: Some(exit),
+        })?;
+        self.add(Place::Calls {
+            range,
+            after: exits.after,
+        })
+    }
+
+    /// The place of a PERFORM of paragraphs with a loop.
+    pub fn build_call_loop(
+        &mut self,
+        alloc: Global,
+        here: Here,
+        entry: u32,
+        exit: u32,
+        kind: Kind,
+        exits: Exits,
+    ) -> Result<u32, NoMemory>
+        ensures builds { IfOk result
+            (λ begin. (never_first : Chooser → Bool) (control : language.Control) → kind_in control
+            ≡ kind →
+            Builds never_first self.old.count here.number
+            self.old.places.items self.new.places.items self.old.ranges.items self.new.ranges.items
+            (also (Loop control (Performed entry exit)) none) exits begin) }
+        ensures count { self.new.count ≡ self.old.count }
+        ensures longer { length self.old.places.items ≤ length self.new.places.items }
+    {
+        let turn = self.add(Place::Stops)?;
+        let inner = exits.inside(turn);
+        let start = self.build_call(here, entry, exit, inner)?;
+        self.close_loop(alloc, kind, turn, exits.after, start)
+    }
+
+    /// The place of a PERFORM of paragraphs.
+    pub fn build_perform(
+        &mut self,
+        alloc: Global,
+        here: Here,
+        entry: u32,
+        exit: u32,
+        control: &Control,
+        exits: Exits,
+    ) -> Result<u32, NoMemory>
+        ensures builds { IfOk result
+            (λ begin. (never_first : Chooser → Bool) → Builds never_first self.old.count here.number
+            self.old.places.items self.new.places.items self.old.ranges.items self.new.ranges.items
+            (also (perform_of (control_in control.now) entry exit) none) exits begin) }
+        ensures count { self.new.count ≡ self.old.count }
+        ensures longer { length self.old.places.items ≤ length self.new.places.items }
+    {
+        match kind_of(control) {
+            None => self.build_call(here, entry, exit, exits),
+            Some(kind) => self.build_call_loop(alloc, here, entry, exit, kind, exits),
+        }
+    }
+
+    /// The place of a GO TO DEPENDING.
+    pub fn build_depending(
+        &mut self,
+        alloc: Global,
+        here: Here,
+        names: &[u32],
+        exits: Exits,
+    ) -> Result<u32, NoMemory>
+        ensures builds { IfOk result
+            (λ begin. (never_first : Chooser → Bool) (chooser : Chooser) →
+            Builds never_first self.old.count here.number
+            self.old.places.items self.new.places.items self.old.ranges.items self.new.ranges.items
+            (also (GoDepending names.now chooser) none) exits begin) }
+        ensures count { self.new.count ≡ self.old.count }
+        ensures longer { length self.old.places.items ≤ length self.new.places.items }
+    {
+        let mut ways = Items::new(alloc);
+        for name in names {
+            if *name >= self.count {
+                return Err(NoMemory);
+            }
+            ways.push(Some(*name))?;
+        }
+        ways.push(Some(exits.after))?;
+        self.add(Place::Chooses(ways))
+    }
+
+    /// The place of a GO TO.
+    pub fn build_go(&mut self, here: Here, to: u32, exits: Exits) -> Result<u32, NoMemory>
+        ensures builds { IfOk result
+            (λ begin. (never_first : Chooser → Bool) → Builds never_first self.old.count here.number
+            self.old.places.items self.new.places.items self.old.ranges.items self.new.ranges.items
+            (also (Go to) none) exits begin) }
+        ensures count { self.new.count ≡ self.old.count }
+        ensures longer { length self.old.places.items ≤ length self.new.places.items }
+    {
+        if to >= self.count {
+            return Err(NoMemory);
+        }
+        self.add(Place::Goes(to))
+    }
+
+    /// The place of an EXIT PARAGRAPH.
+    pub fn build_exit_paragraph(&mut self, here: Here, exits: Exits) -> Result<u32, NoMemory>
+        ensures builds { IfOk result
+            (λ begin. (never_first : Chooser → Bool) → Builds never_first self.old.count here.number
+            self.old.places.items self.new.places.items self.old.ranges.items self.new.ranges.items
+            (also ExitParagraph none) exits begin) }
+        ensures count { self.new.count ≡ self.old.count }
+        ensures longer { length self.old.places.items ≤ length self.new.places.items }
+    {
+        let end = self.end_place(here.number)?;
+        self.add(Place::Goes(end))
+    }
+
+    /// The place of an EXIT SECTION.
+    pub fn build_exit_section(&mut self, here: Here, exits: Exits) -> Result<u32, NoMemory>
+        ensures builds { IfOk result
+            (λ begin. (never_first : Chooser → Bool) → Builds never_first self.old.count here.number
+            self.old.places.items self.new.places.items self.old.ranges.items self.new.ranges.items
+            (also (ExitSection here.last) none) exits begin) }
+        ensures count { self.new.count ≡ self.old.count }
+        ensures longer { length self.old.places.items ≤ length self.new.places.items }
+    {
+        let end = self.end_place(here.last)?;
+        self.add(Place::Goes(end))
+    }
+
+    /// The place of a statement.
+    #[cycle(build)]
+    pub fn build_stmt(
+        &mut self,
+        alloc: Global,
+        files: &[FileEntry],
+        here: Here,
+        stmt: &Stmt,
+        exits: Exits,
+    ) -> Result<u32, NoMemory>
+        ensures builds { IfOk result
+            (λ begin. Builds (never_first_of files.now) self.old.count here.number
+            self.old.places.items self.new.places.items self.old.ranges.items self.new.ranges.items
+            (also (seen here.last stmt.now) none) exits begin) }
+        ensures count { self.new.count ≡ self.old.count }
+        ensures longer { length self.old.places.items ≤ length self.new.places.items }
+    {
+        match stmt {
+            Stmt::Arith { arms, .. } => self.build_both(alloc, files, here, arms, false, exits),
+            Stmt::Read { file, arms, .. } => {
+                let silent = is_silent(files, *file);
+                self.build_both(alloc, files, here, arms, silent, exits)
+            }
+            Stmt::If { yes, no, .. } => {
+                let met = self.build_stmts(alloc, files, here, yes, exits)?;
+                let unmet = self.build_stmts(alloc, files, here, no, exits)?;
+                self.choose_two(alloc, false, met, unmet)
+            }
+            Stmt::Evaluate { whens, other, .. } => {
+                let ways = self.build_whens(alloc, files, here, whens, exits)?;
+                match other {
+                    None => self.choose_last(ways, exits.after),
+                    Some(stmts) => {
+                        let last = self.build_stmts(alloc, files, here, stmts, exits)?;
+                        self.choose_last(ways, last)
+                    }
+                }
+            }
+            Stmt::Loop { control, body } => {
+                self.build_loop(alloc, files, here, control, body, exits)
+            }
+            Stmt::Perform {
+                entry,
+                exit,
+                control,
+            } => self.build_perform(alloc, here, *entry, *exit, control, exits),
+            Stmt::Go(to) => self.build_go(here, *to, exits),
+            Stmt::GoDepending { to, .. } => {
+                self.build_depending(alloc, here, to.as_slice(), exits)
+            }
+            Stmt::NextSentence => self.add(Place::Goes(exits.leave)),
+            Stmt::StopRun => self.add(Place::Stops),
+            Stmt::ExitParagraph => self.build_exit_paragraph(here, exits),
+            Stmt::ExitSection => self.build_exit_section(here, exits),
+            Stmt::ExitPerform { cycle } => self.add(Place::Goes(if *cycle {
+                exits.cycled
+            } else {
+                exits.broken
+            })),
+            Stmt::Display { .. } => self.add(Place::Goes(exits.after)),
+            Stmt::Move { .. } => self.add(Place::Goes(exits.after)),
+            Stmt::SetTrue(_) => self.add(Place::Goes(exits.after)),
+            Stmt::Opens(_) => self.add(Place::Goes(exits.after)),
+            Stmt::Closes(_) => self.add(Place::Goes(exits.after)),
+            Stmt::Write { .. } => self.add(Place::Goes(exits.after)),
+            Stmt::Rewrite { .. } => self.add(Place::Goes(exits.after)),
+            Stmt::Exit => self.add(Place::Goes(exits.after)),
+            Stmt::Continue => self.add(Place::Goes(exits.after)),
+        }
+    }
+
+    /// The place at which statements begin.
+    #[cycle(build)]
+    pub fn build_stmts(
+        &mut self,
+        alloc: Global,
+        files: &[FileEntry],
+        here: Here,
+        stmts: &Items<Stmt>,
+        exits: Exits,
+    ) -> Result<u32, NoMemory>
+        ensures builds { IfOk result
+            (λ begin. Builds (never_first_of files.now) self.old.count here.number
+            self.old.places.items self.new.places.items self.old.ranges.items self.new.ranges.items
+            (seen_stmts here.last stmts.now) exits begin) }
+        ensures count { self.new.count ≡ self.old.count }
+        ensures longer { length self.old.places.items ≤ length self.new.places.items }
+    {
+        let mut next = exits.after;
+        let list = stmts.as_slice();
+        for at in (0..list.len()).rev() {
+            next = self.build_stmt(alloc, files, here, &list[at], exits.behind(next))?;
+        }
+        Ok(next)
+    }
+
+    /// The place of a READ or of arithmetic with these arms.
+    #[cycle(build)]
+    pub fn build_both(
+        &mut self,
+        alloc: Global,
+        files: &[FileEntry],
+        here: Here,
+        arms: &Arms,
+        silent: bool,
+        exits: Exits,
+    ) -> Result<u32, NoMemory>
+        ensures builds { IfOk result
+            (λ begin. BuildsBoth (never_first_of files.now) self.old.count here.number
+            self.old.places.items self.new.places.items self.old.ranges.items self.new.ranges.items
+            here.last (out-Arms arms.now).first (out-Arms arms.now).second silent exits begin) }
+        ensures count { self.new.count ≡ self.old.count }
+        ensures longer { length self.old.places.items ≤ length self.new.places.items }
+    {
+        match &arms.first {
+            None => match &arms.second {
+                None => self.add(Place::Goes(exits.after)),
+                Some(stmts) => {
+                    let unmet = self.build_stmts(alloc, files, here, stmts, exits)?;
+                    self.choose_two(alloc, silent, exits.after, unmet)
+                }
+            },
+            Some(stmts) => {
+                let met = self.build_stmts(alloc, files, here, stmts, exits)?;
+                match &arms.second {
+                    None => self.choose_two(alloc, false, met, exits.after),
+                    Some(others) => {
+                        let unmet = self.build_stmts(alloc, files, here, others, exits)?;
+                        self.choose_two(alloc, false, met, unmet)
+                    }
+                }
+            }
+        }
+    }
+
+    /// The ways of the WHENs of an EVALUATE.
+    #[cycle(build)]
+    pub fn build_whens(
+        &mut self,
+        alloc: Global,
+        files: &[FileEntry],
+        here: Here,
+        whens: &Items<When>,
+        exits: Exits,
+    ) -> Result<Items<Option<u32>>, NoMemory>
+        ensures builds { IfOk result
+            (λ ways. BuildsBranches (never_first_of files.now) self.old.count here.number
+            self.old.places.items self.new.places.items self.old.ranges.items self.new.ranges.items
+            (seen_branches here.last whens.now) exits ways) }
+        ensures count { self.new.count ≡ self.old.count }
+        ensures longer { length self.old.places.items ≤ length self.new.places.items }
+    {
+        let mut ways = Items::new(alloc);
+        for when in whens.as_slice() {
+            let start = self.build_stmts(alloc, files, here, &when.stmts, exits)?;
+            ways.push(Some(start))?;
+        }
+        Ok(ways)
+    }
+
+    /// The place of an inline PERFORM.
+    #[cycle(build)]
+    pub fn build_loop(
+        &mut self,
+        alloc: Global,
+        files: &[FileEntry],
+        here: Here,
+        control: &Control,
+        body: &Items<Stmt>,
+        exits: Exits,
+    ) -> Result<u32, NoMemory>
+        ensures builds { IfOk result
+            (λ begin. Builds (never_first_of files.now) self.old.count here.number
+            self.old.places.items self.new.places.items self.old.ranges.items self.new.ranges.items
+            (also (loop_of (control_in control.now) (seen_stmts here.last body.now)) none) exits
+            begin) }
+        ensures count { self.new.count ≡ self.old.count }
+        ensures longer { length self.old.places.items ≤ length self.new.places.items }
+    {
+        match kind_of(control) {
+            None => {
+                let start = self.build_stmts(alloc, files, here, body, exits)?;
+                let mut ways = Items::new(alloc);
+                ways.push(Some(start))?;
+                self.add(Place::Chooses(ways))
+            }
+            Some(kind) => {
+                let turn = self.add(Place::Stops)?;
+                let start = self.build_stmts(alloc, files, here, body, exits.inside(turn))?;
+                self.close_loop(alloc, kind, turn, exits.after, start)
+            }
+        }
+    }
+}

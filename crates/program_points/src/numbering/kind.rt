@@ -1,0 +1,40 @@
+//! What of loops and files control depends on.
+
+ghost use Rattle.std.specs.Prelude.{◌≡◌, option_map};
+ghost use Rattle.control_flow_theory.specs.language.Control.{control_in};
+ghost use Rattle.program_points.specs.numbering.Kinds.{kind_in, is_silent};
+
+use cob_tree::{Control, FileEntry};
+
+/// Where a loop begins.
+#[derive(Clone, Copy, Debug, PartialEq, Eq)]
+pub enum Kind {
+    /// At its test, or at its count.
+    Before,
+    /// At its first test, behind which each test comes after the augmenting ADD.
+    Again,
+    /// At its body.
+    After,
+}
+
+/// Where the loop of a control begins; none of `Once`.
+pub fn kind_of(control: &Control) -> Option<Kind>
+    ensures { result ≡ option_map kind_in (control_in control.now) }
+{
+    match control {
+        Control::Once => None,
+        Control::Times(_) => Some(Kind::Before),
+        Control::Until { after, .. } => Some(if *after { Kind::After } else { Kind::Before }),
+        Control::Varying { after, .. } => Some(if *after { Kind::After } else { Kind::Again }),
+    }
+}
+
+/// Whether the file has no status item, so that its end ends the run where no AT END stands.
+pub fn is_silent(files: &[FileEntry], file: u32) -> bool
+    ensures { result ≡ is_silent files.now file }
+{
+    match files.get(file as usize) {
+        Some(entry) => entry.status.is_none(),
+        None => false,
+    }
+}

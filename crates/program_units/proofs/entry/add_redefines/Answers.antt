@@ -1,4 +1,0 @@
-use Rattle.program_units.proofs.entry.add_redefines.Goals as goal
-
-pub returns-in-Some : goal.returns-in-Some
-returns-in-Some c = rw c.in-Some.is c.add_item.ensures

@@ -1,4 +1,0 @@
-use Rattle.program_units.proofs.entry.add_sign.Goals as goal
-
-pub returns-in-SeparateLeading : goal.returns-in-SeparateLeading
-returns-in-SeparateLeading c = rw c.in-SeparateLeading.is c.add_words.ensures

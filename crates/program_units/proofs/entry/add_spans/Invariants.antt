@@ -1,8 +1,0 @@
-use Rattle.std.proofs.Common.{◌≡◌, ◌++◌, drop}
-use Rattle.program_units.specs.Entry.{spans_tokens}
-use Rattle.program_units.proofs.entry.add_spans.Given as goal
-
-abbrev pub invariant-loop-span : goal.invariant-loop-span
-invariant-loop-span l =
-    l.tokens ++ spans_tokens l.program (drop l.span-index l.spans)
-    ≡ l.initial.tokens ++ spans_tokens l.program l.spans

@@ -1,7 +1,0 @@
-use Rattle.std.proofs.Common.{◌≡◌, ◌++◌}
-use Rattle.std.specs.Vec.Iter.{into_iter_items}
-use Rattle.program_units.proofs.unit.Units.append.Given as goal
-
-abbrev pub invariant-loop-unit : goal.invariant-loop-unit
-invariant-loop-unit l =
-    l.self ++ into_iter_items l.unit-iterator ≡ l.initial.self ++ into_iter_items l.initial.unit-iterator

@@ -1,8 +1,0 @@
-use Rattle.std.proofs.Common.{◌≡◌, ◌++◌, drop}
-use Rattle.program_units.specs.Division.{paragraphs_units}
-use Rattle.program_units.proofs.unit.Units.paragraphs.Given as goal
-
-abbrev pub invariant-loop-paragraph : goal.invariant-loop-paragraph
-invariant-loop-paragraph l =
-    l.self ++ paragraphs_units l.program (drop l.paragraph-index l.paragraphs)
-    ≡ l.initial.self ++ paragraphs_units l.program l.paragraphs

@@ -1,9 +1,0 @@
--- Units, and where they stand.
-pub mod Unit
--- Statements, with what they hold.
-pub mod Statement
--- Entries of data, with their pictures.
-pub mod Picture
-pub mod Entry
--- The divisions, and all units of a program: `program_units`.
-pub mod Division

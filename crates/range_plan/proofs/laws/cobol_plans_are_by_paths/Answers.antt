@@ -1,5 +1,0 @@
-use Rattle.range_plan.proofs.CobolPlans.{cobol-planned}
-use Rattle.range_plan.proofs.laws.cobol_plans_are_by_paths.Goals as goal
-
-pub returns : goal.returns
-returns c program summary returning order items paragraphs some fine is plan = cobol-planned program summary returning order items paragraphs some fine is plan

@@ -1,6 +1,0 @@
-use Rattle.std.proofs.Common.{◌≡◌, ◌++◌, drop}
-use Rattle.range_plan.specs.Planned.{calls_of}
-use Rattle.range_plan.proofs.plan.calls_by_number.Given as goal
-
-abbrev pub invariant-loop-at : goal.invariant-loop-at
-invariant-loop-at l = l.calls ++ calls_of (drop l.at l.ranges) ≡ calls_of l.ranges

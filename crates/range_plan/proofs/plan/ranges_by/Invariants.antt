@@ -1,7 +1,0 @@
-use Rattle.std.proofs.Common.{◌≡◌, ◌++◌, drop}
-use Rattle.std.specs.Prelude.{map}
-use Rattle.range_plan.specs.Planned.{range_at}
-use Rattle.range_plan.proofs.plan.ranges_by.Given as goal
-
-abbrev pub invariant-loop-at : goal.invariant-loop-at
-invariant-loop-at l = l.made ++ map (range_at l.ranges) (drop l.at l.numbers) ≡ map (range_at l.ranges) l.numbers

@@ -1,7 +1,0 @@
-use Rattle.std.proofs.Common.{◌≡◌, drop}
-use Rattle.std.specs.List.{fold}
-use Rattle.range_plan.specs.Planned.{with_facts, table_by}
-use Rattle.range_plan.proofs.returning.returning_of.Given as goal
-
-abbrev pub invariant-loop-at : goal.invariant-loop-at
-invariant-loop-at l = fold with_facts l.table.items (drop l.at l.ranges) ≡ table_by l.ranges

@@ -1,5 +1,0 @@
-use Rattle.read_laws.proofs.division_readings_lemmas.Begin.{read-where-counted}
-use Rattle.read_laws.proofs.division_readings.paragraphs_are_read_where_counted.Goals as goal
-
-pub returns : goal.returns
-returns c tokens draft end e = read-where-counted tokens draft end e

@@ -1,9 +1,0 @@
--- What holds of programs that are read.
-use Rattle.std.specs.Prelude.{ℕ, ◌≡◌, true, List}
-use Rattle.cob_tree.specs.declared.program.Program.{Program}
-use Rattle.cobol_read.specs.Reading.{Reads}
-use Rattle.few_stmts.specs.lone_exits.Alone.{exits_alone}
-
-abbrev pub ProgramsThatAreReadExitAlone : Type 0
-ProgramsThatAreReadExitAlone =
-    (bytes : List ℕ) (program : Program) → Reads bytes program → exits_alone program ≡ true

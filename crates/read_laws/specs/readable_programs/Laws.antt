@@ -1,9 +1,0 @@
--- What is printed of readable programs.
-use Rattle.cob_tree.specs.declared.program.Program.{Program}
-use Rattle.cobol_print.specs.Program.{printed}
-use Rattle.cobol_read.specs.Reading.{Reads}
-use Rattle.read_laws.specs.readable_programs.Readable.{IsReadable}
-
-abbrev pub ReadableProgramsReadBack : Type 0
-ReadableProgramsReadBack =
-    (program : Program) → IsReadable program → Reads (printed program) program

@@ -1,9 +1,0 @@
-//! EXIT without a further word stands alone in the sentences of a program that is read. The crate
-//! has no code.
-
-ghost use Rattle.read_laws.specs.exit_reading.Laws.{ProgramsThatAreReadExitAlone};
-
-/// EXIT without a further word stands alone in the sentences of a program that is read.
-pub fn programs_that_are_read_exit_alone()
-    ensures { ProgramsThatAreReadExitAlone }
-{}

@@ -1,9 +1,0 @@
-//! Lists of names are short in a program that is read: a source has no more tokens than their
-//! limit, and each name of a GO TO DEPENDING takes one. The crate has no code.
-
-ghost use Rattle.read_laws.specs.few_reading.Laws.{ProgramsThatAreReadNameFew};
-
-/// Each GO TO DEPENDING of a program that is read names fewer than 10^18 paragraphs.
-pub fn programs_that_are_read_name_few()
-    ensures { ProgramsThatAreReadNameFew }
-{}

@@ -1,0 +1,11 @@
+use Rattle.std.proofs.Common.{◌&&◌, ap, ap₂, ◌∙◌}
+use Rattle.branch_tree.specs.Trees.{seen_body}
+use Rattle.region_rewrite.specs.written_nesting.Nesting.{is_nothing}
+use Rattle.region_rewrite.proofs.written_nesting_lemmas.NestingRows.{tree_nothing}
+use Rattle.region_rewrite.proofs.written_nesting.nesting.tree_is_nothing.Goals as goal
+
+pub returns : goal.returns
+returns c =
+    c.both.ensures
+    ∙ ap₂ (λ a b. a && b) c.is_nothing.ensures c.end_is_nothing.ensures
+    ∙ tree_nothing c.args.leaves.now c.args.tree.now

@@ -1,5 +1,0 @@
-use Rattle.rest_table.proofs.ParagraphSpots.{Sentences}
-use Rattle.rest_table.proofs.paragraphs.push_paragraph.Given as goal
-
-abbrev pub invariant-loop-sentence : goal.invariant-loop-sentence
-invariant-loop-sentence l = Sentences l.telling l.paragraph l.number l.last l.sentence-index l.fn.spots.items l.spots.items l.begins.items

@@ -1,0 +1,31 @@
+-- What comes of a program comes of its source.
+use Rattle.std.proofs.Common.{◌≡◌, ℕ, true, List, sym, subst}
+use Rattle.cob_base.specs.Sink.{SinkCall}
+use Rattle.cob_tree.specs.declared.program.Program.{Program}
+use Rattle.cobol_read.specs.Reading.{Reads}
+use Rattle.cobol_theory.specs.cobol_meaning.Runs.{Files}
+use Rattle.cobol_run.specs.PlainTests.{is_plain}
+use Rattle.cobol_run.specs.Running.{RunsAs}
+use Rattle.restructure_core.specs.declared.run.Came.{Came}
+use Rattle.restructure_core.specs.declared.run.Came.TheVariants as came
+use Rattle.cobol_run.specs.Over.{RunsOver, TellFiles}
+use Rattle.cobol_run.specs.Own.{IsOwn}
+use Rattle.file_model.specs.operations.Seen.{Seen}
+use Rattle.control_flow_theory.proofs.language_lemmas.OwnStatements.{paragraphs-own}
+use Rattle.end_to_end_laws.proofs.read_programs_lemmas.named_reading_lemmas.Whole.{read-named}
+use Rattle.restructure_core.specs.run.Answers.{CameOf, CameOver, Comes, ComesOver}
+
+pub comes_of : (bytes : List ℕ) (program : Program) (steps : ℕ) (sink : SinkCall) (answer : Came) → Reads bytes program → CameOf program steps sink answer → Comes bytes steps sink answer
+comes_of bytes program steps sink (came.Ran other ran) reads h = subst (λ p. Reads bytes p × (is_plain p ≡ true → (files : Files) → RunsAs p files steps sink ran)) (sym h.0) (reads, h.1)
+comes_of bytes program steps sink (came.Refused refusal) reads h = absurd h
+comes_of bytes program steps sink came.NoMemory reads h = h
+
+-- no word on an added item stands in a program that is read
+read-own : (bytes : List ℕ) (program : Program) → Reads bytes program → IsOwn program
+read-own bytes program reads = paragraphs-own 0 program.paragraphs (read-named bytes program reads).1
+
+pub comes_over : (bytes : List ℕ) (program : Program) (steps : ℕ) (sink : SinkCall) (old new : List Seen) (answer : Came) → Reads bytes program → CameOver program steps sink old new answer → ComesOver bytes steps sink old new answer
+comes_over bytes program steps sink old new (came.Ran other ran) reads h =
+    subst (λ p. Reads bytes p × ((files : Files) → TellFiles old files → RunsOver p files steps sink new ran)) (sym h.0) (reads, h.1 (read-own bytes program reads))
+comes_over bytes program steps sink old new (came.Refused refusal) reads h = tt
+comes_over bytes program steps sink old new came.NoMemory reads h = tt

@@ -1,0 +1,67 @@
+-- What comes of a source that is to run.
+use Rattle.std.specs.Prelude.{ℕ, ◌≡◌, ◌≢◌, true, List}
+use Rattle.cob_base.specs.Sink.{SinkCall}
+use Rattle.cob_tree.specs.declared.program.Program.{Program}
+use Rattle.file_model.specs.operations.Seen.{Seen}
+use Rattle.file_model.specs.operations.Falling.{SameBench}
+use Rattle.cobol_theory.specs.cobol_meaning.Runs.{Files}
+use Rattle.cobol_read.specs.declared.refusal.ReadRefusal.TheVariants as refusals
+use Rattle.cobol_read.specs.Reading.{HasCause, Reads}
+use Rattle.cobol_run.specs.declared.running.Ran.TheVariants as ran
+use Rattle.cobol_run.specs.Falling.{RunFalls}
+use Rattle.cobol_run.specs.Over.{RunsOver, TellFiles}
+use Rattle.cobol_run.specs.Own.{IsOwn}
+use Rattle.cobol_run.specs.PlainTests.{is_plain}
+use Rattle.cobol_run.specs.Running.{RunsAs}
+use Rattle.restructure_core.specs.declared.run.Came.{Came}
+use Rattle.restructure_core.specs.declared.run.Came.TheVariants as came
+
+-- the sink holds what it held
+abbrev pub Keeps : SinkCall → Type 0
+Keeps sink = sink.now ≡ sink.held
+
+-- what comes of a program: its run, which over all files is this one where no statement on files
+-- stands in it, or nothing that a sink sees
+abbrev pub CameOf : Program → ℕ → SinkCall → Came → Type 0
+CameOf program steps sink (came.Ran other ran) =
+    (other ≡ program)
+    × (is_plain program ≡ true → (files : Files) → RunsAs program files steps sink ran)
+CameOf program steps sink (came.Refused refusal) = ⊥
+CameOf program steps sink came.NoMemory = Keeps sink
+
+-- the program that the bytes are ran so, or the bytes are refused
+abbrev pub Comes : List ℕ → ℕ → SinkCall → Came → Type 0
+Comes bytes steps sink (came.Ran program ran) =
+    Reads bytes program
+    × (is_plain program ≡ true → (files : Files) → RunsAs program files steps sink ran)
+Comes bytes steps sink (came.Refused refusal) =
+    HasCause bytes refusal × (refusal ≢ refusals.NoMemory) × Keeps sink
+Comes bytes steps sink came.NoMemory = Keeps sink
+
+-- the same over devices that tell their files, where no word on an added item stands in the
+-- program; first the devices before, then those after
+abbrev pub CameOver : Program → ℕ → SinkCall → (old new : List Seen) → Came → Type 0
+CameOver program steps sink old new (came.Ran other ran) =
+    (other ≡ program)
+    × (IsOwn program → (files : Files) → TellFiles old files →
+    RunsOver program files steps sink new ran)
+CameOver program steps sink old new _ = Unit {0}
+
+-- the program that the bytes are ran so, over whatever files the devices tell
+abbrev pub ComesOver : List ℕ → ℕ → SinkCall → (old new : List Seen) → Came → Type 0
+ComesOver bytes steps sink old new (came.Ran program ran) =
+    Reads bytes program
+    × ((files : Files) → TellFiles old files → RunsOver program files steps sink new ran)
+ComesOver bytes steps sink old new _ = Unit {0}
+
+-- the sink failed while the program displayed
+abbrev pub IsWriteFault : Came → Type 0
+IsWriteFault (came.Ran program ran.WriteFault) = Unit {0}
+IsWriteFault _ = ⊥
+
+-- what is left of the devices of the bench: where a run says that a device failed, it is gone; what
+-- isn't run leaves them
+abbrev pub CameFalls : Came → (left left_now : ℕ) → (old new : List Seen) → Type 0
+CameFalls (came.Ran program ran) left left_now old new = RunFalls ran left left_now old new
+CameFalls (came.Refused refusal) left left_now old new = SameBench left left_now old new
+CameFalls came.NoMemory left left_now old new = SameBench left left_now old new

@@ -1,0 +1,83 @@
+//! A source to what comes of its run.
+//!
+//! `run_source` reads a source and runs its program over a bench for at most so many steps. Hold
+//! `Comes` in specs/Answers.antt against what it answers, a clause an answer: `Reads` and
+//! `HasCause` of `cobol_read` say which program the source is, or why it is none, and where the
+//! program has no statement on files (`is_plain`) `RunsAs` of `cobol_run` says what its run comes
+//! to (ISO 1989:1985). Over devices that tell their files `ComesOver` says what the run of each
+//! program comes to.
+
+ghost use Rattle.std.specs.Prelude.{◌≤◌, map, take, vec_len};
+ghost use Rattle.cob_base.specs.Faults.{Rose};
+ghost use Rattle.cob_base.specs.Sink.{sink_call};
+ghost use Rattle.restructure_core.specs.run.Answers.{CameFalls, CameOf, CameOver, Comes, ComesOver, IsWriteFault};
+
+use cob_base::Sink;
+use cob_tree::Program;
+use cobol_read::{ReadRefusal, read};
+use cobol_run::{Ran, run};
+use file_model::operations::Watched;
+use file_model::{Bench, Device};
+use std::alloc::Global;
+
+/// What came of a source.
+#[derive(Drop)]
+pub enum Came {
+    /// Its program ran.
+    Ran(Program, Ran),
+    /// It is refused; never for want of memory, which is `NoMemory`.
+    Refused(ReadRefusal),
+    /// Memory was wanted before the program ran.
+    NoMemory,
+}
+
+/// Reads a source and runs its program over a bench for at most so many steps. What it displays
+/// goes to `out`, which is made ready before each display. Both stay as they are where nothing ran.
+#[tactic(auto, using(crate::proofs::run_lemmas::AnswerLemmas::comes_of, crate::proofs::run_lemmas::AnswerLemmas::comes_over, file_model::proofs::operations_lemmas::FallLemmas::same_bench))]
+pub fn run_source<K: Sink>(
+    alloc: Global,
+    bytes: &[u8],
+    bench: &mut Bench,
+    out: &mut K,
+    steps: u64,
+) -> Came
+    requires within { bench.old.left ≤ vec_len bench.old.devices }
+    ensures came { Comes bytes.now steps (sink_call K.held K.faults out.old out.new) result }
+    ensures over { ComesOver bytes.now steps (sink_call K.held K.faults out.old out.new)
+        (take bench.old.left
+        (map ⟦<Box<dyn Device> as Watched>⟧.seen bench.old.devices.items))
+        (take bench.new.left
+        (map ⟦<Box<dyn Device> as Watched>⟧.seen bench.new.devices.items)) result }
+    ensures cause { IsWriteFault result → Rose (K.faults out.old) (K.faults out.new) }
+    ensures falls { CameFalls result bench.old.left bench.new.left
+        (map ⟦<Box<dyn Device> as Watched>⟧.seen bench.old.devices.items)
+        (map ⟦<Box<dyn Device> as Watched>⟧.seen bench.new.devices.items) }
+{
+    match read(alloc, bytes) {
+        Err(ReadRefusal::NoMemory) => Came::NoMemory,
+        Err(refusal) => Came::Refused(refusal),
+        Ok(program) => run_program(alloc, program, bench, out, steps),
+    }
+}
+
+fn run_program<K: Sink>(
+    alloc: Global,
+    program: Program,
+    bench: &mut Bench,
+    out: &mut K,
+    steps: u64,
+) -> Came
+    ensures came { CameOf program steps (sink_call K.held K.faults out.old out.new) result }
+    ensures over { CameOver program steps (sink_call K.held K.faults out.old out.new)
+        (take bench.old.left
+        (map ⟦<Box<dyn Device> as Watched>⟧.seen bench.old.devices.items))
+        (take bench.new.left
+        (map ⟦<Box<dyn Device> as Watched>⟧.seen bench.new.devices.items)) result }
+    ensures cause { IsWriteFault result → Rose (K.faults out.old) (K.faults out.new) }
+    ensures falls { CameFalls result bench.old.left bench.new.left
+        (map ⟦<Box<dyn Device> as Watched>⟧.seen bench.old.devices.items)
+        (map ⟦<Box<dyn Device> as Watched>⟧.seen bench.new.devices.items) }
+{
+    let ran = run(alloc, &program, bench, out, steps);
+    Came::Ran(program, ran)
+}

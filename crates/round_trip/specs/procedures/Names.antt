@@ -1,0 +1,38 @@
+-- The names of a program's paragraphs and sections.
+use Rattle.std.specs.Prelude.{ℕ, ◌≡◌, true, false, List, [], ◌∷◌, ◌++◌, Option, Some, None}
+use Rattle.std.specs.List.{list_any}
+use Rattle.std.specs.Str.{bytes_eq}
+use Rattle.cob_tree.specs.declared.program.Paragraph.{Paragraph}
+use Rattle.unparser.specs.Token.{procedure_token}
+use Rattle.symbol_tables.specs.procedure_names.Procedures.{header_name}
+use Rattle.cobol_grammar.specs.Name.{is_capital_word}
+
+abbrev pub own_name : Option (List ℕ) → List (List ℕ)
+own_name None = []
+own_name (Some name) = name ∷ []
+
+-- in the order of their headers
+abbrev pub own_names : List Paragraph → List (List ℕ)
+own_names [] = []
+own_names (paragraph ∷ paragraphs) =
+    own_name paragraph.section ++ (own_name paragraph.name ++ own_names paragraphs)
+
+-- none stands twice
+abbrev pub AreDifferent : List (List ℕ) → Type 0
+AreDifferent [] = Unit {0}
+AreDifferent (name ∷ names) =
+    (list_any (bytes_eq name) names ≡ false) × AreDifferent names
+
+-- a name that a paragraph or section may have
+pub record IsTitle (name : List ℕ) : Type 0 where
+  pub named : header_name (procedure_token name) ≡ Some name
+  pub capital : is_capital_word name ≡ true
+
+abbrev pub IfTitle : Option (List ℕ) → Type 0
+IfTitle None = Unit {0}
+IfTitle (Some name) = IsTitle name
+
+abbrev pub AreTitled : List Paragraph → Type 0
+AreTitled [] = Unit {0}
+AreTitled (paragraph ∷ paragraphs) =
+    IfTitle paragraph.section × (IfTitle paragraph.name × AreTitled paragraphs)

@@ -1,0 +1,47 @@
+-- Which paragraphs are told apart by their headers alone.
+use Rattle.std.specs.Prelude.{ℕ, ◌≡◌, Bool, true, false, ◌⊎◌, List, [], ◌∷◌, Option, Some, None}
+use Rattle.cob_tree.specs.declared.program.Paragraph.{Paragraph}
+use Rattle.cob_tree.specs.declared.program.Program.{Program}
+use Rattle.program_facts.specs.well_scoped.Part.{is_filled}
+use Rattle.round_trip.specs.spelling.stmt_spelling.Division.{is_bare_by}
+use Rattle.round_trip.specs.procedures.Names.{own_names, AreDifferent, AreTitled}
+
+-- behind a section of which nothing else is printed only a section may follow
+abbrev pub MayFollow : (bare : Bool) → (name section : Option (List ℕ)) → Type 0
+MayFollow bare None None = ⊥
+MayFollow bare (Some name) None = bare ≡ false
+MayFollow bare name (Some section) = Unit {0}
+
+abbrev pub is_bare : Paragraph → Bool
+is_bare paragraph = is_bare_by paragraph.name paragraph.section paragraph.sentences
+
+-- each has a header
+abbrev pub AreHeaded : (bare : Bool) → List Paragraph → Type 0
+AreHeaded bare [] = Unit {0}
+AreHeaded bare (paragraph ∷ paragraphs) =
+    MayFollow bare paragraph.name paragraph.section × AreHeaded (is_bare paragraph) paragraphs
+
+-- the first may have none, with sentences if another one follows
+abbrev pub MayBegin : (name section : Option (List ℕ)) → Paragraph → List Paragraph → Type 0
+MayBegin None None paragraph paragraphs =
+    ((is_filled paragraph.sentences ≡ true) ⊎ (paragraphs ≡ [])) × AreHeaded false paragraphs
+MayBegin name section paragraph paragraphs = AreHeaded false (paragraph ∷ paragraphs)
+
+-- there is one at least
+abbrev pub AreOutlined : List Paragraph → Type 0
+AreOutlined [] = ⊥
+AreOutlined (paragraph ∷ paragraphs) =
+    MayBegin paragraph.name paragraph.section paragraph paragraphs
+
+-- each has a name, and no section begins with it
+abbrev pub HaveNamesAlone : List Paragraph → Type 0
+HaveNamesAlone [] = Unit {0}
+HaveNamesAlone (paragraph ∷ paragraphs) =
+    (((name : List ℕ) × (paragraph.name ≡ Some name)) × (paragraph.section ≡ None))
+    × HaveNamesAlone paragraphs
+
+-- and their names are names of headers, of which none stands twice
+pub record HasProcedures (program : Program) : Type 0 where
+  pub outlined : AreOutlined program.paragraphs
+  pub titled : AreTitled program.paragraphs
+  pub different : AreDifferent (own_names program.paragraphs)

@@ -1,0 +1,43 @@
+-- Places, operands and expressions as they are read, where what stands in the tree for them can be
+-- printed so that it is read back, and the same is known of it.
+use Rattle.std.specs.Prelude.{ℕ, ◌≡◌, ◌≤◌, true, None}
+use Rattle.cob_tree.specs.declared.cond.Cond.{Cond}
+use Rattle.cob_tree.specs.declared.place.Operand.TheVariants as operands
+use Rattle.cob_tree.specs.declared.program.Program.{Program}
+use Rattle.program_facts.specs.term_counts.Condition.{cond_terms}
+use Rattle.program_facts.specs.term_counts.Expression.{expr_terms}
+use Rattle.symbol_tables.specs.data_names.Names.{Names}
+use Rattle.cobol_grammar.specs.declared.expr_forms.side.Side.{Side}
+use Rattle.cobol_grammar.specs.expr_forms.Fault.{number_fault, whole_fault}
+use Rattle.cobol_grammar.specs.expr_forms.Side.{expr_of}
+use Rattle.cobol_grammar.specs.Use.{operand_of, place_of}
+use Rattle.round_trip.specs.spelling.expr_spelling.Printable.{IsPrintableExpr, IsPrintableOperand, IsPrintablePlace}
+use Rattle.round_trip.specs.spelling.expr_spelling.Spelled.{IsOperandSide, IsExprSide, PlaceHasRoom, OperandHasRoom}
+use Rattle.round_trip.specs.spelling.cond_spelling.Printable.{IsPrintableCond}
+
+module _ (names : Names) (program : Program) where
+  -- which has room behind so many terms
+  pub record IsReadableOperand (most : ℕ) (side : Side) : Type 0 where
+    pub fit : IsPrintableOperand names program (operand_of side.what)
+    pub room : (before : ℕ) → before ≤ most → OperandHasRoom true 501 before (operand_of side.what)
+    pub kept : IsOperandSide names program (operand_of side.what) side
+
+  -- a reference alone isn't counted itself
+  pub record IsReadablePlace (side : Side) : Type 0 where
+    pub fit : IsPrintablePlace names program (place_of side.what)
+    pub room : PlaceHasRoom true 501 0 (place_of side.what)
+    pub kept : IsOperandSide names program (operands.Place (place_of side.what)) side
+    pub same : operand_of side.what ≡ operands.Place (place_of side.what)
+    pub operand : IsReadableOperand 0 side
+    -- a number has no window, so it has room behind any terms
+    pub number : (most : ℕ) → number_fault side ≡ None → IsReadableOperand most side
+    pub whole : (most : ℕ) → whole_fault side ≡ None → IsReadableOperand most side
+
+  pub record IsReadableExpr (side : Side) : Type 0 where
+    pub fit : IsPrintableExpr names program (expr_of side.what)
+    pub few : expr_terms (expr_of side.what) ≤ 500
+    pub kept : IsExprSide names program (expr_of side.what) side
+
+  pub record IsReadableCond (cond : Cond) : Type 0 where
+    pub fit : IsPrintableCond names program cond
+    pub few : cond_terms cond ≤ 500

@@ -1,0 +1,93 @@
+-- What is asked of files and entries so that what is printed of them spells drafts.
+use Rattle.std.specs.Prelude.{ℕ, ◌≡◌, true, List, [], ◌∷◌, Option, Some, None, slice_get, codes}
+use Rattle.cob_tree.specs.declared.entry.Entry.{Entry}
+use Rattle.cob_tree.specs.declared.entry.Span.{Span}
+use Rattle.cob_tree.specs.declared.file.FileEntry.{FileEntry}
+use Rattle.cob_tree.specs.declared.place.Operand.{Operand}
+use Rattle.cob_tree.specs.declared.place.Operand.TheVariants as operands
+use Rattle.cob_tree.specs.declared.place.Place.{Place}
+use Rattle.cob_tree.specs.declared.program.Program.{Program}
+use Rattle.cobol_lex.specs.declared.token.TokenKind.{TokenKind}
+use Rattle.cobol_lex.specs.declared.token.TokenKind.TheVariants as kinds
+use Rattle.parser_combinators.specs.Form.{Form}
+use Rattle.parser_combinators.specs.words.Word.{is_data_word}
+use Rattle.round_trip.specs.spelled_forms.Spelling.{Spelled}
+use Rattle.unparser.specs.Place.{place_tokens, item_name}
+use Rattle.round_trip.specs.spelling.data_spelling.Sections.{Fd, records}
+
+-- no place
+abbrev pub IsLiteral : Operand → Type 0
+IsLiteral (operands.Place place) = ⊥
+IsLiteral _ = Unit {0}
+
+-- what may be absent
+abbrev pub IfAny : {A : Type 0} → (A → Type 0) → Option A → Type 0
+IfAny Is None = Unit {0}
+IfAny Is (Some a) = Is a
+
+abbrev pub IsLiteralSpan : Span → Type 0
+IsLiteralSpan span = IsLiteral span.from × IfAny IsLiteral span.to
+
+abbrev pub AreLiteralSpans : List Span → Type 0
+AreLiteralSpans [] = Unit {0}
+AreLiteralSpans (span ∷ spans) = IsLiteralSpan span × AreLiteralSpans spans
+
+-- a word that may be a name
+abbrev pub IsDataWord : List ℕ → Type 0
+IsDataWord word = is_data_word word ≡ true
+
+-- its name, if it has one, may be a name, as may that of what it redefines; its values are literals
+pub record IsPrintableEntry (program : Program) (entry : Entry) : Type 0 where
+  pub named : IfAny IsDataWord entry.name
+  pub redefined : IfAny (λ number. IsDataWord (item_name program number)) entry.redefines
+  pub valued : IfAny IsLiteral entry.value
+  pub ranged : AreLiteralSpans entry.ranges
+
+abbrev pub ArePrintableEntries : Program → List Entry → Type 0
+ArePrintableEntries program [] = Unit {0}
+ArePrintableEntries program (entry ∷ entries) =
+    IsPrintableEntry program entry × ArePrintableEntries program entries
+
+-- a period stands behind
+abbrev pub IsPeriod : Option TokenKind → Type 0
+IsPeriod behind = behind ≡ Some kinds.Period
+
+-- a status item, if there is one, is spelled by its tokens
+abbrev pub SpellsStatus : Form Place → Program → Option Place → Type 0
+SpellsStatus status program None = Unit {0}
+SpellsStatus status program (Some place) =
+    (taken : ℕ) →
+    Spelled status taken (place_tokens program place) IsPeriod (λ found. found ≡ place)
+
+pub record IsPrintableFile (status : Form Place) (program : Program) (file : FileEntry)
+    : Type 0 where
+  pub named : IsDataWord file.name
+  pub stated : SpellsStatus status program file.status
+
+abbrev pub ArePrintableFiles : Form Place → Program → List FileEntry → Type 0
+ArePrintableFiles status program [] = Unit {0}
+ArePrintableFiles status program (file ∷ files) =
+    IsPrintableFile status program file × ArePrintableFiles status program files
+
+-- the FD of a file of the program
+pub record IsPrintableFd (program : Program) (fd : Fd) : Type 0 where
+  pub file : FileEntry
+  pub there : slice_get program.files fd.number ≡ Some file
+  pub named : IsDataWord file.name
+  pub written : ArePrintableEntries program (records fd)
+
+abbrev pub ArePrintableFds : Program → List Fd → Type 0
+ArePrintableFds program [] = Unit {0}
+ArePrintableFds program (fd ∷ fds) = IsPrintableFd program fd × ArePrintableFds program fds
+
+-- all that stands before the PROCEDURE DIVISION, whose entries stand in these sections
+pub record IsPrintable (status : Form Place) (program : Program) (described : List Fd)
+    (stored : List Entry) : Type 0 where
+  pub titled : IsDataWord program.name
+  pub files : ArePrintableFiles status program program.files
+  pub fds : ArePrintableFds program described
+  pub storage : ArePrintableEntries program stored
+
+-- the PROCEDURE DIVISION stands behind
+abbrev pub BeforeProcedures : Option TokenKind → Type 0
+BeforeProcedures behind = behind ≡ Some (kinds.Word (codes "PROCEDURE"))

@@ -1,0 +1,180 @@
+-- What is known of places, operands and expressions by the names of their program, as it is known of
+-- them where they are read, and whether they can be printed so that they are read back.
+use Rattle.std.specs.Prelude.{ℕ, ◌≡◌, ◌==◌, not, Bool, true, false, ◌&&◌, List, [], ◌∷◌, length, Option, Some, None}
+use Rattle.std.specs.Option.{is_some}
+use Rattle.cob_tree.specs.declared.place.Expr.{Expr, fold-Expr}
+use Rattle.cob_tree.specs.declared.place.Expr.TheOpen.{Expr-F, Operand-F, Place-F, Sub-F, Window-F}
+use Rattle.cob_tree.specs.declared.place.Op.{Op}
+use Rattle.cob_tree.specs.declared.place.Op.TheVariants as ops
+use Rattle.cob_tree.specs.declared.place.Operand.{Operand, fold-Operand}
+use Rattle.cob_tree.specs.declared.place.Place.{Place, fold-Place}
+use Rattle.cob_tree.specs.declared.place.Sub.{Sub, fold-Sub}
+use Rattle.cob_tree.specs.declared.place.Window.{Window, fold-Window}
+use Rattle.cob_tree.specs.declared.program.Program.{Program}
+use Rattle.unparser.specs.Place.{item_name}
+use Rattle.parser_combinators.specs.words.Word.{is_data_word}
+use Rattle.symbol_tables.specs.declared.data_names.name.Found.{Found}
+use Rattle.symbol_tables.specs.declared.data_names.name.Found.TheVariants as found
+use Rattle.symbol_tables.specs.data_names.Names.{Names}
+use Rattle.symbol_tables.specs.data_names.Look.{look}
+use Rattle.cobol_grammar.specs.declared.expr_forms.side.Make.{Make}
+use Rattle.cobol_grammar.specs.declared.expr_forms.side.Make.TheVariants as makes
+use Rattle.cobol_grammar.specs.declared.expr_forms.side.ValueKind.{ValueKind}
+use Rattle.cobol_grammar.specs.declared.expr_forms.side.ValueKind.TheVariants as kinds
+use Rattle.cobol_grammar.specs.expr_forms.Fault.{is_whole, item_kind, kind_of, is_condition}
+use Rattle.cobol_grammar.specs.expr_forms.Side.{windowed, figure_kind}
+
+-- what is known of a part
+pub record Judged : Type 0 where
+  -- it can be printed so that it is read back
+  pub fit : Bool
+  pub kind : ValueKind
+  pub make : Make
+  -- it is an item without subscripts and window
+  pub bare : Bool
+
+-- ---- kinds
+
+abbrev pub is_number : ValueKind → Bool
+is_number (kinds.Number whole) = true
+is_number _ = false
+
+-- a number without decimals
+abbrev pub is_counting : ValueKind → Bool
+is_counting (kinds.Number whole) = whole
+is_counting _ = false
+
+abbrev pub is_exact : Op → Bool
+is_exact ops.Div = false
+is_exact _ = true
+
+abbrev pub literal : ValueKind → Judged
+literal kind = record { fit = true; kind = kind; make = makes.Literal; bare = false }
+
+abbrev pub joined : (fit whole : Bool) → Judged
+joined fit whole = record { fit = fit; kind = kinds.Number whole; make = makes.Joined; bare = false }
+
+-- ---- names
+
+abbrev pub are_data_words : List (List ℕ) → Bool
+are_data_words [] = true
+are_data_words (word ∷ words) = is_data_word word && are_data_words words
+
+-- the item of this number was found, and takes so many subscripts, and a window where it has one
+abbrev pub suits : (item subs : ℕ) → (windowed : Bool) → Found → Bool
+suits item subs windowed (found.Item number kind dims) =
+    number == item && (dims == subs && not (is_condition (item_kind kind) && windowed))
+suits item subs windowed _ = false
+
+abbrev pub are_fit : List Judged → Bool
+are_fit [] = true
+are_fit (part ∷ parts) = part.fit && are_fit parts
+
+abbrev pub if_fit : Option Judged → Bool
+if_fit None = true
+if_fit (Some part) = part.fit
+
+abbrev pub if_counting : Option Judged → Bool
+if_counting None = true
+if_counting (Some part) = part.fit && is_counting part.kind
+
+abbrev pub kind_seen : Option Judged → ValueKind → ValueKind
+kind_seen None kind = kind
+kind_seen (Some window) kind = windowed kind
+
+abbrev pub is_bare : (subs : ℕ) → (windowed : Bool) → Bool
+is_bare subs windowed = subs == 0 && not windowed
+
+-- a subscript is a number, or an item's value, and a number with it
+abbrev pub suits_base : Option Judged → (negative : Bool) → Bool
+suits_base None negative = not negative
+suits_base (Some base) negative = base.fit && (base.bare && is_counting base.kind)
+
+-- ---- each part, by those in it
+
+abbrev pub Layer : (Type 0 → Type 0 → Type 0 → Type 0 → Type 0 → Type 0) → Type 0
+Layer F = F Judged Judged Judged Judged Judged
+
+-- under an operator or a sign stand numbers
+abbrev pub expr_step : Layer Expr-F → Judged
+expr_step (Expr-F.Leaf operand) = operand
+expr_step (Expr-F.Minus inner) = joined (inner.fit && is_number inner.kind) (is_whole inner.kind)
+expr_step (Expr-F.Both op left right) =
+    joined ((left.fit && is_number left.kind) && (right.fit && is_number right.kind))
+    (is_exact op && (is_whole left.kind && is_whole right.kind))
+
+abbrev pub operand_step : Layer Operand-F → Judged
+operand_step (Operand-F.Place place) = place
+operand_step (Operand-F.Number number) = literal (kinds.Number (number.scale == 0))
+operand_step (Operand-F.Text text) = literal kinds.Text
+operand_step (Operand-F.Figure figure) = literal (figure_kind figure)
+
+abbrev pub sub_step : Layer Sub-F → Judged
+sub_step sub = record {
+  fit = sub.plus.scale == 0 && suits_base sub.base sub.plus.negative;
+  kind = kinds.Unknown;
+  make = makes.Item;
+  bare = false;
+}
+
+-- a window is of numbers without decimals
+abbrev pub window_step : Layer Window-F → Judged
+window_step window = record {
+  fit = (window.from.fit && is_counting window.from.kind) && if_counting window.«length»;
+  kind = kinds.Unknown;
+  make = makes.Item;
+  bare = false;
+}
+
+module _ (names : Names) (program : Program) where
+  -- what the name of an item stands for, as it is printed
+  abbrev pub reference : (item : ℕ) → (of : List (List ℕ)) → Found
+  reference item of = look names (item_name program item) of
+
+  -- the name with what qualifies it stands for the item, and suits what stands behind it
+  abbrev pub place_step : Layer Place-F → Judged
+  place_step place = record {
+    fit = (is_data_word (item_name program place.item) && are_data_words place.of)
+        && (suits place.item (length place.subs) (is_some place.window)
+        (reference place.item place.of)
+        && (are_fit place.subs && if_fit place.window));
+    kind = kind_seen place.window (kind_of (reference place.item place.of));
+    make = makes.Item;
+    bare = is_bare (length place.subs) (is_some place.window);
+  }
+
+  abbrev pub judged_expr : Expr → Judged
+  judged_expr =
+      fold-Expr Judged Judged Judged Judged Judged expr_step operand_step place_step sub_step
+      window_step
+
+  abbrev pub judged_operand : Operand → Judged
+  judged_operand =
+      fold-Operand Judged Judged Judged Judged Judged expr_step operand_step place_step sub_step
+      window_step
+
+  abbrev pub judged_place : Place → Judged
+  judged_place =
+      fold-Place Judged Judged Judged Judged Judged expr_step operand_step place_step sub_step
+      window_step
+
+  abbrev pub judged_sub : Sub → Judged
+  judged_sub =
+      fold-Sub Judged Judged Judged Judged Judged expr_step operand_step place_step sub_step
+      window_step
+
+  abbrev pub judged_window : Window → Judged
+  judged_window =
+      fold-Window Judged Judged Judged Judged Judged expr_step operand_step place_step sub_step
+      window_step
+
+  -- ---- which can be printed
+
+  abbrev pub IsPrintableExpr : Expr → Type 0
+  IsPrintableExpr expr = (judged_expr expr).fit ≡ true
+
+  abbrev pub IsPrintableOperand : Operand → Type 0
+  IsPrintableOperand operand = (judged_operand operand).fit ≡ true
+
+  abbrev pub IsPrintablePlace : Place → Type 0
+  IsPrintablePlace place = (judged_place place).fit ≡ true

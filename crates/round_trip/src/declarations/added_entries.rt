@@ -1,0 +1,21 @@
+//! A program with entries of whole numbers behind its own keeps the rules that it kept, and each
+//! name stands for what it stood for; a name of such an entry stands for its item. The crate has no
+//! code.
+
+ghost use Rattle.round_trip.specs.declarations.added_entries.Laws.{AddedEntriesKeepRules};
+ghost use Rattle.round_trip.specs.declarations.added_entries.References.{NamesStay, AddedNamesStand};
+
+/// Files and entries keep the rules, and names may be names.
+pub fn added_entries_keep_rules()
+    ensures { AddedEntriesKeepRules }
+{}
+
+/// Each other name stands for what it stood for, and what can be printed can be printed still.
+pub fn names_stay()
+    ensures { NamesStay }
+{}
+
+/// The name of an added item stands for it.
+pub fn added_names_stand()
+    ensures { AddedNamesStand }
+{}

@@ -1,0 +1,9 @@
+//! Drafts that say of a program's files and entries what these are declare exactly these, with no
+//! fault, where they keep the rules. The crate has no code.
+
+ghost use Rattle.round_trip.specs.declarations.printed_declarations.Laws.{PrintedDivisionsDeclare};
+
+/// They declare the program's files and entries, with no fault.
+pub fn printed_divisions_declare()
+    ensures { PrintedDivisionsDeclare }
+{}

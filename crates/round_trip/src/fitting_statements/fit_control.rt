@@ -1,0 +1,25 @@
+//! What is written of a program whose statements pass tests passes tests too, as far as its control
+//! goes: each part of it may be written, what is written of such parts passes, and so do statements
+//! whose control does. The crate has no code.
+
+ghost use Rattle.round_trip.specs.fitting_statements.fit_control.Laws.{ControlTellsFit, FitSourcesAreServed, FitSourcesAreSound, WrittenSentencesFit};
+
+/// Each part of a program whose statements fit may be written, where what passes may be.
+pub fn fit_sources_are_served()
+    ensures { FitSourcesAreServed }
+{}
+
+/// VARYING begins with a number there, and an EVALUATE has two arms.
+pub fn fit_sources_are_sound()
+    ensures { FitSourcesAreSound }
+{}
+
+/// The sentence of a procedure fits, where its parts do, and isn't empty.
+pub fn written_sentences_fit()
+    ensures { WrittenSentencesFit }
+{}
+
+/// Statements whose control fits do.
+pub fn control_tells_fit()
+    ensures { ControlTellsFit }
+{}

@@ -1,0 +1,15 @@
+//! Programs that can be printed: each of their names, numbers, literals and pictures is one that a
+//! text can have, so each of their lines has tokens alone that a line may have.
+//!
+//! `specs/printable/Whole.antt` says which these are. The crate has no code.
+
+pub mod display_programs;
+mod laws;
+pub mod printable_control;
+pub mod printable_data;
+pub mod printable_division;
+pub mod printable_exprs;
+pub mod printable_stmts;
+pub mod printable_tokens;
+
+pub use crate::printable::laws::printable_programs_are_given;

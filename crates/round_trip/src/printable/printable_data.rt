@@ -1,0 +1,24 @@
+//! What the divisions before the PROCEDURE DIVISION give of tokens that can be printed: files and
+//! entries that can be printed. The crate has no code.
+
+ghost use Rattle.std.specs.Prelude.{◌≡◌, true};
+ghost use Rattle.cobol_grammar.specs.data_forms.Divisions.{divisions};
+ghost use Rattle.grammar_laws.specs.form_results.Giving.{Gives};
+ghost use Rattle.round_trip.specs.printable.printable_tokens.Printable.{IsPrintable};
+ghost use Rattle.round_trip.specs.printable.Part.{is_printable_place};
+ghost use Rattle.round_trip.specs.printable.printable_data.Drafts.{ArePrintable};
+ghost use Rattle.round_trip.specs.printable.printable_data.Laws.{EntriesArePrintable};
+
+use cobol_grammar::data_forms::Refers;
+
+/// Of tokens that can be printed, and status items that can be, the names and values of drafts can
+/// be printed.
+pub fn divisions_print<R: Refers>()
+    ensures { Gives IsPrintable R.status (λ place. is_printable_place place ≡ true) →
+        Gives IsPrintable (divisions R.status) ArePrintable }
+{}
+
+/// What such drafts declare can be printed.
+pub fn entries_are_printable()
+    ensures { EntriesArePrintable }
+{}

@@ -1,0 +1,9 @@
+//! Which kinds of tokens spell a value of a form: laws on each maker of forms, written as the forms
+//! are, so that what is printed can be shown to be spelled by the grammar. The crate has no code.
+
+ghost use Rattle.round_trip.specs.spelled_forms.Laws.{TextsAreSpelled};
+
+/// Names and literals in quotation marks are spelled by one token each.
+pub fn texts_are_spelled()
+    ensures { TextsAreSpelled }
+{}

@@ -1,0 +1,13 @@
+//! The parts of statements that a program is read with spell what they are printed with. The crate
+//! has no code.
+
+pub mod cond_spelling;
+pub mod data_spelling;
+pub mod expr_spelling;
+mod laws;
+pub mod stmt_spelling;
+
+pub use crate::spelling::laws::{
+    parts_are_spelled, parts_are_told, printed_procedures_are_spelled, terms_have_room,
+    uses_are_free,
+};

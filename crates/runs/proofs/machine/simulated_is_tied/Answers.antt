@@ -1,5 +1,0 @@
-use Rattle.runs.proofs.Machines.{simulated-tied}
-use Rattle.runs.proofs.machine.simulated_is_tied.Goals as goal
-
-pub returns : goal.returns
-returns g c = λ a b grows_a grows_b simulates. simulated-tied a b g.R.Relation.related grows_a simulates grows_b

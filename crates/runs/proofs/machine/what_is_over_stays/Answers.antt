@@ -1,8 +1,0 @@
-use Rattle.runs.proofs.Machines.{iterate-stays, reaches-one}
-use Rattle.runs.proofs.machine.what_is_over_stays.Goals as goal
-
-pub returns-clause-stays : goal.returns-clause-stays
-returns-clause-stays g c = iterate-stays
-
-pub returns-clause-one : goal.returns-clause-one
-returns-clause-one g c = reaches-one

@@ -1,0 +1,11 @@
+use Rattle.std.proofs.Common.{◌≡◌, length}
+use Rattle.parser_combinators.specs.Form.{loop, added}
+use Rattle.cobol_grammar.specs.stmt_forms.File as forms
+use Rattle.simple_stmt_parse.proofs.verbs.file.file_names.Given as goal
+
+abbrev pub invariant-items : goal.invariant-items
+invariant-items g l =
+    (forms.file_names (g.P.Parts.parts l.parts)).reads l.fn.cursor ≡ (loop (g.P.Parts.parts l.parts).is_name (added (forms.file_name (g.P.Parts.parts l.parts))) l.found).reads l.cursor
+
+abbrev pub decreases-items : goal.decreases-items
+decreases-items g l = length l.cursor.rest

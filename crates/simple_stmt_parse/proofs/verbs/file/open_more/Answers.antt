@@ -1,0 +1,19 @@
+use Rattle.std.proofs.lemmas.Result.{err_from_is_err_and}
+use Rattle.cobol_grammar.proofs.stmt_forms_lemmas.SimpleLaws as laws
+use Rattle.parser_combinators.proofs.Loops.{item_goes_on, item_ends_err, item_is_done, shrinks}
+use Rattle.simple_stmt_parse.proofs.verbs.file.open_more.Goals as goal
+
+pub returns-in_err-open_one : goal.returns-in_err-open_one
+returns-in_err-open_one g c =
+    let p = err_from_is_err_and c.from_residual.result c.from_residual.ensures.1 in
+    rw (p.1, p.2) (item_ends_err ((g.P.Parts.parts c.args.parts.now).is_name) (laws.open_one (g.met.P.Parts.lawful c.args.parts.now) c.args.how) c.items.found c.in_err-open_one.field-0.0 c.items.cursor c.open_one.new.cursor _ c.items-test.ensures c.in_err-open_one.ensures c.items.invariant)
+
+pub items-smaller : goal.items-smaller
+items-smaller g c = shrinks (laws.open_one (g.met.P.Parts.lawful c.args.parts.now) c.args.how) _ _ _ c.in_ok-open_one.ensures
+
+pub items-preserved : goal.items-preserved
+items-preserved g c =
+    rw c.in_ok-push.ensures.ok (item_goes_on ((g.P.Parts.parts c.args.parts.now).is_name) (laws.open_one (g.met.P.Parts.lawful c.args.parts.now) c.args.how) c.items.found _ c.items.cursor _ _ c.items-test.ensures c.in_ok-open_one.ensures c.items.invariant)
+
+pub returns : goal.returns
+returns g c = item_is_done ((g.P.Parts.parts c.args.parts.now).is_name) (laws.open_one (g.met.P.Parts.lawful c.args.parts.now) c.args.how) c.items.found c.items.cursor _ c.items-test.ensures c.items.invariant

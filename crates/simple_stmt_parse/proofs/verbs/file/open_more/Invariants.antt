@@ -1,0 +1,11 @@
+use Rattle.std.proofs.Common.{◌≡◌, length}
+use Rattle.parser_combinators.specs.Form.{loop, added}
+use Rattle.cobol_grammar.specs.stmt_forms.File as forms
+use Rattle.simple_stmt_parse.proofs.verbs.file.open_more.Given as goal
+
+abbrev pub invariant-items : goal.invariant-items
+invariant-items g l =
+    (forms.open_more (g.P.Parts.parts l.parts) l.fn.how l.fn.found).reads l.fn.cursor ≡ (loop (g.P.Parts.parts l.parts).is_name (added (forms.open_one (g.P.Parts.parts l.parts) l.how)) l.found).reads l.cursor
+
+abbrev pub decreases-items : goal.decreases-items
+decreases-items g l = length l.cursor.rest

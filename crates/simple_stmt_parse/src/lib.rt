@@ -1,0 +1,5 @@
+//! Simple stmt parse.
+#![tactic(auto)]
+
+pub mod arithmetic;
+pub mod verbs;

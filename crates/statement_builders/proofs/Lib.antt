@@ -1,0 +1,5 @@
+-- Statements with arms, by the lists that their arms hold, as they stand in a structured program:
+-- an empty list that is required holds CONTINUE, and other empty arms are left out.
+pub mod arms_lemmas
+-- Words on cells as statements, conditions and choices by the items that stand for the cells.
+pub mod item_words_lemmas

@@ -1,0 +1,71 @@
+-- What is written of the program's own statements.
+use Rattle.std.specs.Prelude.{ℕ, ◌≡◌, List, map, Option, Some, None}
+use Rattle.cob_tree.specs.declared.stmt.Stmt.{Stmt}
+use Rattle.cob_tree.specs.declared.stmt.Stmt.TheVariants.{Continue}
+use Rattle.cob_tree.specs.declared.stmt.When.{When}
+use Rattle.control_flow_theory.specs.language.Control.{seen, seen_stmts, seen_when, Branch}
+use Rattle.control_flow_theory.specs.language.Language as language
+use Rattle.control_flow_theory.specs.language.Language.{Range}
+use Rattle.control_flow_theory.specs.rendering.Rendering.{Naming, required, written_stmt, written_stmts}
+use Rattle.cobol_theory.specs.cell_serving.Choosing.{written_chooser}
+use Rattle.cobol_theory.specs.cell_serving.Entries.{whole_literal}
+use Rattle.cobol_theory.specs.cell_serving.Naming.{cell_naming}
+use Rattle.cobol_theory.specs.cell_serving.Table.{CellTable}
+use Rattle.statement_builders.specs.arms.Places.{ArePlaced}
+use Rattle.statement_builders.specs.arms.Empties.{empties}
+use Rattle.statement_builders.specs.declared.arms.placing.Placed.{Placed}
+
+-- the first added item and the items of cells, and the places of procedures, for the body of a
+-- range
+pub record Way : Type 0 where
+  pub first : ℕ
+  pub table : CellTable
+  pub place : Range → ℕ
+  pub range : Range
+
+abbrev pub naming_in : Way → Naming
+naming_in way =
+    cell_naming whole_literal way.first way.table (written_chooser whole_literal)
+    (empties way.table)
+
+module _ (way : Way) where
+  abbrev pub written : language.Stmt → language.Stmt
+  written = written_stmt (naming_in way) way.place way.range
+
+  abbrev pub all_written : language.Stmts → language.Stmts
+  all_written = written_stmts (naming_in way) way.place way.range
+
+  abbrev pub or_nothing : language.Stmts → language.Stmts
+  or_nothing stmts = required Continue (all_written stmts)
+
+  abbrev pub written_if_any : Option (List Stmt) → language.Stmts
+  written_if_any None = language.none
+  written_if_any (Some stmts) = all_written (seen_stmts 0 stmts)
+
+  abbrev pub written_branch : Branch → Branch
+  written_branch branch = record { tests = branch.tests; arm = or_nothing branch.arm }
+
+-- whatever the items of cells, and wherever such procedures stand
+abbrev pub IsWritten : List Placed → (stmt made : Stmt) → Type 0
+IsWritten places stmt made =
+    (way : Way) → ArePlaced way.place places → seen 0 made ≡ written way (seen 0 stmt)
+
+abbrev pub AreWritten : List Placed → (stmts made : List Stmt) → Type 0
+AreWritten places stmts made = (way : Way) → ArePlaced way.place places →
+    seen_stmts 0 made ≡ all_written way (seen_stmts 0 stmts)
+
+abbrev pub AreRequired : List Placed → (stmts made : List Stmt) → Type 0
+AreRequired places stmts made = (way : Way) → ArePlaced way.place places →
+    seen_stmts 0 made ≡ or_nothing way (seen_stmts 0 stmts)
+
+abbrev pub IsArmWritten : List Placed → Option (List Stmt) → (made : List Stmt) → Type 0
+IsArmWritten places arm made =
+    (way : Way) → ArePlaced way.place places → seen_stmts 0 made ≡ written_if_any way arm
+
+abbrev pub AreWhensWritten : List Placed → (whens made : List When) → Type 0
+AreWhensWritten places whens made = (way : Way) → ArePlaced way.place places →
+    map (seen_when 0) made ≡ map (written_branch way) (map (seen_when 0) whens)
+
+-- it is written as it stands
+abbrev pub IsWrittenAlike : (stmt made : Stmt) → Type 0
+IsWrittenAlike stmt made = (way : Way) → seen 0 made ≡ written way (seen 0 stmt)

@@ -1,0 +1,5 @@
+//! Statement builders.
+#![tactic(auto)]
+
+pub mod arms;
+pub mod item_words;

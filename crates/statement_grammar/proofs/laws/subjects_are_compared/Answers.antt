@@ -1,5 +1,0 @@
-use Rattle.statement_grammar.proofs.SubjectLemmas.{alike}
-use Rattle.statement_grammar.proofs.laws.subjects_are_compared.Goals as goal
-
-pub returns : goal.returns
-returns c = λ left right not. alike left right not

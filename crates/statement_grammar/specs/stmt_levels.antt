@@ -1,1 +1,0 @@
--- Its law is said in the words of `grammar_forms` and `stmt_forms`; it has none of its own.

@@ -1,0 +1,104 @@
+-- The arms of choices, and the choice among them.
+use Rattle.std.specs.Prelude.{ℕ, ◌≡◌, Bool, true, false, if◌then◌else◌, List, map, sum_by, Option, Some, None}
+use Rattle.cob_tree.specs.Places.{stmt_places}
+use Rattle.cob_tree.specs.declared.choice.Test.{Test}
+use Rattle.cob_tree.specs.declared.stmt.Arms.{Arms}
+use Rattle.cob_tree.specs.declared.stmt.Stmt.{Stmt}
+use Rattle.cob_tree.specs.declared.stmt.When.{When, out-When}
+use Rattle.control_flow_theory.specs.language.Control.{arm_before, both_arms, branches_before, else_of, seen, seen_both, seen_stmts, seen_when}
+use Rattle.control_flow_theory.specs.language.Language as language
+use Rattle.control_flow_theory.specs.language.OwnItems.{stmts_own}
+use Rattle.control_flow_theory.specs.semantics.Graph as graph
+use Rattle.control_flow_theory.specs.lowering.Lower as lower
+use Rattle.branch_tree.specs.Trees.{seen_end, seen_trees}
+use Rattle.branch_tree.specs.declared.tree.End.{End}
+use Rattle.branch_tree.specs.declared.tree.Tree as code
+use Rattle.lowering_labels.specs.points.Leaf.{seen_leaf}
+use Rattle.lowering_labels.specs.declared.points.leaf.Leaf.{Leaf}
+use Rattle.lowering_labels.specs.loop_nodes.Arms.{AddsArm}
+use Rattle.statement_lowering.specs.declared.telling.Telling.{Telling}
+use Rattle.statement_lowering.specs.declared.telling.Leaving.{Leaving}
+use Rattle.statement_lowering.specs.Along.{Setting, told_by}
+
+-- the arms as the theory has them, in a section with this last paragraph
+
+abbrev pub if_arms : (met unmet : List Stmt) → ℕ → language.Arms
+if_arms met unmet last =
+    language.given (seen_stmts last met)
+    (arm_before (else_of (map (seen last) unmet)) language.done)
+
+abbrev pub seen_phrase : ℕ → Option (List Stmt) → Option language.Stmts
+seen_phrase last None = None
+seen_phrase last (Some stmts) = Some (seen_stmts last stmts)
+
+abbrev pub when_arms : List When → Option (List Stmt) → ℕ → language.Arms
+when_arms whens other last =
+    branches_before (map (seen_when last) whens)
+    (arm_before (seen_phrase last other) language.done)
+
+abbrev pub phrase_arms : Arms → ℕ → language.Arms
+phrase_arms arms last = both_arms (seen_both last arms)
+
+abbrev pub one_arm : List Stmt → ℕ → language.Arms
+one_arm stmts last = language.given (seen_stmts last stmts) language.done
+
+-- the tests of each WHEN
+abbrev pub when_tests : List When → List (List Test)
+when_tests whens = map (λ when. (out-When when).tests) whens
+
+module _ (telling : Telling) (leaving : Leaving) where
+  -- the tree of an arm from a place on, before that continuation
+  abbrev pub arm_tree : Setting telling leaving → List Stmt → ℕ → Leaf → graph.Tree
+  arm_tree s stmts place after =
+      lower.build (told_by telling) s.place_of (seen_stmts s.last stmts) place s.theirs
+      (seen_leaf after) (lower.only (seen_leaf after))
+
+  -- of one that may be missing
+  abbrev pub phrase_tree : Setting telling leaving → Option (List Stmt) → ℕ → Leaf → graph.Tree
+  phrase_tree s None place after = lower.only (seen_leaf after)
+  phrase_tree s (Some stmts) place after = arm_tree s stmts place after
+
+  -- one arm more, which has these statements
+  abbrev pub AddsArmOf : List Stmt → ℕ → Leaf → (old new : List code.Tree) → Type 0
+  AddsArmOf stmts place after old new =
+      (s : Setting telling leaving) → AddsArm (arm_tree s stmts place after) old new
+
+  abbrev pub AddsPhrase : Option (List Stmt) → ℕ → Leaf → (old new : List code.Tree) → Type 0
+  AddsPhrase stmts place after old new =
+      (s : Setting telling leaving) → AddsArm (phrase_tree s stmts place after) old new
+
+  -- the arms from a place on; where the first is missing, it may be dead
+  abbrev pub AreArms : Bool → (ℕ → language.Arms) → ℕ → Leaf → List code.Tree → Type 0
+  AreArms is_dead arms place after made =
+      (s : Setting telling leaving) →
+      seen_trees made
+      ≡ lower.build_arms (told_by telling) s.place_of is_dead (arms s.last) place s.theirs
+      (seen_leaf after)
+
+  -- and the choice among them
+  abbrev pub IsChoice : language.Picker → Bool → (ℕ → language.Arms) → ℕ → Leaf → End → Type 0
+  IsChoice picker is_dead arms place after made =
+      (s : Setting telling leaving) →
+      seen_end made
+      ≡ graph.Pick picker
+      (lower.build_arms (told_by telling) s.place_of is_dead (arms s.last) place s.theirs
+      (seen_leaf after))
+
+-- the end of a first arm that is missing
+abbrev pub missing_end : Bool → Leaf → graph.End
+missing_end is_dead after = if is_dead then graph.Dead else seen_leaf after
+
+-- where EXIT PERFORM leads
+abbrev pub left_by : Bool → Leaving → Leaf
+left_by false leaving = leaving.behind_loop
+left_by true leaving = leaving.cycle
+
+-- of statements that may be missing
+
+abbrev pub phrase_own : Option (List Stmt) → Bool
+phrase_own None = true
+phrase_own (Some stmts) = stmts_own stmts
+
+abbrev pub phrase_places : Option (List Stmt) → ℕ
+phrase_places None = 0
+phrase_places (Some stmts) = sum_by stmt_places stmts

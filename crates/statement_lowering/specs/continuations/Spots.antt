@@ -1,0 +1,141 @@
+-- What a table of rests says of graphs.
+use Rattle.std.specs.Prelude.{ℕ, ◌≡◌, ◌+◌, ◌-◌, ◌*◌, ◌<◌, ◌≤◌, Bool, true, if◌then◌else◌, List, [], ◌∷◌, ◌++◌, length, map, sum_by, Option, Some}
+use Rattle.cob_tree.specs.Places.{stmt_places}
+use Rattle.cob_tree.specs.declared.control.Control.{Control}
+use Rattle.cob_tree.specs.declared.stmt.Stmt.{Stmt}
+use Rattle.cob_tree.specs.declared.stmt.When.{When}
+use Rattle.control_flow_theory.specs.language.Control.{arm_before, branches_before, control_in, loop_of, seen, seen_stmts, seen_when}
+use Rattle.control_flow_theory.specs.language.Language as language
+use Rattle.control_flow_theory.specs.language.OwnItems.{stmts_own}
+use Rattle.control_flow_theory.specs.semantics.Graph as graph
+use Rattle.control_flow_theory.specs.lowering.Told.{Told}
+use Rattle.control_flow_theory.specs.lowering.Completes.{size}
+use Rattle.control_flow_theory.specs.lowering.Lower as lower
+use Rattle.control_flow_theory.specs.lowering.Lowered.{find}
+use Rattle.program_facts.specs.completion.Told.{told_of}
+use Rattle.lowering_labels.specs.declared.points.layout.Layout.{Layout}
+use Rattle.statement_lowering.specs.Arms.{seen_phrase}
+use Rattle.statement_lowering.specs.Turns.{loop_at}
+use Rattle.statement_lowering.specs.declared.continuations.spot.Onward.{Onward}
+use Rattle.statement_lowering.specs.declared.continuations.spot.Spot.{Spot}
+use Rattle.statement_lowering.specs.continuations.Onward.{Lowering, leaving_by, after_by, behind_by, GoesLater}
+
+-- from one label to below another the graph has these nodes, and no others
+abbrev pub Agrees : (graph.Label → graph.Tree) → ℕ → ℕ → List lower.Node → Type 0
+Agrees node low high nodes =
+    (label : ℕ) → low ≤ label → label < high → node label ≡ find label nodes
+
+-- the tree at the head of a rest's first statement, or at its test or step
+abbrev pub turn_by : Told → (ℕ → ℕ) → Bool → language.Stmts → ℕ → lower.Leaving → graph.End →
+    graph.Tree
+turn_by told place_of is_head
+    (language.also (language.Loop control (language.Nested body)) others) place leaving after =
+    loop_at told place_of is_head (Some control) body place leaving
+    (lower.leaf told place_of others (place + size (language.Loop control (language.Nested body)))
+    after)
+turn_by told place_of is_head stmts place leaving after = lower.only graph.Dead
+
+module _ (layout : Layout) (g : Lowering layout) where
+  abbrev pub told : Told
+  told = told_of g.files g.returning
+
+  -- the nodes of statements from a place on, from which control goes on so
+  abbrev pub nodes_by : List Stmt → ℕ → Onward → List lower.Node
+  nodes_by stmts place onward =
+      lower.nodes told g.place_of (seen_stmts onward.last stmts) place
+      (leaving_by layout g onward) (after_by layout g onward) (behind_by layout g onward)
+
+  -- the graph has them
+  abbrev pub HasNodes : List Stmt → ℕ → Onward → Type 0
+  HasNodes stmts place onward =
+      Agrees g.node (3 * place) (3 * (place + sum_by stmt_places stmts))
+      (nodes_by stmts place onward)
+
+  -- the trees at a place are those of this rest
+  pub record IsRest (place : ℕ) (spot : Spot) : Type 0 where
+    pub point : g.node (lower.point place)
+        ≡ lower.build told g.place_of (seen_stmts spot.onward.last spot.stmts.now) place
+        (leaving_by layout g spot.onward) (after_by layout g spot.onward)
+        (behind_by layout g spot.onward)
+    pub turn : (is_head : Bool) →
+        g.node (if is_head then lower.head place else lower.third place)
+        ≡ turn_by told g.place_of is_head (seen_stmts spot.onward.last spot.stmts.now) place
+        (leaving_by layout g spot.onward) (after_by layout g spot.onward)
+
+-- what stands at a place names own items, and goes on within the table
+pub record Fits (end : ℕ) (place : ℕ) (spot : Spot) : Type 0 where
+  pub own : stmts_own spot.stmts.now ≡ true
+  pub within : place + sum_by stmt_places spot.stmts.now ≤ end
+  pub later : GoesLater (place + 1) end spot.onward.behind
+
+-- the same of spots from a place on
+abbrev pub AllFit : ℕ → ℕ → List Spot → Type 0
+AllFit end place [] = Unit {0}
+AllFit end place (spot ∷ spots) = Fits end place spot × AllFit end (place + 1) spots
+
+abbrev pub AreRests : (layout : Layout) → Lowering layout → ℕ → List Spot → Type 0
+AreRests layout g place [] = Unit {0}
+AreRests layout g place (spot ∷ spots) =
+    IsRest layout g place spot × AreRests layout g (place + 1) spots
+
+-- So many rests are added, which are those of each graph that meets a premise.
+pub record Adds (layout : Layout) (places : ℕ) (premise : Lowering layout → Type 0)
+    (old new : List Spot) : Type 0 where
+  pub made : List Spot
+  pub is : new ≡ old ++ made
+  pub count : length made ≡ places
+  pub fits : AllFit layout.end (length old) made
+  pub rests : (g : Lowering layout) → premise g → AreRests layout g (length old) made
+
+-- those of statements
+abbrev pub AddsRests : Layout → List Stmt → Onward → (old new : List Spot) → Type 0
+AddsRests layout stmts onward old new =
+    Adds layout (sum_by stmt_places stmts)
+    (λ g. HasNodes layout g stmts (length old) onward) old new
+
+-- how many places a statement's lists have
+abbrev pub inner_places : Stmt → ℕ
+inner_places stmt = stmt_places stmt - 1
+
+-- behind this place the graph has the nodes of a statement there
+abbrev pub HasInner : (layout : Layout) (g : Lowering layout) → language.Stmt → ℕ → ℕ → Onward →
+    Type 0
+HasInner layout g stmt place places onward =
+    Agrees g.node (3 * place + 1) (3 * (place + 1 + places))
+    (lower.nodes_in (told layout g) g.place_of stmt place (leaving_by layout g onward)
+    (after_by layout g onward) (behind_by layout g onward))
+
+-- those of a statement's lists
+abbrev pub AddsWithin : Layout → Stmt → ℕ → Onward → (old new : List Spot) → Type 0
+AddsWithin layout stmt place onward old new =
+    Adds layout (inner_places stmt)
+    (λ g. HasInner layout g (seen onward.last stmt) place (inner_places stmt) onward) old new
+
+-- of the body of a loop
+abbrev pub AddsTurns : Layout → Control → List Stmt → ℕ → Onward → (old new : List Spot) → Type 0
+AddsTurns layout control turns place onward old new =
+    Adds layout (sum_by stmt_places turns)
+    (λ g. HasInner layout g (loop_of (control_in control) (seen_stmts onward.last turns)) place
+    (sum_by stmt_places turns) onward) old new
+
+-- of arms
+abbrev pub AddsArms : Layout → (ℕ → language.Arms) → ℕ → Onward → (old new : List Spot) → Type 0
+AddsArms layout arms places onward old new =
+    Adds layout places
+    (λ g. Agrees g.node (3 * length old) (3 * (length old + places))
+    (lower.nodes_of_arms (told layout g) g.place_of (arms onward.last) (length old)
+    (leaving_by layout g onward) (after_by layout g onward) (behind_by layout g onward))) old new
+
+-- the arms of WHENs, and one that may be missing
+abbrev pub branch_arms : List When → ℕ → language.Arms
+branch_arms whens last = branches_before (map (seen_when last) whens) language.done
+
+abbrev pub phrase_alone : Option (List Stmt) → ℕ → language.Arms
+phrase_alone phrase last = arm_before (seen_phrase last phrase) language.done
+
+-- one rest more
+pub record AddsSpot (stmts : List Stmt) (onward : Onward) (old new : List Spot) : Type 0 where
+  pub spot : Spot
+  pub is : new ≡ old ++ spot ∷ []
+  pub stands : spot.stmts.now ≡ stmts
+  pub goes : spot.onward ≡ onward

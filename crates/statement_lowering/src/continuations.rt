@@ -1,0 +1,12 @@
+//! The rests of a program by place: the statements from there to the end of their list, and where
+//! control goes on behind them.
+//!
+//! One table serves all ranges: in it a paragraph's end is a return, in whose place a range puts
+//! where it goes on there.
+
+mod paragraphs;
+mod spot;
+mod statements;
+
+pub use crate::continuations::paragraphs::spots_of;
+pub use crate::continuations::spot::{Onward, Spot, ended_by};

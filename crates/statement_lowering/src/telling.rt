@@ -1,0 +1,36 @@
+//! What goes along with statements.
+
+ghost use Rattle.std.specs.Prelude.{◌≡◌, ◌≤◌, drop, length};
+
+use cob_base::Items;
+use cob_tree::{FileEntry, Stmt};
+use lowering_labels::points::{Layout, Leaf};
+
+/// What lowering is told: the files, the exits of the ranges that return by their entries, and the
+/// places of paragraphs.
+#[derive(Clone, Copy)]
+pub struct Telling<'a> {
+    pub files: &'a [FileEntry],
+    pub returning: &'a [Items<u32>],
+    pub layout: &'a Layout,
+}
+
+/// Where what leaves a rest goes on: behind its sentence, at the end of its paragraph or of the
+/// last one of its section, behind the innermost loop that holds it, and at the next turn of that
+/// loop.
+#[derive(Clone, Copy)]
+pub struct Leaving {
+    pub sentence: Leaf,
+    pub paragraph: Leaf,
+    pub section: Leaf,
+    pub behind_loop: Leaf,
+    pub cycle: Leaf,
+}
+
+/// The statements from an index on.
+pub fn rest_at(stmts: &[Stmt], at: usize) -> &[Stmt]
+    requires { at ≤ length stmts.now }
+    ensures { result.now ≡ drop at stmts.now }
+{
+    &stmts[at..]
+}

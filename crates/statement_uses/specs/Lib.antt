@@ -1,1 +1,0 @@
--- Its definitions are those of `statement_grammar`; it has none of its own.

@@ -1,0 +1,21 @@
+use Rattle.std.specs.Prelude.{codes}
+use Rattle.parser_combinators.specs.Part.{is_key}
+use Rattle.std.proofs.lemmas.Result.{err_from_is_err_and}
+use Rattle.cobol_grammar.proofs.stmt_forms_lemmas.HoldingLaws as laws
+use Rattle.parser_combinators.proofs.Loops.{goes_on, ends_err, is_done, shrinks}
+use Rattle.parser_combinators.proofs.MakerLaws.{added}
+use Rattle.stmt_head_parse.proofs.heads.choice.more_tests.Goals as goal
+
+pub returns-in_err-found : goal.returns-in_err-found
+returns-in_err-found g c =
+    let p = err_from_is_err_and c.from_residual.result c.from_residual.ensures.1 in
+    rw (p.1, p.2) (ends_err (is_key (codes "WHEN")) (λ front. added front (laws.next_test (g.met.P.Parts.lawful c.args.parts.now) c.args.known.now)) c.items.found c.in_err-found.field-0.0 c.items.cursor c.test_behind.new.cursor _ c.items-test.ensures c.in_err-found.ensures c.items.invariant)
+
+pub items-smaller : goal.items-smaller
+items-smaller g c = shrinks (added c.items.found (laws.next_test (g.met.P.Parts.lawful c.args.parts.now) c.args.known.now)) _ _ _ c.in_ok-found.ensures
+
+pub items-preserved : goal.items-preserved
+items-preserved g c = goes_on (is_key (codes "WHEN")) (λ front. added front (laws.next_test (g.met.P.Parts.lawful c.args.parts.now) c.args.known.now)) c.items.found _ c.items.cursor _ _ c.items-test.ensures c.in_ok-found.ensures c.items.invariant
+
+pub returns : goal.returns
+returns g c = is_done (is_key (codes "WHEN")) (λ front. added front (laws.next_test (g.met.P.Parts.lawful c.args.parts.now) c.args.known.now)) c.items.found c.items.cursor _ c.items-test.ensures c.items.invariant

@@ -1,0 +1,5 @@
+//! Stmt head parse.
+#![tactic(auto)]
+
+pub mod heads;
+pub mod perform;

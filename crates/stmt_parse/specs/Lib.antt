@@ -1,1 +1,0 @@
--- Its definitions are the forms of `stmt_forms`, and steps of `stmt_drafts`; it has none of its own.

@@ -1,7 +1,0 @@
-use Rattle.structured_runs.proofs.Shown.{nested-shown}
-use Rattle.structured_runs.proofs.laws.runs_show_nested_statements.Goals as goal
-
-pub returns : goal.returns
-returns c =
-    nested-shown c.a_structured_program_behaves_as_itself.ensures.same
-    c.a_structured_program_behaves_as_itself.ensures.faultless

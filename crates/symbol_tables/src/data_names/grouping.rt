@@ -1,0 +1,60 @@
+//! The groups that an entry stands in.
+
+ghost use Rattle.std.specs.Prelude.{◌≡◌};
+ghost use Rattle.symbol_tables.specs.data_names.Grouping.{bound_of, has_items, holds, is_numbered, repeats, same_file};
+
+use cob_tree::Entry;
+
+/// Whether it is a level of the items of a record, 01 to 49.
+pub fn is_numbered(level: u8) -> bool
+    ensures { result ≡ is_numbered level }
+{
+    0 < level && level < 50
+}
+
+/// What an entry of this level stands in has a lower level than this.
+pub fn bound_of(level: u8) -> u8
+    ensures { result ≡ bound_of level }
+{
+    if level < 50 || level == 88 { level } else { 0 }
+}
+
+/// Whether it is an item that something stands in which is bounded so.
+pub fn holds(bound: u8, entry: &Entry) -> bool
+    ensures { result ≡ holds bound entry.now }
+{
+    (is_numbered(entry.level) || entry.level == 77) && entry.level < bound
+}
+
+/// Whether two entries stand in one FD, or both in working storage.
+pub fn same_file(file: Option<u32>, other: Option<u32>) -> bool
+    ensures { result ≡ same_file file other }
+{
+    match (file, other) {
+        (None, None) => true,
+        (Some(file), Some(other)) => file == other,
+        _ => false,
+    }
+}
+
+/// Whether it stands under OCCURS itself.
+pub fn repeats(entry: &Entry) -> bool
+    ensures { result ≡ repeats entry.now }
+{
+    entry.occurs.is_some()
+}
+
+/// Whether an entry of this level and file has items below it among the entries behind it.
+pub fn has_items(level: u8, file: Option<u32>, behind: &[Entry]) -> bool
+    ensures { result ≡ has_items level file behind.now }
+{
+    for entry in behind {
+        if !same_file(file, entry.file) {
+            return false;
+        }
+        if is_numbered(entry.level) {
+            return level < entry.level;
+        }
+    }
+    false
+}

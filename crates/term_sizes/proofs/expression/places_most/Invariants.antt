@@ -1,9 +1,0 @@
-use Rattle.std.proofs.Common.{◌≡◌, ◌-◌, ◌^◌, min, max, drop, map}
-use Rattle.cob_tree.specs.Depth.{largest}
-use Rattle.term_sizes.specs.Expression.{place_most}
-use Rattle.term_sizes.proofs.expression.places_most.Given as goal
-
-abbrev pub invariant-loop-place : goal.invariant-loop-place
-invariant-loop-place l =
-    max l.most (min (largest (map place_most (drop l.place-index l.places))) (2 ^ 32 - 1))
-    ≡ min (largest (map place_most l.places)) (2 ^ 32 - 1)

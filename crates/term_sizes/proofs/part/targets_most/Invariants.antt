@@ -1,9 +1,0 @@
-use Rattle.std.proofs.Common.{◌≡◌, ◌-◌, ◌^◌, min, max, drop, map}
-use Rattle.cob_tree.specs.Depth.{largest}
-use Rattle.term_sizes.specs.Part.{target_most}
-use Rattle.term_sizes.proofs.part.targets_most.Given as goal
-
-abbrev pub invariant-loop-target : goal.invariant-loop-target
-invariant-loop-target l =
-    max l.most (min (largest (map target_most (drop l.target-index l.targets))) (2 ^ 32 - 1))
-    ≡ min (largest (map target_most l.targets)) (2 ^ 32 - 1)

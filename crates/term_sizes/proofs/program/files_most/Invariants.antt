@@ -1,9 +1,0 @@
-use Rattle.std.proofs.Common.{◌≡◌, ◌-◌, ◌^◌, min, max, drop, map}
-use Rattle.cob_tree.specs.Depth.{largest}
-use Rattle.term_sizes.specs.Program.{file_most}
-use Rattle.term_sizes.proofs.program.files_most.Given as goal
-
-abbrev pub invariant-loop-file : goal.invariant-loop-file
-invariant-loop-file l =
-    max l.most (min (largest (map file_most (drop l.file-index l.files))) (2 ^ 32 - 1))
-    ≡ min (largest (map file_most l.files)) (2 ^ 32 - 1)

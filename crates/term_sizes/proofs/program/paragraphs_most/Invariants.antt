@@ -1,9 +1,0 @@
-use Rattle.std.proofs.Common.{◌≡◌, ◌-◌, ◌^◌, min, max, drop, map}
-use Rattle.cob_tree.specs.Depth.{largest}
-use Rattle.term_sizes.specs.Program.{paragraph_most}
-use Rattle.term_sizes.proofs.program.paragraphs_most.Given as goal
-
-abbrev pub invariant-loop-paragraph : goal.invariant-loop-paragraph
-invariant-loop-paragraph l =
-    max l.most (min (largest (map paragraph_most (drop l.paragraph-index l.paragraphs))) (2 ^ 32 - 1))
-    ≡ min (largest (map paragraph_most l.paragraphs)) (2 ^ 32 - 1)

@@ -1,5 +1,0 @@
-use Rattle.trail_finding.proofs.Hopping.{HopsSoFar}
-use Rattle.trail_finding.proofs.hops.hops_of.Given as goal
-
-abbrev pub invariant-loop-number : goal.invariant-loop-number
-invariant-loop-number l = HopsSoFar l.table l.numbers l.chain.ranges.items l.chain.fault l.hops l.number

@@ -1,6 +1,0 @@
-use Rattle.std.proofs.Common.{◌≡◌, ◌++◌, drop}
-use Rattle.trail_notes.specs.Trail.{hop_lines}
-use Rattle.trail_notes.proofs.trail.add_hops.Given as goal
-
-abbrev pub invariant-loop-hop : goal.invariant-loop-hop
-invariant-loop-hop l = l.text ++ hop_lines l.paragraphs (drop l.hop-index l.hops) ≡ l.fn.text ++ hop_lines l.paragraphs l.hops

@@ -1,2 +1,0 @@
--- counts by whole numbers
-pub mod Whole

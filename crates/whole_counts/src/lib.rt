@@ -1,5 +1,0 @@
-//! Programs whose counts are whole numbers: definitions alone.
-//!
-//! What TIMES and GO TO DEPENDING count by is a whole number, ZERO, or a number item without
-//! decimal places (`specs/Whole.antt`).
-#![tactic(auto)]

@@ -1,5 +1,0 @@
-use Rattle.whole_parts.proofs.status_readings_lemmas.References.{data_reference}
-use Rattle.whole_parts.proofs.status_readings.references_take_the_same.Goals as goal
-
-pub returns : goal.returns
-returns c names others = data_reference names others

@@ -1,1 +1,0 @@
--- The crate has no definitions of its own: `position` and `list_any` are those of std.
