@@ -1,8 +1,9 @@
 //! Items for the cells of shaped ranges: their entries, in the order in which the text first names
 //! them, and what writing asks of each cell.
 //!
-//! `give_items` gives both. `specs/item_table/Tables.antt` is the table of cells that the theory of control
-//! asks for; its items are those of `specs/item_table/Items.antt`, named by `specs/item_table/Names.antt`.
+//! `give_items` gives both. `specs/item_table/Tables.antt` is the table of cells that the theory of
+//! control asks for; its items are those of `specs/item_table/Items.antt`, named by
+//! `specs/item_table/Names.antt`.
 
 mod cell_item;
 mod choices;

@@ -2,8 +2,9 @@
 //!
 //! A body has no jump: it is a tree of pieces, choices, loops and what their leaves leave behind.
 //! The definition that the contracts hold the statements against is the theory's `written_stmts`
-//! and `written_paragraph`, in `control_flow_theory/specs/rendering/Rendering.antt`, with the names of
-//! `statement_builders/specs/arms/Written.antt`. Statements are moved out of the trees, so none is copied.
+//! and `written_paragraph`, in `control_flow_theory/specs/rendering/Rendering.antt`, with the names
+//! of `statement_builders/specs/arms/Written.antt`. Statements are moved out of the trees, so none
+//! is copied.
 #![tactic(auto)]
 
 mod leaves;

@@ -1,9 +1,9 @@
 //! What a simple statement does, done.
 //!
-//! `act` does a statement that needs no device, exactly as `meanings::statements` says: the store after it is
-//! the one that is said, and so is how it ended. A module has a family of statements, of the name
-//! that its definitions have there: DISPLAY in `display`, MOVE and SET in `moving`, the arithmetic
-//! statements in `arithmetic`, the arms of IF and EVALUATE in `choice`.
+//! `act` does a statement that needs no device, exactly as `meanings::statements` says: the store
+//! after it is the one that is said, and so is how it ended. A module has a family of statements,
+//! of the name that its definitions have there: DISPLAY in `display`, MOVE and SET in `moving`, the
+//! arithmetic statements in `arithmetic`, the arms of IF and EVALUATE in `choice`.
 #![tactic(auto)]
 
 mod acting;

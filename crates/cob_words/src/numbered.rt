@@ -1,7 +1,7 @@
 //! Words with a number behind them: `RX-PARA-1`, or the names of a generated program.
 //!
-//! A stem (`specs/numbered/Stem`) is what stands before the number. Hold it against ISO 1989:1985, COBOL
-//! words: letters, digits and hyphens, neither first nor last a hyphen.
+//! A stem (`specs/numbered/Stem`) is what stands before the number. Hold it against ISO 1989:1985,
+//! COBOL words: letters, digits and hyphens, neither first nor last a hyphen.
 
 ghost use Rattle.std.specs.Prelude.{◌≡◌, ◌++◌};
 ghost use Rattle.std.specs.Fmt.{decimal};

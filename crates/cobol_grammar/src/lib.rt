@@ -1,6 +1,7 @@
 //! The closed grammar of the PROCEDURE DIVISION (ISO 1989:1985): the forms of `stmt_forms` over
 //! operands as `expr_forms` spells them, conditions as `cond_forms` does, names of data and files
-//! as `symbol_tables::data_names` finds them, and procedures as `symbol_tables::procedure_names` finds them.
+//! as `symbol_tables::data_names` finds them, and procedures as `symbol_tables::procedure_names`
+//! finds them.
 //!
 //! Hold `specs/Use` against the uses of operands that docs/LANGUAGE.md lists, `specs/Name` against
 //! names of files, records and procedures. `grammar_is_read` says that statements and the whole

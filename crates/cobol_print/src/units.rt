@@ -1,7 +1,7 @@
 //! A program as units: the tokens of each of its lines, with the column from which they stand.
 //!
-//! `cobol_print::units` gives the headers, a line an entry and a line a statement or phrase, in their
-//! order. What the first line of a statement is says `unparser`; what it holds is below it,
+//! `cobol_print::units` gives the headers, a line an entry and a line a statement or phrase, in
+//! their order. What the first line of a statement is says `unparser`; what it holds is below it,
 //! four columns further right. Hold it against ISO 1989:1985, Reference Format, areas A and B, and
 //! the formats of the divisions.
 

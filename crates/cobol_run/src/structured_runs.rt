@@ -1,5 +1,4 @@
-//! What a run of a structured program shows is what its nested statements show. The crate has no
-//! code.
+//! What a run of a structured program shows is what its nested statements show. Nothing here runs.
 
 ghost use Rattle.cobol_run.specs.structured_runs.Shown.{RunsOverFilesShowNestedStatements, RunsShowNestedStatements};
 

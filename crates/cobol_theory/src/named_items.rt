@@ -1,5 +1,5 @@
 //! Named programs name items of their own alone, as the tests of what may be written ask: each item
-//! that a statement names is one of those that are declared. The crate has no code.
+//! that a statement names is one of those that are declared. Nothing here runs.
 
 ghost use Rattle.cobol_theory.specs.named_items.Laws.{NamedStatementsAreOwn};
 

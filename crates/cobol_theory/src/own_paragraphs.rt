@@ -1,6 +1,6 @@
 //! Named programs name paragraphs of their own alone, as the headline for COBOL programs asks: each
-//! paragraph that their statements name is there, and each inline loop says how it turns. The crate
-//! has no code.
+//! paragraph that their statements name is there, and each inline loop says how it turns. Nothing
+//! here runs.
 
 ghost use Rattle.cobol_theory.specs.own_paragraphs.Laws.{NamedProgramsNameOwnParagraphs};
 

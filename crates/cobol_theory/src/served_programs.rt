@@ -1,6 +1,6 @@
 //! A proper program that counts by whole numbers may be written, part by part: what the headline
 //! for COBOL programs asks of the parts in its lowered graphs follows from the program itself and
-//! from the items of its counters. The crate has no code.
+//! from the items of its counters. Nothing here runs.
 
 ghost use Rattle.cobol_theory.specs.served_programs.Laws.{ProperProgramsAreServed, ProperProgramsHaveServedGraphs};
 

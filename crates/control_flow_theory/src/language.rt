@@ -1,10 +1,10 @@
 //! A program as far as control goes: statements that act, choices with their arms, loops, PERFORM
 //! and the jumps, over the tree's own parts.
 //!
-//! `specs/language/Language.antt` has the types, `specs/language/Control.antt` the fold that takes a program of the
-//! tree to them, and `specs/language/Items.antt` what is still to do at a place and the returns that are
-//! pending. There is no code here: the functions state that the fold loses nothing, and for which
-//! programs.
+//! `specs/language/Language.antt` has the types, `specs/language/Control.antt` the fold that takes
+//! a program of the tree to them, and `specs/language/Items.antt` what is still to do at a place
+//! and the returns that are pending. There is no code here: the functions state that the fold loses
+//! nothing, and for which programs.
 
 ghost use Rattle.control_flow_theory.specs.language.Laws.{ControlLosesNothing, OwnItemsAlone, SourceControlLosesNothing};
 

@@ -3,10 +3,9 @@
 //! Sources run step by step, with rests and pending returns; nested programs mean what their
 //! statements mean, within units; graphs of trees are walked. The three share the step of an item,
 //! with one line a statement. What acts, tests and chooses is never looked into, so the definitions
-//! and laws hold whatever the parts of a program do to a memory. Hold `specs/semantics/Items.antt` and
-//! `specs/semantics/Source.antt` against the rules on control of ISO 1989:1985.
-//! `machines_grow` is the law that the crates above stand on. Nothing here runs: the contracts are
-//! the laws.
+//! and laws hold whatever the parts of a program do to a memory. Hold `specs/semantics/Items.antt`
+//! and `specs/semantics/Source.antt` against the rules on control of ISO 1989:1985. `machines_grow`
+//! is the law that the crates above stand on. Nothing here runs: the contracts are the laws.
 
 ghost use Rattle.control_flow_theory.specs.semantics.Examples.{SourcesRunAs, NestedRunAs, BothRunAlike, FamiliesWalkAs, JumpsRunAs};
 ghost use Rattle.control_flow_theory.specs.semantics.Laws.{TheSourceGrows, WalksGrow, TheMainWalkGrows};

@@ -1,9 +1,9 @@
 //! What a program that is read is split into is structured, behaves as the program, and reads back.
 //!
-//! Begin with `specs/results/read_headline/Laws.antt` and `specs/results/readable_results/Laws.antt`; hold them
-//! against "The headline" in docs/PROMISES.md. The other modules say from what the second follows:
-//! what a result declares, that its words and parts fit, and what its procedures are called.
-//! Nothing here runs.
+//! Begin with `specs/results/read_headline/Laws.antt` and
+//! `specs/results/readable_results/Laws.antt`; hold them against "The headline" in
+//! docs/PROMISES.md. The other modules say from what the second follows: what a result declares,
+//! that its words and parts fit, and what its procedures are called. Nothing here runs.
 
 pub mod added_reading;
 pub mod fit_sources;

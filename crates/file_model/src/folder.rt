@@ -2,7 +2,8 @@
 //! DISK.
 //!
 //! It is an edge of what is proved: it keeps the trait's clauses on names, lengths and counts of
-//! failures, and tells nothing of what files hold. A test of `interpreter_tests` tries it on a real folder.
+//! failures, and tells nothing of what files hold. A test of `interpreter_tests` tries it on a real
+//! folder.
 
 mod folder_file;
 mod slot;

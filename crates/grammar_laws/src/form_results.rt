@@ -1,8 +1,8 @@
 //! What a form gives where no fault of a name is noted, and what literals give.
 //!
 //! `specs/form_results/Giving.antt` says what a form gives. Each maker of forms has its law in
-//! `proofs/form_results_lemmas/Giving.antt`, from which the law of a grammar is written as the grammar is. The crate
-//! has no code.
+//! `proofs/form_results_lemmas/Giving.antt`, from which the law of a grammar is written as the
+//! grammar is. Nothing here runs.
 
 ghost use Rattle.grammar_laws.specs.form_results.Laws.{LiteralsGive};
 

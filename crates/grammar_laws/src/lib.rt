@@ -1,4 +1,10 @@
-//! Grammar laws.
+//! What parts of a program are known to be once they are read with no fault of a name: laws alone,
+//! in the order of the grammar. Nothing here runs.
+//!
+//! `well_scoped` says that what they name is there, `whole_counts` that they count by whole
+//! numbers, `short_lists` that lists are no longer than their tokens, and `no_periods` that no
+//! statement takes a period. `form_results` has what a form gives, by which the others are written
+//! as the grammar is.
 #![tactic(auto)]
 
 pub mod form_results;

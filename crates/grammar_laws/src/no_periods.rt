@@ -1,5 +1,4 @@
-//! No token that statements take is a period, so that one ends each sentence. The crate has no
-//! code.
+//! No token that statements take is a period, so that one ends each sentence. Nothing here runs.
 
 ghost use Rattle.grammar_laws.specs.no_periods.Laws.{StatementsTakeNoPeriod};
 

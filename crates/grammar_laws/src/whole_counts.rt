@@ -2,9 +2,11 @@
 //! stand with what they ask, headers tell all paragraphs, and both readings of the divisions before
 //! the PROCEDURE DIVISION take the same tokens.
 //!
-//! Begin with `specs/whole_counts/whole_stmts/Parts.antt` and `specs/whole_counts/whole_entries/Fitting.antt`. Hold
+//! Begin with `specs/whole_counts/whole_stmts/Parts.antt` and
+//! `specs/whole_counts/whole_entries/Fitting.antt`. Hold
 //! `specs/whole_counts/entry_bounds/Bounds.antt` against the rules of `declaration_checks`, and
-//! `specs/whole_counts/term_counts/Count.antt` against the limits in docs/LANGUAGE.md. Nothing here runs.
+//! `specs/whole_counts/term_counts/Count.antt` against the limits in docs/LANGUAGE.md. Nothing here
+//! runs.
 
 pub mod entry_bounds;
 pub mod header_counts;

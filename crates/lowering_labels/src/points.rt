@@ -1,10 +1,10 @@
 //! The places of a program, and where a rest of it goes on: the tables that lowering stands on.
 //!
 //! Hold `layout_of` against the numbering of places, paragraphs and behind each its statements in
-//! text order (`control_flow_theory/specs/lowering/Lowered`), `leaf_of` against what a continuation is,
-//! and `end_leaf` against the end of a paragraph in a range (`control_flow_theory/specs/lowering/Lower`).
-//! Contracts speak of any numbering that gives the places of the table, so that those of the theory
-//! are among them.
+//! text order (`control_flow_theory/specs/lowering/Lowered`), `leaf_of` against what a continuation
+//! is, and `end_leaf` against the end of a paragraph in a range
+//! (`control_flow_theory/specs/lowering/Lower`). Contracts speak of any numbering that gives the
+//! places of the table, so that those of the theory are among them.
 
 mod fall;
 mod layout;

@@ -1,8 +1,9 @@
 //! Trails of programs: whether one is accepted.
 //!
 //! `check` follows a trail's moves through the tree, without memory, and holds exactly where
-//! `IsAccepted` of `program_points::paths` does. `specs/Following.antt` says what comes of following moves
-//! through statements, `specs/Checking.antt` what of following them from one paragraph to the next.
+//! `IsAccepted` of `program_points::paths` does. `specs/Following.antt` says what comes of
+//! following moves through statements, `specs/Checking.antt` what of following them from one
+//! paragraph to the next.
 #![tactic(auto)]
 
 mod checking;

@@ -2,8 +2,8 @@
 //!
 //! A fault needs a range that is pending, and a range to which calls lead from it, whose level
 //! passes the pending one's end or performs a range that ends there too. `clash_in` looks for such
-//! a pair, and the program is faulty exactly where there is one. `specs/faults/Clashing.antt` says what a
-//! pair is.
+//! a pair, and the program is faulty exactly where there is one. `specs/faults/Clashing.antt` says
+//! what a pair is.
 
 mod clash;
 mod fault;

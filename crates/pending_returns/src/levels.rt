@@ -1,10 +1,10 @@
 //! What a range's level comes to, and which ranges return.
 //!
-//! A level's search is `reached`, held against `ComesIn` of `program_points::point_table`; `settle` finds the
-//! ranges that return, and `calls_of` and `ends_of` tell what a level performs and whose ends it
-//! passes. Marks are made once for all ranges and cleared along the list of what they are on, so a
-//! range's search costs what its level comes to. `laws::table_is_exact` and `facts_are_exact` say
-//! that this is what the flow paths of the program do.
+//! A level's search is `reached`, held against `ComesIn` of `program_points::point_table`; `settle`
+//! finds the ranges that return, and `calls_of` and `ends_of` tell what a level performs and whose
+//! ends it passes. Marks are made once for all ranges and cleared along the list of what they are
+//! on, so a range's search costs what its level comes to. `laws::table_is_exact` and
+//! `facts_are_exact` say that this is what the flow paths of the program do.
 
 mod facts;
 pub mod laws;

@@ -2,8 +2,9 @@
 //! behind what it holds, over any readers of operands, references, conditions and names (`Parts`).
 //!
 //! Each function reads exactly by the form that its contract names, of `stmt_forms` (ISO 1989:1985,
-//! PROCEDURE DIVISION) or of `specs/drafts/Step`. Contracts see a `Draft` as the statement that it is of.
-//! The crates above let trees go, and add to lists of them, by the calls of `drops` and `lists`.
+//! PROCEDURE DIVISION) or of `specs/drafts/Step`. Contracts see a `Draft` as the statement that it
+//! is of. The crates above let trees go, and add to lists of them, by the calls of `drops` and
+//! `lists`.
 
 mod drops;
 mod ending;

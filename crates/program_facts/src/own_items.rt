@@ -1,6 +1,7 @@
 //! Whether a statement is one of the program's own, in which no word on an added item stands.
 //!
-//! `OwnStmt` of `control_flow_theory/specs/language/Own.antt` says it of what control sees of the statement.
+//! `OwnStmt` of `control_flow_theory/specs/language/Own.antt` says it of what control sees of the
+//! statement.
 
 mod owning;
 mod statement;

@@ -1,7 +1,7 @@
 //! Named programs: each item, file and paragraph that a program's statements name is there, its
 //! numbers are numbers, and no list that is required is empty.
 //!
-//! `specs/well_scoped/Named.antt` says it, as a fold over the tree. The crate has no code.
+//! `specs/well_scoped/Named.antt` says it, as a fold over the tree. Nothing here runs.
 
 ghost use Rattle.program_facts.specs.well_scoped.Laws.{NameOwnItems};
 

@@ -4,8 +4,8 @@
 //! is the promise of the whole tool (`specs/Tool.antt` is the place to begin). `main` hands it
 //! standard input, output and error, and a bench with the current folder under the name DISK and a
 //! device NULL. That an answer comes exactly where it is due is the law `due_answer_comes`. Only
-//! tested: that calls succeed where memory is ample, what programs do with files of a folder, and the help's
-//! text.
+//! tested: that calls succeed where memory is ample, what programs do with files of a folder, and
+//! the help's text.
 #![tactic(auto)]
 
 ghost use Rattle.std.specs.Prelude.{◌≡◌, false, map, string_bytes, take};

@@ -1,5 +1,5 @@
 //! What divisions declare with no fault keeps the rules of printed declarations, so that what is
-//! printed of it declares the same. The crate has no code.
+//! printed of it declares the same. Nothing here runs.
 
 pub mod added_entries;
 pub mod fresh_items;

@@ -1,7 +1,7 @@
 //! Programs that can be printed: each of their names, numbers, literals and pictures is one that a
 //! text can have, so each of their lines has tokens alone that a line may have.
 //!
-//! `specs/printable/Whole.antt` says which these are. The crate has no code.
+//! `specs/printable/Whole.antt` says which these are. Nothing here runs.
 
 pub mod display_programs;
 mod laws;

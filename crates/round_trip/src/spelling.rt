@@ -1,5 +1,5 @@
-//! The parts of statements that a program is read with spell what they are printed with. The crate
-//! has no code.
+//! The parts of statements that a program is read with spell what they are printed with. Nothing
+//! here runs.
 
 pub mod cond_spelling;
 pub mod data_spelling;

@@ -1,4 +1,10 @@
-//! Statement builders.
+//! Constructors of the statements that a result is written of.
+//!
+//! `arms` makes statements of the lists that their arms hold: an empty list that is required holds
+//! CONTINUE, and other empty arms are left out. `item_words` makes the statements, tests and
+//! choices on added items. Hold both against `written_stmt` of
+//! `control_flow_theory/specs/rendering/Rendering.antt`, whose laws say that what is written does
+//! what the graph did.
 #![tactic(auto)]
 
 pub mod arms;

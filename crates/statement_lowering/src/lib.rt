@@ -2,7 +2,8 @@
 //!
 //! `run_on` goes along a list and adds to a body; it answers how the tree ends, or none where it
 //! comes to the list's end, behind which the caller goes on. Hold it against `build` of
-//! `control_flow_theory/specs/lowering/Lower`, and `turn_tree` and `loop_tree` against `loop_nodes`.
+//! `control_flow_theory/specs/lowering/Lower`, and `turn_tree` and `loop_tree` against
+//! `loop_nodes`.
 #![tactic(auto)]
 
 mod along;

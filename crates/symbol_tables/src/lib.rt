@@ -1,4 +1,9 @@
-//! Symbol tables.
+//! The names of a program: what a reference to data, a file or a procedure stands for.
+//!
+//! `data_names` looks references up among files and entries, with qualification (ISO 1989:1985,
+//! uniqueness of reference); `procedure_names` finds paragraphs and sections by their headers,
+//! before statements are read. Each call gives exactly what `specs` says of its table, or that
+//! memory is out.
 #![tactic(auto)]
 
 pub mod data_names;

@@ -3,6 +3,7 @@
 ghost use Rattle.cobol_grammar.specs.Whole.{parts_of};
 ghost use Rattle.cobol_grammar.proofs.PartLaws as laws;
 
+use crate::operand_uses as uses;
 use crate::operand_uses::Records;
 use cob_base::{Text, Word};
 use cob_tree::{Cond, Expr, Operand, Place};
@@ -16,7 +17,6 @@ use expr_parse::actions::{
 use expr_parse::{data_operand, data_reference, data_reference_behind, whole_expr};
 use parser_combinators::words::sees_name;
 use parser_combinators::{Cursor, Note, Position, Unread};
-use statement_uses as uses;
 use std::alloc::Global;
 use symbol_tables::data_names::NameTable;
 use symbol_tables::procedure_names::ProcedureTable;

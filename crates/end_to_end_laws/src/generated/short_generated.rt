@@ -1,5 +1,5 @@
 //! Generated programs are short: what is printed of one has no more bytes and tokens than a source
-//! may have. The crate has no code.
+//! may have. Nothing here runs.
 
 ghost use Rattle.end_to_end_laws.specs.generated.short_generated.Laws.{GeneratedProgramsAreShort};
 

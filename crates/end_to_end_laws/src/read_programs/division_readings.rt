@@ -1,7 +1,7 @@
 //! The divisions before the PROCEDURE DIVISION are read twice: without names, to learn what they
 //! declare, and over these names. Both readings take the same tokens and read the same but for what
 //! status items stand for. So paragraphs are read at the very tokens among which the headers of
-//! procedures are counted. The crate has no code.
+//! procedures are counted. Nothing here runs.
 
 ghost use Rattle.end_to_end_laws.specs.read_programs.division_readings.Laws.{DivisionsReadTheSame, ParagraphsAreReadWhereCounted};
 

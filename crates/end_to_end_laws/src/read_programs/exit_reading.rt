@@ -1,5 +1,5 @@
-//! EXIT without a further word stands alone in the sentences of a program that is read. The crate
-//! has no code.
+//! EXIT without a further word stands alone in the sentences of a program that is read. Nothing
+//! here runs.
 
 ghost use Rattle.end_to_end_laws.specs.read_programs.exit_reading.Laws.{ProgramsThatAreReadExitAlone};
 

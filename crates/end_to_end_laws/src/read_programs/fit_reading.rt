@@ -1,6 +1,6 @@
 //! A program that is read is as it is asked so that its own parts may be written: each of its files
 //! has a record, its entries are as they can be written, and each of them has an item. How many
-//! paragraphs GO TO DEPENDING names isn't said here. The crate has no code.
+//! paragraphs GO TO DEPENDING names isn't said here. Nothing here runs.
 
 ghost use Rattle.end_to_end_laws.specs.read_programs.fit_reading.Laws.{EntriesThatAreReadFit, ProgramsThatAreReadHaveItems, ProgramsThatAreReadHaveRecords};
 

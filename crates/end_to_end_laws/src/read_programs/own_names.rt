@@ -1,6 +1,6 @@
 //! What stands before the PROCEDURE DIVISION is read without names first, to learn what it
 //! declares. Status items apart this is what the divisions declare that are read over these names.
-//! So a program is read over the names of its own files and entries. The crate has no code.
+//! So a program is read over the names of its own files and entries. Nothing here runs.
 
 ghost use Rattle.end_to_end_laws.specs.read_programs.own_names.Laws.{AlikeDivisionsDeclareAlike, ProgramsAreReadOverTheirOwnNames};
 

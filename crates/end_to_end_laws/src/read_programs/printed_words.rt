@@ -1,5 +1,5 @@
 //! The words that programs are printed with: none of them is a word that this profile leaves out.
-//! The crate has no code.
+//! Nothing here runs.
 
 ghost use Rattle.end_to_end_laws.specs.read_programs.printed_words.Laws.{NoPrintedWordIsLeftOut};
 

@@ -1,6 +1,6 @@
 //! What is printed of a program that is read reads to that very program, unless it has more bytes
 //! or tokens than a source may have: what is read of each part of its statements is spelled by what
-//! is printed of it. The crate has no code.
+//! is printed of it. Nothing here runs.
 
 ghost use Rattle.end_to_end_laws.specs.read_programs.readable_division.Laws.{ProgramsThatAreReadAreReadable, ProgramsThatAreReadReadBack, ReadPartsFit};
 

@@ -1,5 +1,5 @@
 //! Files, records and status items as they are read, and what a program that is read declares, as
-//! what is printed of it is to have them. The crate has no code.
+//! what is printed of it is to have them. Nothing here runs.
 
 ghost use Rattle.std.specs.Prelude.{ℕ, List};
 ghost use Rattle.cob_tree.specs.declared.program.Program.{Program};

@@ -1,5 +1,5 @@
 //! What is printed of a readable program reads to that very program: the tokens of the printed
-//! bytes declare what the program has, and spell it over these names. The crate has no code.
+//! bytes declare what the program has, and spell it over these names. Nothing here runs.
 
 ghost use Rattle.end_to_end_laws.specs.read_programs.readable_programs.Laws.{ReadableProgramsReadBack};
 

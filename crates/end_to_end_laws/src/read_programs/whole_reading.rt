@@ -1,5 +1,5 @@
 //! A program that is read counts by whole numbers: the operand of each TIMES and the item of each
-//! GO TO DEPENDING are whole numbers. The crate has no code.
+//! GO TO DEPENDING are whole numbers. Nothing here runs.
 
 ghost use Rattle.end_to_end_laws.specs.read_programs.whole_reading.Laws.{ProgramsThatAreReadCountWhole};
 

@@ -1,5 +1,5 @@
 //! With items of whole numbers behind its own entries, a program that is read keeps what it has so
-//! that its divisions are read back. The crate has no code.
+//! that its divisions are read back. Nothing here runs.
 
 ghost use Rattle.end_to_end_laws.specs.results.added_reading.Laws.{ProgramsThatAreReadHaveFewWords, ProgramsWithItemsDeclareReadably};
 

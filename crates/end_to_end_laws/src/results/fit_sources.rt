@@ -1,5 +1,5 @@
-//! The statements of a program that is read pass the tests of the names that it declares. The crate
-//! has no code.
+//! The statements of a program that is read pass the tests of the names that it declares. Nothing
+//! here runs.
 
 ghost use Rattle.end_to_end_laws.specs.results.fit_sources.Laws.{ProgramsThatAreReadFit, ReadPartsPass};
 

@@ -1,5 +1,5 @@
 //! What a program that is read is split into is readable, where it is within the limits of reading:
-//! so what is printed of it reads to it. The crate has no code.
+//! so what is printed of it reads to it. Nothing here runs.
 
 ghost use Rattle.end_to_end_laws.specs.results.readable_results.Laws.{SplitProgramsAreReadable, SplitProgramsReadBack};
 

@@ -1,5 +1,5 @@
 //! The procedures that a program is split into may be written by what takes the program's own
-//! parts, and so can be printed. The crate has no code.
+//! parts, and so can be printed. Nothing here runs.
 
 ghost use Rattle.end_to_end_laws.specs.results.result_bodies.Laws.{ParagraphsAreWritten, SplitProceduresStand, SplitProgramsHaveFewProcedures, SplitProgramsPrint};
 

@@ -1,5 +1,5 @@
 //! What a program declares that another is split into: the entries of that one, and behind these
-//! items for the cells of its ranges, whose names are no words of it. The crate has no code.
+//! items for the cells of its ranges, whose names are no words of it. Nothing here runs.
 
 ghost use Rattle.end_to_end_laws.specs.results.result_entries.Laws.{CellItemsServe, FewItemsAreDeclared, SplitProgramsDeclareItems};
 

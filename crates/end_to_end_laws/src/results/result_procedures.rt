@@ -1,6 +1,6 @@
 //! The procedures of a split program: their names may be such and are all different, so that each
 //! is found by its label; its sentences are in scope, and where they fit, they are spelled by what
-//! is printed of them. The crate has no code.
+//! is printed of them. Nothing here runs.
 
 ghost use Rattle.end_to_end_laws.specs.results.result_procedures.Laws.{
   FitProgramsAreSpelled,

@@ -1,6 +1,6 @@
 //! What fits a program fits its result, which has entries of whole numbers behind the program's
 //! own: statements, conditions, choosers and amounts as they are written, and the words on cells,
-//! which are these numbers. The crate has no code.
+//! which are these numbers. Nothing here runs.
 
 ghost use Rattle.end_to_end_laws.specs.results.result_words.Carried.{StatementsArePassed};
 ghost use Rattle.end_to_end_laws.specs.results.result_words.Laws.{OwnCondsFit, OwnPartsArePassed, PassingPartsAreServed, ResultNamesFit};

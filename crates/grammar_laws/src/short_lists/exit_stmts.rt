@@ -1,5 +1,5 @@
 //! EXIT without a further word stands alone in the sentences that are read, over open forms of
-//! operands. The crate has no code.
+//! operands. Nothing here runs.
 
 ghost use Rattle.std.specs.Prelude.{ℕ, ◌≡◌, true};
 ghost use Rattle.grammar_laws.specs.short_lists.Giving.{GivesOfFew};

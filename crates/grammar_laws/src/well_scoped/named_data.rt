@@ -1,7 +1,7 @@
 //! What the divisions before the PROCEDURE DIVISION give, over an open form of status items: where
 //! no fault of a name is noted, each status item is named, and each value of an entry is a literal.
 //!
-//! The crate has no code.
+//! Nothing here runs.
 
 ghost use Rattle.std.specs.Prelude.{◌≡◌, true};
 ghost use Rattle.cobol_grammar.specs.data_forms.Divisions.{divisions};

@@ -2,7 +2,7 @@
 //! own headers declare: where no fault of a name is noted, each item and file that its statements
 //! name is declared, and each paragraph is one of those that headers tell.
 //!
-//! The crate has no code.
+//! Nothing here runs.
 
 ghost use Rattle.grammar_laws.specs.well_scoped.named_division.Laws.{DivisionGives};
 

@@ -1,5 +1,5 @@
 //! What divisions declare where no rule on files and entries is broken: each entry has a level, the
-//! first is no level 88, values are literals, and status items are named. The crate has no code.
+//! first is no level 88, values are literals, and status items are named. Nothing here runs.
 
 ghost use Rattle.grammar_laws.specs.well_scoped.named_entries.Laws.{EntriesAreNamed};
 

@@ -1,7 +1,7 @@
 //! What references, operands, expressions and conditions give: where no fault of a name is noted,
 //! each item that they name is there, and their numbers are numbers.
 //!
-//! The crate has no code.
+//! Nothing here runs.
 
 ghost use Rattle.grammar_laws.specs.well_scoped.named_exprs.Laws.{ExpressionsGive};
 

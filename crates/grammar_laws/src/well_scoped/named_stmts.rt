@@ -2,7 +2,8 @@
 //! and conditions: where no fault of a name is noted, each item, file and paragraph that they name
 //! is there, and no list that is required is empty.
 //!
-//! `specs/well_scoped/named_stmts/Parts.antt` says what the open forms are to give. The crate has no code.
+//! `specs/well_scoped/named_stmts/Parts.antt` says what the open forms are to give. Nothing here
+//! runs.
 
 ghost use Rattle.std.specs.Prelude.{◌≡◌, true};
 ghost use Rattle.grammar_laws.specs.form_results.Giving.{Gives};

@@ -2,7 +2,7 @@
 //! entry stands is there, what it redefines stands before it, each level 88 has a value and no
 //! picture, and a separate sign stands with a signed picture.
 //!
-//! The crate has no code.
+//! Nothing here runs.
 
 ghost use Rattle.grammar_laws.specs.whole_counts.entry_bounds.Laws.{EntriesAreBound};
 

@@ -1,6 +1,6 @@
 //! The paragraphs that headers tell are those that the grammar reads: statements take no period and
 //! begin with no name, so that what stands behind a period is a header exactly where a paragraph or
-//! section begins. The crate has no code.
+//! section begins. Nothing here runs.
 
 ghost use Rattle.grammar_laws.specs.whole_counts.header_counts.Laws.{HeadersCountTheParagraphs};
 

@@ -1,6 +1,6 @@
 //! The divisions before the PROCEDURE DIVISION are read twice: to learn which names there are, and
 //! over these. Both readings take the same tokens and read the same but for what status items stand
-//! for. The crate has no code.
+//! for. Nothing here runs.
 
 ghost use Rattle.grammar_laws.specs.whole_counts.status_readings.Laws.{ReferencesTakeTheSame};
 

@@ -1,7 +1,8 @@
 //! The limit of terms of one expression: what is counted is only added to, and terms before an
 //! expression change nothing else of what is read, up to the limit.
 //!
-//! Hold `specs/whole_counts/term_counts/Count` against the limits in docs/LANGUAGE.md. The crate has no code.
+//! Hold `specs/whole_counts/term_counts/Count` against the limits in docs/LANGUAGE.md. Nothing here
+//! runs.
 
 ghost use Rattle.grammar_laws.specs.whole_counts.term_counts.Count.{TermsOnlyAdd};
 

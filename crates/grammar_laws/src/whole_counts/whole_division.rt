@@ -2,7 +2,7 @@
 //! program: where no fault of a name is noted, the operand of each TIMES and the item of each GO TO
 //! DEPENDING are whole numbers.
 //!
-//! The crate has no code.
+//! Nothing here runs.
 
 ghost use Rattle.grammar_laws.specs.whole_counts.whole_division.Laws.{DivisionCountsWhole};
 

@@ -1,7 +1,7 @@
 //! Entries that are whole numbers, and their names: what a name says of its item, as whether it is
 //! a number without decimal places, holds of the entry for which it stands.
 //!
-//! The crate has no code.
+//! Nothing here runs.
 
 ghost use Rattle.grammar_laws.specs.whole_counts.whole_entries.Laws.{NamesFitEntries, NumbersAreShort};
 

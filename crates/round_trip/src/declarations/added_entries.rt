@@ -1,6 +1,6 @@
 //! A program with entries of whole numbers behind its own keeps the rules that it kept, and each
-//! name stands for what it stood for; a name of such an entry stands for its item. The crate has no
-//! code.
+//! name stands for what it stood for; a name of such an entry stands for its item. Nothing here
+//! runs.
 
 ghost use Rattle.round_trip.specs.declarations.added_entries.Laws.{AddedEntriesKeepRules};
 ghost use Rattle.round_trip.specs.declarations.added_entries.References.{NamesStay, AddedNamesStand};

@@ -1,5 +1,5 @@
 //! Items whose names are stems with the next numbers that make no word of a program may be added to
-//! it. The crate has no code.
+//! it. Nothing here runs.
 
 ghost use Rattle.round_trip.specs.declarations.fresh_items.Laws.{FreshItemsMayBeAdded};
 

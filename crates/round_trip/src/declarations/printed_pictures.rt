@@ -1,4 +1,4 @@
-//! The text that a picture is printed as is read back as that picture. The crate has no code.
+//! The text that a picture is printed as is read back as that picture. Nothing here runs.
 
 ghost use Rattle.round_trip.specs.declarations.printed_pictures.Laws.{PicturesReadBack};
 

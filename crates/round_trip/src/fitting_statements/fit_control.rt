@@ -1,6 +1,6 @@
 //! What is written of a program whose statements pass tests passes tests too, as far as its control
 //! goes: each part of it may be written, what is written of such parts passes, and so do statements
-//! whose control does. The crate has no code.
+//! whose control does. Nothing here runs.
 
 ghost use Rattle.round_trip.specs.fitting_statements.fit_control.Laws.{ControlTellsFit, FitSourcesAreServed, FitSourcesAreSound, WrittenSentencesFit};
 

@@ -1,5 +1,5 @@
 //! Tests of the parts of statements by the names that a program declares itself: what passes is
-//! spelled by what is printed of it. The crate has no code.
+//! spelled by what is printed of it. Nothing here runs.
 
 ghost use Rattle.round_trip.specs.fitting_statements.own_fits.Laws.{OwnFitsSpell};
 

@@ -1,6 +1,6 @@
 //! What a source is restructured to keeps what is asked of its bodies: each VARYING begins with
-//! such a statement as those of the source do, and each choice by a cell has two arms. The crate
-//! has no code.
+//! such a statement as those of the source do, and each choice by a cell has two arms. Nothing here
+//! runs.
 
 ghost use Rattle.round_trip.specs.fitting_statements.sound_bodies.Laws.{ProceduresAreSound, RulesKeepSoundness};
 

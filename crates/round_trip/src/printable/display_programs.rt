@@ -1,6 +1,6 @@
 //! Programs of one paragraph that shows literals and stops, which is what plain programs are
-//! written as: they can be printed so that they read back, and these are their tokens. The crate
-//! has no code.
+//! written as: they can be printed so that they read back, and these are their tokens. Nothing here
+//! runs.
 
 ghost use Rattle.round_trip.specs.printable.display_programs.Laws.{DisplayProgramsAreGiven};
 

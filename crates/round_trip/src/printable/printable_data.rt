@@ -1,5 +1,5 @@
 //! What the divisions before the PROCEDURE DIVISION give of tokens that can be printed: files and
-//! entries that can be printed. The crate has no code.
+//! entries that can be printed. Nothing here runs.
 
 ghost use Rattle.std.specs.Prelude.{◌≡◌, true};
 ghost use Rattle.cobol_grammar.specs.data_forms.Divisions.{divisions};

@@ -1,5 +1,5 @@
 //! What the PROCEDURE DIVISION gives of tokens that can be printed, over the names of a program:
-//! paragraphs that can be printed. The crate has no code.
+//! paragraphs that can be printed. Nothing here runs.
 
 ghost use Rattle.round_trip.specs.printable.printable_division.Laws.{DivisionsPrint};
 

@@ -1,5 +1,5 @@
 //! What references, operands, expressions and conditions give of tokens that can be printed: they
-//! can be printed too. The crate has no code.
+//! can be printed too. Nothing here runs.
 
 ghost use Rattle.round_trip.specs.printable.printable_exprs.Laws.{ExpressionsArePrintable};
 

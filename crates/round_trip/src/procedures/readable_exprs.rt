@@ -1,5 +1,5 @@
 //! References, operands, expressions and conditions that are read with no name fault can be printed
-//! so that they are read back, by the names of their own program. The crate has no code.
+//! so that they are read back, by the names of their own program. Nothing here runs.
 
 ghost use Rattle.round_trip.specs.procedures.readable_exprs.Laws.{ExpressionsAreReadable};
 

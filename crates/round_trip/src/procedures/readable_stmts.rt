@@ -1,7 +1,8 @@
 //! A PROCEDURE DIVISION that is read with no fault has in its sentences and paragraphs what they
 //! are to have to be spelled by what is printed of them, over open parts: those by which it is
-//! read, and those by which what is printed is read again (`specs/procedures/readable_stmts/Fit.antt`).
-//! Headers stand apart (`specs/procedures/readable_stmts/Body.antt`). The crate has no code.
+//! read, and those by which what is printed is read again
+//! (`specs/procedures/readable_stmts/Fit.antt`). Headers stand apart
+//! (`specs/procedures/readable_stmts/Body.antt`). Nothing here runs.
 
 ghost use Rattle.std.specs.Prelude.{ℕ, List};
 ghost use Rattle.cob_tree.specs.declared.program.Paragraph as tree_paragraph;

@@ -1,5 +1,5 @@
 //! The tokens that conditions are printed with spell them by the grammar, where they can be
-//! printed. The crate has no code.
+//! printed. Nothing here runs.
 
 ghost use Rattle.round_trip.specs.spelling.cond_spelling.Laws.{ConditionsAreSpelled, ConditionsBeforeNot};
 

@@ -1,5 +1,5 @@
 //! What a program prints before its PROCEDURE DIVISION spells, by the grammar, drafts that say of
-//! its files and entries what these are. The crate has no code.
+//! its files and entries what these are. Nothing here runs.
 
 ghost use Rattle.std.specs.Prelude.{ℕ, List};
 ghost use Rattle.cob_tree.specs.declared.entry.Entry.{Entry};

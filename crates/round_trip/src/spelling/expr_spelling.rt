@@ -1,5 +1,5 @@
 //! The tokens that places, operands and expressions are printed with spell them by the grammar,
-//! where they can be printed. The crate has no code.
+//! where they can be printed. Nothing here runs.
 
 ghost use Rattle.round_trip.specs.spelling.expr_spelling.Laws.{ExpressionsAreSpelled, ReferencesAreFound};
 

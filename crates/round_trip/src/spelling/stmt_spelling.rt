@@ -1,6 +1,6 @@
 //! Statements, sentences, paragraphs and sections are spelled by the tokens that they are printed
-//! with, where the operands, places, expressions, conditions and names in them are. The crate has
-//! no code.
+//! with, where the operands, places, expressions, conditions and names in them are. Nothing here
+//! runs.
 
 ghost use Rattle.std.specs.Prelude.{◌≡◌, ℕ};
 ghost use Rattle.cob_tree.specs.declared.program.Program as tree;
