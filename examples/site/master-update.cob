@@ -1,0 +1,153 @@
+       IDENTIFICATION DIVISION.
+       PROGRAM-ID. STOCKUPD.
+      *---------------------------------------------------------------
+      * OLD MASTER AND TRANSACTIONS TO NEW MASTER.
+      * BOTH ARE SORTED BY PART NUMBER.  A KEY OF HIGH-VALUES STANDS
+      * FOR THE END OF A FILE.
+      *   A  ADDS A PART    D  DELETES ONE
+      *   I  ISSUES FROM    R  RECEIVES INTO ITS STOCK
+      *---------------------------------------------------------------
+       ENVIRONMENT DIVISION.
+       INPUT-OUTPUT SECTION.
+       FILE-CONTROL.
+           SELECT OLD-MASTER ASSIGN TO "OLDSTOCK.DAT"
+               FILE STATUS IS OLD-STATUS.
+           SELECT TRANS-FILE ASSIGN TO "MOVES.DAT"
+               FILE STATUS IS TRANS-STATUS.
+           SELECT NEW-MASTER ASSIGN TO "NEWSTOCK.OUT".
+           SELECT ERROR-FILE ASSIGN TO "REJECTS.OUT".
+       DATA DIVISION.
+       FILE SECTION.
+       FD  OLD-MASTER LABEL RECORDS ARE STANDARD
+           BLOCK CONTAINS 10 RECORDS.
+       01  OLD-RECORD.
+           05  OLD-PART            PIC X(6).
+           05  OLD-NAME            PIC X(14).
+           05  OLD-ON-HAND         PIC 9(5).
+       FD  TRANS-FILE LABEL RECORDS ARE STANDARD.
+       01  TRANS-RECORD.
+           05  TRANS-PART          PIC X(6).
+           05  TRANS-CODE          PIC X.
+               88  IS-ADDITION     VALUE "A".
+               88  IS-DELETION     VALUE "D".
+               88  IS-ISSUE        VALUE "I".
+               88  IS-RECEIPT      VALUE "R".
+           05  TRANS-QUANTITY      PIC 9(5).
+           05  TRANS-NAME          PIC X(14).
+       FD  NEW-MASTER LABEL RECORDS ARE STANDARD
+           BLOCK CONTAINS 10 RECORDS.
+       01  NEW-RECORD.
+           05  NEW-PART            PIC X(6).
+           05  NEW-NAME            PIC X(14).
+           05  NEW-ON-HAND         PIC 9(5).
+       FD  ERROR-FILE LABEL RECORDS ARE STANDARD.
+       01  ERROR-RECORD.
+           05  ERROR-IMAGE         PIC X(26).
+           05  ERROR-TEXT          PIC X(20).
+       WORKING-STORAGE SECTION.
+       77  OLD-STATUS              PIC XX.
+       77  TRANS-STATUS            PIC XX.
+       77  HELD-SWITCH             PIC 9 VALUE 0.
+           88  MASTER-IS-HELD      VALUE 1.
+       01  COUNTS.
+           05  OLD-COUNT           PIC 9(4) VALUE 0.
+           05  TRANS-COUNT         PIC 9(4) VALUE 0.
+           05  NEW-COUNT           PIC 9(4) VALUE 0.
+           05  ERROR-COUNT         PIC 9(4) VALUE 0.
+       PROCEDURE DIVISION.
+       MAIN-LINE SECTION.
+       OPEN-UP.
+           OPEN INPUT OLD-MASTER TRANS-FILE.
+           IF OLD-STATUS NOT = "00" GO TO NO-MASTER.
+           IF TRANS-STATUS NOT = "00" GO TO NO-TRANSACTIONS.
+           OPEN OUTPUT NEW-MASTER ERROR-FILE.
+           PERFORM READ-OLD.
+           PERFORM READ-TRANS.
+       COMPARE-KEYS.
+           IF OLD-PART = HIGH-VALUES AND TRANS-PART = HIGH-VALUES
+               GO TO CLOSE-DOWN.
+           IF OLD-PART < TRANS-PART
+               PERFORM HOLD-OLD
+               PERFORM WRITE-NEW
+               GO TO COMPARE-KEYS.
+           IF OLD-PART = TRANS-PART
+               PERFORM HOLD-OLD.
+      *        ALL TRANSACTIONS OF ONE PART, UNTIL THE KEY CHANGES
+           MOVE TRANS-PART TO NEW-PART.
+       SAME-PART.
+           IF TRANS-PART NOT = NEW-PART GO TO PART-DONE.
+           PERFORM APPLY-TRANS THRU APPLY-EXIT.
+           PERFORM READ-TRANS.
+           GO TO SAME-PART.
+       PART-DONE.
+           IF MASTER-IS-HELD PERFORM WRITE-NEW.
+           GO TO COMPARE-KEYS.
+       CLOSE-DOWN.
+           CLOSE OLD-MASTER TRANS-FILE NEW-MASTER ERROR-FILE.
+           DISPLAY "OLD " OLD-COUNT " TRANS " TRANS-COUNT
+               " NEW " NEW-COUNT " REJECTED " ERROR-COUNT.
+           STOP RUN.
+       NO-MASTER.
+           DISPLAY "OLD MASTER NOT THERE, STATUS " OLD-STATUS.
+           GO TO GIVE-UP.
+       NO-TRANSACTIONS.
+           DISPLAY "NO TRANSACTIONS, STATUS " TRANS-STATUS.
+           CLOSE OLD-MASTER.
+       GIVE-UP.
+           STOP RUN.
+       UPDATES SECTION.
+       APPLY-TRANS.
+           IF IS-ADDITION GO TO APPLY-ADDITION.
+           IF NOT MASTER-IS-HELD
+               MOVE "NO SUCH PART" TO ERROR-TEXT
+               GO TO APPLY-REJECT.
+           IF IS-DELETION
+               MOVE 0 TO HELD-SWITCH
+               GO TO APPLY-EXIT.
+           IF TRANS-QUANTITY NOT NUMERIC
+               MOVE "BAD QUANTITY" TO ERROR-TEXT
+               GO TO APPLY-REJECT.
+           IF IS-RECEIPT GO TO APPLY-RECEIPT.
+           IF NOT IS-ISSUE
+               MOVE "BAD CODE" TO ERROR-TEXT
+               GO TO APPLY-REJECT.
+           IF TRANS-QUANTITY > NEW-ON-HAND
+               MOVE "NOT ENOUGH ON HAND" TO ERROR-TEXT
+               GO TO APPLY-REJECT.
+           SUBTRACT TRANS-QUANTITY FROM NEW-ON-HAND.
+           GO TO APPLY-EXIT.
+       APPLY-RECEIPT.
+           ADD TRANS-QUANTITY TO NEW-ON-HAND
+               ON SIZE ERROR
+                   MOVE "TOO MANY ON HAND" TO ERROR-TEXT
+                   GO TO APPLY-REJECT.
+           GO TO APPLY-EXIT.
+       APPLY-ADDITION.
+           IF MASTER-IS-HELD
+               MOVE "PART IS THERE" TO ERROR-TEXT
+               GO TO APPLY-REJECT.
+           MOVE TRANS-NAME TO NEW-NAME.
+           MOVE 0 TO NEW-ON-HAND.
+           MOVE 1 TO HELD-SWITCH.
+           GO TO APPLY-EXIT.
+       APPLY-REJECT.
+           MOVE TRANS-RECORD TO ERROR-IMAGE.
+           WRITE ERROR-RECORD.
+           ADD 1 TO ERROR-COUNT.
+       APPLY-EXIT.
+           EXIT.
+       FILES SECTION.
+       HOLD-OLD.
+           MOVE OLD-RECORD TO NEW-RECORD.
+           MOVE 1 TO HELD-SWITCH.
+           PERFORM READ-OLD.
+       WRITE-NEW.
+           WRITE NEW-RECORD.
+           ADD 1 TO NEW-COUNT.
+           MOVE 0 TO HELD-SWITCH.
+       READ-OLD.
+           READ OLD-MASTER AT END MOVE HIGH-VALUES TO OLD-PART.
+           IF OLD-PART NOT = HIGH-VALUES ADD 1 TO OLD-COUNT.
+       READ-TRANS.
+           READ TRANS-FILE AT END MOVE HIGH-VALUES TO TRANS-PART.
+           IF TRANS-PART NOT = HIGH-VALUES ADD 1 TO TRANS-COUNT.
