@@ -1,0 +1,8 @@
+-- Digits at their places, and how a loop puts them there.
+pub mod PlaceLemmas
+pub mod PuttingLemmas
+-- What items hold.
+pub mod ItemLemmas
+-- The two forms.
+pub mod BinaryLemmas
+pub mod PackedLemmas

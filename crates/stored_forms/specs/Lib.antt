@@ -1,0 +1,7 @@
+-- What an item holds.
+pub mod Item
+-- A number written with so many digits.
+pub mod Places
+-- The two forms: how values are written and read.
+pub mod Binary
+pub mod Packed
