@@ -1,7 +1,7 @@
 -- Two's complement, and bytes as its digits.
-use Rattle.std.proofs.Common.{◌≡◌, ℕ, suc, ◌+◌, ◌-◌, ◌*◌, ◌^◌, ◌<◌, ◌≤◌, Bool, true, false, List, ◌∷◌, length, drop, get_or, Option, Some, None, ℤ, pos, negsuc, ◌-ℤ◌, ◌≤ℤ◌, ◌<ℤ◌, unsigned_abs, nat_lt, if◌then◌else◌, arith, refl, sym, ap, ap₂, ◌∙◌, lit<, lt-ltb, ltb-true}
+use Rattle.std.proofs.Common.{◌≡◌, ℕ, suc, ◌+◌, ◌-◌, ◌*◌, ◌^◌, ◌<◌, ◌≤◌, Bool, true, false, List, length, drop, get_or, Some, None, ℤ, pos, negsuc, ◌-ℤ◌, ◌≤ℤ◌, ◌<ℤ◌, unsigned_abs, nat_lt, if◌then◌else◌, arith, refl, sym, ap, ap₂, ◌∙◌, lit<, lt-ltb}
 use Rattle.std.proofs.Math.Nat.{pow-le-pow_right}
-use Rattle.std.proofs.lemmas.Bool.{ltb-false, le-ltb}
+use Rattle.std.proofs.lemmas.Bool.{le-ltb}
 use Rattle.std.proofs.lemmas.Grind.{pow_more}
 use Rattle.std.proofs.lemmas.Int.{ints}
 use Rattle.std.proofs.lemmas.Int.Digits.{number_lt}
@@ -90,9 +90,9 @@ binary-back value digits signed few held =
     let size : ℕ = binary_size digits in
     let fits : 2 * unsigned_abs value < 256 ^ size = held-room value digits signed few held in
     let number : number_from_digits 256 (binary_bytes value digits) ≡ twos_complement size value =
-        number-low_digits 256 size (twos_complement size value) (lit< tt) (twos-below size value fits) in
+    number-low_digits 256 size (twos_complement size value) (lit< tt) (twos-below size value fits) in
     let back : signed_number (length (binary_bytes value digits)) (number_from_digits 256 (binary_bytes value digits)) ≡ value =
-        ap₂ signed_number (length-binary_bytes value digits) number ∙ signed_number-twos size value fits in
+    ap₂ signed_number (length-binary_bytes value digits) number ∙ signed_number-twos size value fits in
     ap (λ (v : ℤ). if is_held v digits signed then Some v else None) back
     ∙ ap (λ (t : Bool). if t then Some value else None) (held-yes value digits signed held)
 
@@ -103,10 +103,9 @@ binary-read bytes digits signed value size below e =
     let parts = cond_some (is_held read digits signed) read value e in
     let held : is_held value digits signed ≡ true = sym (ap (λ (v : ℤ). is_held v digits signed) parts.1) ∙ parts.0 in
     let twos : number ≡ twos_complement (length bytes) value =
-        sym (twos-signed_number (length bytes) number (number_lt 256 bytes below)) ∙ ap (twos_complement (length bytes)) parts.1 in
-    (
+    sym (twos-signed_number (length bytes) number (number_lt 256 bytes below)) ∙ ap (twos_complement (length bytes)) parts.1 in (
       held-from-test value digits signed held,
       sym (low_digits-number_after 256 0 bytes below)
-      ∙ ap (low_digits 256 (length bytes)) twos
-      ∙ ap (λ (n : ℕ). low_digits 256 n (twos_complement n value)) size,
+          ∙ ap (low_digits 256 (length bytes)) twos
+          ∙ ap (λ (n : ℕ). low_digits 256 n (twos_complement n value)) size,
     )

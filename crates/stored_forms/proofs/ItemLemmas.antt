@@ -1,8 +1,7 @@
 -- The test of what an item holds, and how many digits fit the sizes.
-use Rattle.std.proofs.Common.{◌≡◌, ℕ, ◌+◌, ◌*◌, ◌^◌, ◌<◌, ◌≤◌, Bool, true, false, ◌&&◌, ◌||◌, ℤ, pos, negsuc, ◌≤ℤ◌, unsigned_abs, nat_lt, nat_le, if◌then◌else◌, arith, refl, ap, ap₂, ◌∙◌, lit<, lt-ltb, ltb-true, le-leb, leb-true}
+use Rattle.std.proofs.Common.{◌≡◌, ℕ, ◌*◌, ◌^◌, ◌<◌, ◌≤◌, Bool, true, false, ◌&&◌, ◌||◌, ℤ, pos, negsuc, ◌≤ℤ◌, unsigned_abs, nat_lt, nat_le, if◌then◌else◌, arith, refl, ap₂, lit<, lt-ltb, ltb-true, le-leb, leb-true}
 use Rattle.std.specs.Int.Signed.{le_z}
 use Rattle.std.proofs.Math.Nat.{pow-le-pow_right}
-use Rattle.std.proofs.lemmas.Bool.{leb-false}
 use Rattle.std.proofs.lemmas.Int.{ints}
 use Rattle.stored_forms.specs.Item.{IsHeld, is_held}
 use Rattle.stored_forms.specs.Binary.{binary_size}

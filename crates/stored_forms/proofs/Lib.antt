@@ -6,3 +6,7 @@ pub mod ItemLemmas
 -- The two forms.
 pub mod BinaryLemmas
 pub mod PackedLemmas
+-- The rules on all bytes.
+pub mod RuleLemmas
+-- What arithmetic stores.
+pub mod StoredLemmas

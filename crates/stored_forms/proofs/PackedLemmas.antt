@@ -1,10 +1,10 @@
 -- Half bytes of bytes, digits in them, and the sign.
-use Rattle.std.proofs.Common.{◌≡◌, ℕ, zero, suc, ◌+◌, ◌-◌, ◌*◌, ◌/◌, ◌%◌, ◌^◌, ◌<◌, ◌≤◌, ◌⊎◌, Bool, true, false, ◌&&◌, ◌||◌, ◌==◌, List, [], ◌∷◌, ◌++◌, length, map, take, drop, replicate, set, get_or, Option, Some, None, ℤ, pos, negsuc, neg_ℤ, ◌≤ℤ◌, unsigned_abs, nat_le, if◌then◌else◌, IsTrue, arith, refl, sym, ap, ap₂, ◌∙◌, subst, inl, inr, ⊎_elim, lit<, le-leb, leb-true, eqb-true, ne_eqb, le_refl, append_assoc, take-append-drop, length-append, length-drop, length-take, length-take-le, take_all, mod-lt, pow-suc}
+use Rattle.std.proofs.Common.{◌≡◌, ℕ, zero, suc, ◌+◌, ◌-◌, ◌*◌, ◌/◌, ◌%◌, ◌^◌, ◌<◌, ◌≤◌, ◌⊎◌, Bool, true, false, ◌&&◌, ◌==◌, List, [], ◌∷◌, ◌++◌, length, map, take, drop, replicate, set, get_or, Option, Some, None, ℤ, pos, negsuc, ◌≤ℤ◌, unsigned_abs, nat_le, if◌then◌else◌, arith, refl, sym, ap, ap₂, ◌∙◌, inl, inr, ⊎_elim, lit<, le-leb, ne_eqb, append_assoc, length-append, take_all, mod-lt, pow-suc}
 use Rattle.std.proofs.Math.Nat.{div-div-eq-div-mul, pow-le-pow_right}
 use Rattle.std.proofs.lemmas.Bool.{cases_lt, lt-leb}
 use Rattle.std.proofs.lemmas.Grind.{pow_more}
 use Rattle.std.proofs.lemmas.Int.{ints}
-use Rattle.std.proofs.lemmas.Int.Digits.{number_lt, number_push}
+use Rattle.std.proofs.lemmas.Int.Digits.{number_push}
 use Rattle.std.proofs.lemmas.List.{drop_all, drop_at, drop_more, length-map, length-replicate, length_push, same_from_push, set_at, take_at, take_more}
 use Rattle.std.proofs.lemmas.List.Folds.{list_all-append}
 use Rattle.std.proofs.lemmas.Nat.{div-mul-add, mod-mul-add}
@@ -15,8 +15,7 @@ use Rattle.std.specs.Option.{option_and_then}
 use Rattle.stored_forms.specs.Item.{IsHeld}
 use Rattle.stored_forms.specs.Places.{low_digits}
 use Rattle.stored_forms.specs.Packed.{decimal_number, fill_count, halves_of, joined_halves, last_half, number_halves, packed_bytes, packed_halves, packed_number, packed_size, packed_value, pair_byte, sign_half, value_by_sign}
-use Rattle.stored_forms.proofs.ItemLemmas.{both-true}
-use Rattle.stored_forms.proofs.PlaceLemmas.{length-low_digits, low_digits-number_after, low_digits-push, low_digits-short, number-low_digits}
+use Rattle.stored_forms.proofs.PlaceLemmas.{length-low_digits, low_digits-push, low_digits-short, number-low_digits}
 
 -- ---- half bytes
 
@@ -24,7 +23,7 @@ halves-push : (front : List ℕ) (last : ℕ) → halves_of (front ++ last ∷ [
 halves-push [] last = refl
 halves-push (byte ∷ front) last = ap (λ (hs : List ℕ). byte / 16 ∷ byte % 16 ∷ hs) (halves-push front last)
 
-length-halves : (bytes : List ℕ) → length (halves_of bytes) ≡ length bytes * 2
+pub length-halves : (bytes : List ℕ) → length (halves_of bytes) ≡ length bytes * 2
 length-halves [] = refl
 length-halves (byte ∷ bytes) = omega (arith, length-halves bytes)
 
@@ -44,7 +43,7 @@ take-front xs x =
     let size : length (xs ++ x ∷ []) - 1 ≡ length xs = omega (arith, length_push xs x) in
     ap (λ (n : ℕ). take n (xs ++ x ∷ [])) size ∙ take_at xs (x ∷ []) (length xs) refl
 
-number_halves-at : (bytes xs : List ℕ) (sign : ℕ) → halves_of bytes ≡ xs ++ sign ∷ [] → number_halves bytes ≡ xs
+pub number_halves-at : (bytes xs : List ℕ) (sign : ℕ) → halves_of bytes ≡ xs ++ sign ∷ [] → number_halves bytes ≡ xs
 number_halves-at bytes xs sign e = ap (λ (hs : List ℕ). take (length hs - 1) hs) e ∙ take-front xs sign
 
 last_half-at : (bytes xs : List ℕ) (sign : ℕ) → 0 < length bytes → halves_of bytes ≡ xs ++ sign ∷ [] → last_half bytes ≡ sign
@@ -56,7 +55,7 @@ number_halves-is : (bytes : List ℕ) → 0 < length bytes → number_halves byt
 number_halves-is bytes some =
     number_halves-at bytes (halves_of (take (length bytes - 1) bytes) ++ get_or bytes (length bytes - 1) 0 / 16 ∷ []) (last_half bytes) (halves-split bytes some)
 
-halves-whole : (bytes : List ℕ) → 0 < length bytes → halves_of bytes ≡ number_halves bytes ++ last_half bytes ∷ []
+pub halves-whole : (bytes : List ℕ) → 0 < length bytes → halves_of bytes ≡ number_halves bytes ++ last_half bytes ∷ []
 halves-whole bytes some =
     halves-split bytes some ∙ ap (λ (xs : List ℕ). xs ++ last_half bytes ∷ []) (sym (number_halves-is bytes some))
 
@@ -118,7 +117,7 @@ pub pairs-stop : (bytes : List ℕ) (index number : ℕ) → index < length byte
 pairs-stop bytes index number less above so_far =
     let rest : List ℕ = drop (index + 1) bytes in
     let stops : decimal_after number (halves_of (get_or bytes index 0 ∷ rest)) ≡ None =
-        ⊎_elim (λ high. decimal-high number (get_or bytes index 0) rest high) (λ low. decimal-low number (get_or bytes index 0) rest low) above in
+    ⊎_elim (λ high. decimal-high number (get_or bytes index 0) rest high) (λ low. decimal-low number (get_or bytes index 0) rest low) above in
     sym stops
     ∙ sym (ap (λ (xs : List ℕ). decimal_after number (halves_of xs)) (drop_more bytes index 0 less))
     ∙ so_far.value
@@ -237,7 +236,7 @@ pair-digits : (count number : ℕ) → (number / 10 ^ suc (count * 2) % 10) * 16
 pair-digits count number =
     let power = power-pairs count in
     let high : number / 10 ^ suc (count * 2) ≡ number / 100 ^ count / 10 =
-        ap (λ (p : ℕ). number / p) (pow-suc 10 (count * 2) ∙ ap (λ (p : ℕ). p * 10) power) ∙ sym (div-div-eq-div-mul number (100 ^ count) 10) in
+    ap (λ (p : ℕ). number / p) (pow-suc 10 (count * 2) ∙ ap (λ (p : ℕ). p * 10) power) ∙ sym (div-div-eq-div-mul number (100 ^ count) 10) in
     ap₂ (λ (a b : ℕ). (a % 10) * 16 + b % 10) high (ap (λ (p : ℕ). number / p) power)
     ∙ two_digits (number / 100 ^ count)
 
@@ -348,10 +347,10 @@ packed-spelled bytes digits signed sign number some short e =
     let hs : number_halves bytes ≡ zeros ++ places = number_halves-at bytes (zeros ++ places) sign e in
     let count : length zeros ≡ fill_count digits = length-replicate (fill_count digits) 0 in
     let is_number : packed_number bytes digits ≡ Some number =
-        ap (filled_number (fill_count digits)) hs
-        ∙ ap₂ (λ (p q : List ℕ). if list_all (λ half. half == 0) p then decimal_number q else None) (take_at zeros places (fill_count digits) count) (drop_at zeros places (fill_count digits) count)
-        ∙ ap (λ (t : Bool). if t then decimal_number places else None) (all-zeros (fill_count digits))
-        ∙ ap₂ (λ (t : Bool) (n : ℕ). if t then Some n else None) (all-digits digits number) (number-low_digits 10 digits number (lit< tt) short) in
+    ap (filled_number (fill_count digits)) hs
+    ∙ ap₂ (λ (p q : List ℕ). if list_all (λ half. half == 0) p then decimal_number q else None) (take_at zeros places (fill_count digits) count) (drop_at zeros places (fill_count digits) count)
+    ∙ ap (λ (t : Bool). if t then decimal_number places else None) (all-zeros (fill_count digits))
+    ∙ ap₂ (λ (t : Bool) (n : ℕ). if t then Some n else None) (all-digits digits number) (number-low_digits 10 digits number (lit< tt) short) in
     ap₂ (λ (s : ℕ) (o : Option ℕ). option_and_then (value_by_sign s signed) o) (last_half-at bytes (zeros ++ places) sign some e) is_number
 
 sign-back : (value : ℤ) (signed : Bool) → (signed ≡ false → pos 0 ≤ℤ value) → value_by_sign (sign_half value signed) signed (unsigned_abs value) ≡ Some value
@@ -371,5 +370,5 @@ pub put-last : (front into : List ℕ) (byte : ℕ) → 0 < length into → leng
 put-last front into byte some size =
     let last : ℕ = length into - 1 in
     let rest : drop last into ≡ get_or into last 0 ∷ [] =
-        drop_more into last 0 (omega arith) ∙ ap (λ (xs : List ℕ). get_or into last 0 ∷ xs) (drop_all (last + 1) into (omega arith)) in
+    drop_more into last 0 (omega arith) ∙ ap (λ (xs : List ℕ). get_or into last 0 ∷ xs) (drop_all (last + 1) into (omega arith)) in
     ap (λ (xs : List ℕ). set (front ++ xs) last byte) rest ∙ set_at front (get_or into last 0) [] byte last size

@@ -57,7 +57,7 @@ low_digits-number_after base after (digit ∷ digits) below =
     let power : ℕ = base ^ length digits in
     let split = number_after-is base (after * base + digit) digits in
     let high : number_from_digits_after base (after * base + digit) digits / power ≡ after * base + digit =
-        ap (λ (x : ℕ). x / power) split ∙ div-mul-add (after * base + digit) power (number_from_digits base digits) (number_lt base digits below.1) in
+    ap (λ (x : ℕ). x / power) split ∙ div-mul-add (after * base + digit) power (number_from_digits base digits) (number_lt base digits below.1) in
     ap₂ ◌∷◌ (ap (λ (x : ℕ). x % base) high ∙ mod-mul-add after base digit below.0) (low_digits-number_after base (after * base + digit) digits below.1)
 
 -- the last digit apart
@@ -66,7 +66,7 @@ low_digits-push base zero number =
     ap (λ (x : ℕ). x % base ∷ []) (ap (λ (x : ℕ). number / x) (pow-zero base) ∙ div-one number)
 low_digits-push base (suc count) number =
     let high : number / base ^ suc count ≡ number / base / base ^ count =
-        ap (λ (x : ℕ). number / x) (pow-succ' base count) ∙ sym (div-div-eq-div-mul number base (base ^ count)) in
+    ap (λ (x : ℕ). number / x) (pow-succ' base count) ∙ sym (div-div-eq-div-mul number base (base ^ count)) in
     ap₂ ◌∷◌ (ap (λ (x : ℕ). x % base) high) (low_digits-push base count number)
 
 -- one digit more than a number has is a zero

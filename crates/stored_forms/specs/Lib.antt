@@ -5,3 +5,5 @@ pub mod Places
 -- The two forms: how values are written and read.
 pub mod Binary
 pub mod Packed
+-- What the laws say.
+pub mod Laws

@@ -9,6 +9,7 @@
 
 mod binary;
 mod item;
+pub mod laws;
 mod packed;
 
 pub use binary::{binary_read, binary_size, binary_write};

@@ -10,7 +10,9 @@ const HALF: u8 = 16;
 
 // The half bytes for a sign.
 const PLUS: u8 = 0xC;
+
 const MINUS: u8 = 0xD;
+
 const UNSIGNED: u8 = 0xF;
 
 /// How many bytes an item of so many digits has.

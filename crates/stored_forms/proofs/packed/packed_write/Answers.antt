@@ -15,14 +15,14 @@ returns c =
     let sign : c.sign_half.result ≡ sign_half value c.args.signed = c.sign_half.ensures ∙ ap (λ z. sign_half z c.args.signed) read in
     let some : 0 < length into = omega (arith, c.requires.size) in
     let count : length (take (length into - 1) into) ≡ c.args.digits / 2 =
-        length-take-le (length into - 1) into (omega arith) ∙ omega (arith, c.requires.size) in
+    length-take-le (length into - 1) into (omega arith) ∙ omega (arith, c.requires.size) in
     let front : c.put_pairs.new.into ≡ map pair_byte (low_digits 100 (c.args.digits / 2) (unsigned_abs value / 10)) =
-        c.put_pairs.ensures ∙ ap₂ (λ (n m : ℕ). map pair_byte (low_digits 100 n (m / 10))) count number in
+    c.put_pairs.ensures ∙ ap₂ (λ (n m : ℕ). map pair_byte (low_digits 100 n (m / 10))) count number in
     let size : length c.put_pairs.new.into ≡ length into - 1 =
-        ap length front
-        ∙ length-map (low_digits 100 (c.args.digits / 2) (unsigned_abs value / 10)) pair_byte
-        ∙ length-low_digits 100 (c.args.digits / 2) (unsigned_abs value / 10)
-        ∙ omega (arith, c.requires.size) in
+    ap length front
+    ∙ length-map (low_digits 100 (c.args.digits / 2) (unsigned_abs value / 10)) pair_byte
+    ∙ length-low_digits 100 (c.args.digits / 2) (unsigned_abs value / 10)
+    ∙ omega (arith, c.requires.size) in
     put-last c.put_pairs.new.into into (c.unsigned_abs-number.result % 10 * 16 + c.sign_half.result) some size
     ∙ ap₂ (λ (xs : List ℕ) (byte : ℕ). xs ++ byte ∷ []) front (ap₂ (λ (n s : ℕ). n % 10 * 16 + s) number sign)
     ∙ sym (packed_bytes-are value c.args.digits c.args.signed c.requires.value.short)
