@@ -10,11 +10,12 @@ binary_size digits = if nat_le digits 4 then 2 else (if nat_le digits 9 then 4 e
 
 -- ---- writing
 
--- the value in two's complement of so many bytes: below zero, how far it is from all they can count
+-- the value in two's complement of so many bytes: below zero it counts down from all they can tell
 abbrev pub twos_complement : ℕ → ℤ → ℕ
 twos_complement size (pos number) = number
 twos_complement size (negsuc number) = 256 ^ size - suc number
 
+-- the bytes in which the item stores the value, the highest first
 abbrev pub binary_bytes : ℤ → ℕ → List ℕ
 binary_bytes value digits =
     low_digits 256 (binary_size digits) (twos_complement (binary_size digits) value)

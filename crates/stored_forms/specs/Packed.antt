@@ -13,7 +13,7 @@ packed_size digits = digits / 2 + 1
 abbrev pub fill_count : ℕ → ℕ
 fill_count digits = 1 - digits % 2
 
--- the half bytes for a sign: C, D and F
+-- the half bytes for a sign
 abbrev pub plus_half : ℕ
 plus_half = 0xC
 
@@ -25,6 +25,7 @@ unsigned_half = 0xF
 
 -- ---- writing
 
+-- C for a signed value that isn't negative, D for a negative one, and F where there is no sign
 abbrev pub sign_half : ℤ → Bool → ℕ
 sign_half (pos _) true = plus_half
 sign_half (pos _) false = unsigned_half
@@ -46,6 +47,7 @@ joined_halves [] = []
 joined_halves (_ ∷ []) = []
 joined_halves (high ∷ low ∷ rest) = (high * 16 + low) ∷ joined_halves rest
 
+-- the bytes in which the item stores the value
 abbrev pub packed_bytes : ℤ → ℕ → Bool → List ℕ
 packed_bytes value digits signed = joined_halves (packed_halves value digits signed)
 
@@ -82,6 +84,7 @@ value_by_sign sign signed number =
     if (sign == plus_half) || (sign == unsigned_half) then Some (pos number)
     else (if (sign == minus_half) && signed then Some (neg_ℤ (pos number)) else None)
 
+-- the value that the item stores, where its half bytes are of these rules
 abbrev pub packed_value : List ℕ → ℕ → Bool → Option ℤ
 packed_value bytes digits signed =
     option_and_then (value_by_sign (last_half bytes) signed) (packed_number bytes digits)

@@ -44,6 +44,7 @@ fn pair_byte(pair: u8) -> u8
     pair / 10 * HALF + pair % 10
 }
 
+// Puts the low digits of the number, two in a byte, the highest first.
 fn put_pairs(number: u64, into: &mut [u8])
     ensures { into.new ≡ map pair_byte (low_digits 100 (length into.old) number) }
 {
@@ -94,6 +95,7 @@ fn is_filled(digits: u8, first: u8) -> bool
     digits % 2 == 1 || first < HALF
 }
 
+// The number with its sign, where the item can have that one.
 fn value_by_sign(sign: u8, signed: bool, number: u64) -> Option<i128>
     ensures { result ≡ value_by_sign sign signed number }
 {
