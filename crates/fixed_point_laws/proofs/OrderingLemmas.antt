@@ -292,8 +292,26 @@ module _ (told : Told) (program : Program) (source : IsSource told program) (som
           let same : range ≡ place_range number = sym a.2 ∙ ap as_control (sym b.2 ∙ ap (range_at ranges) n ∙ it) ∙ seen-place number in
           subst (IsRangeAt number) (sym same) (place-is number)
 
+      entry-of : (n : ℕ) → (range_of (place_range n)).entry ≡ n
+      entry-of zero = refl
+      entry-of (suc n) = refl
+
+      entries : (number : ℕ) (range : tree.Range) → slice_get order number ≡ Some range → range.entry ≡ number
+      entries number range e =
+          let total = length (calls_of ranges) in
+          let f : slice_get (map (range_at ranges) (numbers_on 0 total)) number ≡ Some range =
+          ap (λ (rs : List tree.Range). slice_get rs number) (sym (plan.stands ∙ ap (λ (ns : List ℕ). map (range_at ranges) ns) in-order)) ∙ e in
+          let b = map-back (range_at ranges) (numbers_on 0 total) number range f in
+          let n : b.0 ≡ number = (let k = numbers-at 0 total number b.0 b.1 in omega (arith, k)) in
+          let within : number < total = (let k = slice_get_within (numbers_on 0 total) number b.0 b.1 in let s = numbers-size 0 total in omega (arith, k, s)) in
+          let facts = get-there ranges number (let s = size-calls ranges in omega (arith, within, s)) in
+          let place = range-there more number facts.0.range (facts-there number facts.0 facts.1) in
+          let it : range_at ranges number ≡ range_of (place_range number) = ap or_main facts.1 ∙ sym place.0 in
+          ap (λ (r : tree.Range). r.entry) (sym b.2 ∙ ap (range_at ranges) n ∙ it) ∙ entry-of number
+
 pub by-places : PlansGoByPlaces
 by-places = λ told program summary returning order source some structured fine is plan all. record {
   many = many told program source some structured fine summary is all returning order plan;
   each = each told program source some structured fine summary is all returning order plan;
+  begins = entries told program source some structured fine summary is all returning order plan;
 }

@@ -18,6 +18,8 @@ pub record GoesByPlaces (program : Program) (order : List tree.Range) : Type 0 w
   pub many : suc (length (others_of order)) ≡ length program.paragraphs
   pub each : (number : ℕ) (range : Range) →
       slice_get (Main ∷ others_of order) number ≡ Some range → IsRangeAt number range
+  pub begins : (number : ℕ) (range : tree.Range) → slice_get order number ≡ Some range →
+      range.entry ≡ number
 
 -- where flow paths enter each of them
 abbrev pub PlansGoByPlaces : Type 0
