@@ -1,29 +1,34 @@
 -- What a program is split into is written again as it was written.
-use Rattle.std.proofs.Common.{◌≡◌, ℕ, suc, ◌≤◌, ◌<◌, Bool, true, false, if◌then◌else◌, Option, None, List, [], ◌∷◌, length, map, Some, refl, ap, sym, ◌∙◌, subst, ◌⊎◌, inl, inr, arith}
+use Rattle.std.proofs.Common.{◌≡◌, ℕ, suc, ◌≤◌, ◌<◌, Bool, true, false, List, [], ◌∷◌, length, map, Some, refl, ap, sym, ◌∙◌, subst, ◌⊎◌, inl, inr, arith}
 use Rattle.std.specs.Prelude.{slice_get}
-use Rattle.cob_tree.specs.declared.file.FileEntry.{FileEntry}
 use Rattle.cob_tree.specs.declared.program.Program.{Program}
 use Rattle.cob_tree.specs.declared.program.Range as code
 use Rattle.cob_tree.specs.declared.stmt.Stmt.TheVariants.{Continue}
 use Rattle.control_flow_theory.specs.language.Control.{control_of}
 use Rattle.control_flow_theory.specs.language.Language as language
-use Rattle.control_flow_theory.specs.language.Language.{Act, Chooser, Evaluate, Read, Arith, Depending, Picker, Range, Main, Part, Stmt, Do, Choose, Loop, Perform, Go, GoDepending, NextSentence, ExitParagraph, ExitSection, ExitPerform, StopRun, Stmts, none, also, Arms, done, given, missing, Body, Nested, Performed}
+use Rattle.control_flow_theory.specs.language.Language.{Act, Picker, Range, Main, Part, Stmt, Do, Choose, Loop, Perform, Go, GoDepending, NextSentence, ExitParagraph, ExitSection, ExitPerform, StopRun, Stmts, none, also, Arms, done, given, missing, Body, Nested, Performed}
 use Rattle.control_flow_theory.specs.language.Structured.{StmtsNest, IsStructured}
 use Rattle.control_flow_theory.specs.lowering.Completes.{skips}
 use Rattle.control_flow_theory.specs.lowering.Told.{Told, IsSource}
+use Rattle.control_flow_theory.specs.language.OwnItems.{NamesOwnItems}
 use Rattle.control_flow_theory.specs.lowering.flow.Entered.{IsEntered}
+use Rattle.control_flow_theory.specs.lowering.flow.Paths as theory
+use Rattle.control_flow_theory.specs.lowering.WellFormed.{AreJustReached}
 use Rattle.control_flow_theory.specs.graph_rules.Reduced.{Graphs}
 use Rattle.control_flow_theory.specs.graph_rules.Walked.{In}
 use Rattle.control_flow_theory.specs.rendering.Rendering.{Naming, Procedure, place_of, written_act, written_paragraph}
 use Rattle.control_flow_theory.specs.headline.Chain.{IsPlan, procedures_of}
 use Rattle.control_flow_theory.specs.headline.CallsReached.{GivesSome}
 use Rattle.control_flow_theory.specs.headline.Headline.{Plan, graphs_by, procedures_by}
-use Rattle.program_facts.specs.completion.Told.{never_ends, status_missing, told_of, width_of}
-use Rattle.program_points.specs.numbering.Kinds.{has_no_status, never_first_of}
+use Rattle.program_facts.specs.completion.Told.{told_of, width_of}
+use Rattle.program_points.proofs.table_building_lemmas.Sections.{seen-length}
+use Rattle.program_points.specs.numbering.Kinds.{never_first_of}
 use Rattle.meanings.specs.statements.Does.{declared_in}
 use Rattle.cobol_theory.specs.added_items.Own.{items}
 use Rattle.cobol_theory.specs.cobol_headline.Alike.{Writing, naming_of, IsWrittenOf}
+use Rattle.cobol_theory.specs.cobol_parts.Named.{NamesOwnParagraphs}
 use Rattle.cobol_theory.proofs.cobol_parts_lemmas.SomeArm.{gives-some}
+use Rattle.cobol_theory.proofs.cobol_parts_lemmas.Sources as sources
 use Rattle.statement_builders.specs.arms.Written.{Way, naming_in}
 use Rattle.added_items.specs.item_table.Laws.{closed_ranges}
 use Rattle.added_items.specs.item_table.Row.{CellRange}
@@ -34,6 +39,7 @@ use Rattle.pending_returns.specs.declared.facts.Summary.{Summary}
 use Rattle.procedure_split.specs.Rows.{row_of, rows_of}
 use Rattle.procedure_split.specs.Split.{IsSplit}
 use Rattle.procedure_split.specs.plan.Laws.{others_of}
+use Rattle.procedure_split.specs.plan.Planned.{IsPlanOf}
 use Rattle.procedure_split.specs.shaped_ranges.Laws.{IsPlannedWith}
 use Rattle.procedure_split.specs.shaped_ranges.Shaped.{IsShapedTo}
 use Rattle.procedure_split.specs.declared.shaped_ranges.shaping.Closed.{Closed}
@@ -52,10 +58,10 @@ use Rattle.fixed_point.proofs.Composed.{results-again, results-bare}
 use Rattle.fixed_point_laws.specs.Counting.{counting, TellsArms}
 use Rattle.fixed_point_laws.specs.Entering.{IsFirstWritten}
 use Rattle.fixed_point_laws.specs.Ordering.{GoesByPlaces}
-use Rattle.fixed_point_laws.specs.Splitting.{SplitsKeepControl}
 use Rattle.fixed_point_laws.proofs.ChoiceLemmas.{come-again}
 use Rattle.fixed_point_laws.proofs.CountingLemmas.{are-counted}
 use Rattle.fixed_point_laws.proofs.EnteringLemmas.{are-entered}
+use Rattle.fixed_point_laws.proofs.FaultlessLemmas.{no-fault, same-told}
 use Rattle.fixed_point_laws.proofs.NameLemmas.{parts-keep, reads-alike, acts-so}
 use Rattle.fixed_point_laws.proofs.OrderingLemmas.{by-places}
 use Rattle.fixed_point_laws.proofs.TableLemmas.{tell-arms}
@@ -91,28 +97,27 @@ module _ (One Other : Picker → Arms → Type 0) (to : (picker : Picker) (arms 
     body-chooses (Nested stmts) h = stmts-choose stmts h
     body-chooses (Performed entry exit) h = tt
 
--- ---- flow and lowering are told the same
-
-same-missing : (file : Option FileEntry) → has_no_status file ≡ status_missing file
-same-missing None = refl
-same-missing (Some file) = refl
-
-same-first : (files : List FileEntry) (chooser : Chooser) → never_first_of files chooser ≡ never_ends files chooser
-same-first files (Evaluate subject tests has_other) = refl
-same-first files (Read file into has_end) = ap (λ b. if has_end then false else b) (same-missing (slice_get files file))
-same-first files (Arith calc into) = refl
-same-first files (Depending on names) = refl
-
-pub same-told : (files : List FileEntry) → never_first_of files ≡ never_ends files
-same-told files = λ i chooser. same-first files chooser i
-
-map-size : {A B : Type 0} → (f : A → B) (xs : List A) → length (map f xs) ≡ length xs
+pub map-size : {A B : Type 0} → (f : A → B) (xs : List A) → length (map f xs) ≡ length xs
 map-size f [] = refl
 map-size f (x ∷ xs) = ap (λ (n : ℕ). suc n) (map-size f xs)
 
 procs-size : (order : List Range) (graphs : Graphs) → length (procedures_of order graphs) ≡ length order
 procs-size [] graphs = refl
 procs-size (range ∷ order) graphs = ap (λ (n : ℕ). suc n) (procs-size order graphs)
+
+-- how a program is planned by this summary
+pub record PlannedAgain (made : Program) (other : Summary) : Type 0 where
+  pub returning : List (List ℕ)
+  pub order : List code.Range
+  pub is : IsPlanOf other.ranges returning order
+  pub plan : Plan
+  pub told : plan.told ≡ told_of made.files returning
+  pub others : plan.others ≡ others_of order
+  pub planned : IsPlan plan.told (control_of made) plan.keep plan.others
+
+-- a program has as many paragraphs as its control
+pub control-size : (program : Program) → length program.paragraphs ≡ length (control_of program).paragraphs
+control-size program = sym (seen-length 0 program.paragraphs)
 
 -- ---- the rows of a split program are those of its closed graphs
 
@@ -175,23 +180,18 @@ module _ (program made : Program) (summary : Summary) (well : IsWellMade program
   structured : IsStructured (control_of made)
   structured = (joined.behave-alike program made summary well flows split).0
 
-  -- ---- split once more
+  -- ---- planned once more
 
-  module _ (again : Program) (other : Summary) (well_made : IsWellMade made) (flows_made : FlowsSo made other) (split_made : IsSplit made other again) where
-    abbrev pub other_plan : Plan
-    other_plan = joined.plan made again other well_made flows_made split_made
-
+  module _ (other : Summary) (items_made : NamesOwnItems made) (paragraphs_made : NamesOwnParagraphs made)
+      (is : IsSummary (never_first_of made.files) (control_of made) other) (p : PlannedAgain made other) (other_way : Way) where
     abbrev pub other_naming : Naming
-    other_naming = naming_of made (joined.writing made again other well_made flows_made split_made)
-
-    pub other-planned : IsPlannedWith made split_made.plan.returning split_made.plan.order split_made.graphs other_plan
-    other-planned = joined.planned made again other well_made flows_made split_made
+    other_naming = naming_in other_way
 
     -- it has the source's files
-    other-told : other_plan.told ≡ told_of program.files split_made.plan.returning
-    other-told = other-planned.told ∙ ap (λ files. told_of files split_made.plan.returning) split.written.files
+    other-told : p.plan.told ≡ told_of program.files p.returning
+    other-told = p.told ∙ ap (λ files. told_of files p.returning) split.written.files
 
-    abbrev way : Way
+    abbrev pub way : Way
     way = record {
       first = items (declared_in program);
       table = writing.table;
@@ -199,100 +199,95 @@ module _ (program made : Program) (summary : Summary) (well : IsWellMade program
       range = Main;
     }
 
-    abbrev other_way : Way
-    other_way = record {
-      first = items (declared_in made);
-      table = (joined.writing made again other well_made flows_made split_made).table;
-      place = place_of (procedures_by other_plan (control_of made));
-      range = Main;
-    }
-
-    names : NamesAlike naming plan.told other_plan.told
+    names : NamesAlike naming plan.told p.plan.told
     names =
-        subst (λ told. NamesAlike naming told other_plan.told) (sym told-is)
+        subst (λ told. NamesAlike naming told p.plan.told) (sym told-is)
         (subst (λ told. NamesAlike naming (told_of program.files split.plan.returning) told) (sym other-told)
-        (reads-alike way program.files split.plan.returning split_made.plan.returning))
+        (reads-alike way program.files split.plan.returning p.returning))
 
     gives : GivesSome plan.told
     gives = subst GivesSome (sym told-is) (gives-some (declared_in program) split.plan.returning)
 
-    other-gives : GivesSome other_plan.told
-    other-gives = subst GivesSome (sym other-planned.told) (gives-some (declared_in made) split_made.plan.returning)
+    other-gives : GivesSome p.plan.told
+    other-gives = subst GivesSome (sym p.told) (gives-some (declared_in made) p.returning)
 
-    other-source : IsSource other_plan.told (control_of made)
-    other-source = joined.is-source made again other well_made flows_made split_made
+    other-source : IsSource p.plan.told (control_of made)
+    other-source =
+        subst (λ told. IsSource told (control_of made)) (sym p.told)
+        (sources.source (declared_in made) p.returning made items_made paragraphs_made)
 
-    first-written : IsFirstWritten plan (control_of program) naming other_plan.told
+    fair : theory.IsFaulty p.plan.told (control_of made) → ⊥
+    fair = no-fault p.plan.told (control_of made) structured
+
+    first-written : IsFirstWritten plan (control_of program) naming p.plan.told
     first-written = record {
       source = source;
       gives = gives;
       planned = planned.planned;
       nests = λ number procedure is. (counted number procedure is).0;
       structured = subst IsStructured (sym result) structured;
-      result = subst (IsSource other_plan.told) (sym result) other-source;
+      result = subst (IsSource p.plan.told) (sym result) other-source;
       names = names;
     }
 
-    entered : (number : ℕ) → 1 ≤ number → number < length (control_of made).paragraphs → IsEntered other_plan.told (control_of made) (Part number number)
+    entered : (number : ℕ) → 1 ≤ number → number < length (control_of made).paragraphs → IsEntered p.plan.told (control_of made) (Part number number)
     entered number some lt =
-        subst (λ p. IsEntered other_plan.told p (Part number number)) result
-        (are-entered plan (control_of program) naming other_plan.told first-written number some
-        (subst (λ (p : language.Program). number < length p.paragraphs) (sym result) lt))
+        subst (λ q. IsEntered p.plan.told q (Part number number)) result
+        (are-entered plan (control_of program) naming p.plan.told first-written number some
+        (subst (λ (q : language.Program). number < length q.paragraphs) (sym result) lt))
 
-    summed : IsSummary other_plan.told.never_first (control_of made) other
+    summed : IsSummary p.plan.told.never_first (control_of made) other
     summed =
-        subst (λ (told : Told). IsSummary told.never_first (control_of made) other) (sym other-planned.told)
-        (subst (λ never. IsSummary never (control_of made) other) (same-told made.files) flows_made.is)
+        subst (λ (told : Told). IsSummary told.never_first (control_of made) other) (sym p.told)
+        (subst (λ never. IsSummary never (control_of made) other) (same-told made.files) is)
 
-    pub places : GoesByPlaces (control_of made) split_made.plan.order
-    places =
-        by-places other_plan.told (control_of made) other split_made.plan.returning split_made.plan.order other-source other-gives structured other-planned.fair summed
-        split_made.plan.is entered
+    pub places : GoesByPlaces (control_of made) p.order
+    places = by-places p.plan.told (control_of made) other p.returning p.order other-source other-gives structured fair summed p.is entered
 
-    as-many : length (Main ∷ other_plan.others) ≡ length (control_of made).paragraphs
-    as-many = ap (λ (others : List Range). suc (length others)) other-planned.others ∙ places.many
+    pub as-many : length (Main ∷ p.plan.others) ≡ length (control_of made).paragraphs
+    as-many = ap (λ (others : List Range). suc (length others)) p.others ∙ places.many
 
     made-size : length (control_of made).paragraphs ≡ length (Main ∷ plan.others)
     made-size =
-        ap (λ (p : language.Program). length p.paragraphs) (sym result)
+        ap (λ (q : language.Program). length q.paragraphs) (sym result)
         ∙ map-size (written_paragraph naming (place_of (procedures_by plan (control_of program)))) (procedures_by plan (control_of program))
         ∙ procs-size (Main ∷ plan.others) graphs
 
-    many : length other_plan.others ≡ length plan.others
+    many : length p.plan.others ≡ length plan.others
     many = (let a = as-many in let b = made-size in omega (arith, a, b))
 
-    order : (number : ℕ) (range : Range) → slice_get (Main ∷ other_plan.others) number ≡ Some range → IsRangeAt number range
-    order number range is =
-        places.each number range (ap (λ (others : List Range). slice_get (Main ∷ others) number) (sym other-planned.others) ∙ is)
+    order : (number : ℕ) (range : Range) → slice_get (Main ∷ p.plan.others) number ≡ Some range → IsRangeAt number range
+    order number range at =
+        places.each number range (ap (λ (others : List Range). slice_get (Main ∷ others) number) (sym p.others) ∙ at)
 
     acting : ParagraphsAct plan.told (control_of program).paragraphs
     acting = subst (λ told. ParagraphsAct told (control_of program).paragraphs) (sym told-is) (acts program.files split.plan.returning program)
 
-    skipped : other_plan.told.skipped naming.nothing ≡ true
-    skipped = ap (λ (told : Told). told.skipped Continue) other-planned.told
+    skipped : p.plan.told.skipped naming.nothing ≡ true
+    skipped = ap (λ (told : Told). told.skipped Continue) p.told
 
-    does : (range : Range) (act : Act) → skips plan.told act ≡ false → skips other_plan.told (written_act naming (place_of (procedures_by plan (control_of program))) range act) ≡ false
+    does : (range : Range) (act : Act) → skips plan.told act ≡ false → skips p.plan.told (written_act naming (place_of (procedures_by plan (control_of program))) range act) ≡ false
     does range act h =
         ap (λ told. skips told (written_act naming (place_of (procedures_by plan (control_of program))) range act)) other-told
-        ∙ acts-so way (place_of (procedures_by plan (control_of program))) program.files split.plan.returning split_made.plan.returning range act
+        ∙ acts-so way (place_of (procedures_by plan (control_of program))) program.files split.plan.returning p.returning range act
         (ap (λ told. skips told act) (sym told-is) ∙ h)
 
     choices : (number : ℕ) (procedure : Procedure) → slice_get (procedures_by plan (control_of program)) number ≡ Some procedure → (range : Range) →
         StmtsChoose (PickerAgain naming (place_of (procedures_by plan (control_of program))) procedure.range other_naming
-        (place_of (procedures_by other_plan (result_by plan (control_of program) naming))) range) procedure.body
-    choices number procedure is range =
+        (place_of (procedures_by p.plan (result_by plan (control_of program) naming))) range) procedure.body
+    choices number procedure here range =
         stmts-choose
         (ChoiceFits naming (counting width_of writing.table.most) (procedures_by plan (control_of program)) procedure.range)
         (PickerAgain naming (place_of (procedures_by plan (control_of program))) procedure.range other_naming
-        (place_of (procedures_by other_plan (result_by plan (control_of program) naming))) range)
+        (place_of (procedures_by p.plan (result_by plan (control_of program) naming))) range)
         (λ picker arms fits.
-        come-again way other_way (place_of (procedures_by plan (control_of program))) (place_of (procedures_by other_plan (result_by plan (control_of program) naming)))
+        come-again way other_way (place_of (procedures_by plan (control_of program))) (place_of (procedures_by p.plan (result_by plan (control_of program) naming)))
         procedure.range range (procedures_by plan (control_of program)) picker arms fits)
         procedure.body
         (subst (λ (told : Told). StmtsChoose (ChoiceFits naming (counting told.width writing.table.most) (procedures_by plan (control_of program)) procedure.range) procedure.body) told-is
-        (counted number procedure is).1)
+        (counted number procedure here).1)
 
-    pub written-again : ResultIsWritten plan (control_of program) naming other_plan other_naming
+    pub written-again : ResultIsWritten plan (control_of program) naming p.plan other_naming
     written-again = record {
       source = source;
       acts = acting;
@@ -300,8 +295,8 @@ module _ (program made : Program) (summary : Summary) (well : IsWellMade program
       planned = planned.planned;
       nests = λ number procedure is. (counted number procedure is).0;
       structured = subst IsStructured (sym result) structured;
-      result = subst (IsSource other_plan.told) (sym result) other-source;
-      result_planned = subst (λ p. IsPlan other_plan.told p other_plan.keep other_plan.others) (sym result) other-planned.planned;
+      result = subst (IsSource p.plan.told) (sym result) other-source;
+      result_planned = subst (λ q. IsPlan p.plan.told q p.plan.keep p.plan.others) (sym result) p.planned;
       many = many;
       order = order;
       names = names;
@@ -312,19 +307,19 @@ module _ (program made : Program) (summary : Summary) (well : IsWellMade program
       chooses = choices;
     }
 
-    pub control-again : control_of again ≡ control_of made
-    control-again =
-        (joined.is-written made again other well_made flows_made split_made).control
-        ∙ ap (λ p. result_by other_plan p other_naming) (sym result)
-        ∙ results-again plan (control_of program) naming other_plan other_naming written-again
+    -- the nodes of each of its graphs are just those that are reached
+    pub just-there : (range : Range) → In range (Main ∷ p.plan.others) → AreJustReached p.plan.told (result_by plan (control_of program) naming) range (p.plan.keep range)
+    just-there range here = subst (λ q. AreJustReached p.plan.told q range (p.plan.keep range)) (sym result) (p.planned.just range here)
+
+    pub rendered-again : result_by p.plan (control_of made) other_naming ≡ control_of made
+    rendered-again =
+        ap (λ q. result_by p.plan q other_naming) (sym result)
+        ∙ results-again plan (control_of program) naming p.plan other_naming written-again
         ∙ result
 
     -- each of its graphs is one node, and closed as it is
     pub bare : (number : ℕ) (procedure : Procedure) (range : Range) → slice_get (procedures_by plan (control_of program)) number ≡ Some procedure →
-        slice_get (Main ∷ other_plan.others) number ≡ Some range → IsBare plan (control_of program) naming other_plan procedure range
-    bare number procedure range is at =
-        (results-bare plan (control_of program) naming other_plan other_naming written-again).1 number procedure range is at
+        slice_get (Main ∷ p.plan.others) number ≡ Some range → IsBare plan (control_of program) naming p.plan procedure range
+    bare number procedure range here at =
+        (results-bare plan (control_of program) naming p.plan other_naming written-again).1 number procedure range here at
 
-pub keep-control : SplitsKeepControl
-keep-control = λ program made again summary other well flows split well_made flows_made split_made.
-    control-again program made summary well flows split again other well_made flows_made split_made

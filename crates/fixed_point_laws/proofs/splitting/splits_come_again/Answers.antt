@@ -1,5 +1,4 @@
-use Rattle.fixed_point_laws.proofs.AgainLemmas.{keep-control}
-use Rattle.fixed_point_laws.proofs.SplittingLemmas.{come-again}
+use Rattle.fixed_point_laws.proofs.SplittingLemmas.{come-again, keep-control}
 use Rattle.fixed_point_laws.proofs.splitting.splits_come_again.Goals as goal
 
 pub returns-clause-control : goal.returns-clause-control
