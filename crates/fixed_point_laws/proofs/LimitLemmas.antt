@@ -121,12 +121,49 @@ required-sizes : (naming : Naming) (stmts : Stmts) → sizes stmts ≤ sizes (re
 required-sizes naming none = omega arith
 required-sizes naming (also stmt stmts) = omega arith
 
+through : (a b c : ℕ) → a ≤ b → b ≤ c → a ≤ c
+through a b c h g = omega (arith, h, g)
+
+clash : (a b c : ℕ) → a ≤ b → b ≤ c → c < a → ⊥
+clash a b c h g past = omega (arith, h, g, past)
+
+same-least : (n : ℕ) → n ≤ n
+same-least n = omega arith
+
+plus-none : (a b : ℕ) → a ≤ b → a ≤ b + 0
+plus-none a b h = omega (arith, h)
+
+max-none : (a b : ℕ) → a ≤ b → a ≤ max b 0
+max-none a b h = omega (arith, h)
+
+-- in the one sentence of its paragraph
+in-total : (naming : Naming) (body last : Stmts) → sizes body ≤ total (required naming.nothing (then_stmts body last) ∷ [])
+in-total naming body last =
+    plus-none (sizes body) (sizes (required naming.nothing (then_stmts body last)))
+    (through (sizes body) (sizes (then_stmts body last)) (sizes (required naming.nothing (then_stmts body last))) (front-sizes body last) (required-sizes naming (then_stmts body last)))
+
+in-levels : (naming : Naming) (body last : Stmts) → levels body ≤ paragraph_levels (required naming.nothing (then_stmts body last) ∷ [])
+in-levels naming body last =
+    max-none (levels body) (levels (required naming.nothing (then_stmts body last)))
+    (through (levels body) (levels (then_stmts body last)) (levels (required naming.nothing (then_stmts body last))) (front-levels body last) (required-levels naming (then_stmts body last)))
+
 plain-size : (end : End) → PlainEnd end → end_size end ≡ 0
 plain-size (Pick picker arms) h = absurd h
 plain-size (Jump to) h = absurd h
 plain-size Return h = refl
 plain-size Stop h = refl
 plain-size Dead h = refl
+
+node-total : (node : Node) (body : Stmts) (last : End) (most : ℕ) → node.tree ≡ tree body last → PlainEnd last → sizes body ≤ most → sum_by node_size (node ∷ []) ≤ suc most
+node-total node body last most is plain h =
+    let sum : sum_by node_size (node ∷ []) ≡ node_size node + sum_by node_size [] = sum_by-cons node_size node [] in
+    let nil : sum_by node_size [] ≡ 0 = refl in
+    let whole : node_size node ≡ 1 + (sizes body + end_size last) = ap (λ t. 1 + tree_size t) is in
+    let none_more = plain-size last plain in
+    omega (arith, sum, nil, whole, none_more, h)
+
+sum-of : (x a b c d : ℕ) → x ≡ a + b → a ≤ c → b ≤ d → x ≤ c + d
+sum-of x a b c d is h g = omega (arith, is, h, g)
 
 largest-at : (numbers : List ℕ) (at number : ℕ) → slice_get numbers at ≡ Some number → number ≤ largest numbers
 largest-at [] at number e = absurd (let k : ⊥ = cc in k)
@@ -150,10 +187,9 @@ sums-within [] [] many each = omega arith
 sums-within [] (paragraph ∷ paragraphs) many each = absurd (omega (arith, many))
 sums-within (graph ∷ graphs) [] many each = absurd (omega (arith, many))
 sums-within (graph ∷ graphs) (paragraph ∷ paragraphs) many each =
-    let here = each 0 graph paragraph refl refl in
-    let rest = sums-within graphs paragraphs (omega (arith, many)) (λ at g p e f. each (suc at) g p e f) in
-    let sum = sum_by-cons graph_size graph graphs in
-    omega (arith, here, rest, sum)
+    sum-of (sum_by graph_size (graph ∷ graphs)) (graph_size graph) (sum_by graph_size graphs) (suc (total paragraph)) (parts_of paragraphs)
+    (sum_by-cons graph_size graph graphs) (each 0 graph paragraph refl refl)
+    (sums-within graphs paragraphs (omega (arith, many)) (λ at g p e f. each (suc at) g p e f))
 
 module _ (program made : Program) (summary other : Summary) (well : IsWellMade program) (flows : FlowsSo program summary) (split : IsSplit program summary made)
     (well_made : IsWellMade made) (summed : IsSummary (never_first_of made.files) (control_of made) other) where
@@ -235,10 +271,7 @@ module _ (program made : Program) (summary other : Summary) (well : IsWellMade p
         }
 
     body-size : (number : ℕ) (range : Range) (s : Stands number range) → sizes (written s.procedure) ≤ total (written_paragraph naming (place_of procedures) s.procedure)
-    body-size number range s =
-        let one = front-sizes (written s.procedure) (closing s.procedure.range s.procedure.end) in
-        let two = required-sizes naming (then_stmts (written s.procedure) (closing s.procedure.range s.procedure.end)) in
-        omega (arith, one, two)
+    body-size number range s = in-total naming (written s.procedure) (closing s.procedure.range s.procedure.end)
 
     graph-size : (number : ℕ) (range : Range) (paragraph : Paragraph) → slice_get order number ≡ Some range → slice_get (control_of made).paragraphs number ≡ Some paragraph →
         graph_size (graphs_by p.plan (control_of made) range) ≤ suc (total paragraph)
@@ -247,9 +280,8 @@ module _ (program made : Program) (summary other : Summary) (well : IsWellMade p
         let node : Node = record { label = (lowered p.plan.told (control_of made)).entry range; tree = tree (written s.procedure) s.last } in
         let same : written_paragraph naming (place_of procedures) s.procedure ≡ paragraph = some-same (sym s.paragraph ∙ here) in
         let fits : sizes (written s.procedure) ≤ total paragraph = subst (λ (q : Paragraph). sizes (written s.procedure) ≤ total q) same (body-size number range s) in
-        let sum = sum_by-cons node_size node [] in
-        let plain = plain-size s.last s.plain in
-        subst (λ (nodes : List Node). sum_by node_size nodes ≤ suc (total paragraph)) (sym s.nodes) (omega (arith, fits, sum, plain))
+        subst (λ (nodes : List Node). sum_by node_size nodes ≤ suc (total paragraph)) (sym s.nodes)
+        (node-total node (written s.procedure) s.last (total paragraph) refl s.plain fits)
       where
         some-same : {A : Type 0} → {x y : A} → Some x ≡ Some y → x ≡ y
         some-same {A} {x} {y} e = cc
@@ -257,20 +289,21 @@ module _ (program made : Program) (summary other : Summary) (well : IsWellMade p
     nests-at : (number : ℕ) (range : Range) → slice_get order number ≡ Some range → result_nesting (closed_graph (graphs_by p.plan (control_of made) range)) ≤ program_levels (control_of made)
     nests-at number range at =
         let s = stands number range at in
-        let judged = stmts-judged (written s.procedure) in
-        let one = front-levels (written s.procedure) (closing s.procedure.range s.procedure.end) in
-        let two = required-levels naming (then_stmts (written s.procedure) (closing s.procedure.range s.procedure.end)) in
-        let three = largest-at (map paragraph_levels (control_of made).paragraphs) number (paragraph_levels (written_paragraph naming (place_of procedures) s.procedure))
-        (map-get paragraph_levels (control_of made).paragraphs number (written_paragraph naming (place_of procedures) s.procedure) s.paragraph) in
-        let is : result_nesting (closed_graph (graphs_by p.plan (control_of made) range)) ≡ nesting (written s.procedure) =
+        let body = written s.procedure in
+        let last = closing s.procedure.range s.procedure.end in
+        let whole = written_paragraph naming (place_of procedures) s.procedure in
+        let is : result_nesting (closed_graph (graphs_by p.plan (control_of made) range)) ≡ nesting body =
         ap (λ (g : Graph). result_nesting g) s.closed ∙ ap (λ (nodes : List Node). nesting (body_of (first_tree nodes))) s.nodes in
-        omega (arith, judged, one, two, three, is)
+        subst (λ (n : ℕ). n ≤ program_levels (control_of made)) (sym is)
+        (through (nesting body) (levels body) (program_levels (control_of made)) (stmts-judged body)
+        (through (levels body) (paragraph_levels whole) (program_levels (control_of made)) (in-levels naming body last)
+        (largest-at (map paragraph_levels (control_of made).paragraphs) number (paragraph_levels whole)
+        (map-get paragraph_levels (control_of made).paragraphs number whole s.paragraph))))
 
   depth : program_levels (control_of made) ≤ max_nesting
   depth =
-      let le = split-nests program made summary (joined.flow program made summary well flows split) well.fit.own.statements split in
-      let same = program-agrees made in
-      omega (arith, le, same)
+      subst (λ (n : ℕ). n ≤ max_nesting) (program-agrees made)
+      (split-nests program made summary (joined.flow program made summary well flows split) well.fit.own.statements split)
 
   having : (returning : List (List ℕ)) (order : List code.Range) (graphs : List Graph) → IsPlanOf other.ranges returning order →
       HaveGraphs (told_of made.files returning) (control_of made) order graphs → PlannedHaving made other order graphs
@@ -302,23 +335,21 @@ module _ (program made : Program) (summary other : Summary) (well : IsWellMade p
 
     nests-within : (at : ℕ) (range : code.Range) (graph : Graph) → slice_get order at ≡ Some range → slice_get graphs at ≡ Some graph → result_nesting (closed_graph graph) ≤ max_nesting
     nests-within at range graph here there =
-        let le = nests-at h.planned at (seen_range range) (at-order at range here) in
-        let d = depth in
-        subst (λ (g : Graph). result_nesting (closed_graph g) ≤ max_nesting) (sym (h.each at range graph here there)) (omega (arith, le, d))
+        subst (λ (g : Graph). result_nesting (closed_graph g) ≤ max_nesting) (sym (h.each at range graph here there))
+        (through (result_nesting (closed_graph (graphs_by h.planned.plan (control_of made) (seen_range range)))) (program_levels (control_of made)) max_nesting
+        (nests-at h.planned at (seen_range range) (at-order at range here)) depth)
 
   tokens-within : length (all_tokens (program_units made)) ≤ node_limit → parts_of (control_of made).paragraphs ≤ node_limit
   tokens-within few =
-      let le = each-part made (λ k d lt. (have-names program made summary split k d lt).0) in
-      omega (arith, le, few)
+      through (parts_of (control_of made).paragraphs) (length (all_tokens (program_units made))) node_limit
+      (each-part made (λ k d lt. (have-names program made summary split k d lt).0)) few
 
   passes-none : (limit : Limit) → length (all_tokens (program_units made)) ≤ node_limit → IsSplitFault made other (fault.Limit limit) → ⊥
   passes-none limit few (inl large) =
       let have = large.past.have in
       let h = having large.plan.returning large.plan.order large.past.graphs large.plan.is have in
       let le = size-within large.plan.order large.past.graphs h (have-many (told_of made.files large.plan.returning) large.plan.order large.past.graphs have) in
-      let past = large.past.past in
-      let within = tokens-within few in
-      absurd (omega (arith, le, past, within))
+      clash (total_size large.past.graphs) (parts_of (control_of made).paragraphs) node_limit le (tokens-within few) large.past.past
   passes-none limit few (inr deep) =
       let have = have-seen (told_of made.files deep.plan.returning) (control_of made) deep.plan.order deep.graphs deep.lowered.are in
       let h = having deep.plan.returning deep.plan.order (map seen_graph deep.graphs) deep.plan.is have in
@@ -326,8 +357,7 @@ module _ (program made : Program) (summary other : Summary) (well : IsWellMade p
       let count = have-many (told_of made.files deep.plan.returning) deep.plan.order (map seen_graph deep.graphs) have in
       let range = in-list deep.plan.order deep.deep.at (let lt = slice_get_within (map seen_graph deep.graphs) deep.deep.at (seen_graph deep.deep.graph) there in omega (arith, lt, count)) in
       let le = nests-within deep.plan.order (map seen_graph deep.graphs) h deep.deep.at range.0 (seen_graph deep.deep.graph) range.1 there in
-      let past = deep.deep.deep in
-      absurd (omega (arith, le, past))
+      clash (result_nesting (closed_graph (seen_graph deep.deep.graph))) max_nesting max_nesting le (same-least max_nesting) deep.deep.deep
 
 pub pass-none : SplitsPassNoLimit
 pass-none = λ program made summary other limit well flows split well_made summed few fault.

@@ -20,7 +20,7 @@ use Rattle.control_flow_theory.specs.language.Control.{arith_stmt, arm_before, e
 use Rattle.control_flow_theory.specs.lowering.Completes.{size, sizes, size_arms}
 use Rattle.control_flow_theory.specs.lowering.Lowered.{total}
 use Rattle.cobol_lex.specs.declared.token.TokenKind.TheVariants as kind
-use Rattle.unparser.specs.Token.{procedure_token}
+use Rattle.unparser.specs.Token.{Tokens, procedure_token}
 use Rattle.unparser.specs.Arithmetic.{calc_front, targets_tokens, calc_back, arithmetic_tokens, end_word}
 use Rattle.unparser.specs.Condition.{not_tokens}
 use Rattle.unparser.specs.Head.{head_step}
@@ -49,6 +49,49 @@ told-append (unit ∷ units) ys =
 told-first : (unit : PrintUnit) (units : List PrintUnit) → told (unit ∷ units) ≡ length unit.tokens + told units
 told-first unit units = length-append unit.tokens (all_tokens units)
 
+zero-least : (n : ℕ) → 0 ≤ n
+zero-least n = omega arith
+
+same-least : (n : ℕ) → n ≤ n
+same-least n = omega arith
+
+plus-none : (a n : ℕ) → a ≤ n → a + 0 ≤ n
+plus-none a n h = omega (arith, h)
+
+through : (a b c : ℕ) → a ≤ b → b ≤ c → a ≤ c
+through a b c h g = omega (arith, h, g)
+
+-- tokens of a front, and of a back
+front-of : (own behind : List PrintUnit) (held : ℕ) → held ≤ told own → held ≤ told (own ++ behind)
+front-of own behind held h = (let both = told-append own behind in omega (arith, both, h))
+
+behind-of : (own behind : List PrintUnit) (held : ℕ) → held ≤ told behind → held ≤ told (own ++ behind)
+behind-of own behind held h = (let both = told-append own behind in omega (arith, both, h))
+
+both-of : (own behind : List PrintUnit) (a b : ℕ) → a ≤ told own → b ≤ told behind → a + b ≤ told (own ++ behind)
+both-of own behind a b h g = (let both = told-append own behind in omega (arith, both, h, g))
+
+whens-of : (own behind : List PrintUnit) (a rest tail : ℕ) → a ≤ told own → rest ≤ told behind + tail → a + rest ≤ told (own ++ behind) + tail
+whens-of own behind a rest tail h g = (let both = told-append own behind in omega (arith, both, h, g))
+
+one-of : (own behind : List PrintUnit) (held : ℕ) → 1 ≤ told own → held ≤ told behind → suc held ≤ told (own ++ behind)
+one-of own behind held h g = (let both = told-append own behind in omega (arith, both, h, g))
+
+first-of : (unit : PrintUnit) (units : List PrintUnit) (held : ℕ) → held ≤ told units → held ≤ told (unit ∷ units)
+first-of unit units held h = (let first = told-first unit units in omega (arith, first, h))
+
+first-some : (unit : PrintUnit) (units : List PrintUnit) → 1 ≤ length unit.tokens → 1 ≤ told (unit ∷ units)
+first-some unit units h = (let first = told-first unit units in omega (arith, first, h))
+
+begun-more : (unit : PrintUnit) (units : List PrintUnit) (held : ℕ) → 1 ≤ length unit.tokens → held ≤ told units → 1 + held ≤ told (unit ∷ units)
+begun-more unit units held h g = (let first = told-first unit units in omega (arith, first, h, g))
+
+first-more : (unit : PrintUnit) (one other : List PrintUnit) → told one ≤ told other → told (unit ∷ one) ≤ told (unit ∷ other)
+first-more unit one other h =
+    let here = told-first unit one in
+    let there = told-first unit other in
+    omega (arith, here, there, h)
+
 abbrev has_some : {A : Type 0} → List A → Bool
 has_some [] = false
 has_some (x ∷ xs) = true
@@ -68,36 +111,45 @@ front-begins program (calcs.Divide by) = refl
 front-begins program (calcs.DivideGiving by into) = refl
 front-begins program (calcs.Compute expr) = refl
 
+-- a front of tokens
+more-tokens : (front back : Tokens) → 1 ≤ length front → 1 ≤ length (front ++ back)
+more-tokens front back some = (let all = length-append front back in omega (arith, all, some))
+
 arith-some : (program : Program) (calc : Calc) (into : List Target) → 1 ≤ length (arithmetic_tokens program calc into)
 arith-some program calc into =
-    let all = length-append (calc_front program calc) (targets_tokens program into ++ calc_back program calc) in
-    let some = some-of (calc_front program calc) (front-begins program calc) in
-    omega (arith, all, some)
+    more-tokens (calc_front program calc ++ targets_tokens program into) (calc_back program calc)
+    (more-tokens (calc_front program calc) (targets_tokens program into) (some-of (calc_front program calc) (front-begins program calc)))
 
 -- the first line of a statement holds a token
-head-some : (program : Program) (y : Stmt-F Lines ArmLines WhenLines) → 1 ≤ length (head_step program y)
-head-some program (Stmt-F.Display items advance) = some-of (head_step program (Stmt-F.Display items advance)) refl
-head-some program (Stmt-F.Move from to) = some-of (head_step program (Stmt-F.Move from to)) refl
+abbrev Begun : Program → Stmt-F Lines ArmLines WhenLines → Type 0
+Begun program y = 1 ≤ length (head_step program y)
+
+begun : (program : Program) (y : Stmt-F Lines ArmLines WhenLines) → has_some (head_step program y) ≡ true → Begun program y
+begun program y is = some-of (head_step program y) is
+
+head-some : (program : Program) (y : Stmt-F Lines ArmLines WhenLines) → Begun program y
+head-some program (Stmt-F.Display items advance) = begun program (Stmt-F.Display items advance) refl
+head-some program (Stmt-F.Move from to) = begun program (Stmt-F.Move from to) refl
 head-some program (Stmt-F.Arith calc into arms) = arith-some program calc into
-head-some program (Stmt-F.SetTrue place) = some-of (head_step program (Stmt-F.SetTrue place)) refl
-head-some program (Stmt-F.Opens openings) = some-of (head_step program (Stmt-F.Opens openings)) refl
-head-some program (Stmt-F.Closes files) = some-of (head_step program (Stmt-F.Closes files)) refl
-head-some program (Stmt-F.Read file into arms) = some-of (head_step program (Stmt-F.Read file into arms)) refl
-head-some program (Stmt-F.Write entry from) = some-of (head_step program (Stmt-F.Write entry from)) refl
-head-some program (Stmt-F.Rewrite entry from) = some-of (head_step program (Stmt-F.Rewrite entry from)) refl
-head-some program (Stmt-F.If cond met unmet) = some-of (head_step program (Stmt-F.If cond met unmet)) refl
-head-some program (Stmt-F.Evaluate subject whens other) = some-of (head_step program (Stmt-F.Evaluate subject whens other)) refl
-head-some program (Stmt-F.Loop control body) = some-of (head_step program (Stmt-F.Loop control body)) refl
-head-some program (Stmt-F.Perform entry exit control) = some-of (head_step program (Stmt-F.Perform entry exit control)) refl
-head-some program (Stmt-F.Go to) = some-of (head_step program (Stmt-F.Go to)) refl
-head-some program (Stmt-F.GoDepending to on) = some-of (head_step program (Stmt-F.GoDepending to on)) refl
-head-some program Stmt-F.NextSentence = some-of (head_step program Stmt-F.NextSentence) refl
-head-some program Stmt-F.StopRun = some-of (head_step program Stmt-F.StopRun) refl
-head-some program Stmt-F.Exit = some-of (head_step program Stmt-F.Exit) refl
-head-some program Stmt-F.ExitParagraph = some-of (head_step program Stmt-F.ExitParagraph) refl
-head-some program Stmt-F.ExitSection = some-of (head_step program Stmt-F.ExitSection) refl
-head-some program (Stmt-F.ExitPerform cycle) = some-of (head_step program (Stmt-F.ExitPerform cycle)) refl
-head-some program Stmt-F.Continue = some-of (head_step program Stmt-F.Continue) refl
+head-some program (Stmt-F.SetTrue place) = begun program (Stmt-F.SetTrue place) refl
+head-some program (Stmt-F.Opens openings) = begun program (Stmt-F.Opens openings) refl
+head-some program (Stmt-F.Closes files) = begun program (Stmt-F.Closes files) refl
+head-some program (Stmt-F.Read file into arms) = begun program (Stmt-F.Read file into arms) refl
+head-some program (Stmt-F.Write entry from) = begun program (Stmt-F.Write entry from) refl
+head-some program (Stmt-F.Rewrite entry from) = begun program (Stmt-F.Rewrite entry from) refl
+head-some program (Stmt-F.If cond met unmet) = begun program (Stmt-F.If cond met unmet) refl
+head-some program (Stmt-F.Evaluate subject whens other) = begun program (Stmt-F.Evaluate subject whens other) refl
+head-some program (Stmt-F.Loop control body) = begun program (Stmt-F.Loop control body) refl
+head-some program (Stmt-F.Perform entry exit control) = begun program (Stmt-F.Perform entry exit control) refl
+head-some program (Stmt-F.Go to) = begun program (Stmt-F.Go to) refl
+head-some program (Stmt-F.GoDepending to on) = begun program (Stmt-F.GoDepending to on) refl
+head-some program Stmt-F.NextSentence = begun program Stmt-F.NextSentence refl
+head-some program Stmt-F.StopRun = begun program Stmt-F.StopRun refl
+head-some program Stmt-F.Exit = begun program Stmt-F.Exit refl
+head-some program Stmt-F.ExitParagraph = begun program Stmt-F.ExitParagraph refl
+head-some program Stmt-F.ExitSection = begun program Stmt-F.ExitSection refl
+head-some program (Stmt-F.ExitPerform cycle) = begun program (Stmt-F.ExitPerform cycle) refl
+head-some program Stmt-F.Continue = begun program Stmt-F.Continue refl
 
 -- ---- sizes
 
@@ -149,61 +201,44 @@ module _ (program : Program) (last : ℕ) where
   lines_of xs = map (stmt_lines program) (plain xs)
 
   some-spelled : (xs : List SuchStmt) (column : ℕ) (closed : Bool) → sizes (seen_stmts last (plain xs)) ≤ told (some_lines (lines_of xs) column closed)
-  some-spelled [] column closed = omega arith
+  some-spelled [] column closed = zero-least (told [])
   some-spelled (x ∷ xs) column closed =
-      let own = stmt_lines program x.0 column (closed && length (lines_of xs) == 0) in
-      let behind = some_lines (lines_of xs) column closed in
-      let here = x.1 column (closed && length (lines_of xs) == 0) in
-      let rest = some-spelled xs column closed in
-      let both = told-append own behind in
-      omega (arith, here, rest, both)
+      both-of (stmt_lines program x.0 column (closed && length (lines_of xs) == 0)) (some_lines (lines_of xs) column closed)
+      (size (seen last x.0)) (sizes (seen_stmts last (plain xs)))
+      (x.1 column (closed && length (lines_of xs) == 0)) (some-spelled xs column closed)
 
   list-spelled : (xs : List SuchStmt) (column : ℕ) (closed : Bool) → sizes (seen_stmts last (plain xs)) ≤ told (list_lines (lines_of xs) column closed)
-  list-spelled [] column closed = omega arith
+  list-spelled [] column closed = zero-least (told (list_lines [] column closed))
   list-spelled (x ∷ xs) column closed = some-spelled (x ∷ xs) column closed
 
   else-spelled : (xs : List SuchStmt) (column : ℕ) → size_arms (arm_before (else_of (map (seen last) (plain xs))) language.done) ≤ told (held_by_else (lines_of xs) column)
-  else-spelled [] column = omega arith
+  else-spelled [] column = zero-least (told (held_by_else [] column))
   else-spelled (x ∷ xs) column =
       let list = list_lines (lines_of (x ∷ xs)) (deeper column) false in
       let ending : List PrintUnit = word_line column (codes "END-IF") ∷ [] in
-      let inside = list-spelled (x ∷ xs) (deeper column) false in
-      let both = told-append list ending in
-      let first = told-first (word_line column (codes "ELSE")) (list ++ ending) in
-      omega (arith, inside, both, first)
+      let held = sizes (seen_stmts last (plain (x ∷ xs))) in
+      plus-none held (told (word_line column (codes "ELSE") ∷ (list ++ ending)))
+      (first-of (word_line column (codes "ELSE")) (list ++ ending) held (front-of list ending held (list-spelled (x ∷ xs) (deeper column) false)))
 
   abbrev when_lists : List SuchWhen → List WhenLines
   when_lists xs = map (when_lines program) (plain_whens xs)
 
   whens-spelled : (xs : List SuchWhen) (tail : language.Arms) (column : ℕ) →
       size_arms (branches_before (map (seen_when last) (plain_whens xs)) tail) ≤ told (whens_lines (when_lists xs) column) + size_arms tail
-  whens-spelled [] tail column = omega arith
+  whens-spelled [] tail column = behind-none (size_arms tail)
+    where
+      behind-none : (n : ℕ) → n ≤ 0 + n
+      behind-none n = omega arith
   whens-spelled (x ∷ xs) tail column =
-      let own = when_lines program x.0 column in
-      let behind = whens_lines (when_lists xs) column in
-      let here = x.1 column in
-      let rest = whens-spelled xs tail column in
-      let both = told-append own behind in
-      omega (arith, here, rest, both)
-
-  through : (a b c : ℕ) → a ≤ b → b ≤ c → a ≤ c
-  through a b c h g = omega (arith, h, g)
-
-  both-of : (own behind : List PrintUnit) (a b : ℕ) → a ≤ told own → b ≤ told behind → a + b ≤ told (own ++ behind)
-  both-of own behind a b h g = (let both = told-append own behind in omega (arith, both, h, g))
-
-  -- a front of units
-  front-of : (own behind : List PrintUnit) (held : ℕ) → held ≤ told own → held ≤ told (own ++ behind)
-  front-of own behind held h = (let both = told-append own behind in omega (arith, both, h))
+      whens-of (when_lines program x.0 column) (whens_lines (when_lists xs) column) (sizes (seen_when last x.0).arm)
+      (size_arms (branches_before (map (seen_when last) (plain_whens xs)) tail)) (size_arms tail) (x.1 column) (whens-spelled xs tail column)
 
   other-spelled : (xs : List SuchStmt) (column : ℕ) → sizes (seen_stmts last (plain xs)) ≤ told (held_by_other (Some (lines_of xs)) column)
   other-spelled xs column =
       let list = list_lines (lines_of xs) (deeper (deeper column)) false in
       let ending : List PrintUnit = word_line column (codes "END-EVALUATE") ∷ [] in
-      let inside = list-spelled xs (deeper (deeper column)) false in
-      let both = told-append list ending in
-      let first = told-first (unit_at (deeper column) other_tokens) (list ++ ending) in
-      omega (arith, inside, both, first)
+      let held = sizes (seen_stmts last (plain xs)) in
+      first-of (unit_at (deeper column) other_tokens) (list ++ ending) held (front-of list ending held (list-spelled xs (deeper (deeper column)) false))
 
   -- ---- each statement, by those that it holds
 
@@ -221,13 +256,10 @@ module _ (program : Program) (last : ℕ) where
 
   -- a first line, and what stands below it
   below : (y : Stmt-F Lines ArmLines WhenLines) (column : ℕ) (closed : Bool) (held : ℕ) → held ≤ told (held_step y column closed) → 1 + held ≤ told (stmt_step program y column closed)
-  below y column closed held h =
-      let first = told-first (unit_at column (head_step program y)) (held_step y column closed) in
-      let some = head-some program y in
-      omega (arith, first, some, h)
+  below y column closed held h = begun-more (unit_at column (head_step program y)) (held_step y column closed) held (head-some program y) h
 
   lone : (y : Stmt-F Lines ArmLines WhenLines) (column : ℕ) (closed : Bool) → 1 ≤ told (stmt_step program y column closed)
-  lone y column closed = below y column closed 0 (omega arith)
+  lone y column closed = below y column closed 0 (zero-least (told (held_step y column closed)))
 
   step-spelled : (y : Stmt-F SuchStmt SuchArms SuchWhen) (column : ℕ) (closed : Bool) → size (shown (mapped y)) ≤ told (stmt_step program (spelled (mapped y)) column closed)
   step-spelled (Stmt-F.Display texts advance) column closed = lone (spelled (mapped (Stmt-F.Display texts advance))) column closed
@@ -263,7 +295,7 @@ module _ (program : Program) (last : ℕ) where
       let behind = held_by_other None column in
       let held = size_arms (branches_before (map (seen_when last) (plain_whens whens)) tail) in
       below y column closed held
-      (through held (told own + 0) (told (own ++ behind)) (whens-spelled whens tail column) (both-of own behind (told own) 0 (omega arith) (omega arith)))
+      (through held (told own + 0) (told (own ++ behind)) (whens-spelled whens tail column) (both-of own behind (told own) 0 (same-least (told own)) (zero-least (told behind))))
   step-spelled (Stmt-F.Evaluate subject whens (Some other)) column closed =
       let y = spelled (mapped (Stmt-F.Evaluate subject whens (Some other))) in
       let tail : language.Arms = language.given (seen_stmts last (plain other)) language.done in
@@ -272,8 +304,8 @@ module _ (program : Program) (last : ℕ) where
       let held = size_arms (branches_before (map (seen_when last) (plain_whens whens)) tail) in
       below y column closed held
       (through held (told own + size_arms tail) (told (own ++ behind)) (whens-spelled whens tail column)
-      (both-of own behind (told own) (size_arms tail) (omega arith)
-      (let inside = other-spelled other column in omega (arith, inside))))
+      (both-of own behind (told own) (size_arms tail) (same-least (told own))
+      (plus-none (sizes (seen_stmts last (plain other))) (told behind) (other-spelled other column))))
   step-spelled (Stmt-F.Loop control body) column closed =
       let y = spelled (mapped (Stmt-F.Loop control body)) in
       let own = list_lines (lines_of body) (deeper column) false in
@@ -318,23 +350,23 @@ module _ (program : Program) (last : ℕ) where
   arm-spelled : (xs : List SuchStmt) (phrase : Phrase) (not : Bool) (column : ℕ) → sizes (seen_stmts last (plain xs)) ≤ told (arm_lines (lines_of xs) phrase not column)
   arm-spelled xs phrase not column =
       let list = list_lines (lines_of xs) (deeper (deeper column)) true in
-      let inside = list-spelled xs (deeper (deeper column)) true in
-      let first = told-first (unit_at (deeper column) (not_tokens not ++ phrase_tokens phrase)) list in
-      omega (arith, inside, first)
+      first-of (unit_at (deeper column) (not_tokens not ++ phrase_tokens phrase)) list (sizes (seen_stmts last (plain xs))) (list-spelled xs (deeper (deeper column)) true)
 
   both-spelled : (first second : Option (List SuchStmt)) (phrase : Phrase) (column : ℕ) →
       size_arms (both_arms (both_of (mapped_arms (record { first = first; second = second })))) ≤ told ((lines_by (mapped_arms (record { first = first; second = second }))).lines phrase column)
-  both-spelled None None phrase column = omega arith
-  both-spelled None (Some second) phrase column = (let two = arm-spelled second phrase true column in omega (arith, two))
+  both-spelled None None phrase column = zero-least (told [])
+  both-spelled None (Some second) phrase column =
+      plus-none (sizes (seen_stmts last (plain second))) (told (arm_lines (lines_of second) phrase true column)) (arm-spelled second phrase true column)
   both-spelled (Some first) None phrase column =
-      let one = arm-spelled first phrase false column in
-      let both = told-append (arm_lines (lines_of first) phrase false column) [] in
-      omega (arith, one, both)
+      let own = arm_lines (lines_of first) phrase false column in
+      let held = sizes (seen_stmts last (plain first)) in
+      plus-none held (told (own ++ [])) (front-of own [] held (arm-spelled first phrase false column))
   both-spelled (Some first) (Some second) phrase column =
-      let one = arm-spelled first phrase false column in
-      let two = arm-spelled second phrase true column in
-      let both = told-append (arm_lines (lines_of first) phrase false column) (arm_lines (lines_of second) phrase true column) in
-      omega (arith, one, two, both)
+      let own = arm_lines (lines_of first) phrase false column in
+      let behind = arm_lines (lines_of second) phrase true column in
+      let one = sizes (seen_stmts last (plain first)) in
+      let two = sizes (seen_stmts last (plain second)) in
+      both-of own behind one (two + 0) (arm-spelled first phrase false column) (plus-none two (told behind) (arm-spelled second phrase true column))
 
   arms-layer : (first second : Option (List SuchStmt)) →
       ArmsAreSpelled (roll-Arms (mapped_arms (record { first = first; second = second })))
@@ -352,13 +384,11 @@ module _ (program : Program) (last : ℕ) where
   when-layer tests stmts column =
       let y : When-F Stmt Arms When = record { tests = tests; stmts = plain stmts } in
       let list = list_lines (lines_of stmts) (deeper (deeper column)) false in
-      let inside = list-spelled stmts (deeper (deeper column)) false in
-      let both = told-append (tests_lines program (deeper column) tests) list in
       subst (λ (b : Branch). sizes b.arm ≤ told (when_lines program (roll-When y) column))
       (sym (fold-roll-When language.Stmt Both Branch (seen_step last) both_step branch_step y))
       (subst (λ (lines : WhenLines). sizes (seen_stmts last (plain stmts)) ≤ told (lines column))
       (sym (fold-roll-When Lines ArmLines WhenLines (stmt_step program) arms_step (when_step program) y))
-      (omega (arith, inside, both)))
+      (behind-of (tests_lines program (deeper column) tests) list (sizes (seen_stmts last (plain stmts))) (list-spelled stmts (deeper (deeper column)) false)))
 
   stmt-spelled : (stmt : Stmt) → IsSpelled stmt
   stmt-spelled stmt =
@@ -370,80 +400,61 @@ module _ (program : Program) (last : ℕ) where
   -- ---- sentences
 
   stmts-spelled : (stmts : List Stmt) (column : ℕ) (closed : Bool) → sizes (seen_stmts last stmts) ≤ told (some_lines (map (stmt_lines program) stmts) column closed)
-  stmts-spelled [] column closed = omega arith
+  stmts-spelled [] column closed = zero-least (told [])
   stmts-spelled (stmt ∷ stmts) column closed =
-      let own = stmt_lines program stmt column (closed && length (map (stmt_lines program) stmts) == 0) in
-      let behind = some_lines (map (stmt_lines program) stmts) column closed in
-      let here = stmt-spelled stmt column (closed && length (map (stmt_lines program) stmts) == 0) in
-      let rest = stmts-spelled stmts column closed in
-      let both = told-append own behind in
-      omega (arith, here, rest, both)
+      both-of (stmt_lines program stmt column (closed && length (map (stmt_lines program) stmts) == 0)) (some_lines (map (stmt_lines program) stmts) column closed)
+      (size (seen last stmt)) (sizes (seen_stmts last stmts))
+      (stmt-spelled stmt column (closed && length (map (stmt_lines program) stmts) == 0)) (stmts-spelled stmts column closed)
 
   list-told : (stmts : List Stmt) (column : ℕ) (closed : Bool) → sizes (seen_stmts last stmts) ≤ told (list_lines (map (stmt_lines program) stmts) column closed)
-  list-told [] column closed = omega arith
+  list-told [] column closed = zero-least (told (list_lines [] column closed))
   list-told (stmt ∷ stmts) column closed = stmts-spelled (stmt ∷ stmts) column closed
 
-  ended-more : (units : List PrintUnit) → told units ≤ told (ended units)
-  ended-more [] = omega arith
-  ended-more (unit ∷ []) =
+  ended-one : (unit : PrintUnit) → told (unit ∷ []) ≤ told (unit_at unit.column (unit.tokens ++ kind.Period ∷ []) ∷ [])
+  ended-one unit =
       let one = told-first unit [] in
-      let two = told-first (unit_at unit.column (unit.tokens ++ kind.Period ∷ [])) [] in
+      let two : told (unit_at unit.column (unit.tokens ++ kind.Period ∷ []) ∷ []) ≡ length (unit.tokens ++ kind.Period ∷ []) + told [] =
+      told-first (unit_at unit.column (unit.tokens ++ kind.Period ∷ [])) [] in
       let more = length-append unit.tokens (kind.Period ∷ []) in
       omega (arith, one, two, more)
-  ended-more (unit ∷ next ∷ units) =
-      let rest = ended-more (next ∷ units) in
-      let one = told-first unit (next ∷ units) in
-      let two = told-first unit (ended (next ∷ units)) in
-      omega (arith, one, two, rest)
+
+  ended-more : (units : List PrintUnit) → told units ≤ told (ended units)
+  ended-more [] = same-least (told [])
+  ended-more (unit ∷ []) = ended-one unit
+  ended-more (unit ∷ next ∷ units) = first-more unit (next ∷ units) (ended (next ∷ units)) (ended-more (next ∷ units))
 
   sentences-spelled : (sentences : List Sentence) → total (map (seen_sentence last) sentences) ≤ told (flat_map (sentence_units program) sentences)
-  sentences-spelled [] = omega arith
+  sentences-spelled [] = zero-least (told [])
   sentences-spelled (sentence ∷ sentences) =
-      let own = sentence_units program sentence in
-      let behind = flat_map (sentence_units program) sentences in
-      let here = list-told sentence.stmts 12 false in
-      let more = ended-more (sentence_lines program sentence) in
-      let rest = sentences-spelled sentences in
-      let both = told-append own behind in
-      omega (arith, here, more, rest, both)
+      both-of (sentence_units program sentence) (flat_map (sentence_units program) sentences) (sizes (seen_sentence last sentence)) (total (map (seen_sentence last) sentences))
+      (through (sizes (seen_sentence last sentence)) (told (sentence_lines program sentence)) (told (sentence_units program sentence))
+      (list-told sentence.stmts 12 false) (ended-more (sentence_lines program sentence)))
+      (sentences-spelled sentences)
 
 name-some : (name : Option (List ℕ)) → IsSome name → 1 ≤ told (named_line name)
 name-some None h = absurd (let k : ⊥ = cc in k)
-name-some (Some name) h =
-    let one = told-first (unit_at 8 (procedure_token name ∷ kind.Period ∷ [])) [] in
-    let some = some-of (procedure_token name ∷ kind.Period ∷ []) refl in
-    omega (arith, one, some)
+name-some (Some name) h = first-some (unit_at 8 (procedure_token name ∷ kind.Period ∷ [])) [] (some-of (procedure_token name ∷ kind.Period ∷ []) refl)
 
 paragraph-spelled : (program : Program) (last : ℕ) (paragraph : Paragraph) → IsNamed paragraph → suc (total (seen_paragraph last paragraph)) ≤ told (paragraph_units program paragraph)
 paragraph-spelled program last paragraph named =
     let front = section_line paragraph.section in
     let name = named_line paragraph.name in
     let rest = flat_map (sentence_units program) paragraph.sentences in
-    let inside = sentences-spelled program last paragraph.sentences in
-    let some = name-some paragraph.name named in
-    let one = told-append front (name ++ rest) in
-    let two = told-append name rest in
-    omega (arith, inside, some, one, two)
+    let held = total (seen_paragraph last paragraph) in
+    one-of (front ++ name) rest held (behind-of front name 1 (name-some paragraph.name named)) (sentences-spelled program last paragraph.sentences)
 
 paragraphs-spelled : (program : Program) (number : ℕ) (paragraphs : List Paragraph) → All IsNamed paragraphs → parts_of (seen_paragraphs number paragraphs) ≤ told (paragraphs_units program paragraphs)
-paragraphs-spelled program number [] all = omega arith
+paragraphs-spelled program number [] all = zero-least (told [])
 paragraphs-spelled program number (paragraph ∷ others) all =
-    let own = paragraph_units program paragraph in
-    let behind = paragraphs_units program others in
-    let here = paragraph-spelled program (section_last number others) paragraph (all 0 paragraph (omega arith)) in
-    let rest = paragraphs-spelled program (suc number) others (λ k d lt. all (suc k) d (omega (arith, lt))) in
-    let both = told-append own behind in
-    omega (arith, here, rest, both)
+    both-of (paragraph_units program paragraph) (paragraphs_units program others)
+    (suc (total (seen_paragraph (section_last number others) paragraph))) (parts_of (seen_paragraphs (suc number) others))
+    (paragraph-spelled program (section_last number others) paragraph (all 0 paragraph (omega arith)))
+    (paragraphs-spelled program (suc number) others (λ k d lt. all (suc k) d (omega (arith, lt))))
 
 pub each-part : EachPartIsAToken
 each-part = λ program named.
-    let spelled = paragraphs-spelled program 0 program.paragraphs named in
-    let procedure = procedure_units program program.paragraphs in
-    let environment = environment_units program program.files in
-    let entries = data_units program program.entries in
-    let one = told-first (header (codes "PROCEDURE") (codes "DIVISION")) (paragraphs_units program program.paragraphs) in
-    let two = told-append entries procedure in
-    let three = told-append environment (entries ++ procedure) in
-    let four = told-first (program_id program.name) (environment ++ (entries ++ procedure)) in
-    let five = told-first (header (codes "IDENTIFICATION") (codes "DIVISION")) (program_id program.name ∷ environment ++ (entries ++ procedure)) in
-    omega (arith, spelled, one, two, three, four, five)
+    let held = parts_of (control_of program).paragraphs in
+    let front = header (codes "IDENTIFICATION") (codes "DIVISION") ∷ program_id program.name ∷ environment_units program program.files in
+    behind-of (front ++ data_units program program.entries) (procedure_units program program.paragraphs) held
+    (first-of (header (codes "PROCEDURE") (codes "DIVISION")) (paragraphs_units program program.paragraphs) held
+    (paragraphs-spelled program 0 program.paragraphs named))
