@@ -14,7 +14,7 @@ use Rattle.control_flow_theory.specs.language.OwnItems.{NamesOwnItems}
 use Rattle.control_flow_theory.specs.lowering.flow.Entered.{IsEntered}
 use Rattle.control_flow_theory.specs.lowering.flow.Paths as theory
 use Rattle.control_flow_theory.specs.lowering.WellFormed.{AreJustReached}
-use Rattle.control_flow_theory.specs.graph_rules.Reduced.{Graphs}
+use Rattle.control_flow_theory.specs.graph_rules.Reduced.{Graphs, size}
 use Rattle.control_flow_theory.specs.graph_rules.Walked.{In}
 use Rattle.control_flow_theory.specs.rendering.Rendering.{Naming, Procedure, place_of, written_act, written_paragraph}
 use Rattle.control_flow_theory.specs.headline.Chain.{IsPlan, procedures_of}
@@ -32,7 +32,7 @@ use Rattle.cobol_theory.proofs.cobol_parts_lemmas.Sources as sources
 use Rattle.statement_builders.specs.arms.Written.{Way, naming_in}
 use Rattle.added_items.specs.item_table.Laws.{closed_ranges}
 use Rattle.added_items.specs.item_table.Row.{CellRange}
-use Rattle.added_items.specs.item_table.Tables.{table_of_cells}
+use Rattle.added_items.specs.item_table.Tables.{most_arms, table_of_cells}
 use Rattle.lowering_labels.specs.points.Fall.{seen_range}
 use Rattle.pending_returns.specs.Summary.{IsSummary}
 use Rattle.pending_returns.specs.declared.facts.Summary.{Summary}
@@ -47,6 +47,7 @@ use Rattle.procedure_split.specs.split_behaviour.Alike.{IsWellMade, FlowsSo}
 use Rattle.procedure_split.proofs.made_procedures_lemmas.Plans.{each-closed, entry-first}
 use Rattle.procedure_split.proofs.made_procedures_lemmas.Rows.{shaped-at, in-at}
 use Rattle.procedure_split.proofs.split_behaviour_lemmas.ClosedRows.{closed_row, row-is, all-rows}
+use Rattle.procedure_split.proofs.split_behaviour_lemmas.FewNodes.{as-many-graphs, few-nodes}
 use Rattle.procedure_split.proofs.split_behaviour_lemmas.Joined as joined
 use Rattle.control_flow_theory.proofs.rendering_lemmas.Written.{map-get}
 use Rattle.fixed_point.specs.Again.{IsRangeAt}
@@ -159,6 +160,13 @@ module _ (program made : Program) (summary : Summary) (well : IsWellMade program
       all-rows graphs split.plan.order split.closed split.written.many.trees row-closed
       ∙ ap (λ all. closed_ranges all graphs) (joined.in-order program made summary well flows split)
 
+  few : (range : Range) → In range (Main ∷ plan.others) → size (graphs range).nodes < most_arms
+  few range here =
+      few-nodes graphs split.plan.order split.graphs
+      (as-many-graphs (told_of program.files split.plan.returning) (control_of program) split.plan.order split.graphs split.lowered.are)
+      split.lowered.within planned.each range
+      (subst (λ all. In range all) (sym (joined.in-order program made summary well flows split)) here)
+
   told-is : plan.told ≡ told_of program.files split.plan.returning
   told-is = planned.told
 
@@ -168,7 +176,7 @@ module _ (program made : Program) (summary : Summary) (well : IsWellMade program
   counted number procedure is =
       are-counted naming writing.table.most plan (control_of program) source (joined.some program made summary well flows split) planned.planned
       (subst (λ rows. TellsArms plan (control_of program) (table_of_cells rows).most) (sym rows-are)
-      (λ range here cell kind is chosen arms found le. tell-arms (Main ∷ plan.others) graphs (joined.few program made summary well flows split) range here cell kind is chosen arms found le))
+      (λ range here cell kind is chosen arms found le. tell-arms (Main ∷ plan.others) graphs few range here cell kind is chosen arms found le))
       number procedure is
 
   written : IsWrittenOf program made writing

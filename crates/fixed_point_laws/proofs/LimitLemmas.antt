@@ -13,7 +13,7 @@ use Rattle.control_flow_theory.specs.language.Control.{control_of}
 use Rattle.control_flow_theory.specs.language.Language as language
 use Rattle.control_flow_theory.specs.language.Language.{Picker, Range, Main, Stmt, Do, Choose, Loop, Perform, Go, GoDepending, NextSentence, ExitParagraph, ExitSection, ExitPerform, StopRun, Stmts, none, also, Arms, done, given, missing, Body, Nested, Performed, Paragraph}
 use Rattle.control_flow_theory.specs.language.Structured.{IsStructured}
-use Rattle.control_flow_theory.specs.lowering.Completes.{size, sizes}
+use Rattle.control_flow_theory.specs.lowering.Completes.{sizes}
 use Rattle.control_flow_theory.specs.lowering.Told.{Told}
 use Rattle.control_flow_theory.specs.lowering.Lowered.{lowered, total}
 use Rattle.control_flow_theory.specs.semantics.Graph.{Tree, tree, End, Pick, Jump, Return, Stop, Dead, body_of}
@@ -238,8 +238,8 @@ module _ (program made : Program) (summary other : Summary) (well : IsWellMade p
     many : length order ≡ length (control_of made).paragraphs
     many = first.as-many program made summary well flows split other well_made.proper.own_items well_made.proper.own_paragraphs summed p way
 
-    size : length order ≡ length procedures
-    size =
+    order-size : length order ≡ length procedures
+    order-size =
         many ∙ ap (λ (q : language.Program). length q.paragraphs) (sym result)
         ∙ first.map-size (written_paragraph naming (place_of procedures)) procedures
 
@@ -257,7 +257,7 @@ module _ (program made : Program) (summary other : Summary) (well : IsWellMade p
 
     stands : (number : ℕ) (range : Range) → slice_get order number ≡ Some range → Stands number range
     stands number range at =
-        let procedure = in-list procedures number (let lt = slice_get_within order number range at in let k = size in omega (arith, lt, k)) in
+        let procedure = in-list procedures number (let lt = slice_get_within order number range at in let k = order-size in omega (arith, lt, k)) in
         let b = first.bare program made summary well flows split other well_made.proper.own_items well_made.proper.own_paragraphs summed p way number procedure.0 range procedure.1 at in
         record {
           procedure = procedure.0;
