@@ -330,4 +330,3 @@ module _ (program made : Program) (summary : Summary) (well : IsWellMade program
         slice_get (Main ∷ p.plan.others) number ≡ Some range → IsBare plan (control_of program) naming p.plan procedure range
     bare number procedure range here at =
         (results-bare plan (control_of program) naming p.plan other_naming written-again).1 number procedure range here at
-

@@ -134,6 +134,7 @@ module _ {Memory : Type 0} (doing : Doing Memory) (Such : ℕ → ℕ → Type 0
     keeps-item (Do stmt) items memory nests h = keeps-stmt stmt items memory nests h
     keeps-item SentenceEnd items memory nests h = h
     keeps-item (Turn turning body) items memory nests h = keeps-remainder turning body items memory nests h
+
 module _ {Memory : Type 0} (doing : Doing Memory) (program : Program) (structured : IsStructured program) where
   abbrev count : ℕ
   count = length program.paragraphs

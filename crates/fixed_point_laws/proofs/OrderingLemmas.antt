@@ -161,9 +161,10 @@ module _ (told : Told) (program : Program) (source : IsSource told program) (som
   entered-level range main = ([], bottom)
   entered-level range (performed from number rest entry exit is c) =
       let l = entered-level from is in
-      let after : Point = at number (uncounted rest) in
-      (returning exit after ∷ l.0,
-      called (range_of from) l.0 (point_at number (Do (Perform entry exit) ∷ rest)) after entry exit l.1 (comes-here told program source some from number (Do (Perform entry exit) ∷ rest) c) refl)
+      let after : Point = at number (uncounted rest) in (
+        returning exit after ∷ l.0,
+        called (range_of from) l.0 (point_at number (Do (Perform entry exit) ∷ rest)) after entry exit l.1 (comes-here told program source some from number (Do (Perform entry exit) ∷ rest) c) refl,
+      )
 
   entered-range : (entry exit : ℕ) (range : Range) → IsEntered told program range → range ≡ Part entry exit → IsRange told.never_first program (part entry exit)
   entered-range entry exit range main same = absurd (let w : ⊥ = cc in w)
@@ -171,9 +172,16 @@ module _ (told : Told) (program : Program) (source : IsSource told program) (som
       let l = entered-level from is in
       let after : Point = at number (uncounted rest) in
       let point : Point = point_at number (Do (Perform e x) ∷ rest) in
-      inr (point, l.0, e, x, after,
-      levels-run told.never_first program main_range (range_of from) l.0 l.1 point (comes-here told program source some from number (Do (Perform e x) ∷ rest) c),
-      refl, ap range_of (sym same))
+      inr (
+        point,
+        l.0,
+        e,
+        x,
+        after,
+        levels-run told.never_first program main_range (range_of from) l.0 l.1 point (comes-here told program source some from number (Do (Perform e x) ∷ rest) c),
+        refl,
+        ap range_of (sym same),
+      )
 
   some-there : (paragraphs : List Paragraph) → FirstStops paragraphs → (more : ℕ) × (suc more ≡ length paragraphs)
   some-there [] h = absurd h

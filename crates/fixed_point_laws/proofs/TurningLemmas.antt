@@ -187,9 +187,10 @@ module _ (files : List FileEntry) (returning : List (List ℕ)) where
   paragraphs-act : (number : ℕ) (paragraphs : List Paragraph) →
       ParagraphsAct told (seen_paragraphs number paragraphs)
   paragraphs-act number [] = tt
-  paragraphs-act number (paragraph ∷ others) =
-      (sentences-act (section_last number others) paragraph.sentences,
-      paragraphs-act (suc number) others)
+  paragraphs-act number (paragraph ∷ others) = (
+    sentences-act (section_last number others) paragraph.sentences,
+    paragraphs-act (suc number) others,
+  )
 
 pub acts : VaryingActs
 acts = λ files returning program. paragraphs-act files returning 0 program.paragraphs
