@@ -1,6 +1,6 @@
 -- Nothing is added where no graph has a counter.
-use Rattle.std.proofs.Common.{◌≡◌, ℕ, zero, suc, ◌+◌, ◌*◌, Bool, true, false, if◌then◌else◌, ◌==◌, List, [], ◌∷◌, ◌++◌, length, map, Some, refl, ap, sym, ◌∙◌, subst, arith}
-use Rattle.std.specs.Prelude.{slice_get, nat_lt}
+use Rattle.std.proofs.Common.{◌≡◌, ℕ, suc, ◌+◌, Bool, true, false, if◌then◌else◌, List, [], ◌∷◌, ◌++◌, length, map, Some, refl, ap, sym, ◌∙◌, subst, arith}
+use Rattle.std.specs.Prelude.{slice_get}
 use Rattle.std.proofs.lemmas.Bool.{le-ltb}
 use Rattle.control_flow_theory.specs.language.Language.{Control, Times, Until, Varying, Stmt, Do, Choose, Loop, Perform, Go, GoDepending, NextSentence, ExitParagraph, ExitSection, ExitPerform, StopRun, Stmts, none, also, Arms, done, given, missing, Body, Nested, Performed, Paragraph, Program, Range}
 use Rattle.control_flow_theory.specs.semantics.Graph.{Label, Tree, tree, End, Pick, Jump, Return, Stop, Dead, end_of, Family}
@@ -8,14 +8,14 @@ use Rattle.control_flow_theory.specs.lowering.Lower as lower
 use Rattle.control_flow_theory.specs.lowering.Completes.{size, sizes}
 use Rattle.control_flow_theory.specs.lowering.Lowered.{total, lowered, place_in}
 use Rattle.control_flow_theory.specs.lowering.flow.Comes.{entry_of}
-use Rattle.control_flow_theory.specs.lowering.Reached.{JumpsTo, IsReached, entered, jumped, kept}
+use Rattle.control_flow_theory.specs.lowering.Reached.{JumpsTo, IsReached, entered, jumped}
 use Rattle.control_flow_theory.specs.lowering.Renamed.{end_anew, tree_anew}
 use Rattle.control_flow_theory.specs.lowering.WellFormed.{AreJustReached}
 use Rattle.control_flow_theory.specs.graph_rules.Families.{Added}
 use Rattle.control_flow_theory.specs.graph_rules.Reduced.{Node, tree_in}
 use Rattle.control_flow_theory.specs.closing.Laws.{PlainEnd}
 use Rattle.control_flow_theory.specs.headline.Headline.{Plan, graphs_by}
-use Rattle.control_flow_theory.specs.headline.Numbering.{control_counters, stmt_counters, stmts_counters, arms_counters, body_counters, paragraph_counters, paragraphs_counters, counters_of, counts, numbers_by, added_by}
+use Rattle.control_flow_theory.specs.headline.Numbering.{control_counters, stmt_counters, stmts_counters, arms_counters, body_counters, paragraph_counters, paragraphs_counters, counts, numbers_by, added_by}
 use Rattle.control_flow_theory.proofs.semantics_lemmas.Ranges.{eq-self}
 use Rattle.control_flow_theory.proofs.headline_lemmas.graphs.LoweredGraphs.{graphs-family}
 use Rattle.added_items.specs.mentions.Mentions.{cells_named}

@@ -1,5 +1,5 @@
 -- What a program is split into is written again as it was written.
-use Rattle.std.proofs.Common.{◌≡◌, ℕ, suc, ◌≤◌, ◌<◌, Bool, true, false, List, [], ◌∷◌, length, map, Some, refl, ap, sym, ◌∙◌, subst, ◌⊎◌, inl, inr, arith}
+use Rattle.std.proofs.Common.{◌≡◌, ℕ, suc, ◌≤◌, ◌<◌, true, false, List, [], ◌∷◌, length, map, Some, refl, ap, sym, ◌∙◌, subst, arith}
 use Rattle.std.specs.Prelude.{slice_get}
 use Rattle.cob_tree.specs.declared.program.Program.{Program}
 use Rattle.cob_tree.specs.declared.program.Range as code
@@ -31,7 +31,6 @@ use Rattle.cobol_theory.proofs.cobol_parts_lemmas.SomeArm.{gives-some}
 use Rattle.cobol_theory.proofs.cobol_parts_lemmas.Sources as sources
 use Rattle.statement_builders.specs.arms.Written.{Way, naming_in}
 use Rattle.added_items.specs.item_table.Laws.{closed_ranges}
-use Rattle.added_items.specs.item_table.Row.{CellRange}
 use Rattle.added_items.specs.item_table.Tables.{most_arms, table_of_cells}
 use Rattle.lowering_labels.specs.points.Fall.{seen_range}
 use Rattle.pending_returns.specs.Summary.{IsSummary}

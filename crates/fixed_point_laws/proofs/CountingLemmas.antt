@@ -1,11 +1,10 @@
 -- How many arms the choices of procedures have.
-use Rattle.std.proofs.Common.{◌≡◌, ℕ, suc, ◌≤◌, ◌<◌, ◌==◌, Bool, true, false, List, [], ◌∷◌, length, Some, refl, ap, sym, ◌∙◌, subst, arith, eq-eqb, ◌⊎◌, inl}
+use Rattle.std.proofs.Common.{◌≡◌, ℕ, suc, ◌≤◌, ◌<◌, true, List, [], ◌∷◌, length, Some, refl, ap, sym, ◌∙◌, eq-eqb, inl}
 use Rattle.std.specs.Prelude.{slice_get}
 use Rattle.control_flow_theory.specs.language.Language.{Act, Own, Set, Take, Lower, Test, Holds, Not, Is, Above, Chooser, Picker, If, By, ByCell, Control, Times, Until, Varying, Stmt, Choose, Loop, Perform, Go, GoDepending, NextSentence, ExitParagraph, ExitSection, ExitPerform, StopRun, Stmts, none, also, Arms, done, given, missing, Body, Nested, Performed, Paragraph, Program, Range, Main}
 use Rattle.control_flow_theory.specs.language.Language as language
 use Rattle.control_flow_theory.specs.language.Structured.{StmtsNest}
-use Rattle.control_flow_theory.specs.language.Own.{OwnAct, OwnTest, OwnControl}
-use Rattle.control_flow_theory.specs.lowering.Told.{Told, OwnPicker, OwnStmt, OwnStmts, OwnArms, OwnBody, OwnParagraph, OwnParagraphs, IsSource, arm_count}
+use Rattle.control_flow_theory.specs.lowering.Told.{Told, OwnStmt, OwnStmts, OwnArms, OwnBody, OwnParagraph, OwnParagraphs, IsSource, arm_count}
 use Rattle.control_flow_theory.specs.semantics.Graph.{body_of}
 use Rattle.control_flow_theory.specs.graph_rules.Families.{Added, Never, Flag, Count, State, Exit}
 use Rattle.control_flow_theory.specs.graph_rules.Reduced.{kind_at, size, tree_in}

@@ -1,11 +1,11 @@
 -- Flow paths enter each paragraph of a result.
-use Rattle.std.proofs.Common.{◌≡◌, ℕ, zero, suc, ◌+◌, ◌≤◌, ◌<◌, Bool, true, false, if◌then◌else◌, ◌==◌, List, [], ◌∷◌, Option, Some, None, refl, ap, sym, ◌∙◌, subst, arith, inl, inr}
+use Rattle.std.proofs.Common.{◌≡◌, ℕ, zero, suc, ◌≤◌, ◌<◌, Bool, true, false, if◌then◌else◌, ◌==◌, List, [], ◌∷◌, Option, Some, None, refl, ap, sym, ◌∙◌, subst, arith, inl, inr}
 use Rattle.std.specs.Prelude.{slice_get, length, map}
 use Rattle.std.proofs.lemmas.Bool.Decides.{eqb_tells}
 use Rattle.std.proofs.lemmas.Bool.{leb-true}
 use Rattle.control_flow_theory.specs.language.Language.{Act, Stmt, Do, Choose, Loop, Perform, Go, GoDepending, NextSentence, ExitParagraph, ExitSection, ExitPerform, StopRun, Stmts, none, also, Arms, done, given, missing, Body, Nested, Performed, Paragraph, Program, unless_absent, paragraph_at, Range, Main, Part, same_range}
 use Rattle.control_flow_theory.specs.language.Language as language
-use Rattle.control_flow_theory.specs.language.Structured.{StmtNests, StmtsNest, ArmsNest, BodyNests, NamesLater, stmts_perform}
+use Rattle.control_flow_theory.specs.language.Structured.{stmts_perform}
 use Rattle.control_flow_theory.specs.semantics.Graph.{Label, Tree, tree, End, Pick, Jump, Return, Stop, Dead, Trees, no_more, more}
 use Rattle.control_flow_theory.specs.lowering.Told.{Told}
 use Rattle.control_flow_theory.specs.lowering.Completes.{complete}
@@ -24,7 +24,7 @@ use Rattle.control_flow_theory.specs.headline.Numbering.{numbers_by, added_by}
 use Rattle.control_flow_theory.proofs.semantics_lemmas.Ranges.{eq-self, same-self, same-range}
 use Rattle.control_flow_theory.proofs.headline_lemmas.graphs.LoweredGraphs.{graphs-family, graphs-closed}
 use Rattle.fixed_point.specs.Tight.{pass, StmtsAreTight, EndIsTight}
-use Rattle.fixed_point.specs.Again.{StmtsAreUncut, TopIsKept, IsRangeAt, IsStopReached, AnyRange, paragraph_of}
+use Rattle.fixed_point.specs.Again.{StmtsAreUncut}
 use Rattle.fixed_point.specs.Returns.{NodesReturn}
 use Rattle.fixed_point.specs.Paths.{with_returning, IsUncutFront, IsTableOf}
 use Rattle.fixed_point.specs.Written.{NamesAlike}
@@ -33,11 +33,8 @@ use Rattle.fixed_point_laws.specs.Entering.{IsFirstWritten, ResultsAreEntered}
 use Rattle.fixed_point.proofs.ReturnsReached.{returns-stand}
 use Rattle.fixed_point.proofs.ReturnsKept.{closed-returns}
 use Rattle.fixed_point.proofs.Procedures.{procedures-tight}
-use Rattle.fixed_point.proofs.Tops.{tops-kept}
 use Rattle.fixed_point.proofs.WrittenUncut.{written-uncut, pass-so}
-use Rattle.fixed_point.proofs.WrittenStays.{written-stays}
-use Rattle.fixed_point.proofs.Paths.{tables-named, nests-front, nests-at}
-use Rattle.fixed_point.proofs.OneNode.{paragraphs-again, one-node}
+use Rattle.fixed_point.proofs.Paths.{tables-named}
 
 -- ---- lists
 

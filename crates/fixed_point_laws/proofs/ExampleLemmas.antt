@@ -1,14 +1,13 @@
 -- A program of one STOP RUN comes again.
-use Rattle.std.proofs.Common.{◌≡◌, ℕ, zero, suc, ◌≤◌, ◌<◌, Bool, true, false, if◌then◌else◌, ◌==◌, List, [], ◌∷◌, Option, Some, None, length, refl, ap, sym, ◌∙◌, subst, arith, inl, inr}
+use Rattle.std.proofs.Common.{◌≡◌, ℕ, zero, suc, true, false, ◌==◌, List, [], ◌∷◌, Option, Some, None, refl, ap, sym, ◌∙◌, subst, arith, inl, inr}
 use Rattle.std.specs.Prelude.{slice_get}
 use Rattle.std.proofs.lemmas.Bool.Decides.{eqb_tells}
-use Rattle.control_flow_theory.specs.language.Language.{Act, Chooser, Evaluate, Read, Arith, Depending, Perform, StopRun, Range, Main, Part}
+use Rattle.control_flow_theory.specs.language.Language.{Evaluate, Read, Arith, Depending, Perform, StopRun, Range, Main, Part}
 use Rattle.control_flow_theory.specs.language.Items.{Item, Do, SentenceEnd}
 use Rattle.control_flow_theory.specs.language.Structured.{StmtsNest, IsStructured}
-use Rattle.control_flow_theory.specs.semantics.Outcome.{How}
-use Rattle.control_flow_theory.specs.semantics.Items.{Way, On, Halts, Into, To, ToEnd, item_way}
+use Rattle.control_flow_theory.specs.semantics.Items.{Way, On, Into, To, ToEnd, item_way}
 use Rattle.control_flow_theory.specs.semantics.Graph.{Label, end_of}
-use Rattle.control_flow_theory.specs.lowering.Told.{Told, MayGive, IsSource}
+use Rattle.control_flow_theory.specs.lowering.Told.{Told}
 use Rattle.control_flow_theory.specs.lowering.WellFormed.{AreJustReached}
 use Rattle.control_flow_theory.specs.lowering.flow.Comes.{begins, enters, goes_on, goes_to, goes_to_end, over, falls}
 use Rattle.control_flow_theory.specs.lowering.Lowered.{lowered}

@@ -1,5 +1,5 @@
 -- The graphs that ranges have, of which nothing need be made, as the theory plans them.
-use Rattle.std.proofs.Common.{◌≡◌, ◌<◌, ℕ, zero, suc, Bool, true, false, if◌then◌else◌, List, [], ◌∷◌, map, length, Option, Some, None, slice_get, refl, ap, ap₂, sym, subst, ◌∙◌}
+use Rattle.std.proofs.Common.{◌≡◌, ◌<◌, ℕ, zero, suc, Bool, true, false, if◌then◌else◌, List, [], ◌∷◌, map, length, Some, slice_get, refl, ap, sym, subst, ◌∙◌}
 use Rattle.cob_tree.specs.declared.program.Program as cobol
 use Rattle.cob_tree.specs.declared.program.Range as code
 use Rattle.control_flow_theory.specs.language.Control.{control_of}
@@ -13,7 +13,7 @@ use Rattle.control_flow_theory.specs.lowering.WellFormed.{AreJustReached}
 use Rattle.control_flow_theory.specs.graph_rules.Walked.{In, is_in}
 use Rattle.control_flow_theory.specs.graph_rules.Reduced as reduced
 use Rattle.control_flow_theory.specs.graph_rules.Reduced.{Graph}
-use Rattle.control_flow_theory.specs.headline.Chain.{IsPlan, lowered_graphs}
+use Rattle.control_flow_theory.specs.headline.Chain.{lowered_graphs}
 use Rattle.control_flow_theory.specs.headline.Headline.{Plan, graphs_by}
 use Rattle.control_flow_theory.specs.headline.Numbering.{numbers_by, added_by}
 use Rattle.program_facts.specs.completion.Told.{told_of}

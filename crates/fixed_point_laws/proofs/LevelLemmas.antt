@@ -1,5 +1,5 @@
 -- What the levels of a structured program come to, and perform.
-use Rattle.std.proofs.Common.{◌≡◌, ◌≢◌, ℕ, zero, suc, ◌+◌, ◌<◌, ◌≤◌, Bool, true, false, if◌then◌else◌, ◌==◌, List, [], ◌∷◌, length, slice_get, Some, refl, ap, sym, ◌∙◌, subst, arith, ◌⊎◌, inl, inr}
+use Rattle.std.proofs.Common.{◌≡◌, ◌≢◌, ℕ, zero, suc, ◌+◌, ◌<◌, ◌≤◌, Bool, true, false, List, [], ◌∷◌, length, slice_get, refl, ap, sym, ◌∙◌, subst, arith, ◌⊎◌, inl, inr}
 use Rattle.std.proofs.lemmas.Bool.Decides.{eqb_tells}
 use Rattle.control_flow_theory.specs.semantics.Outcome.{Trace, Tried, Got, Ends}
 use Rattle.control_flow_theory.specs.language.Language.{Act, Test, Picker, Control, Times, Until, Varying, Stmt, Choose, Loop, Perform, Go, GoDepending, NextSentence, ExitParagraph, ExitSection, ExitPerform, StopRun, Stmts, none, also, Arms, done, given, missing, Body, Nested, Performed, Paragraph, Program, unless_absent, Range, Main, Part}
@@ -12,7 +12,7 @@ use Rattle.control_flow_theory.specs.language.Structured.{StmtNests, StmtsNest, 
 use Rattle.control_flow_theory.specs.lowering.Told.{Told}
 use Rattle.control_flow_theory.specs.lowering.flow.Comes.{Comes, IsNoExit, begins, enters, goes_on, goes_to, goes_to_end, over, falls}
 use Rattle.control_flow_theory.specs.lowering.flow.Paths.{free}
-use Rattle.control_flow_theory.specs.lowering.flow.Entered.{FreelyComes, IsEntered, main, performed}
+use Rattle.control_flow_theory.specs.lowering.flow.Entered.{IsEntered, main, performed}
 use Rattle.control_flow_theory.specs.lowering.flow.Called.{IsCalled}
 use Rattle.fixed_point.specs.Again.{IsRangeAt}
 use Rattle.fixed_point_laws.specs.Levels.{LevelsPerformLater, EnteredAreParagraphs}

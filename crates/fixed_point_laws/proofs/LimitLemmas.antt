@@ -1,10 +1,10 @@
 -- Splitting a result passes no limit.
-use Rattle.std.proofs.Common.{◌≡◌, ◌≤◌, ◌<◌, ◌+◌, ℕ, zero, suc, true, false, if◌then◌else◌, Bool, List, [], ◌∷◌, map, length, Some, slice_get, sum_by, refl, ap, sym, subst, ◌∙◌, inl, inr, arith, IsTrue}
+use Rattle.std.proofs.Common.{◌≡◌, ◌≤◌, ◌<◌, ◌+◌, ℕ, zero, suc, true, false, Bool, List, [], ◌∷◌, map, length, Some, slice_get, sum_by, refl, ap, sym, subst, ◌∙◌, inl, inr, arith, IsTrue}
 use Rattle.std.specs.Prelude.{max}
 use Rattle.std.proofs.lemmas.List.Sums.{sum_by-cons}
 use Rattle.std.proofs.lemmas.Option.{slice_get_within}
 use Rattle.cob_base.specs.declared.limit.Limit.{Limit}
-use Rattle.cob_tree.specs.Depth.{largest, program_depth}
+use Rattle.cob_tree.specs.Depth.{largest}
 use Rattle.cob_tree.specs.declared.fault.SplitFault.TheVariants as fault
 use Rattle.cob_tree.specs.declared.program.Program.{Program}
 use Rattle.cob_tree.specs.declared.program.Paragraph as trees
@@ -16,7 +16,7 @@ use Rattle.control_flow_theory.specs.language.Structured.{IsStructured}
 use Rattle.control_flow_theory.specs.lowering.Completes.{sizes}
 use Rattle.control_flow_theory.specs.lowering.Told.{Told}
 use Rattle.control_flow_theory.specs.lowering.Lowered.{lowered, total}
-use Rattle.control_flow_theory.specs.semantics.Graph.{Tree, tree, End, Pick, Jump, Return, Stop, Dead, body_of}
+use Rattle.control_flow_theory.specs.semantics.Graph.{tree, End, Pick, Jump, Return, Stop, Dead, body_of}
 use Rattle.control_flow_theory.specs.graph_rules.Reduced.{Graph, Node}
 use Rattle.control_flow_theory.specs.closing.Closes.{closed_graph}
 use Rattle.control_flow_theory.specs.closing.Laws.{PlainEnd}
@@ -37,22 +37,20 @@ use Rattle.statement_builders.specs.arms.Written.{Way}
 use Rattle.pending_returns.specs.Summary.{IsSummary}
 use Rattle.pending_returns.specs.declared.facts.Summary.{Summary}
 use Rattle.procedure_split.specs.Split.{IsSplit, IsSplitFault}
-use Rattle.procedure_split.specs.plan.Laws.{as_control}
 use Rattle.procedure_split.specs.plan.Planned.{IsPlanOf}
 use Rattle.procedure_split.specs.shaped_ranges.Graphs.{HaveGraphs, total_size}
 use Rattle.procedure_split.specs.shaped_ranges.Laws.{HasFlow}
 use Rattle.procedure_split.specs.shaped_ranges.Limit.{node_limit}
-use Rattle.procedure_split.specs.split_behaviour.Alike.{IsWellMade, FlowsSo, StandsAlone}
+use Rattle.procedure_split.specs.split_behaviour.Alike.{IsWellMade, FlowsSo}
 use Rattle.procedure_split.specs.written_depth.Levels.{levels, stmt_levels, body_levels, arms_levels, least_levels, paragraph_levels, program_levels}
 use Rattle.procedure_split.proofs.lowered_arms_lemmas.Graphs.{split-nests}
-use Rattle.procedure_split.proofs.made_procedures_lemmas.Rows.{all-as-planned, beside}
 use Rattle.procedure_split.proofs.shaped_ranges_lemmas.GraphRows.{have-seen}
 use Rattle.procedure_split.proofs.split_behaviour_lemmas.Joined as joined
 use Rattle.procedure_split.proofs.split_behaviour_lemmas.Named.{have-names}
 use Rattle.procedure_split.proofs.written_depth_lemmas.Seen.{program-agrees}
 use Rattle.program_facts.specs.completion.Told.{told_of}
 use Rattle.program_facts.specs.well_scoped.Part.{is_filled}
-use Rattle.fixed_point.specs.Fixed.{result_by, IsBare}
+use Rattle.fixed_point.specs.Fixed.{result_by}
 use Rattle.fixed_point_laws.specs.Limits.{SplitsPassNoLimit}
 use Rattle.fixed_point_laws.specs.Tokens.{parts_of}
 use Rattle.fixed_point_laws.proofs.AgainLemmas as first
@@ -309,11 +307,11 @@ module _ (program made : Program) (summary other : Summary) (well : IsWellMade p
       HaveGraphs (told_of made.files returning) (control_of made) order graphs → PlannedHaving made other order graphs
   having returning order graphs is have = planned-having made other returning order graphs flow is have
 
-  have-many : (told : Told) (order : List code.Range) (graphs : List Graph) → HaveGraphs told (control_of made) order graphs → length graphs ≡ length order
+  have-many : (told : Told) (ranges : List code.Range) (graphs : List Graph) → HaveGraphs told (control_of made) ranges graphs → length graphs ≡ length ranges
   have-many told [] [] have = refl
   have-many told [] (graph ∷ graphs) have = absurd have
-  have-many told (range ∷ order) [] have = absurd have
-  have-many told (range ∷ order) (graph ∷ graphs) have = ap (λ (n : ℕ). suc n) (have-many told order graphs have.1)
+  have-many told (range ∷ ranges) [] have = absurd have
+  have-many told (range ∷ ranges) (graph ∷ graphs) have = ap (λ (n : ℕ). suc n) (have-many told ranges graphs have.1)
 
   module _ (order : List code.Range) (graphs : List Graph) (h : PlannedHaving made other order graphs) where
     -- the order as control ranges

@@ -1,9 +1,9 @@
 -- What COBOL parts are called, once and again.
-use Rattle.std.proofs.Common.{◌≡◌, ℕ, zero, suc, ◌+◌, Bool, true, false, if◌then◌else◌, List, [], ◌∷◌, ◌++◌, Option, Some, None, refl, ap, sym, ◌∙◌}
-use Rattle.std.specs.Prelude.{not, length, map, slice_get}
+use Rattle.std.proofs.Common.{◌≡◌, ℕ, ◌+◌, Bool, true, false, if◌then◌else◌, List, [], ◌∷◌, ◌++◌, refl, ap}
+use Rattle.std.specs.Prelude.{not, map}
 use Rattle.cob_tree.specs.declared.choice.Subject.TheVariants as subjects
 use Rattle.cob_tree.specs.declared.file.FileEntry.{FileEntry}
-use Rattle.control_flow_theory.specs.language.Language.{Act, Own, Set, Take, Lower, Chooser, Evaluate, Read, Arith, Depending, Picker, If, By, ByCell, none, also, Arms, done, given, missing, Range}
+use Rattle.control_flow_theory.specs.language.Language.{Own, Set, Take, Lower, Chooser, Evaluate, Read, Arith, Depending, If, By, ByCell, none, also, Arms, done, given, missing, Range}
 use Rattle.program_facts.specs.completion.Told.{told_of}
 use Rattle.control_flow_theory.specs.rendering.Rendering.{standing}
 use Rattle.cobol_theory.specs.cell_items.Cell.{cell_operand, operand_expr}

@@ -1,18 +1,17 @@
 -- The plan of a structured program each of whose paragraphs is entered has these in their order.
-use Rattle.std.proofs.Common.{◌≡◌, ◌<◌, ◌≤◌, ◌+◌, ◌||◌, ◌&&◌, ◌==◌, nat_lt, lt-ltb, ℕ, zero, suc, Bool, true, false, List, [], ◌∷◌, length, map, Option, Some, None, slice_get, refl, ap, sym, ◌∙◌, subst, ◌⊎◌, inl, inr, arith}
-use Rattle.std.specs.Prelude.{drop}
+use Rattle.std.proofs.Common.{◌≡◌, ◌<◌, ◌≤◌, ◌+◌, ◌||◌, ◌&&◌, ◌==◌, nat_lt, lt-ltb, ℕ, zero, suc, true, List, [], ◌∷◌, length, map, Some, None, slice_get, refl, ap, sym, ◌∙◌, subst, inl, inr, arith}
 use Rattle.std.proofs.lemmas.Option.{slice_get_within}
 use Rattle.cob_tree.specs.declared.program.Range as tree
 use Rattle.control_flow_theory.specs.language.Language.{Paragraph, Program, Range, Main, Part, Perform}
-use Rattle.control_flow_theory.specs.language.Structured.{NamesLater, FirstStops, IsStructured}
-use Rattle.control_flow_theory.specs.language.Items.{Item, Do}
+use Rattle.control_flow_theory.specs.language.Structured.{FirstStops, IsStructured}
+use Rattle.control_flow_theory.specs.language.Items.{Do}
 use Rattle.control_flow_theory.specs.lowering.Told.{Told, IsSource}
 use Rattle.control_flow_theory.specs.lowering.flow.Entered.{FreelyComes, IsEntered, main, performed}
 use Rattle.control_flow_theory.specs.lowering.flow.Called.{IsCalled}
 use Rattle.control_flow_theory.specs.lowering.flow.Paths as theory
 use Rattle.control_flow_theory.specs.headline.CallsReached.{GivesSome}
 use Rattle.program_points.specs.paths.Step.{Point, at, Calls, next}
-use Rattle.program_points.specs.paths.Flow.{main_range, part, Pending, returning, FreePath, CallsIn, IsRange}
+use Rattle.program_points.specs.paths.Flow.{main_range, part, Pending, returning, IsRange}
 use Rattle.program_points.specs.paths.Levels.{Comes, Levels, bottom, called}
 use Rattle.program_points.proofs.paths_lemmas.Runs.{stands, levels-run}
 use Rattle.program_points.specs.machine_paths.Uncounted.{uncounted, point_at, range_of}
@@ -31,7 +30,7 @@ use Rattle.procedure_split.proofs.plan_lemmas.Layers.{get-there, size-calls}
 use Rattle.procedure_split.proofs.plan_lemmas.ByPaths.{planned}
 use Rattle.procedure_split.proofs.one_summary_lemmas.Ranges.{Rising, one-list}
 use Rattle.fixed_point.specs.Again.{IsRangeAt}
-use Rattle.fixed_point_laws.specs.Ordering.{GoesByPlaces, PlansGoByPlaces}
+use Rattle.fixed_point_laws.specs.Ordering.{PlansGoByPlaces}
 use Rattle.fixed_point_laws.proofs.LevelLemmas.{later, entered}
 use Rattle.fixed_point_laws.proofs.OrderLemmas.{numbers_on, as-they-are}
 
@@ -297,7 +296,9 @@ module _ (told : Told) (program : Program) (source : IsSource told program) (som
           let facts = get-there ranges number (let s = size-calls ranges in omega (arith, within, s)) in
           let place = range-there more number facts.0.range (facts-there number facts.0 facts.1) in
           let it : range_at ranges number ≡ range_of (place_range number) = ap or_main facts.1 ∙ sym place.0 in
-          let same : range ≡ place_range number = sym a.2 ∙ ap as_control (sym b.2 ∙ ap (range_at ranges) n ∙ it) ∙ seen-place number in
+          let there : a.0 ≡ range_at ranges number = sym b.2 ∙ ap (range_at ranges) n in
+          let placed : a.0 ≡ range_of (place_range number) = there ∙ it in
+          let same : range ≡ place_range number = sym a.2 ∙ ap as_control placed ∙ seen-place number in
           subst (IsRangeAt number) (sym same) (place-is number)
 
       entry-of : (n : ℕ) → (range_of (place_range n)).entry ≡ n
@@ -315,7 +316,9 @@ module _ (told : Told) (program : Program) (source : IsSource told program) (som
           let facts = get-there ranges number (let s = size-calls ranges in omega (arith, within, s)) in
           let place = range-there more number facts.0.range (facts-there number facts.0 facts.1) in
           let it : range_at ranges number ≡ range_of (place_range number) = ap or_main facts.1 ∙ sym place.0 in
-          ap (λ (r : tree.Range). r.entry) (sym b.2 ∙ ap (range_at ranges) n ∙ it) ∙ entry-of number
+          let there : range ≡ range_at ranges number = sym b.2 ∙ ap (range_at ranges) n in
+          let placed : range ≡ range_of (place_range number) = there ∙ it in
+          ap (λ (r : tree.Range). r.entry) placed ∙ entry-of number
 
 pub by-places : PlansGoByPlaces
 by-places = λ told program summary returning order source some structured fine is plan all. record {

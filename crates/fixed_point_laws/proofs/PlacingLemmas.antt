@@ -1,9 +1,9 @@
 -- Ranges in the order of their paragraphs are called as these.
-use Rattle.std.proofs.Common.{◌≡◌, ℕ, zero, suc, ◌+◌, ◌≤◌, ◌<◌, Bool, true, false, if◌then◌else◌, ◌==◌, List, [], ◌∷◌, ◌++◌, length, Option, Some, None, refl, ap, sym, ◌∙◌, subst, eqb-true, arith}
+use Rattle.std.proofs.Common.{◌≡◌, ℕ, zero, suc, ◌+◌, ◌≤◌, ◌<◌, Bool, true, false, if◌then◌else◌, ◌==◌, List, [], ◌∷◌, ◌++◌, length, Some, None, refl, ap, ◌∙◌, eqb-true, arith}
 use Rattle.std.specs.Prelude.{slice_get}
 use Rattle.cob_tree.specs.declared.program.Paragraph.{Paragraph}
 use Rattle.cob_tree.specs.declared.program.Range.{Range}
-use Rattle.out_names.specs.Naming.{either, label_of, paragraph_label, has_entry, own_label, named, names_behind, names_of}
+use Rattle.out_names.specs.Naming.{either, label_of, paragraph_label, has_entry, own_label, named, names_behind}
 use Rattle.out_names.specs.Words.{program_words, table_of}
 use Rattle.fixed_point_laws.specs.Placing.{NamesComeAgain}
 

@@ -1,5 +1,5 @@
 -- The ranges that the text of a structured program names.
-use Rattle.std.proofs.Common.{◌≡◌, ℕ, zero, suc, ◌+◌, ◌≤◌, ◌<◌, ◌==◌, ◌&&◌, ◌||◌, nat_lt, Bool, true, false, List, [], ◌∷◌, ◌++◌, map, length, Option, Some, None, is_some, refl, ap, sym, ◌∙◌, subst, ◌⊎◌, inl, inr, eqb-true, ltb-true, arith}
+use Rattle.std.proofs.Common.{◌≡◌, ℕ, zero, suc, ◌≤◌, ◌<◌, ◌==◌, ◌&&◌, ◌||◌, nat_lt, Bool, true, false, List, [], ◌∷◌, ◌++◌, map, length, Option, Some, None, refl, ap, sym, subst, ◌⊎◌, inl, inr, ltb-true, arith}
 use Rattle.std.specs.Prelude.{slice_get}
 use Rattle.cob_tree.specs.declared.calc.Calc.{Calc}
 use Rattle.cob_tree.specs.declared.calc.Target.{Target}
@@ -8,17 +8,16 @@ use Rattle.cob_tree.specs.declared.control.Control.{Control}
 use Rattle.cob_tree.specs.declared.control.Control.TheVariants as turning
 use Rattle.cob_tree.specs.declared.program.Sentence.{Sentence}
 use Rattle.cob_tree.specs.declared.program.Paragraph.{Paragraph}
-use Rattle.cob_tree.specs.declared.program.Program.{Program}
 use Rattle.cob_tree.specs.declared.program.Range.{Range}
 use Rattle.cob_tree.specs.declared.stmt.Arms.{Arms, roll-Arms, map-Arms, fold-roll-Arms}
 use Rattle.cob_tree.specs.declared.stmt.When.{When, roll-When, map-When, fold-roll-When}
 use Rattle.cob_tree.specs.declared.stmt.Stmt.{Stmt, ind-Stmt, map-Stmt, roll-Stmt, fold-roll-Stmt}
 use Rattle.cob_tree.specs.declared.stmt.Stmt.TheOpen.{Stmt-F, Arms-F, When-F}
 use Rattle.control_flow_theory.specs.language.Language as language
-use Rattle.control_flow_theory.specs.language.Control.{arith_stmt, arm_before, else_of, control_in, loop_of, perform_of, Branch, branches_before, Both, both_arms, both_step, branch_step, seen_step, seen, seen_when, seen_both, seen_stmts, seen_sentence, seen_paragraph, section_last, seen_paragraphs, control_of}
-use Rattle.control_flow_theory.specs.language.Structured.{StmtNests, StmtsNest, ArmsNest, NamesLater, ParagraphNests, ParagraphsNest, FirstStops, IsStructured}
+use Rattle.control_flow_theory.specs.language.Control.{arith_stmt, arm_before, else_of, control_in, loop_of, perform_of, Branch, branches_before, Both, both_arms, both_step, branch_step, seen_step, seen, seen_when, seen_both, seen_stmts, seen_sentence, section_last, seen_paragraphs, control_of}
+use Rattle.control_flow_theory.specs.language.Structured.{StmtNests, StmtsNest, ArmsNest, NamesLater, ParagraphNests, ParagraphsNest, FirstStops}
 use Rattle.program_points.specs.paths.Flow.{part}
-use Rattle.program_points.specs.perform_ranges.Named.{named_step, arms_step, when_step, named_stmt, named_arms, named_when, named_stmts, named_sentence, named_paragraph, named_paragraphs, joined, joined_if, is_before, pair_before, main_range, Has, AreRangesOf}
+use Rattle.program_points.specs.perform_ranges.Named.{named_step, arms_step, when_step, named_stmt, named_arms, named_when, named_stmts, named_sentence, named_paragraph, named_paragraphs, joined, is_before, main_range, Has}
 use Rattle.program_points.proofs.table_building_lemmas.Sections.{seen-length}
 use Rattle.fixed_point_laws.specs.Ranges.{StructuredProgramsNameFew, StructuredProgramsPassNoRanges}
 

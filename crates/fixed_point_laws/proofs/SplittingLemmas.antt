@@ -6,7 +6,6 @@ use Rattle.cob_tree.specs.declared.entry.Entry.{Entry}
 use Rattle.cob_tree.specs.declared.file.FileEntry.{FileEntry}
 use Rattle.cob_tree.specs.declared.program.Paragraph.{Paragraph}
 use Rattle.cob_tree.specs.declared.program.Program.{Program}
-use Rattle.cob_tree.specs.declared.program.Range as code
 use Rattle.control_flow_theory.specs.language.Control.{control_of}
 use Rattle.control_flow_theory.specs.language.Language as language
 use Rattle.control_flow_theory.specs.language.Language.{Range, Main}
@@ -31,11 +30,10 @@ use Rattle.lowering_labels.specs.points.Fall.{seen_range}
 use Rattle.program_points.specs.numbering.Kinds.{never_first_of}
 use Rattle.pending_returns.specs.Summary.{IsSummary}
 use Rattle.pending_returns.specs.declared.facts.Summary.{Summary}
-use Rattle.procedure_split.specs.Counted.{counts_of, none_added}
+use Rattle.procedure_split.specs.Counted.{counts_of}
 use Rattle.procedure_split.specs.Rows.{rows_of}
-use Rattle.procedure_split.specs.Split.{IsSplit, IsSplitWith}
+use Rattle.procedure_split.specs.Split.{IsSplit}
 use Rattle.procedure_split.specs.Written.{added_entries}
-use Rattle.procedure_split.specs.declared.writing.Split.{Split}
 use Rattle.procedure_split.specs.shaped_ranges.Laws.{IsPlannedWith}
 use Rattle.procedure_split.specs.split_behaviour.Alike.{IsWellMade, FlowsSo}
 use Rattle.procedure_split.proofs.made_procedures_lemmas.Rows.{beside, in-at}

@@ -2,17 +2,16 @@
 use Rattle.std.proofs.Common.{◌≡◌, ℕ, suc, ◌<◌, ◌≤◌, true, false, if◌then◌else◌, List, [], ◌∷◌, Some, refl, ap, ◌∙◌, arith}
 use Rattle.std.specs.Prelude.{min}
 use Rattle.control_flow_theory.specs.language.Language.{Range, same_range}
-use Rattle.control_flow_theory.specs.semantics.Graph.{body_of}
 use Rattle.control_flow_theory.proofs.semantics_lemmas.Ranges.{same-range}
 use Rattle.control_flow_theory.specs.graph_rules.Families.{Added, Never, Flag, Count, State, Exit}
-use Rattle.control_flow_theory.specs.graph_rules.Reduced.{Graphs, kind_at, tree_in, size}
+use Rattle.control_flow_theory.specs.graph_rules.Reduced.{Graphs, size}
 use Rattle.control_flow_theory.specs.graph_rules.Walked.{is_in, In}
 use Rattle.control_flow_theory.specs.closing.Closes.{closed_graph}
 use Rattle.control_flow_theory.specs.headline.Chain.{stmts_arms}
 use Rattle.added_items.specs.item_table.Items.{or_never, kind_in}
 use Rattle.added_items.specs.item_table.Laws.{cell_range, closed_ranges}
 use Rattle.added_items.specs.item_table.Row.{CellRange, of_range}
-use Rattle.added_items.specs.item_table.Tables.{most_arms, few_arms, most_by, table_of_cells}
+use Rattle.added_items.specs.item_table.Tables.{most_arms, few_arms, most_by}
 use Rattle.fixed_point_laws.specs.Counting.{IsChosenBy}
 use Rattle.fixed_point_laws.specs.Tables.{TablesTellArms}
 

@@ -1,5 +1,5 @@
 -- Each statement is printed as a token at least.
-use Rattle.std.proofs.Common.{◌≡◌, ℕ, zero, suc, ◌+◌, ◌≤◌, ◌==◌, ◌&&◌, ◌||◌, Bool, true, false, if◌then◌else◌, List, [], ◌∷◌, ◌++◌, map, length, length-append, Option, Some, None, is_some, refl, ap, sym, ◌∙◌, subst, arith, All, IsSome}
+use Rattle.std.proofs.Common.{◌≡◌, ℕ, suc, ◌+◌, ◌≤◌, ◌==◌, ◌&&◌, ◌||◌, Bool, true, false, List, [], ◌∷◌, ◌++◌, map, length, length-append, Option, Some, None, refl, sym, subst, arith, All, IsSome}
 use Rattle.std.specs.Prelude.{codes}
 use Rattle.std.specs.List.{flat_map}
 use Rattle.cob_tree.specs.declared.calc.Calc.{Calc}
@@ -28,8 +28,8 @@ use Rattle.cobol_print.specs.declared.units.statement.Phrase.{Phrase}
 use Rattle.cobol_print.specs.declared.units.statement.Phrase.TheVariants.{AtEnd, OnSizeError}
 use Rattle.cobol_print.specs.declared.units.unit.PrintUnit.{PrintUnit}
 use Rattle.cobol_print.specs.units.Unit.{unit_at, header, deeper, ended}
-use Rattle.cobol_print.specs.units.Statement.{Lines, ArmLines, WhenLines, phrase_tokens, word_line, other_tokens, end_lines, tests_lines, some_lines, list_lines, arm_lines, arm_if_any, whens_lines, held_by_other, held_by_else, held_step, stmt_step, arms_step, when_step, stmt_lines, arms_lines, when_lines}
-use Rattle.cobol_print.specs.units.Division.{environment_units, data_units, program_id, section_line, named_line, sentence_lines, sentence_units, paragraph_units, paragraphs_units, procedure_units, program_units}
+use Rattle.cobol_print.specs.units.Statement.{Lines, ArmLines, WhenLines, phrase_tokens, word_line, other_tokens, end_lines, tests_lines, some_lines, list_lines, arm_lines, whens_lines, held_by_other, held_by_else, held_step, stmt_step, arms_step, when_step, stmt_lines, arms_lines, when_lines}
+use Rattle.cobol_print.specs.units.Division.{environment_units, data_units, program_id, section_line, named_line, sentence_lines, sentence_units, paragraph_units, paragraphs_units, procedure_units}
 use Rattle.cobol_print.specs.Unit.{all_tokens}
 use Rattle.fixed_point_laws.specs.Tokens.{parts_of, IsNamed, EachPartIsAToken}
 

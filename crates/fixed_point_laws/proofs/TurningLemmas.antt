@@ -1,5 +1,5 @@
 -- What sets and steps each VARYING does something, statement by statement.
-use Rattle.std.proofs.Common.{◌≡◌, ℕ, suc, Bool, true, false, List, [], ◌∷◌, map, Option, Some, None, is_some, refl, sym, subst}
+use Rattle.std.proofs.Common.{ℕ, suc, List, [], ◌∷◌, map, Option, Some, None, refl, sym, subst}
 use Rattle.cob_tree.specs.declared.calc.Calc.{Calc}
 use Rattle.cob_tree.specs.declared.calc.Target.{Target}
 use Rattle.cob_tree.specs.declared.choice.Test.{Test}
@@ -16,7 +16,7 @@ use Rattle.control_flow_theory.specs.language.Language as language
 use Rattle.control_flow_theory.specs.language.Control.{arith_stmt, arm_before, else_of, control_in, loop_of, perform_of, Branch, branches_before, Both, both_arms, both_step, branch_step, seen_step, seen, seen_when, seen_both, seen_stmts, seen_sentence, section_last, seen_paragraphs}
 use Rattle.control_flow_theory.specs.lowering.Told.{Told}
 use Rattle.program_facts.specs.completion.Told.{told_of}
-use Rattle.fixed_point.specs.Tops.{ControlActs, StmtActs, StmtsAct, ArmsAct, ParagraphActs, ParagraphsAct}
+use Rattle.fixed_point.specs.Tops.{StmtActs, StmtsAct, ArmsAct, ParagraphActs, ParagraphsAct}
 use Rattle.fixed_point_laws.specs.Turning.{VaryingActs}
 
 module _ (files : List FileEntry) (returning : List (List ℕ)) where

@@ -6,7 +6,6 @@ use Rattle.control_flow_theory.specs.lowering.Lowered.{lowered}
 use Rattle.control_flow_theory.specs.lowering.WellFormed.{AreJustReached}
 use Rattle.control_flow_theory.specs.closing.Laws.{PlainEnd}
 use Rattle.control_flow_theory.specs.headline.Headline.{Plan, graphs_by}
-use Rattle.cobol_theory.specs.cell_serving.Entries.{CellEntry}
 use Rattle.added_items.specs.item_table.Items.{item_kinds}
 use Rattle.added_items.specs.item_table.Names.{entries_for}
 use Rattle.added_items.specs.item_table.Row.{CellRange}

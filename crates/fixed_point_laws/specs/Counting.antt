@@ -1,5 +1,5 @@
 -- How many arms the choices of procedures have.
-use Rattle.std.specs.Prelude.{ℕ, suc, ◌≡◌, ◌≤◌, ◌<◌, ◌==◌, true, List, ◌∷◌, length, Some, slice_get}
+use Rattle.std.specs.Prelude.{ℕ, suc, ◌≡◌, ◌≤◌, ◌<◌, ◌==◌, true, ◌∷◌, length, Some, slice_get}
 use Rattle.control_flow_theory.specs.language.Language.{Chooser, Program, Range, Main}
 use Rattle.control_flow_theory.specs.language.Structured.{StmtsNest}
 use Rattle.control_flow_theory.specs.lowering.Told.{IsSource}

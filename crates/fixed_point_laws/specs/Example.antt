@@ -1,5 +1,5 @@
 -- A program of one STOP RUN, which comes again.
-use Rattle.std.specs.Prelude.{ℕ, ◌≡◌, Bool, true, false, ◌==◌, List, [], ◌∷◌}
+use Rattle.std.specs.Prelude.{◌≡◌, Bool, true, false, ◌==◌, [], ◌∷◌}
 use Rattle.control_flow_theory.specs.language.Language.{StopRun, none, also, Program, Range, Main, Part}
 use Rattle.control_flow_theory.specs.semantics.Graph.{Label}
 use Rattle.control_flow_theory.specs.headline.Headline.{Plan}

@@ -1,6 +1,6 @@
 -- What the levels of a structured program perform.
 use Rattle.std.specs.Prelude.{ℕ, ◌≡◌, ◌≤◌, ◌<◌, length}
-use Rattle.control_flow_theory.specs.language.Language.{Program, Range, Main, Part}
+use Rattle.control_flow_theory.specs.language.Language.{Program, Range, Part}
 use Rattle.control_flow_theory.specs.language.Structured.{NamesLater, IsStructured}
 use Rattle.control_flow_theory.specs.lowering.Told.{Told}
 use Rattle.control_flow_theory.specs.lowering.flow.Called.{IsCalled}

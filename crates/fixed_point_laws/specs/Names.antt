@@ -1,12 +1,12 @@
 -- What parts are called in a result, and again in what that is restructured to.
-use Rattle.std.specs.Prelude.{ℕ, suc, ◌≡◌, Bool, true, false, not, List, [], ◌∷◌, length}
+use Rattle.std.specs.Prelude.{ℕ, ◌≡◌, Bool, false, List}
 use Rattle.cob_tree.specs.declared.file.FileEntry.{FileEntry}
-use Rattle.control_flow_theory.specs.language.Language.{Act, Chooser, Picker, If, By, ByCell, Arms, Range}
+use Rattle.control_flow_theory.specs.language.Language.{Act, Picker, Range}
 use Rattle.control_flow_theory.specs.lowering.Completes.{skips}
-use Rattle.control_flow_theory.specs.rendering.Rendering.{count_arms, standing, written_act, written_picker}
-use Rattle.program_facts.specs.completion.Told.{told_of, width_of}
+use Rattle.control_flow_theory.specs.rendering.Rendering.{written_act}
+use Rattle.program_facts.specs.completion.Told.{told_of}
 use Rattle.statement_builders.specs.arms.Written.{Way, naming_in}
-use Rattle.fixed_point.specs.Written.{NamesAlike, KeepsParts, StayOut, StaysBehind}
+use Rattle.fixed_point.specs.Written.{NamesAlike, KeepsParts}
 use Rattle.fixed_point.specs.Choices.{ChooserAgain}
 
 -- the parts of COBOL keep their names
