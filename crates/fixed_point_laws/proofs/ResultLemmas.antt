@@ -5,15 +5,12 @@ use Rattle.cob_tree.specs.declared.program.Program.{Program}
 use Rattle.control_flow_theory.specs.language.Control.{control_of}
 use Rattle.control_flow_theory.specs.language.Structured.{IsStructured}
 use Rattle.cobol_print.specs.Program.{printed}
-use Rattle.cobol_print.specs.Unit.{all_tokens}
-use Rattle.cobol_print.specs.units.Division.{program_units}
 use Rattle.cobol_read.specs.Reading.{Reads}
 use Rattle.out_names.specs.Ordering.{first_ready, order_from, order_of}
 use Rattle.pending_returns.specs.declared.facts.RangeFacts.{RangeFacts}
 use Rattle.pending_returns.specs.declared.facts.Summary.{Summary}
 use Rattle.procedure_split.specs.Split.{IsSplit}
 use Rattle.procedure_split.specs.plan.Planned.{calls_of, range_at}
-use Rattle.procedure_split.specs.shaped_ranges.Limit.{node_limit}
 use Rattle.procedure_split.specs.split_behaviour.Alike.{IsWellMade, FlowsSo}
 use Rattle.procedure_split.proofs.split_behaviour_lemmas.Joined as joined
 use Rattle.end_to_end_laws.specs.results.readable_results.Laws.{IsWithinLimits, SplitProgramsReadBack}
@@ -34,7 +31,7 @@ order-few (suc count) calls stands (Some number) =
     omega (arith, k)
 
 module _ (read_back : SplitProgramsReadBack) (bytes : List ℕ) (program made : Program) (summary : Summary) (reads : Reads bytes program) (flows : FlowsSo program summary) (few : length summary.ranges ≤ 5000)
-    (split : IsSplit program summary made) (within : IsWithinLimits made) (small : length (all_tokens (program_units made)) ≤ node_limit) where
+    (split : IsSplit program summary made) (within : IsWithinLimits made) where
   well : IsWellMade program
   well = well-made bytes program reads
 
@@ -62,9 +59,9 @@ module _ (read_back : SplitProgramsReadBack) (bytes : List ℕ) (program made : 
     read_back = back;
     faultless = are-faultless made well-again.proper.own_items well-again.proper.own_paragraphs structured;
     ranges = ranges.pass-none made structured paragraphs-few;
-    within = λ other limit is fault. limits.pass-none program made summary other limit well flows split well-again is small fault;
+    within = λ other limit is fault. limits.pass-none program made summary other limit well flows split well-again is within.short.tokens fault;
     again = λ other twice is again. come-again program made summary other twice well flows split well-again is again;
   }
 
 pub are-fixed : SplitProgramsReadBack → ResultsAreFixed
-are-fixed read_back = λ bytes program made summary reads flows few split within small. fixed read_back bytes program made summary reads flows few split within small
+are-fixed read_back = λ bytes program made summary reads flows few split within. fixed read_back bytes program made summary reads flows few split within

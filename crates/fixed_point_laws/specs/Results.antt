@@ -6,8 +6,6 @@ use Rattle.cob_tree.specs.declared.fault.SplitFault.TheVariants as fault
 use Rattle.cob_tree.specs.declared.program.Program.{Program}
 use Rattle.control_flow_theory.specs.language.Control.{control_of}
 use Rattle.cobol_print.specs.Program.{printed}
-use Rattle.cobol_print.specs.Unit.{all_tokens}
-use Rattle.cobol_print.specs.units.Division.{program_units}
 use Rattle.cobol_read.specs.Reading.{Reads}
 use Rattle.program_points.specs.numbering.Kinds.{never_first_of}
 use Rattle.program_points.specs.paths.Flow.{IsFaulty}
@@ -16,7 +14,6 @@ use Rattle.pending_returns.specs.declared.facts.Summary.{Summary}
 use Rattle.procedure_split.specs.Counted.{none_added}
 use Rattle.procedure_split.specs.Split.{IsSplit, IsSplitFault, IsSplitWith}
 use Rattle.procedure_split.specs.declared.writing.Split.{Split}
-use Rattle.procedure_split.specs.shaped_ranges.Limit.{node_limit}
 use Rattle.procedure_split.specs.split_behaviour.Alike.{FlowsSo}
 use Rattle.end_to_end_laws.specs.results.readable_results.Laws.{IsWithinLimits}
 
@@ -40,4 +37,4 @@ abbrev pub ResultsAreFixed : Type 0
 ResultsAreFixed =
     (bytes : List ℕ) (program made : Program) (summary : Summary) → Reads bytes program →
     FlowsSo program summary → length summary.ranges ≤ 5000 → IsSplit program summary made →
-    IsWithinLimits made → length (all_tokens (program_units made)) ≤ node_limit → IsFixed made
+    IsWithinLimits made → IsFixed made
