@@ -1,0 +1,32 @@
+-- In which order the procedures of a structured program stand.
+use Rattle.std.specs.Prelude.{ℕ, suc, ◌≡◌, ◌≤◌, ◌<◌, List, ◌∷◌, length, Some, slice_get}
+use Rattle.cob_tree.specs.declared.program.Range as tree
+use Rattle.control_flow_theory.specs.language.Language.{Program, Range, Main, Part}
+use Rattle.control_flow_theory.specs.language.Structured.{IsStructured}
+use Rattle.control_flow_theory.specs.lowering.Told.{Told, IsSource}
+use Rattle.control_flow_theory.specs.lowering.flow.Entered.{IsEntered}
+use Rattle.control_flow_theory.specs.lowering.flow.Paths.{IsFaulty}
+use Rattle.control_flow_theory.specs.headline.CallsReached.{GivesSome}
+use Rattle.pending_returns.specs.declared.facts.Summary.{Summary}
+use Rattle.pending_returns.specs.Summary.{IsSummary}
+use Rattle.procedure_split.specs.plan.Planned.{IsPlanOf}
+use Rattle.procedure_split.specs.plan.Laws.{others_of}
+use Rattle.fixed_point.specs.Again.{IsRangeAt}
+
+-- the ranges of the plan are the program's paragraphs, in their order
+pub record GoesByPlaces (program : Program) (order : List tree.Range) : Type 0 where
+  pub many : suc (length (others_of order)) ≡ length program.paragraphs
+  pub each : (number : ℕ) (range : Range) →
+      slice_get (Main ∷ others_of order) number ≡ Some range → IsRangeAt number range
+  pub begins : (number : ℕ) (range : tree.Range) → slice_get order number ≡ Some range →
+      range.entry ≡ number
+
+-- where flow paths enter each of them
+abbrev pub PlansGoByPlaces : Type 0
+PlansGoByPlaces =
+    (told : Told) (program : Program) (summary : Summary) (returning : List (List ℕ))
+    (order : List tree.Range) → IsSource told program → GivesSome told → IsStructured program →
+    (IsFaulty told program → ⊥) → IsSummary told.never_first program summary →
+    IsPlanOf summary.ranges returning order →
+    ((number : ℕ) → 1 ≤ number → number < length program.paragraphs →
+    IsEntered told program (Part number number)) → GoesByPlaces program order

@@ -1,0 +1,29 @@
+//! The fixed point of restructuring: what a program is split into isn't faulty, passes no limit, and
+//! is split into itself, so that restructuring what was restructured gives the same text.
+//!
+//! Begin with `specs/Results.antt`, the whole of programs that are read, and `specs/Splitting.antt`,
+//! `splits_come_again`. They stand on `fixed_point`, which has the same of the theory of control:
+//! its premise `ResultIsWritten` is met here for COBOL, part by part (`names`, `turning`,
+//! `counting`, `tables`, `choices`), and by a small program (`example`). `levels`, `entering` and
+//! `ordering` say that a result's procedures stand in the order of their paragraphs; `placing` and
+//! `adding`, that these keep their names and that no item is added; `faultless`, `ranges`, `tokens`
+//! and `limits`, that no fault and no limit stands in the way. Nothing here runs.
+#![tactic(auto)]
+
+pub mod adding;
+pub mod choices;
+pub mod counting;
+pub mod entering;
+pub mod example;
+pub mod faultless;
+pub mod levels;
+pub mod limits;
+pub mod names;
+pub mod ordering;
+pub mod placing;
+pub mod ranges;
+pub mod results;
+pub mod splitting;
+pub mod tables;
+pub mod tokens;
+pub mod turning;

@@ -1,0 +1,8 @@
+//! The table of cells tells how many arms their choices have.
+
+ghost use Rattle.fixed_point_laws.specs.Tables.{TablesTellArms};
+
+/// The largest number of a cell by which closed graphs choose is the number of its arms.
+pub fn tables_tell_arms()
+    ensures { TablesTellArms }
+{}
