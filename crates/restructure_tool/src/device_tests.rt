@@ -1,11 +1,10 @@
 //! Programs with files, run over devices in memory.
 
-use crate::status::Status;
 use crate::tests::{sink, text, words};
-use crate::tool;
 use cob_base::{MemSource, Text};
 use cob_tree::How;
 use file_model::{Bench, Device, Got, MemDevice, MemFile, Opened};
+use restructure_asks::{Status, tool};
 use std::alloc::{AllocError, Global};
 use std::process::Abort;
 use std::test::Fail;

@@ -1,10 +1,9 @@
 //! A program for each kind of status 2.
 
-use crate::status::Status;
 use crate::tests::{sink, words};
-use crate::tool;
 use cob_base::StdSource;
 use file_model::Bench;
+use restructure_asks::{Status, tool};
 use std::test::Fail;
 
 /// What stands before the data of a program in `KINDS`.

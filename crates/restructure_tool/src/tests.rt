@@ -1,10 +1,9 @@
 //! The program and the top call over sources and sinks in memory.
 
 use crate::program::program;
-use crate::status::Status;
-use crate::tool;
 use cob_base::{MemSink, MemSource, NoMemory, Source, StdSink, StdSource, Text, Took};
 use file_model::Bench;
+use restructure_asks::{Status, tool};
 use std::alloc::{AllocError, Global};
 use std::io::{self, ErrorKind, Write};
 use std::process::Abort;
