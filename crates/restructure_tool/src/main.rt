@@ -7,10 +7,6 @@
 //! text.
 #![tactic(auto)]
 
-#[cfg(test)]
-mod device_tests;
-#[cfg(test)]
-mod kind_tests;
 mod program;
 #[cfg(test)]
 mod tests;

@@ -1,10 +1,10 @@
 //! Programs with files, run over devices in memory.
 
-use crate::tests::{sink, text, words};
-use cob_base::{MemSource, Text};
+use super::calls::{Wanted, expect_of_tool, text, words};
+use cob_base::StdSource;
 use cob_tree::How;
 use file_model::{Bench, Device, Got, MemDevice, MemFile, Opened};
-use restructure_asks::{Status, tool};
+use restructure_asks::Status;
 use std::alloc::{AllocError, Global};
 use std::process::Abort;
 use std::test::Fail;
@@ -163,36 +163,26 @@ fn device(
     })
 }
 
+// A status, what is displayed, and what is noted.
+type Told = (Status, &'static str, &'static str);
+
 // Runs a source over a bench, and compares what comes of it.
 fn check(
     rt: &impl Abort,
     alloc: Global,
-    source: Text,
+    source: &[u8],
     bench: &mut Bench,
-    wanted: (Status, &str, &str),
+    told: Told,
 ) -> Result<(), AllocError> {
-    let mut source = MemSource {
-        bytes: source,
-        at: 0,
-        calls: 0,
-        failing: Vec::new(alloc),
-        count: 0,
-    };
-    let (status, shown, noted) = wanted;
-    let mut out = sink(alloc, 4096, 0)?;
-    let mut notes = sink(alloc, 4096, 0)?;
     let words = words(alloc, &["run", "--steps", "100"])?;
-    let answer = tool(
-        alloc,
-        words.as_slice(),
-        &mut source,
-        &mut out,
-        &mut notes,
-        bench,
-    );
-    assert_eq!(rt; answer, status);
-    assert_eq!(rt; out.held.as_slice(), shown.as_bytes());
-    assert_eq!(rt; notes.held.as_slice(), noted.as_bytes());
+    let (status, out, notes) = told;
+    let wanted = Wanted {
+        status,
+        out: out.as_bytes(),
+        notes: notes.as_bytes(),
+    };
+    let mut source = StdSource::new(source);
+    expect_of_tool(rt, alloc, &words, &mut source, bench, wanted);
     Ok(())
 }
 
@@ -202,110 +192,150 @@ struct Case {
     program: (&'static str, &'static str),
     file: (&'static str, &'static str),
     failing: u64,
-    wanted: (Status, &'static str, &'static str),
+    told: Told,
     left: usize,
 }
 
-fn runs(
-    program: (&'static str, &'static str),
-    file: (&'static str, &'static str),
-    wanted: (Status, &'static str, &'static str),
-) -> Case {
+/// A reader, of which nothing fails.
+const SHOWN: Case = Case {
+    program: SHOWING,
+    file: ("IN.DAT", "AAAABB"),
+    failing: 0,
+    told: (Status::Done, "AAAA\nBB  \n", ""),
+    left: 1,
+};
+
+const CASES: [Case; 7] = [
+    SHOWN,
     Case {
-        program,
-        file,
-        failing: 0,
-        wanted,
-        left: 1,
-    }
+        file: ("OTHER", ""),
+        told: (Status::Abend, "", "ABEND IO 35\n"),
+        ..SHOWN
+    },
+    Case {
+        program: LOOKING,
+        file: ("IN.DAT", ""),
+        told: (Status::Done, "35\n", ""),
+        ..SHOWN
+    },
+    Case {
+        program: UNNAMED,
+        file: ("IN.DAT", ""),
+        told: (Status::Abend, "", "ABEND IO 30\n"),
+        ..SHOWN
+    },
+    Case {
+        program: TRYING,
+        file: ("IN.DAT", ""),
+        told: (
+            Status::Abend,
+            "42\n35\n00\n41\n00\n49\n00\n43\nAB  \n00\n48\nEND\n",
+            "ABEND IO 46\n",
+        ),
+        ..SHOWN
+    },
+    Case {
+        failing: 6,
+        ..SHOWN
+    },
+    // the device fails as the run closes its files
+    Case {
+        program: LEAVING,
+        failing: 2,
+        told: (Status::DeviceFault, "", FAULT),
+        left: 0,
+        ..SHOWN
+    },
+];
+
+// What the reader displays before the call of the device that fails.
+const CUTS: [(u64, &str); 5] = [
+    (1, ""),
+    (2, ""),
+    (3, "AAAA\n"),
+    (4, "AAAA\nBB  \n"),
+    (5, "AAAA\nBB  \n"),
+];
+
+fn disk(alloc: Global, case: &Case) -> Result<Bench, AllocError> {
+    let disk = device(alloc, "DISK", case.file, case.failing)?;
+    let mut devices: Vec<Box<dyn Device>> = Vec::new(alloc);
+    devices.push(Box::new(alloc, disk)?)?;
+    Ok(Bench::new(devices))
 }
 
-// The run of the reader whose device fails in that call.
-fn fails(failing: u64, shown: &'static str) -> Case {
-    Case {
-        failing,
-        left: 0,
-        ..runs(
-            SHOWING,
-            ("IN.DAT", "AAAABBBB"),
-            (Status::DeviceFault, shown, FAULT),
-        )
-    }
+fn check_case(rt: &impl Abort, alloc: Global, case: &Case) -> Result<(), AllocError> {
+    let (files, statements) = case.program;
+    let source = format!(in alloc; "{HEAD}{files}{RECORD}{statements}")?;
+    let mut bench = disk(alloc, case)?;
+    check(rt, alloc, source.as_bytes(), &mut bench, case.told)?;
+    assert_eq!(rt; bench.left, case.left);
+    Ok(())
 }
 
 #[test]
 fn files_are_read_written_and_put_back(rt: HostRuntime) -> Result<(), Fail> {
-    let alloc = rt.alloc();
-    let done = Status::Done;
-    let abend = Status::Abend;
-    let tried = "42\n35\n00\n41\n00\n49\n00\n43\nAB  \n00\n48\nEND\n";
-    let both = "AAAA\nBBBB\n";
-    let cases = [
-        runs(SHOWING, ("IN.DAT", "AAAABB"), (done, "AAAA\nBB  \n", "")),
-        runs(SHOWING, ("OTHER", ""), (abend, "", "ABEND IO 35\n")),
-        runs(LOOKING, ("IN.DAT", ""), (done, "35\n", "")),
-        runs(UNNAMED, ("IN.DAT", ""), (abend, "", "ABEND IO 30\n")),
-        runs(TRYING, ("IN.DAT", ""), (abend, tried, "ABEND IO 46\n")),
-        fails(1, ""),
-        fails(2, ""),
-        fails(3, "AAAA\n"),
-        fails(4, both),
-        fails(5, both),
-        Case {
-            failing: 6,
-            ..runs(SHOWING, ("IN.DAT", "AAAABBBB"), (done, both, ""))
-        },
-        Case {
-            failing: 2,
-            left: 0,
-            ..runs(LEAVING, ("IN.DAT", ""), (Status::DeviceFault, "", FAULT))
-        },
-    ];
-    for case in &cases {
-        let mut devices: Vec<Box<dyn Device>> = Vec::new(alloc);
-        devices.push(Box::new(alloc, device(alloc, "DISK", case.file, case.failing)?)?)?;
-        let mut bench = Bench::new(devices);
-        let (files, statements) = case.program;
-        let source = format!(in alloc; "{HEAD}{files}{RECORD}{statements}")?;
-        let source = Text {
-            bytes: source.into_bytes(),
-        };
-        check(&rt, alloc, source, &mut bench, case.wanted)?;
-        assert_eq!(rt; bench.left, case.left);
+    for case in &CASES {
+        check_case(&rt, rt.alloc(), case)?;
     }
     Ok(())
 }
 
 #[test]
+fn each_call_of_a_device_may_fail(rt: HostRuntime) -> Result<(), Fail> {
+    for (failing, shown) in CUTS {
+        let case = Case {
+            failing,
+            told: (Status::DeviceFault, shown, FAULT),
+            left: 0,
+            ..SHOWN
+        };
+        check_case(&rt, rt.alloc(), &case)?;
+    }
+    Ok(())
+}
+
+// The file of the list, which call of the disk fails, what is told, how many devices are left, and
+// which of them then has the list.
+const LISTS: [(&str, u64, Told, usize, usize); 2] = [
+    ("LIST.DAT", 0, (Status::Done, TOTAL, ""), 2, 0),
+    ("OUT:LIST.DAT", 3, (Status::DeviceFault, "", FAULT), 1, 0),
+];
+
+// A device with the hours, the call of that number failing, and one whose fourth call fails.
+fn disk_and_out(alloc: Global, failing: u64) -> Result<Bench, AllocError> {
+    let disk = device(alloc, "DISK", ("PAY.DAT", PAY), failing)?;
+    let mut devices: Vec<Box<dyn Device>> = Vec::new(alloc);
+    devices.push(Box::new(alloc, disk)?)?;
+    let out = device(alloc, "OUT", ("PAY.DAT", ""), 4)?;
+    devices.push(Box::new(alloc, out)?)?;
+    Ok(Bench::new(devices))
+}
+
+// The device has the list.
+fn expect_list(rt: &impl Abort, device: &mut dyn Device) {
+    let mut listed = [0u8; 13];
+    assert!(rt; device.open_file(b"LIST.DAT", How::Input) == Opened::Ready);
+    assert!(rt; device.read_next(b"LIST.DAT", &mut listed) == Got::Bytes(13));
+    assert!(rt; listed.as_slice() == b"SMITH 0042000".as_slice());
+}
+
+#[test]
 fn a_listing_goes_to_its_device(rt: HostRuntime) -> Result<(), Fail> {
     let alloc = rt.alloc();
-    let cases = [
-        ("LIST.DAT", 0, (Status::Done, TOTAL, ""), 2, 0),
-        ("OUT:LIST.DAT", 3, (Status::DeviceFault, "", FAULT), 1, 0),
-    ];
-    for (list, failing, wanted, left, at) in cases {
-        let mut devices: Vec<Box<dyn Device>> = Vec::new(alloc);
-        devices.push(Box::new(alloc, device(alloc, "DISK", ("PAY.DAT", PAY), failing)?)?)?;
-        devices.push(Box::new(alloc, device(alloc, "OUT", ("PAY.DAT", ""), 4)?)?)?;
-        let mut bench = Bench::new(devices);
-        let (head, tail) = LISTING;
+    let (head, tail) = LISTING;
+    for (list, failing, told, left, at) in LISTS {
         let source = format!(in alloc; "{head}{list}{tail}")?;
-        let source = Text {
-            bytes: source.into_bytes(),
-        };
-        check(&rt, alloc, source, &mut bench, wanted)?;
+        let mut bench = disk_and_out(alloc, failing)?;
+        check(&rt, alloc, source.as_bytes(), &mut bench, told)?;
         assert_eq!(rt; bench.left, left);
-        let name = b"LIST.DAT";
-        let mut listed = [0u8; 13];
         assert!(rt; at < bench.devices.len());
-        let held = &mut bench.devices[at];
+        let held = &mut *bench.devices[at];
         // It had three calls, so that the next one fails where the fourth is to.
-        let first = held.open_file(name, How::Input);
-        let is_cut = first == Opened::Failed && held.open_file(name, How::Input) == Opened::Ready;
-        assert!(rt; first == Opened::Ready || is_cut);
-        assert_eq!(rt; left == 1, is_cut);
-        assert!(rt; held.read_next(name, &mut listed) == Got::Bytes(13));
-        assert!(rt; listed.as_slice() == b"SMITH 0042000".as_slice());
+        if left == 1 {
+            assert!(rt; held.open_file(b"LIST.DAT", How::Input) == Opened::Failed);
+        }
+        expect_list(&rt, held);
     }
     Ok(())
 }
