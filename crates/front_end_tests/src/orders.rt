@@ -1,9 +1,12 @@
+//! A small grammar that is read, and the parts of one token.
+
 use cob_base::{Boxed, Text, Word};
 use cob_tree::{Digits, Number};
 use cobol_lex::{Token, TokenKind};
 use parser_combinators::example::{Step, read};
-use parser_combinators::{Cursor, NameKind, Note, Position};
+use parser_combinators::{Cursor, NameKind, Note, Position, Unread};
 use std::alloc::Global;
+use std::process::Abort;
 use std::test::Fail;
 
 fn text_of(alloc: Global, bytes: &[u8]) -> Result<Text, Fail> {
@@ -128,65 +131,85 @@ fn reads_the_small_grammar(rt: HostRuntime) -> Result<(), Fail> {
     Ok(())
 }
 
-fn minus_one_and_a_half(alloc: Global) -> Result<Number, Fail> {
-    Ok(Number {
+fn minus_one_and_a_half(alloc: Global) -> Result<TokenKind, Fail> {
+    let number = Number {
         negative: true,
         digits: Digits::new(text_of(alloc, b"15")?),
         scale: 1,
-    })
+    };
+    Ok(TokenKind::Decimal(Boxed::new(alloc, number)?))
+}
+
+fn add(tokens: &mut Vec<Token>, kind: TokenKind) -> Result<(), Fail> {
+    tokens.push(Token { kind, line: 3 })?;
+    Ok(())
+}
+
+fn tokens_of_each_kind(alloc: Global) -> Result<Vec<Token>, Fail> {
+    let mut tokens = tokens_of(alloc, "12\n.")?;
+    add(&mut tokens, TokenKind::Literal(text_of(alloc, b"a b")?))?;
+    add(&mut tokens, TokenKind::Picture(text_of(alloc, b"9(2)")?))?;
+    add(&mut tokens, minus_one_and_a_half(alloc)?)?;
+    Ok(tokens)
+}
+
+fn is_text(read: Result<(Text, Position), Unread>, bytes: &[u8], at: Position) -> bool {
+    match read {
+        Ok((text, position)) => text.as_slice() == bytes && position == at,
+        Err(_) => false,
+    }
+}
+
+fn is_number(read: Result<(Number, Position), Unread>, digits: &[u8], at: Position) -> bool {
+    match read {
+        Ok((number, position)) => {
+            let is_scaled = number.negative && number.scale == 1;
+            is_scaled && number.digits.as_slice() == digits && position == at
+        }
+        Err(_) => false,
+    }
+}
+
+const THIRD: Position = Position { index: 2, line: 3 };
+
+const FOURTH: Position = Position { index: 3, line: 3 };
+
+// A fault that is noted, and the first one then: the first in the order of tokens counts, and at one
+// token the first kind.
+const NOTES: [(NameKind, Position, NameKind, Position); 5] = [
+    (NameKind::Value, FOURTH, NameKind::Value, FOURTH),
+    (NameKind::Usage, THIRD, NameKind::Usage, THIRD),
+    (NameKind::Level, THIRD, NameKind::Level, THIRD),
+    (NameKind::Picture, THIRD, NameKind::Level, THIRD),
+    (NameKind::Unknown, FOURTH, NameKind::Level, THIRD),
+];
+
+fn expect_first_notes(rt: &impl Abort, cursor: &mut Cursor) {
+    for (kind, position, first, at) in NOTES {
+        cursor.note(Some(Note { kind, position }));
+        let wanted = Note {
+            kind: first,
+            position: at,
+        };
+        assert_eq!(rt; cursor.fault(), Some(wanted));
+    }
 }
 
 #[test]
 fn takes_each_kind_of_token(rt: HostRuntime) -> Result<(), Fail> {
     let alloc = rt.alloc();
-    let mut tokens = tokens_of(alloc, "12\n.")?;
-    for kind in [
-        TokenKind::Literal(text_of(alloc, b"a b")?),
-        TokenKind::Picture(text_of(alloc, b"9(2)")?),
-        TokenKind::Decimal(Boxed::new(alloc, minus_one_and_a_half(alloc)?)?),
-    ] {
-        tokens.push(Token { kind, line: 3 })?;
-    }
+    let tokens = tokens_of_each_kind(alloc)?;
     let mut cursor = Cursor::from_index(&tokens, 0);
     assert_eq!(rt; (cursor.index(), cursor.left()), (0, 5));
-    assert_eq!(rt;
-        cursor.digits(alloc),
-        Ok((text_of(alloc, b"12")?, Position { index: 0, line: 1 }))
-    );
+    let first = Position { index: 0, line: 1 };
+    assert!(rt; is_text(cursor.digits(alloc), b"12", first));
     assert_eq!(rt; cursor.sees_period(), true);
     assert_eq!(rt; cursor.period(), Ok(Position { index: 1, line: 2 }));
-    let third = Position { index: 2, line: 3 };
-    assert_eq!(rt; cursor.literal(alloc), Ok((text_of(alloc, b"a b")?, third)));
-    let fourth = Position { index: 3, line: 3 };
-    assert_eq!(rt;
-        cursor.picture(alloc),
-        Ok((text_of(alloc, b"9(2)")?, fourth))
-    );
-    assert_eq!(rt;
-        cursor.decimal(alloc),
-        Ok((minus_one_and_a_half(alloc)?, Position { index: 4, line: 3 }))
-    );
+    assert!(rt; is_text(cursor.literal(alloc), b"a b", THIRD));
+    assert!(rt; is_text(cursor.picture(alloc), b"9(2)", FOURTH));
+    let last = Position { index: 4, line: 3 };
+    assert!(rt; is_number(cursor.decimal(alloc), b"15", last));
     assert_eq!(rt; cursor.ended(), Ok(()));
-    // the first in the order of tokens counts, and at one token the first kind
-    for (kind, position, kept) in [
-        (NameKind::Value, fourth, NameKind::Value),
-        (NameKind::Usage, third, NameKind::Usage),
-        (NameKind::Level, third, NameKind::Level),
-        (NameKind::Picture, third, NameKind::Level),
-        (NameKind::Unknown, fourth, NameKind::Level),
-    ] {
-        cursor.note(Some(Note { kind, position }));
-        assert_eq!(rt;
-            cursor.fault(),
-            Some(Note {
-                kind: kept,
-                position: if kept == NameKind::Value {
-                    fourth
-                } else {
-                    third
-                }
-            })
-        );
-    }
+    expect_first_notes(&rt, &mut cursor);
     Ok(())
 }

@@ -1,5 +1,5 @@
 //! Tests of what runs: files at a desk, the folder's device, plain programs, places by numbers, and
-//! whole sources.
+//! whole sources; and of what is restructured: that results are structured, and trails of faults.
 //!
 //! They stand here, over the crates as these are, since a crate with tests of its own is proved
 //! twice. A module names the part that it tests.
@@ -15,3 +15,7 @@ mod places;
 mod plain;
 #[cfg(test)]
 mod sources;
+#[cfg(test)]
+mod structured;
+#[cfg(test)]
+mod trails;

@@ -3,9 +3,9 @@ use Rattle.std.specs.Prelude.{ℕ, ◌≡◌, Bool, false, ◌||◌, List, [], �
 use Rattle.std.specs.Str.{bytes_eq}
 use Rattle.cob_base.specs.Source.{SourceCall}
 use Rattle.cob_base.specs.Sink.{SinkCall}
-use Rattle.restructure_tool.specs.declared.status.Status.{Status}
-use Rattle.restructure_tool.specs.Texts.{text_alone}
-use Rattle.restructure_tool.specs.Writing.{Writes}
+use Rattle.restructure_asks.specs.declared.status.Status.{Status}
+use Rattle.restructure_asks.specs.Texts.{text_alone}
+use Rattle.restructure_asks.specs.Writing.{Writes}
 
 -- whether the word asks for a page
 abbrev pub is_page_word : List ℕ → Bool

@@ -4,19 +4,16 @@ ghost use Rattle.std.specs.Prelude.{◌≡◌, map, string_bytes, take, true, fa
 ghost use Rattle.std.specs.Process.{exit_status};
 ghost use Rattle.cob_base.specs.Source.{source_call};
 ghost use Rattle.cob_base.specs.Sink.{sink_call};
-ghost use Rattle.restructure_tool.specs.Ask.{ask_of};
-ghost use Rattle.restructure_tool.specs.Status.{status_number};
-ghost use Rattle.restructure_tool.specs.Running.{IsDeviceTold};
-ghost use Rattle.restructure_tool.specs.Tool.{Ends, EndsWithFiles};
+ghost use Rattle.restructure_asks.specs.Ask.{ask_of};
+ghost use Rattle.restructure_asks.specs.Status.{status_number};
+ghost use Rattle.restructure_asks.specs.Running.{IsDeviceTold};
+ghost use Rattle.restructure_asks.specs.Tool.{Ends, EndsWithFiles};
 ghost use Rattle.restructure_tool.specs.Program.{is_page, is_page_word, ShowsPage};
 
-use crate::refusal::Refusal;
-use crate::status::Status;
-use crate::tool;
-use crate::writing::{note, write_text};
 use cob_base::{NoMemory, Sink, Source};
 use file_model::operations::Watched;
 use file_model::{Bench, Device};
+use restructure_asks::{Refusal, Status, note, tool, write_text};
 use std::alloc::Global;
 use std::process::ExitCode;
 use std::{env, io};

@@ -3,8 +3,8 @@ use Rattle.std.specs.Prelude.{IfOk}
 use Rattle.cob_base.specs.Source.{source_call}
 use Rattle.cob_base.specs.Sink.{sink_call}
 use Rattle.file_model.specs.contracts.operations.watched.BoxDynDeviceWatched.TheImpl.{seen-value}
-use Rattle.restructure_tool.specs.Ask.{ask_of}
-use Rattle.restructure_tool.specs.Tool.{Ends, EndsWithFiles}
+use Rattle.restructure_asks.specs.Ask.{ask_of}
+use Rattle.restructure_asks.specs.Tool.{Ends, EndsWithFiles}
 use Rattle.restructure_tool.specs.Program.{is_page}
 use Rattle.restructure_tool.proofs.program.program.Goals as goal
 

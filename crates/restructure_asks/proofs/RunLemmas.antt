@@ -1,0 +1,82 @@
+-- How a call that runs a source ends, and what is due to it.
+use Rattle.std.proofs.Common.{◌≡◌, ℕ, ◌+◌, ◌≤◌, List, length, Some, refl, sym, subst, arith, ◌<◌, ◌⊎◌, inl, inr}
+use Rattle.std.specs.Prelude.{◌≢◌}
+use Rattle.cob_base.specs.Faults.{Rose}
+use Rattle.cob_base.specs.Source.{SourceCall}
+use Rattle.cob_base.specs.Sink.{SinkCall}
+use Rattle.cobol_read.specs.declared.refusal.ReadRefusal.{ReadRefusal}
+use Rattle.cobol_read.specs.declared.refusal.ReadRefusal.TheVariants as rd
+use Rattle.cobol_read.specs.Limit.{source_limit, past_source}
+use Rattle.restructure_core.specs.declared.run.Came.{Came}
+use Rattle.restructure_core.specs.declared.run.Came.TheVariants as came
+use Rattle.file_model.specs.operations.Seen.{Seen}
+use Rattle.restructure_core.specs.run.Answers.{Comes, ComesOver, IsWriteFault, Keeps as Kept}
+use Rattle.restructure_asks.proofs.LengthLemmas.{short-read, short-either}
+use Rattle.restructure_asks.proofs.EndLemmas.{whole-read, long-read}
+use Rattle.restructure_asks.specs.declared.refusal.Refusal.{Refusal}
+use Rattle.restructure_asks.specs.declared.refusal.Refusal.TheVariants as refusal
+use Rattle.restructure_asks.specs.declared.status.Status.{Status}
+use Rattle.restructure_asks.specs.declared.status.Status.TheVariants as status
+use Rattle.restructure_asks.specs.Reading.{IsRead, IsReadWithin, IsReadFault}
+use Rattle.restructure_asks.specs.Running.{IsRun, EndsOfRun, EndsOfRunWithFiles, TellsCame, refusal_of}
+use Rattle.restructure_asks.specs.Writing.{Keeps, Notes}
+
+-- What came of the text that was read came of the bytes of the source.
+module _ (steps : ℕ) (source : SourceCall) (out : SinkCall) (text : List ℕ) (read : IsRead source text) where
+  run-of : (c : Came) → Comes read.bytes steps out c → IsRun steps source out c
+  run-of c h = record { bytes = read.bytes; told = read.told; comes = h; left = read.left }
+
+  short : (c : Came) → length text ≤ source_limit → Comes text steps out c → IsRun steps source out c
+  short c few h = run-of c (subst (λ b. Comes b steps out c) (whole-read read.bytes text read.front few) h)
+
+  long : (why : ReadRefusal) → why ≡ rd.Limit past_source → source_limit < length text → why ≢ rd.NoMemory → Kept out → IsRun steps source out (came.Refused why)
+  long why is past some kept = subst (λ w. IsRun steps source out (came.Refused w)) (sym is) (run-of (came.Refused (rd.Limit past_source)) ((long-read read.bytes text read.front past, refl), (λ e. cc), kept))
+
+  pub was-run : (c : Came) → Comes text steps out c → IsRun steps source out c
+  was-run (came.Ran program ran) h = short (came.Ran program ran) (short-read text program h.0) h
+  was-run (came.Refused why) h = elim (short-either text why h.1 h.0) [
+    | inl few ↦ short (came.Refused why) few h
+    | inr past ↦ long why past.0 past.1 h.1 h.2
+  ]
+  was-run came.NoMemory h = run-of came.NoMemory h
+
+  pub told-run : (c : Came) (notes : SinkCall) (answer : Status) → Comes text steps out c → TellsCame (refusal_of steps c) notes answer → (IsWriteFault c → Rose out.count out.count_now) → EndsOfRun steps source out notes answer
+  told-run c notes answer h told fault = inl (record { came = c; run = was-run c h; told = told; fault = fault })
+
+  pub over-run : (c : Came) (notes : SinkCall) (answer : Status) (old new : List Seen) → Comes text steps out c → ComesOver text steps out old new c → TellsCame (refusal_of steps c) notes answer → (IsWriteFault c → Rose out.count out.count_now) → EndsOfRunWithFiles steps source out notes old new answer
+  unfolding run-of
+  over-run (came.Ran program ran) notes answer old new h over told fault =
+      let c : Came = came.Ran program ran in
+      let whole = whole-read read.bytes text read.front (short-read text program h.0) in
+      inl (record {
+        told = record { came = c; run = run-of c (subst (λ b. Comes b steps out c) whole h); told = told; fault = fault };
+        over = subst (λ b. ComesOver b steps out old new c) whole over;
+      })
+  over-run (came.Refused why) notes answer old new h over told fault =
+      inl (record { told = record { came = came.Refused why; run = was-run (came.Refused why) h; told = told; fault = fault }; over = tt })
+  over-run came.NoMemory notes answer old new h over told fault =
+      inl (record { told = record { came = came.NoMemory; run = was-run came.NoMemory h; told = told; fault = fault }; over = tt })
+
+-- a source that failed, or for which memory was wanted, wasn't run
+pub unrun : (steps : ℕ) (source : SourceCall) (out notes : SinkCall) (r : Refusal) (answer : Status) → (r ≡ refusal.ReadFault) ⊎ (r ≡ refusal.NoMemory) → (r ≡ refusal.ReadFault → Rose source.count source.count_now) → IsReadWithin (source_limit + 1) source → Keeps out → Notes r notes answer → EndsOfRun steps source out notes answer
+unrun steps source out notes r answer which rose within kept noted = inr (record { refusal = r; why = why which; kept = kept; noted = noted }) where
+  why : (r ≡ refusal.ReadFault) ⊎ (r ≡ refusal.NoMemory) → (r ≡ refusal.ReadFault) × IsReadFault (source_limit + 1) source ⊎ (r ≡ refusal.NoMemory) × IsReadWithin (source_limit + 1) source
+  why (inl is) = inl (is, record { asked = omega arith; rose = rose is; read = within })
+  why (inr is) = inr (is, within)
+
+-- What was noted tells what came.
+
+pub told-refusal : (r : Refusal) (notes : SinkCall) (answer : Status) → (r ≡ refusal.WriteFault → ⊥) → Notes r notes answer → TellsCame (Some r) notes answer
+told-refusal refusal.Usage notes answer other g = g
+told-refusal (refusal.Refused why) notes answer other g = g
+told-refusal (refusal.Fault program fault) notes answer other g = g
+told-refusal (refusal.Abend abend) notes answer other g = g
+told-refusal (refusal.Budget most) notes answer other g = g
+told-refusal (refusal.Device name) notes answer other g = g
+told-refusal refusal.ReadFault notes answer other g = g
+told-refusal refusal.WriteFault notes answer other g = absurd (other refl)
+told-refusal refusal.NoMemory notes answer other g = g
+
+pub told-fault : (notes : SinkCall) (noted : Status) → Notes refusal.WriteFault notes noted → TellsCame (Some refusal.WriteFault) notes status.WriteFault
+told-fault notes noted (inl g) = (refl, inl g.1)
+told-fault notes noted (inr g) = (refl, inr g.1)

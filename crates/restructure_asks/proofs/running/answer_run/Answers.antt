@@ -1,0 +1,31 @@
+use Rattle.std.proofs.Common.{map, take, subst}
+use Rattle.cob_base.specs.Sink.{sink_call}
+use Rattle.file_model.specs.contracts.operations.watched.BoxDynDeviceWatched.TheImpl.{seen-value}
+use Rattle.restructure_core.specs.run.Answers.{Comes, ComesOver}
+use Rattle.restructure_asks.proofs.DeviceLemmas.{device_told, unrun_never}
+use Rattle.restructure_asks.proofs.RunLemmas.{told-run, over-run}
+use Rattle.restructure_asks.proofs.running.answer_run.Goals as goal
+
+pub returns-in-Ok-clause-ends : goal.returns-in-Ok-clause-ends
+returns-in-Ok-clause-ends g c =
+    let out = sink_call g.K.Sink.held g.K.Sink.faults c.args.out.now c.run_source-came.new.out in
+    told-run c.args.steps _ out c.in-Ok.bytes c.in-Ok.ensures.read c.run_source-came.result _ _
+    (subst (λ b. Comes b c.args.steps out c.run_source-came.result) c.as_slice.ensures c.run_source-came.ensures.came)
+    c.tell.ensures c.run_source-came.ensures.cause
+
+pub returns-in-Ok-clause-over : goal.returns-in-Ok-clause-over
+returns-in-Ok-clause-over g c =
+    let out = sink_call g.K.Sink.held g.K.Sink.faults c.args.out.now c.run_source-came.new.out in
+    let came = c.run_source-came.result in
+    let old = take c.args.bench.now.left (map (seen-value g.dyn-1).it c.args.bench.now.devices.items) in
+    let new = take c.run_source-came.new.bench.left (map (seen-value g.dyn-1).it c.run_source-came.new.bench.devices.items) in
+    over-run c.args.steps _ out c.in-Ok.bytes c.in-Ok.ensures.read came _ _ old new
+    (subst (λ b. Comes b c.args.steps out came) c.as_slice.ensures c.run_source-came.ensures.came)
+    (subst (λ b. ComesOver b c.args.steps out old new came) c.as_slice.ensures c.run_source-came.ensures.over)
+    c.tell.ensures c.run_source-came.ensures.cause
+
+pub returns-in-Ok-clause-devices : goal.returns-in-Ok-clause-devices
+returns-in-Ok-clause-devices g c = device_told c.args.steps c.run_source-came.result _ _ _ _ _ _ c.tell.ensures c.run_source-came.ensures.falls
+
+pub returns-in-Err-clause-devices : goal.returns-in-Err-clause-devices
+returns-in-Err-clause-devices g c = λ is. absurd (unrun_never c.in-Err.refusal _ _ c.in-Err.ensures.only c.note.ensures is)

@@ -1,0 +1,88 @@
+-- What the words ask.
+use Rattle.std.specs.Prelude.{ℕ, ◌≤◌, ◌+◌, nat_lt, if◌then◌else◌, Bool, true, false, List, [], ◌∷◌, Option, Some, None, option_map, option_and_then, codes}
+use Rattle.std.specs.Str.{bytes_eq}
+use Rattle.cob_tree.specs.Digits.{digits_value}
+use Rattle.cobol_read.specs.Limit.{source_limit}
+use Rattle.restructure_asks.specs.declared.ask.Ask.{Ask}
+use Rattle.restructure_asks.specs.declared.ask.Ask.TheVariants.{Restructure, Report, Check, Run, Generate, Trial}
+
+-- the number that 1 to 18 digits spell
+abbrev pub number_of : List ℕ → Option ℕ
+number_of [] = None
+number_of (byte ∷ bytes) = digits_value (byte ∷ bytes)
+
+-- the number of the last program that is generated
+abbrev pub last_program : ℕ
+last_program = 1249
+
+abbrev pub in_range : ℕ → Option ℕ
+in_range n = if nat_lt n 1 then None else if nat_lt last_program n then None else Some n
+
+-- the number of a program that is generated
+abbrev pub program_number : List ℕ → Option ℕ
+program_number bytes = option_and_then in_range (number_of bytes)
+
+-- the ask of one word
+abbrev pub ask_of_word : List ℕ → Option Ask
+ask_of_word word =
+    if bytes_eq word (codes "restructure") then Some Restructure
+    else if bytes_eq word (codes "check") then Some Check
+    else None
+
+-- the ask of restructure with one more word
+abbrev pub report_of : List ℕ → Option Ask
+report_of option = if bytes_eq option (codes "--report") then Some Report else None
+
+abbrev pub generate_of : List ℕ → Option Ask
+generate_of number = option_map (λ n. Generate n) (program_number number)
+
+abbrev pub trial_of : List ℕ → Option Ask
+trial_of number = option_map (λ n. Trial n) (program_number number)
+
+-- the ask of two words: restructure --report, generate and a number, or trial and a number
+abbrev pub ask_of_two : (word other : List ℕ) → Option Ask
+ask_of_two word other =
+    if bytes_eq word (codes "restructure") then report_of other
+    else if bytes_eq word (codes "generate") then generate_of other
+    else if bytes_eq word (codes "trial") then trial_of other
+    else None
+
+-- the ask of three words: run --steps and a number
+abbrev pub run_of : (word option number : List ℕ) → Option Ask
+run_of word option number =
+    if bytes_eq word (codes "run")
+    then (if bytes_eq option (codes "--steps")
+    then option_map (λ steps. Run steps) (number_of number) else None) else None
+
+-- the ask of the words, where they are one
+abbrev pub ask_of : List (List ℕ) → Option Ask
+ask_of [] = None
+ask_of (word ∷ []) = ask_of_word word
+ask_of (word ∷ other ∷ []) = ask_of_two word other
+ask_of (word ∷ option ∷ number ∷ []) = run_of word option number
+ask_of (first ∷ second ∷ third ∷ fourth ∷ others) = None
+
+pub record IsProgramNumber (n : ℕ) : Type 0 where
+  pub low : 1 ≤ n
+  pub high : n ≤ last_program
+
+-- an ask about a generated program is about one that is there
+abbrev pub HasProgram : Ask → Type 0
+HasProgram (Generate n) = IsProgramNumber n
+HasProgram (Trial n) = IsProgramNumber n
+HasProgram other = Unit {0}
+
+-- whether the ask is to run a source
+abbrev pub is_run : Option Ask → Bool
+is_run (Some (Run steps)) = true
+is_run _ = false
+
+-- how many bytes of the source are read: to its end, or to the first byte past the limit
+abbrev pub reads : Option Ask → ℕ
+reads None = 0
+reads (Some Restructure) = source_limit + 1
+reads (Some Report) = source_limit + 1
+reads (Some Check) = source_limit + 1
+reads (Some (Run steps)) = source_limit + 1
+reads (Some (Generate n)) = 0
+reads (Some (Trial n)) = 0

@@ -1,0 +1,164 @@
+-- What follows of how a call ends.
+use Rattle.std.specs.Prelude.{ℕ, ◌≡◌, ◌≤◌, ◌↔◌, ◌⊎◌, List, [], ◌∷◌, length, Option, Some, None, Ok, Err, codes}
+use Rattle.cob_base.specs.Source.{SourceCall}
+use Rattle.cob_base.specs.Sink.{SinkCall}
+use Rattle.cob_tree.specs.declared.program.Program.{Program}
+use Rattle.program_points.specs.declared.paths.trail.Trail.{Trail}
+use Rattle.file_model.specs.operations.Seen.{Seen}
+use Rattle.cobol_theory.specs.cobol_meaning.Runs.{Files}
+use Rattle.cobol_run.specs.Over.{TellFiles}
+use Rattle.cobol_read.specs.Limit.{source_limit}
+use Rattle.restructure_core.specs.declared.fault.Refused.TheVariants as refused
+use Rattle.restructure_core.specs.Answers.{IsAccepted, IsFaultySource}
+use Rattle.restructure_asks.specs.declared.ask.Ask.{Ask}
+use Rattle.restructure_asks.specs.declared.ask.Ask.TheVariants.{Restructure, Report, Check, Run, Generate, Trial}
+use Rattle.restructure_asks.specs.declared.refusal.Refusal.{Refusal}
+use Rattle.restructure_asks.specs.declared.refusal.Refusal.TheVariants as refusal
+use Rattle.restructure_asks.specs.declared.status.Status.{Status}
+use Rattle.restructure_asks.specs.declared.status.Status.TheVariants as status
+use Rattle.restructure_asks.specs.Ask.{ask_of, number_of, program_number, reads}
+use Rattle.restructure_asks.specs.Reading.{left_after}
+use Rattle.restructure_asks.specs.Status.{IsOneOf}
+use Rattle.restructure_asks.specs.Refusal.{refused_status, status_of}
+use Rattle.restructure_asks.specs.Answer.{Answer, IsDue}
+use Rattle.restructure_asks.specs.Running.{IsRunDue, IsRunDueOnFiles}
+use Rattle.restructure_asks.specs.Tool.{Ends, EndsWithFiles}
+
+-- these are the words of the ask
+abbrev pub AreWordsOf : Ask → List (List ℕ) → Type 0
+AreWordsOf Restructure words = words ≡ codes "restructure" ∷ []
+AreWordsOf Report words = words ≡ codes "restructure" ∷ codes "--report" ∷ []
+AreWordsOf Check words = words ≡ codes "check" ∷ []
+AreWordsOf (Run steps) words = (number : List ℕ) ×
+    (words ≡ codes "run" ∷ codes "--steps" ∷ number ∷ []) × (number_of number ≡ Some steps)
+AreWordsOf (Generate n) words = (number : List ℕ) ×
+    (words ≡ codes "generate" ∷ number ∷ []) × (program_number number ≡ Some n)
+AreWordsOf (Trial n) words = (number : List ℕ) ×
+    (words ≡ codes "trial" ∷ number ∷ []) × (program_number number ≡ Some n)
+
+-- words are an ask exactly where they are its own
+abbrev pub WordsAreOfTheirAsk : Type 0
+WordsAreOfTheirAsk =
+    (words : List (List ℕ)) (ask : Ask) → (ask_of words ≡ Some ask) ↔ AreWordsOf ask words
+
+abbrev pub trail_answer : Program → Trail → Answer
+trail_answer program trail = Err (refusal.Refused (refused.Flow program trail))
+
+-- the same answer, or the refusal of one program by two trails
+abbrev pub AreAlike : Answer → Answer → Type 0
+AreAlike one other = (one ≡ other) ⊎ ((program : Program) × (first : Trail) × (second : Trail)
+    × (one ≡ trail_answer program first) × (other ≡ trail_answer program second))
+
+-- at most one answer is due to an ask and bytes, but for the trail of a program
+abbrev pub OneAnswerIsDue : Type 0
+OneAnswerIsDue =
+    (ask : Option Ask) (bytes : List ℕ) (one other : Answer) →
+    IsDue ask bytes one → IsDue ask bytes other → AreAlike one other
+
+-- the statuses with which a call ends where this answer is due
+abbrev pub statuses_of : Answer → List Status
+statuses_of (Ok texts) = status.Done ∷ status.WriteFault ∷ status.ReadFault ∷ status.NoMemory ∷ []
+statuses_of (Err refusal) = status_of refusal ∷ status.ReadFault ∷ status.NoMemory ∷ []
+
+-- where a source tells its bytes, a call ends with the answer that is due to them, or with a fault
+-- of the outside or out of memory
+abbrev pub DueAnswerComes : Type 0
+DueAnswerComes =
+    (ask : Option Ask) (source : SourceCall) (out notes : SinkCall) (answer : Status) →
+    Ends ask source out notes answer →
+    (bytes : List ℕ) (due : Answer) → source.told ≡ Some bytes → IsDue ask bytes due →
+    IsOneOf (statuses_of due) answer
+
+-- the ask is to restructure a source, or to report on it
+abbrev pub IsOfSource : Ask → Type 0
+IsOfSource Restructure = Unit {0}
+IsOfSource Report = Unit {0}
+IsOfSource Check = Unit {0}
+IsOfSource other = ⊥
+
+-- where a source tells the bytes of a program without a fault of flow that passes no limit, such a
+-- call is done, but for a fault of the outside or out of memory
+abbrev pub AcceptedSourceIsDone : Type 0
+AcceptedSourceIsDone =
+    (ask : Ask) (source : SourceCall) (out notes : SinkCall) (answer : Status) → IsOfSource ask →
+    Ends (Some ask) source out notes answer →
+    (bytes : List ℕ) → source.told ≡ Some bytes → IsAccepted bytes → IsOneOf
+    (status.Done ∷ status.WriteFault ∷ status.ReadFault ∷ status.NoMemory ∷ []) answer
+
+-- where a source tells the bytes of a program some flow path of which comes to a fault, such a call
+-- ends with FLOW, but for a fault of the outside or out of memory
+abbrev pub FaultySourceIsRefused : Type 0
+FaultySourceIsRefused =
+    (ask : Ask) (source : SourceCall) (out notes : SinkCall) (answer : Status) → IsOfSource ask →
+    Ends (Some ask) source out notes answer →
+    (bytes : List ℕ) (program : Program) → source.told ≡ Some bytes →
+    IsFaultySource bytes program →
+    IsOneOf (status.Flow ∷ status.ReadFault ∷ status.NoMemory ∷ []) answer
+
+-- and with FLOW no other one ends
+abbrev pub RefusedForFlowIsFaulty : Type 0
+RefusedForFlowIsFaulty =
+    (ask : Ask) (source : SourceCall) (out notes : SinkCall) → IsOfSource ask →
+    Ends (Some ask) source out notes status.Flow →
+    (bytes : List ℕ) → source.told ≡ Some bytes → (program : Program) × IsFaultySource bytes program
+
+-- at most one end of a run is due to bytes and a number of steps
+abbrev pub OneRunIsDue : Type 0
+OneRunIsDue =
+    (steps : ℕ) (bytes : List ℕ) (one other : Option Refusal) →
+    IsRunDue steps bytes one → IsRunDue steps bytes other → one ≡ other
+
+-- the statuses with which a call to run ends where this is due
+abbrev pub statuses_of_run : Option Refusal → List Status
+statuses_of_run None = status.Done ∷ status.WriteFault ∷ status.ReadFault ∷ status.NoMemory ∷ []
+statuses_of_run (Some (refusal.Refused why)) =
+    refused_status why ∷ status.ReadFault ∷ status.NoMemory ∷ []
+statuses_of_run (Some refusal) =
+    status_of refusal ∷ status.WriteFault ∷ status.ReadFault ∷ status.NoMemory ∷ []
+
+-- where a source tells its bytes, a call to run ends as their run does, or with a fault of the
+-- outside or out of memory
+abbrev pub DueRunComes : Type 0
+DueRunComes =
+    (steps : ℕ) (source : SourceCall) (out notes : SinkCall) (answer : Status) →
+    Ends (Some (Run steps)) source out notes answer →
+    (bytes : List ℕ) (due : Option Refusal) → source.told ≡ Some bytes →
+    IsRunDue steps bytes due → IsOneOf (statuses_of_run due) answer
+
+-- and over files
+abbrev pub OneRunIsDueOnFiles : Type 0
+OneRunIsDueOnFiles =
+    (steps : ℕ) (bytes : List ℕ) (files : Files) (one other : Option Refusal) →
+    IsRunDueOnFiles steps bytes files one → IsRunDueOnFiles steps bytes files other → one ≡ other
+
+-- the statuses of a call to run, or that a device failed
+abbrev pub statuses_over : Option Refusal → List Status
+statuses_over due = status.DeviceFault ∷ statuses_of_run due
+
+-- where a source tells its bytes and the devices their files, a call to run ends as the run over
+-- these files does, or with a fault of the outside or out of memory
+abbrev pub DueRunComesOnFiles : Type 0
+DueRunComesOnFiles =
+    (steps : ℕ) (source : SourceCall) (out notes : SinkCall) (old new : List Seen)
+    (answer : Status) → EndsWithFiles (Some (Run steps)) source out notes old new answer →
+    (bytes : List ℕ) (files : Files) (due : Option Refusal) → source.told ≡ Some bytes →
+    TellFiles old files → IsRunDueOnFiles steps bytes files due → IsOneOf (statuses_over due) answer
+
+-- without an ask a call ends with USAGE or out of memory
+abbrev pub UsageComes : Type 0
+UsageComes =
+    (source : SourceCall) (out notes : SinkCall) (answer : Status) →
+    Ends None source out notes answer → IsOneOf (status.Usage ∷ status.NoMemory ∷ []) answer
+
+-- generate ends with its program, a write fault or out of memory, whatever the source
+abbrev pub GeneratedComes : Type 0
+GeneratedComes =
+    (n : ℕ) (source : SourceCall) (out notes : SinkCall) (answer : Status) →
+    Ends (Some (Generate n)) source out notes answer →
+    IsOneOf (status.Done ∷ status.WriteFault ∷ status.NoMemory ∷ []) answer
+
+-- of bytes within the limit nothing is left
+abbrev pub WithinLimitAllIsRead : Type 0
+WithinLimitAllIsRead =
+    (bytes : List ℕ) → length bytes ≤ source_limit →
+    left_after (reads (Some Restructure)) (Some bytes) ≡ Some []

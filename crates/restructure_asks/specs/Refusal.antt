@@ -1,0 +1,81 @@
+-- The status of each refusal, and the line or lines that tell it.
+use Rattle.std.specs.Prelude.{ℕ, List, [], ◌∷◌, ◌++◌, codes}
+use Rattle.std.specs.Fmt.{decimal}
+use Rattle.cob_base.specs.Bytes.{line_feed}
+use Rattle.cob_base.specs.Limit.{limit_text}
+use Rattle.cob_tree.specs.declared.ending.Abend.{Abend}
+use Rattle.cob_tree.specs.declared.ending.Abend.TheVariants as abends
+use Rattle.cob_tree.specs.declared.ending.FlowFault.{FlowFault}
+use Rattle.cob_tree.specs.declared.ending.FlowFault.TheVariants as flow
+use Rattle.program_points.specs.declared.paths.trail.FlowFault as path
+use Rattle.program_points.specs.declared.paths.trail.FlowFault.TheVariants as paths
+use Rattle.restructure_core.specs.declared.fault.Refused.{Refused}
+use Rattle.restructure_core.specs.declared.fault.Refused.TheVariants as refused
+use Rattle.cobol_read.specs.declared.refusal.ReadRefusal.{ReadRefusal}
+use Rattle.overlap_trail.specs.notes.Trail.{fault_text, trail_text}
+use Rattle.restructure_asks.specs.Kind.{kind_at}
+use Rattle.restructure_asks.specs.declared.status.Status.{Status}
+use Rattle.restructure_asks.specs.declared.status.Status.TheVariants as status
+use Rattle.restructure_asks.specs.declared.refusal.Refusal.{Refusal}
+use Rattle.restructure_asks.specs.declared.refusal.Refusal.TheVariants as refusal
+
+-- the refusal that a refused source becomes
+abbrev pub of_refused : Refused → Refusal
+of_refused (refused.NotSubset why) = refusal.Refused (refused.NotSubset why)
+of_refused (refused.Flow program trail) = refusal.Refused (refused.Flow program trail)
+of_refused (refused.Limit limit) = refusal.Refused (refused.Limit limit)
+of_refused refused.NoMemory = refusal.NoMemory
+
+abbrev pub refused_status : Refused → Status
+refused_status (refused.NotSubset why) = status.NotSubset
+refused_status (refused.Flow program trail) = status.Flow
+refused_status (refused.Limit limit) = status.Limit
+refused_status refused.NoMemory = status.NoMemory
+
+abbrev pub status_of : Refusal → Status
+status_of refusal.Usage = status.Usage
+status_of (refusal.Refused refused) = refused_status refused
+status_of (refusal.Fault program fault) = status.Flow
+status_of (refusal.Abend abend) = status.Abend
+status_of (refusal.Budget steps) = status.Budget
+status_of (refusal.Device name) = status.DeviceFault
+status_of refusal.ReadFault = status.ReadFault
+status_of refusal.WriteFault = status.WriteFault
+status_of refusal.NoMemory = status.NoMemory
+
+abbrev pub not_subset_text : ReadRefusal → List ℕ
+not_subset_text why = codes "NOT SUBSET " ++ kind_at why
+
+abbrev pub refused_text : Refused → List ℕ
+refused_text (refused.NotSubset why) = not_subset_text why
+refused_text (refused.Flow program trail) = trail_text program.paragraphs trail
+refused_text (refused.Limit limit) = limit_text limit
+refused_text refused.NoMemory = codes "NO MEMORY"
+
+-- the fault of flow that a trail would show
+abbrev pub fault_of : FlowFault → path.FlowFault
+fault_of (flow.Overlap paragraph) = paths.Overlap paragraph
+fault_of (flow.Reentry paragraph) = paths.Reentry paragraph
+
+abbrev pub abend_text : Abend → List ℕ
+abend_text abends.BadDigits = codes "ABEND BAD-DIGITS"
+abend_text abends.OutOfRange = codes "ABEND OUT-OF-RANGE"
+abend_text (abends.Io status) = codes "ABEND IO " ++ decimal status
+
+abbrev pub device_text : List ℕ → List ℕ
+device_text name = codes "DEVICE FAULT " ++ name
+
+abbrev pub refusal_text : Refusal → List ℕ
+refusal_text refusal.Usage = codes "USAGE"
+refusal_text (refusal.Refused refused) = refused_text refused
+refusal_text (refusal.Fault program fault) = fault_text program.paragraphs (fault_of fault)
+refusal_text (refusal.Abend abend) = abend_text abend
+refusal_text (refusal.Budget steps) = codes "BUDGET " ++ decimal steps
+refusal_text (refusal.Device name) = device_text name
+refusal_text refusal.ReadFault = codes "READ FAULT"
+refusal_text refusal.WriteFault = codes "WRITE FAULT"
+refusal_text refusal.NoMemory = codes "NO MEMORY"
+
+-- the text, of one line or of several, and a line feed
+abbrev pub line_of : Refusal → List ℕ
+line_of refusal = refusal_text refusal ++ line_feed ∷ []

@@ -1,0 +1,166 @@
+-- How a call that runs a source ends.
+use Rattle.std.specs.Prelude.{ℕ, ◌≡◌, ◌+◌, ◌⊎◌, true, List, Option, Some, None}
+use Rattle.cob_base.specs.Faults.{Rose}
+use Rattle.cob_base.specs.Source.{SourceCall}
+use Rattle.cob_base.specs.Sink.{SinkCall}
+use Rattle.cob_tree.specs.declared.program.Program.{Program}
+use Rattle.file_model.specs.operations.Seen.{Seen}
+use Rattle.control_flow_theory.specs.runs.Run.{Going, Over}
+use Rattle.control_flow_theory.specs.semantics.Outcome.{Standing}
+use Rattle.cobol_theory.specs.cobol_meaning.Runs.{Files, source_run}
+use Rattle.cobol_read.specs.declared.refusal.ReadRefusal.{ReadRefusal}
+use Rattle.cobol_read.specs.Reading.{Reads}
+use Rattle.cobol_read.specs.Limit.{source_limit}
+use Rattle.cobol_run.specs.declared.machine.Ending.{Ending}
+use Rattle.cobol_run.specs.declared.machine.Ending.TheVariants as ending
+use Rattle.cobol_run.specs.declared.running.Ran.{Ran}
+use Rattle.cobol_run.specs.declared.running.Ran.TheVariants as ran
+use Rattle.cobol_run.specs.Falling.{FellNamed}
+use Rattle.cobol_run.specs.Machine.{ending_seen}
+use Rattle.cobol_run.specs.PlainTests.{is_plain}
+use Rattle.restructure_core.specs.Answers.{IsUnread}
+use Rattle.restructure_core.specs.Refusals.{of_read_refusal}
+use Rattle.restructure_core.specs.declared.run.Came.{Came}
+use Rattle.restructure_core.specs.declared.run.Came.TheVariants as came
+use Rattle.restructure_core.specs.run.Answers.{Comes, ComesOver, IsWriteFault}
+use Rattle.restructure_asks.specs.declared.refusal.Refusal.{Refusal}
+use Rattle.restructure_asks.specs.declared.refusal.Refusal.TheVariants as refusals
+use Rattle.restructure_asks.specs.declared.status.Status.{Status}
+use Rattle.restructure_asks.specs.declared.status.Status.TheVariants as status
+use Rattle.restructure_asks.specs.Reading.{Tells, left_after, IsReadWithin, IsReadFault}
+use Rattle.restructure_asks.specs.Refusal.{line_of, of_refused}
+use Rattle.restructure_asks.specs.Writing.{Takes, Keeps, Notes, NotesNoMemory}
+
+-- the refusal of a source that isn't read
+abbrev pub unread : ReadRefusal → Refusal
+unread why = of_refused (of_read_refusal why)
+
+-- the refusal of a run that came to this end; none where it stopped normally
+abbrev pub refusal_of_ending : Program → Ending → Option Refusal
+refusal_of_ending program ending.Stopped = None
+refusal_of_ending program (ending.Abended abend) = Some (refusals.Abend abend)
+refusal_of_ending program (ending.Faulted fault) = Some (refusals.Fault program fault)
+
+-- the refusal of a run of this program; none where it stopped normally
+abbrev pub refusal_of_run : ℕ → Program → Ran → Option Refusal
+refusal_of_run steps program (ran.Ended ending) = refusal_of_ending program ending
+refusal_of_run steps program ran.Budget = Some (refusals.Budget steps)
+refusal_of_run steps program (ran.DeviceFault name) = Some (refusals.Device name)
+refusal_of_run steps program ran.WriteFault = Some refusals.WriteFault
+refusal_of_run steps program ran.NoMemory = Some refusals.NoMemory
+
+-- the refusal that tells what came of a source; none where its run stopped normally
+abbrev pub refusal_of : ℕ → Came → Option Refusal
+refusal_of steps (came.Refused why) = Some (unread why)
+refusal_of steps came.NoMemory = Some refusals.NoMemory
+refusal_of steps (came.Ran program ran) = refusal_of_run steps program ran
+
+-- the bytes are this program, which has no statements on files, and over all files its run stands
+-- so after so many steps
+pub record StandsSo (bytes : List ℕ) (steps : ℕ) (program : Program)
+    (standing : Files → Standing Files) : Type 0 where
+  pub reads : Reads bytes program
+  pub plain : is_plain program ≡ true
+  pub stands : (files : Files) → (source_run program files steps).standing ≡ standing files
+
+-- it came to this end within so many steps
+abbrev pub EndsAs : List ℕ → ℕ → Program → Ending → Type 0
+EndsAs bytes steps program ending =
+    StandsSo bytes steps program (λ files. Over (ending_seen ending files))
+
+-- what is due to bytes that are to be run: their run stops normally, or why it doesn't; of a
+-- program with statements on files nothing is said
+abbrev pub IsRunDue : ℕ → List ℕ → Option Refusal → Type 0
+IsRunDue steps bytes None = (program : Program) × EndsAs bytes steps program ending.Stopped
+IsRunDue steps bytes (Some (refusals.Refused why)) = IsUnread bytes why
+IsRunDue steps bytes (Some (refusals.Fault program fault)) =
+    EndsAs bytes steps program (ending.Faulted fault)
+IsRunDue steps bytes (Some (refusals.Abend abend)) =
+    (program : Program) × EndsAs bytes steps program (ending.Abended abend)
+IsRunDue steps bytes (Some (refusals.Budget most)) = (most ≡ steps) × ((program : Program)
+    × StandsSo bytes steps program (λ files. Going))
+IsRunDue steps bytes (Some _) = ⊥
+
+-- the bytes are this program, and over these files its run stands so after so many steps
+pub record StandsOnFiles (bytes : List ℕ) (steps : ℕ) (files : Files) (program : Program)
+    (standing : Standing Files) : Type 0 where
+  pub reads : Reads bytes program
+  pub stands : (source_run program files steps).standing ≡ standing
+
+-- over these files it came to this end within so many steps, and left some files
+abbrev pub EndsOnFiles : List ℕ → ℕ → Files → Program → Ending → Type 0
+EndsOnFiles bytes steps files program ending = (left : Files)
+    × StandsOnFiles bytes steps files program (Over (ending_seen ending left))
+
+-- what is due to bytes that are to be run over these files: their run stops normally, or why it
+-- doesn't
+abbrev pub IsRunDueOnFiles : ℕ → List ℕ → Files → Option Refusal → Type 0
+IsRunDueOnFiles steps bytes files None =
+    (program : Program) × EndsOnFiles bytes steps files program ending.Stopped
+IsRunDueOnFiles steps bytes files (Some (refusals.Refused why)) = IsUnread bytes why
+IsRunDueOnFiles steps bytes files (Some (refusals.Fault program fault)) =
+    EndsOnFiles bytes steps files program (ending.Faulted fault)
+IsRunDueOnFiles steps bytes files (Some (refusals.Abend abend)) =
+    (program : Program) × EndsOnFiles bytes steps files program (ending.Abended abend)
+IsRunDueOnFiles steps bytes files (Some (refusals.Budget most)) = (most ≡ steps)
+    × ((program : Program) × StandsOnFiles bytes steps files program Going)
+IsRunDueOnFiles steps bytes files (Some _) = ⊥
+
+-- the notes tell that the sink of a run failed, where there is room for it; the status does
+abbrev pub TellsWriteFault : SinkCall → Status → Type 0
+TellsWriteFault notes answer =
+    (answer ≡ status.WriteFault) × (Takes (line_of refusals.WriteFault) notes ⊎ NotesNoMemory notes)
+
+-- the status and the notes tell why the run didn't stop normally, or that it did
+abbrev pub TellsCame : Option Refusal → SinkCall → Status → Type 0
+TellsCame None notes answer = (answer ≡ status.Done) × Keeps notes
+TellsCame (Some refusals.WriteFault) notes answer = TellsWriteFault notes answer
+TellsCame (Some refusal) notes answer = Notes refusal notes answer
+
+-- the bytes of the source, which was read to its end or past the limit, were run, and this came of
+-- them: what they display went to the sink
+pub record IsRun (steps : ℕ) (source : SourceCall) (out : SinkCall) (came : Came) : Type 0 where
+  pub bytes : List ℕ
+  pub told : Tells source.told bytes
+  pub comes : Comes bytes steps out came
+  pub left : source.left ≡ left_after (source_limit + 1) source.told
+
+-- the source was run, and what came of it is told; at a write fault the sink failed
+pub record IsRunTold (steps : ℕ) (source : SourceCall) (out notes : SinkCall) (answer : Status)
+    : Type 0 where
+  pub came : Came
+  pub run : IsRun steps source out came
+  pub told : TellsCame (refusal_of steps came) notes answer
+  pub fault : IsWriteFault came → Rose out.count out.count_now
+
+-- the source failed, or memory was wanted before anything ran, which was noted
+pub record IsUnrun (source : SourceCall) (out notes : SinkCall) (answer : Status) : Type 0 where
+  pub refusal : Refusal
+  pub why : (refusal ≡ refusals.ReadFault) × IsReadFault (source_limit + 1) source
+      ⊎ (refusal ≡ refusals.NoMemory) × IsReadWithin (source_limit + 1) source
+  pub kept : Keeps out
+  pub noted : Notes refusal notes answer
+
+-- how a call that runs a source for at most so many steps ends
+abbrev pub EndsOfRun : ℕ → SourceCall → SinkCall → SinkCall → Status → Type 0
+EndsOfRun steps source out notes answer =
+    IsRunTold steps source out notes answer ⊎ IsUnrun source out notes answer
+
+-- the same, and over whatever files the devices of the bench tell, the run does what its program
+-- does there and leaves the files that it leaves; first the devices before, then those after
+pub record IsRunWithFiles (steps : ℕ) (source : SourceCall) (out notes : SinkCall)
+    (old new : List Seen) (answer : Status) : Type 0 where
+  pub told : IsRunTold steps source out notes answer
+  pub over : ComesOver told.run.bytes steps out old new told.came
+
+-- how such a call ends over devices that tell their files
+abbrev pub EndsOfRunWithFiles : ℕ → SourceCall → SinkCall → SinkCall → (old new : List Seen) → Status →
+    Type 0
+EndsOfRunWithFiles steps source out notes old new answer =
+    IsRunWithFiles steps source out notes old new answer ⊎ IsUnrun source out notes answer
+
+-- a device failed and is gone from the bench, and its name was noted
+pub record IsDeviceTold (notes : SinkCall) (left left_now : ℕ) (old new : List Seen) : Type 0 where
+  pub name : List ℕ
+  pub fell : FellNamed name left left_now old new
+  pub noted : Takes (line_of (refusals.Device name)) notes

@@ -1,0 +1,92 @@
+-- How a call of the top call ends: the answer that is due was given, or why it wasn't.
+use Rattle.std.specs.Prelude.{◌≡◌, List, Option, Some, None, Ok, Err}
+use Rattle.cob_base.specs.Source.{SourceCall}
+use Rattle.cob_base.specs.Sink.{SinkCall}
+use Rattle.file_model.specs.operations.Seen.{Seen}
+use Rattle.restructure_asks.specs.declared.ask.Ask.{Ask}
+use Rattle.restructure_asks.specs.declared.ask.Ask.TheVariants.{Restructure, Report, Check, Run, Generate, Trial}
+use Rattle.restructure_asks.specs.declared.texts.Texts.{Texts}
+use Rattle.restructure_asks.specs.declared.refusal.Refusal.{Refusal}
+use Rattle.restructure_asks.specs.declared.refusal.Refusal.TheVariants as refusal
+use Rattle.restructure_asks.specs.declared.status.Status.{Status}
+use Rattle.restructure_asks.specs.declared.status.Status.TheVariants as status
+use Rattle.restructure_asks.specs.Ask.{reads}
+use Rattle.restructure_asks.specs.Answer.{IsAnswered}
+use Rattle.restructure_asks.specs.Reading.{IsReadWithin, IsReadFault}
+use Rattle.restructure_asks.specs.Running.{EndsOfRun, EndsOfRunWithFiles}
+use Rattle.restructure_asks.specs.Refusal.{line_of, status_of}
+use Rattle.restructure_asks.specs.Writing.{Gains, GainsReport, Takes, Keeps, NotesNoMemory, IsWriteFault}
+
+-- the text that is due was written, and nothing was noted but the report that is due
+pub record IsDone (ask : Option Ask) (source : SourceCall) (out notes : SinkCall) : Type 0 where
+  pub texts : Texts
+  pub answered : IsAnswered ask source (Ok texts)
+  pub written : Gains texts.text out
+  pub noted : GainsReport texts.report notes
+
+-- the refusal that is due was noted, and nothing was written; the status is that of the refusal
+pub record IsRefused (ask : Option Ask) (source : SourceCall) (out notes : SinkCall)
+    (answer : Status) : Type 0 where
+  pub refusal : Refusal
+  pub answered : IsAnswered ask source (Err refusal)
+  pub status : answer ≡ status_of refusal
+  pub kept : Keeps out
+  pub noted : Takes (line_of refusal) notes
+
+-- the source failed, which was noted, and nothing was written
+pub record IsUnread (ask : Option Ask) (source : SourceCall) (out notes : SinkCall) : Type 0 where
+  pub fault : IsReadFault (reads ask) source
+  pub kept : Keeps out
+  pub noted : Takes (line_of refusal.ReadFault) notes
+
+-- a front of the text that is due was written, until the sink failed, which was noted; or a front
+-- of the report that is due behind it, until the notes failed
+pub record IsCut (ask : Option Ask) (source : SourceCall) (out notes : SinkCall) : Type 0 where
+  pub texts : Texts
+  pub answered : IsAnswered ask source (Ok texts)
+  pub fault : IsWriteFault texts out notes
+
+-- memory was wanted, and nothing was written
+pub record IsStarved (ask : Option Ask) (source : SourceCall) (out notes : SinkCall) : Type 0 where
+  pub read : IsReadWithin (reads ask) source
+  pub kept : Keeps out
+  pub noted : NotesNoMemory notes
+
+-- what each status tells, of an ask for a text
+abbrev pub EndsOfText : Option Ask → SourceCall → SinkCall → SinkCall → Status → Type 0
+EndsOfText ask source out notes status.Done = IsDone ask source out notes
+EndsOfText ask source out notes status.Usage = IsRefused ask source out notes status.Usage
+EndsOfText ask source out notes status.NotSubset = IsRefused ask source out notes status.NotSubset
+EndsOfText ask source out notes status.Flow = IsRefused ask source out notes status.Flow
+EndsOfText ask source out notes status.Limit = IsRefused ask source out notes status.Limit
+EndsOfText ask source out notes status.ReadFault = IsUnread ask source out notes
+EndsOfText ask source out notes status.WriteFault = IsCut ask source out notes
+EndsOfText ask source out notes status.DeviceFault = ⊥
+EndsOfText ask source out notes status.Abend = ⊥
+EndsOfText ask source out notes status.Budget = ⊥
+EndsOfText ask source out notes status.NoMemory = IsStarved ask source out notes
+
+-- how a call ends, by its ask
+abbrev pub Ends : Option Ask → SourceCall → SinkCall → SinkCall → Status → Type 0
+Ends None source out notes answer = EndsOfText None source out notes answer
+Ends (Some Restructure) source out notes answer =
+    EndsOfText (Some Restructure) source out notes answer
+Ends (Some Report) source out notes answer = EndsOfText (Some Report) source out notes answer
+Ends (Some Check) source out notes answer = EndsOfText (Some Check) source out notes answer
+Ends (Some (Run steps)) source out notes answer = EndsOfRun steps source out notes answer
+Ends (Some (Generate n)) source out notes answer =
+    EndsOfText (Some (Generate n)) source out notes answer
+Ends (Some (Trial n)) source out notes answer =
+    EndsOfText (Some (Trial n)) source out notes answer
+
+-- how a call ends over the devices of a bench, before and after, by its ask: only a run asks them
+abbrev pub EndsWithFiles : Option Ask → SourceCall → SinkCall → SinkCall → (old new : List Seen) →
+    Status → Type 0
+EndsWithFiles (Some (Run steps)) source out notes old new answer =
+    EndsOfRunWithFiles steps source out notes old new answer
+EndsWithFiles _ source out notes old new answer = Unit {0}
+
+-- how a call ends that leaves the source as it was, whatever the source
+abbrev pub EndsUnread : Option Ask → SinkCall → SinkCall → Status → Type 0
+EndsUnread ask out notes answer =
+    (source : SourceCall) → source.left ≡ source.told → Ends ask source out notes answer

@@ -1,0 +1,36 @@
+//! What follows of how a call ends.
+
+ghost use Rattle.restructure_asks.specs.Laws.{WordsAreOfTheirAsk, OneAnswerIsDue, DueAnswerComes, AcceptedSourceIsDone, FaultySourceIsRefused, RefusedForFlowIsFaulty, OneRunIsDue, DueRunComes, OneRunIsDueOnFiles, DueRunComesOnFiles, UsageComes, GeneratedComes, WithinLimitAllIsRead};
+
+/// The words of an ask are exactly its own.
+pub fn words_are_of_one_ask()
+    ensures { WordsAreOfTheirAsk }
+{}
+
+/// At most one answer is due.
+pub fn one_answer_is_due()
+    ensures { OneAnswerIsDue }
+{}
+
+/// A source within the limit is read to its end.
+pub fn source_is_read_to_its_end()
+    ensures { WithinLimitAllIsRead }
+{}
+
+/// What is due comes, unless the outside fails or memory is wanted.
+pub fn due_answer_comes()
+    ensures due { DueAnswerComes }
+    ensures accepted { AcceptedSourceIsDone }
+    ensures faulty { FaultySourceIsRefused }
+    ensures flow { RefusedForFlowIsFaulty }
+    ensures usage { UsageComes }
+    ensures generated { GeneratedComes }
+{}
+
+/// At most one end of a run is due, and it comes, unless the outside fails or memory is wanted.
+pub fn due_run_comes()
+    ensures one { OneRunIsDue }
+    ensures due { DueRunComes }
+    ensures one_on_files { OneRunIsDueOnFiles }
+    ensures due_on_files { DueRunComesOnFiles }
+{}

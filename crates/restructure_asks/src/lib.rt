@@ -1,0 +1,97 @@
+//! What is asked of the tool, from the words to bytes in sinks.
+//!
+//! `tool` is the top call: it does what the words ask, over any source, sinks and bench, and its
+//! contract is the promise of the whole tool (`specs/Tool.antt` is the place to begin). Hold
+//! `ask_of` in `specs/Ask.antt` against the command line, and the lines that tell a refusal, with
+//! their statuses, against `specs/Refusal.antt` and `specs/Kind.antt`. That an answer comes exactly
+//! where it is due is the law `due_answer_comes`, and of a run `due_run_comes`. Only tested, in
+//! `restructure_tool`: that calls succeed where memory is ample.
+#![tactic(auto)]
+
+ghost use Rattle.std.specs.Prelude.{◌≡◌, false, map, string_bytes, take};
+ghost use Rattle.cob_base.specs.Source.{source_call};
+ghost use Rattle.cob_base.specs.Sink.{sink_call};
+ghost use Rattle.restructure_asks.specs.Ask.{ask_of as asked, is_run, reads};
+ghost use Rattle.restructure_asks.specs.Running.{IsDeviceTold};
+ghost use Rattle.restructure_asks.specs.Tool.{Ends, EndsWithFiles};
+
+mod answer;
+mod ask;
+mod kind;
+mod laws;
+mod made;
+mod reading;
+mod refusal;
+mod running;
+mod status;
+mod texts;
+mod writing;
+
+use answer::{answer_check, answer_generate, answer_report, answer_restructure, answer_trial};
+pub use ask::{Ask, ask_of};
+use cob_base::{Sink, Source};
+use file_model::operations::Watched;
+use file_model::{Bench, Device};
+pub use laws::{
+    due_answer_comes, due_run_comes, one_answer_is_due, source_is_read_to_its_end,
+    words_are_of_one_ask,
+};
+pub use refusal::Refusal;
+use running::answer_run;
+pub use status::Status;
+use std::alloc::Global;
+pub use writing::{note, write_text};
+
+/// Does what the words ask, which `Ask` lists. Where it isn't done, `notes` gets a line that says
+/// why, or the lines of a trail.
+///
+/// The order of the refusals is that of their causes: words, a fault of the source, those of
+/// reading, too many ranges, a fault of flow, too many nodes, and the result's counts. Each ask but
+/// run makes all that it writes first, and both sinks have room for it before the first byte is
+/// written. A failure of `notes` changes no status, unless it is to get the report; want of room in
+/// it makes the status NoMemory.
+pub fn tool<S: Source, K: Sink, N: Sink>(
+    alloc: Global,
+    words: &[String],
+    source: &mut S,
+    out: &mut K,
+    notes: &mut N,
+    bench: &mut Bench,
+) -> Status
+    ensures ends { Ends (asked (map string_bytes words.now))
+        (source_call S.left S.faults source.old source.new)
+        (sink_call K.held K.faults out.old out.new)
+        (sink_call N.held N.faults notes.old notes.new) result }
+
+    // over devices that tell their files, a run does there what its program does
+    ensures over { EndsWithFiles (asked (map string_bytes words.now))
+        (source_call S.left S.faults source.old source.new)
+        (sink_call K.held K.faults out.old out.new)
+        (sink_call N.held N.faults notes.old notes.new)
+        (take bench.old.left
+        (map ⟦<Box<dyn Device> as Watched>⟧.seen bench.old.devices.items))
+        (take bench.new.left
+        (map ⟦<Box<dyn Device> as Watched>⟧.seen bench.new.devices.items)) result }
+
+    // a device that is told as failed did fail, and is gone from the bench
+    ensures devices { result ≡ Status.DeviceFault → IsDeviceTold
+        (sink_call N.held N.faults notes.old notes.new) bench.old.left bench.new.left
+        (map ⟦<Box<dyn Device> as Watched>⟧.seen bench.old.devices.items)
+        (map ⟦<Box<dyn Device> as Watched>⟧.seen bench.new.devices.items) }
+
+    // where nothing is read the source is as it was, also one that tells nothing
+    ensures unread { reads (asked (map string_bytes words.now)) ≡ 0 → source.new ≡ source.old }
+
+    // where nothing is run the bench is as it was
+    ensures unrun { is_run (asked (map string_bytes words.now)) ≡ false → bench.new ≡ bench.old }
+{
+    match ask_of(words) {
+        None => note(alloc, &Refusal::Usage, notes),
+        Some(Ask::Restructure) => answer_restructure(alloc, source, out, notes),
+        Some(Ask::Report) => answer_report(alloc, source, out, notes),
+        Some(Ask::Check) => answer_check(alloc, source, out, notes),
+        Some(Ask::Run(steps)) => answer_run(alloc, steps, source, out, notes, bench),
+        Some(Ask::Generate(n)) => answer_generate(alloc, n, out, notes),
+        Some(Ask::Trial(n)) => answer_trial(alloc, n, out, notes),
+    }
+}

@@ -1,5 +1,0 @@
-use Rattle.restructure_tool.proofs.EndLemmas.{generate-ends}
-use Rattle.restructure_tool.proofs.answer.answer_generate.Goals as goal
-
-pub returns : goal.returns
-returns g c = generate-ends c.args.n _ _ _ _ c.generated-answer.ensures c.give.ensures

@@ -1,5 +1,0 @@
-use Rattle.restructure_tool.proofs.LawLemmas.{one-answer}
-use Rattle.restructure_tool.proofs.laws.one_answer_is_due.Goals as goal
-
-pub returns : goal.returns
-returns c = one-answer

@@ -1,5 +1,0 @@
-use Rattle.restructure_tool.proofs.AskLemmas.{words-of-ask}
-use Rattle.restructure_tool.proofs.laws.words_are_of_one_ask.Goals as goal
-
-pub returns : goal.returns
-returns c = words-of-ask

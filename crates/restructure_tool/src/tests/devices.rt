@@ -1,0 +1,341 @@
+//! Programs with files, run over devices in memory.
+
+use super::calls::{Wanted, expect_of_tool, text, words};
+use cob_base::StdSource;
+use cob_tree::How;
+use file_model::{Bench, Device, Got, MemDevice, MemFile, Opened};
+use restructure_asks::Status;
+use std::alloc::{AllocError, Global};
+use std::process::Abort;
+use std::test::Fail;
+
+/// What stands before the files of a program.
+const HEAD: &str = "       IDENTIFICATION DIVISION.
+       PROGRAM-ID. T.
+       ENVIRONMENT DIVISION.
+       INPUT-OUTPUT SECTION.
+       FILE-CONTROL.
+";
+
+/// What stands between its files and its statements.
+const RECORD: &str = "       DATA DIVISION.
+       FILE SECTION.
+       FD F.
+       01 R PIC X(4).
+       WORKING-STORAGE SECTION.
+       77 FS PIC X(2).
+       PROCEDURE DIVISION.
+";
+
+const SHOWING: (&str, &str) = (
+    "           SELECT F ASSIGN TO \"IN.DAT\".\n",
+    "       START-UP.
+           OPEN INPUT F.
+       NEXT-ONE.
+           READ F AT END GO TO DONE.
+           DISPLAY R.
+           GO TO NEXT-ONE.
+       DONE.
+           CLOSE F.
+           STOP RUN.
+",
+);
+
+const LOOKING: (&str, &str) = (
+    "           SELECT F ASSIGN TO \"NO.DAT\" FILE STATUS IS FS.\n",
+    "       A. OPEN INPUT F. DISPLAY FS. STOP RUN.\n",
+);
+
+const UNNAMED: (&str, &str) = (
+    "           SELECT F ASSIGN TO \".DAT\".\n",
+    "       A. OPEN OUTPUT F. STOP RUN.\n",
+);
+
+const LEAVING: (&str, &str) = (
+    "           SELECT F ASSIGN TO \"IN.DAT\".\n",
+    "       A. OPEN INPUT F. STOP RUN.\n",
+);
+
+const TRYING: (&str, &str) = (
+    "           SELECT F ASSIGN TO \"NEW.DAT\" FILE STATUS IS FS.\n",
+    "       A.
+           CLOSE F. DISPLAY FS.
+           OPEN INPUT F. DISPLAY FS.
+           OPEN OUTPUT F. DISPLAY FS.
+           OPEN OUTPUT F. DISPLAY FS.
+           WRITE R FROM \"AB\". DISPLAY FS.
+           REWRITE R. DISPLAY FS.
+           CLOSE F. DISPLAY FS.
+           OPEN I-O F. REWRITE R. DISPLAY FS.
+           MOVE \"X\" TO R.
+           READ F NOT AT END DISPLAY R.
+           REWRITE R FROM \"C\". DISPLAY FS.
+           WRITE R. DISPLAY FS.
+           READ F AT END DISPLAY \"END\" NOT AT END DISPLAY R.
+           READ F. DISPLAY \"NEVER\".
+",
+);
+
+const LISTING: (&str, &str) = (
+    "       IDENTIFICATION DIVISION.
+       PROGRAM-ID. PAYLIST.
+       ENVIRONMENT DIVISION.
+       INPUT-OUTPUT SECTION.
+       FILE-CONTROL.
+           SELECT PAY-FILE ASSIGN TO \"PAY.DAT\" FILE STATUS IS PAY-STAT.
+           SELECT LIST-FILE ASSIGN TO \"",
+    "\".
+       DATA DIVISION.
+       FILE SECTION.
+       FD PAY-FILE LABEL RECORDS ARE STANDARD.
+       01 PAY-REC.
+           05 PAY-NAME PIC X(6).
+           05 PAY-HOURS PIC 99.
+           05 PAY-RATE PIC 99V99.
+       FD LIST-FILE.
+       01 LIST-REC.
+           05 LIST-NAME PIC X(6).
+           05 LIST-GROSS PIC 9(5)V99.
+       WORKING-STORAGE SECTION.
+       77 PAY-STAT PIC XX.
+       77 TOTAL-GROSS PIC 9(7)V99 VALUE 0.
+       77 SKIPPED PIC 9(4) VALUE 0.
+       PROCEDURE DIVISION.
+       MAIN-CONTROL SECTION.
+       BEGIN-RUN.
+           OPEN INPUT PAY-FILE.
+           IF PAY-STAT NOT = \"00\"
+               DISPLAY \"NO PAY FILE\"
+               GO TO END-RUN.
+           OPEN OUTPUT LIST-FILE.
+       NEXT-PAY.
+           READ PAY-FILE AT END GO TO TOTALS.
+           PERFORM LIST-ONE.
+           GO TO NEXT-PAY.
+       TOTALS.
+           DISPLAY \"TOTAL \" TOTAL-GROSS \" SKIPPED \" SKIPPED.
+           CLOSE PAY-FILE LIST-FILE.
+       END-RUN.
+           STOP RUN.
+       LIST-ONE SECTION.
+       CHECK-ONE.
+           IF PAY-HOURS NOT NUMERIC OR PAY-RATE NOT NUMERIC
+               GO TO BAD-ONE.
+           MOVE PAY-NAME TO LIST-NAME.
+           MULTIPLY PAY-HOURS BY PAY-RATE GIVING LIST-GROSS.
+           ADD LIST-GROSS TO TOTAL-GROSS.
+           WRITE LIST-REC.
+           GO TO ONE-EXIT.
+       BAD-ONE.
+           ADD 1 TO SKIPPED.
+       ONE-EXIT.
+           EXIT.
+",
+);
+
+const PAY: &str = "SMITH 401050JONES 0X2000";
+
+const TOTAL: &str = "TOTAL 000042000 SKIPPED 0001\n";
+
+const FAULT: &str = "DEVICE FAULT DISK\n";
+
+// A device with one file, the call of that number failing; 0 is none.
+fn device(
+    alloc: Global,
+    name: &str,
+    file: (&str, &str),
+    failing: u64,
+) -> Result<MemDevice, AllocError> {
+    let (file_name, bytes) = file;
+    let held = MemFile {
+        name: text(alloc, file_name)?,
+        bytes: text(alloc, bytes)?,
+        how: None,
+        at: 0,
+        last: None,
+    };
+    Ok(MemDevice {
+        name: text(alloc, name)?,
+        files: vec![in alloc; held]?,
+        calls: 0,
+        failing: vec![in alloc; failing]?,
+        count: 0,
+    })
+}
+
+// A status, what is displayed, and what is noted.
+type Told = (Status, &'static str, &'static str);
+
+// Runs a source over a bench, and compares what comes of it.
+fn check(
+    rt: &impl Abort,
+    alloc: Global,
+    source: &[u8],
+    bench: &mut Bench,
+    told: Told,
+) -> Result<(), AllocError> {
+    let words = words(alloc, &["run", "--steps", "100"])?;
+    let (status, out, notes) = told;
+    let wanted = Wanted {
+        status,
+        out: out.as_bytes(),
+        notes: notes.as_bytes(),
+    };
+    let mut source = StdSource::new(source);
+    expect_of_tool(rt, alloc, &words, &mut source, bench, wanted);
+    Ok(())
+}
+
+/// A run over a device DISK with one file, and how many devices are left on the bench.
+#[derive(Clone, Copy)]
+struct Case {
+    program: (&'static str, &'static str),
+    file: (&'static str, &'static str),
+    failing: u64,
+    told: Told,
+    left: usize,
+}
+
+/// A reader, of which nothing fails.
+const SHOWN: Case = Case {
+    program: SHOWING,
+    file: ("IN.DAT", "AAAABB"),
+    failing: 0,
+    told: (Status::Done, "AAAA\nBB  \n", ""),
+    left: 1,
+};
+
+const CASES: [Case; 7] = [
+    SHOWN,
+    Case {
+        file: ("OTHER", ""),
+        told: (Status::Abend, "", "ABEND IO 35\n"),
+        ..SHOWN
+    },
+    Case {
+        program: LOOKING,
+        file: ("IN.DAT", ""),
+        told: (Status::Done, "35\n", ""),
+        ..SHOWN
+    },
+    Case {
+        program: UNNAMED,
+        file: ("IN.DAT", ""),
+        told: (Status::Abend, "", "ABEND IO 30\n"),
+        ..SHOWN
+    },
+    Case {
+        program: TRYING,
+        file: ("IN.DAT", ""),
+        told: (
+            Status::Abend,
+            "42\n35\n00\n41\n00\n49\n00\n43\nAB  \n00\n48\nEND\n",
+            "ABEND IO 46\n",
+        ),
+        ..SHOWN
+    },
+    Case {
+        failing: 6,
+        ..SHOWN
+    },
+    // the device fails as the run closes its files
+    Case {
+        program: LEAVING,
+        failing: 2,
+        told: (Status::DeviceFault, "", FAULT),
+        left: 0,
+        ..SHOWN
+    },
+];
+
+// What the reader displays before the call of the device that fails.
+const CUTS: [(u64, &str); 5] = [
+    (1, ""),
+    (2, ""),
+    (3, "AAAA\n"),
+    (4, "AAAA\nBB  \n"),
+    (5, "AAAA\nBB  \n"),
+];
+
+fn disk(alloc: Global, case: &Case) -> Result<Bench, AllocError> {
+    let disk = device(alloc, "DISK", case.file, case.failing)?;
+    let mut devices: Vec<Box<dyn Device>> = Vec::new(alloc);
+    devices.push(Box::new(alloc, disk)?)?;
+    Ok(Bench::new(devices))
+}
+
+fn check_case(rt: &impl Abort, alloc: Global, case: &Case) -> Result<(), AllocError> {
+    let (files, statements) = case.program;
+    let source = format!(in alloc; "{HEAD}{files}{RECORD}{statements}")?;
+    let mut bench = disk(alloc, case)?;
+    check(rt, alloc, source.as_bytes(), &mut bench, case.told)?;
+    assert_eq!(rt; bench.left, case.left);
+    Ok(())
+}
+
+#[test]
+fn files_are_read_written_and_put_back(rt: HostRuntime) -> Result<(), Fail> {
+    for case in &CASES {
+        check_case(&rt, rt.alloc(), case)?;
+    }
+    Ok(())
+}
+
+#[test]
+fn each_call_of_a_device_may_fail(rt: HostRuntime) -> Result<(), Fail> {
+    for (failing, shown) in CUTS {
+        let case = Case {
+            failing,
+            told: (Status::DeviceFault, shown, FAULT),
+            left: 0,
+            ..SHOWN
+        };
+        check_case(&rt, rt.alloc(), &case)?;
+    }
+    Ok(())
+}
+
+// The file of the list, which call of the disk fails, what is told, how many devices are left, and
+// which of them then has the list.
+const LISTS: [(&str, u64, Told, usize, usize); 2] = [
+    ("LIST.DAT", 0, (Status::Done, TOTAL, ""), 2, 0),
+    ("OUT:LIST.DAT", 3, (Status::DeviceFault, "", FAULT), 1, 0),
+];
+
+// A device with the hours, the call of that number failing, and one whose fourth call fails.
+fn disk_and_out(alloc: Global, failing: u64) -> Result<Bench, AllocError> {
+    let disk = device(alloc, "DISK", ("PAY.DAT", PAY), failing)?;
+    let mut devices: Vec<Box<dyn Device>> = Vec::new(alloc);
+    devices.push(Box::new(alloc, disk)?)?;
+    let out = device(alloc, "OUT", ("PAY.DAT", ""), 4)?;
+    devices.push(Box::new(alloc, out)?)?;
+    Ok(Bench::new(devices))
+}
+
+// The device has the list.
+fn expect_list(rt: &impl Abort, device: &mut dyn Device) {
+    let mut listed = [0u8; 13];
+    assert!(rt; device.open_file(b"LIST.DAT", How::Input) == Opened::Ready);
+    assert!(rt; device.read_next(b"LIST.DAT", &mut listed) == Got::Bytes(13));
+    assert!(rt; listed.as_slice() == b"SMITH 0042000".as_slice());
+}
+
+#[test]
+fn a_listing_goes_to_its_device(rt: HostRuntime) -> Result<(), Fail> {
+    let alloc = rt.alloc();
+    let (head, tail) = LISTING;
+    for (list, failing, told, left, at) in LISTS {
+        let source = format!(in alloc; "{head}{list}{tail}")?;
+        let mut bench = disk_and_out(alloc, failing)?;
+        check(&rt, alloc, source.as_bytes(), &mut bench, told)?;
+        assert_eq!(rt; bench.left, left);
+        assert!(rt; at < bench.devices.len());
+        let held = &mut *bench.devices[at];
+        // It had three calls, so that the next one fails where the fourth is to.
+        if left == 1 {
+            assert!(rt; held.open_file(b"LIST.DAT", How::Input) == Opened::Failed);
+        }
+        expect_list(&rt, held);
+    }
+    Ok(())
+}
