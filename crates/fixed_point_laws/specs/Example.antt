@@ -11,6 +11,7 @@ use Rattle.fixed_point.specs.Fixed.{result_by, ResultIsWritten}
 abbrev pub stopping : Program
 stopping = record { paragraphs = (also StopRun none ∷ []) ∷ [] }
 
+-- of main, the paragraph's node
 abbrev pub stopping_kept : Range → Label → Bool
 stopping_kept Main label = label == 0
 stopping_kept (Part entry exit) label = true
