@@ -23,3 +23,5 @@ pub mod LawLemmas
 pub mod RunLawLemmas
 -- the same over files
 pub mod FilesLawLemmas
+-- what was written is written again
+pub mod AgainLawLemmas

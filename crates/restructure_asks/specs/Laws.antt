@@ -9,7 +9,7 @@ use Rattle.cobol_theory.specs.cobol_meaning.Runs.{Files}
 use Rattle.cobol_run.specs.Over.{TellFiles}
 use Rattle.cobol_read.specs.Limit.{source_limit}
 use Rattle.restructure_core.specs.declared.fault.Refused.TheVariants as refused
-use Rattle.restructure_core.specs.Answers.{IsAccepted, IsFaultySource}
+use Rattle.restructure_core.specs.Answers.{IsAccepted, IsFaultySource, IsResultText}
 use Rattle.restructure_asks.specs.declared.ask.Ask.{Ask}
 use Rattle.restructure_asks.specs.declared.ask.Ask.TheVariants.{Restructure, Report, Check, Run, Generate, Trial}
 use Rattle.restructure_asks.specs.declared.refusal.Refusal.{Refusal}
@@ -23,6 +23,7 @@ use Rattle.restructure_asks.specs.Refusal.{refused_status, status_of}
 use Rattle.restructure_asks.specs.Answer.{Answer, IsDue}
 use Rattle.restructure_asks.specs.Running.{IsRunDue, IsRunDueOnFiles}
 use Rattle.restructure_asks.specs.Tool.{Ends, EndsWithFiles}
+use Rattle.restructure_asks.specs.Writing.{Gains}
 
 -- these are the words of the ask
 abbrev pub AreWordsOf : Ask → List (List ℕ) → Type 0
@@ -162,3 +163,13 @@ abbrev pub WithinLimitAllIsRead : Type 0
 WithinLimitAllIsRead =
     (bytes : List ℕ) → length bytes ≤ source_limit →
     left_after (reads (Some Restructure)) (Some bytes) ≡ Some []
+
+-- where a source tells the text of some program that was restructured, a call to restructure it is
+-- done, but for a fault of the outside or out of memory; and what it writes then is that very text
+abbrev pub ResultComesAgain : Type 0
+ResultComesAgain =
+    (source : SourceCall) (out notes : SinkCall) (answer : Status) →
+    Ends (Some Restructure) source out notes answer →
+    (bytes : List ℕ) → source.told ≡ Some bytes → IsResultText bytes →
+    IsOneOf (status.Done ∷ status.WriteFault ∷ status.ReadFault ∷ status.NoMemory ∷ []) answer
+    × (answer ≡ status.Done → Gains bytes out)

@@ -1,6 +1,8 @@
 //! What follows of how a call ends.
 
-ghost use Rattle.restructure_asks.specs.Laws.{WordsAreOfTheirAsk, OneAnswerIsDue, DueAnswerComes, AcceptedSourceIsDone, FaultySourceIsRefused, RefusedForFlowIsFaulty, OneRunIsDue, DueRunComes, OneRunIsDueOnFiles, DueRunComesOnFiles, UsageComes, GeneratedComes, WithinLimitAllIsRead};
+ghost use Rattle.restructure_asks.specs.Laws.{WordsAreOfTheirAsk, OneAnswerIsDue, DueAnswerComes, AcceptedSourceIsDone, FaultySourceIsRefused, RefusedForFlowIsFaulty, OneRunIsDue, DueRunComes, OneRunIsDueOnFiles, DueRunComesOnFiles, UsageComes, GeneratedComes, ResultComesAgain, WithinLimitAllIsRead};
+
+use fixed_point_laws::results::results_are_fixed;
 
 /// The words of an ask are exactly its own.
 pub fn words_are_of_one_ask()
@@ -34,3 +36,10 @@ pub fn due_run_comes()
     ensures one_on_files { OneRunIsDueOnFiles }
     ensures due_on_files { DueRunComesOnFiles }
 {}
+
+/// What was written of a source is written again where it is the source.
+pub fn result_comes_again()
+    ensures { ResultComesAgain }
+{
+    results_are_fixed();
+}

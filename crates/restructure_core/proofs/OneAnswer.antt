@@ -1,19 +1,25 @@
 -- One answer is due to bytes, but for the trail.
-use Rattle.std.proofs.Common.{◌≡◌, ℕ, List, Result, Ok, Err, refl, ap, sym, ◌∙◌, subst, ◌⊎◌, inl, inr}
+use Rattle.std.proofs.Common.{◌≡◌, ℕ, List, Some, None, Result, Ok, Err, refl, ap, sym, ◌∙◌, subst, ◌⊎◌, inl, inr}
 use Rattle.std.specs.Prelude.{IsOk, IfOk, IfErr}
 use Rattle.cob_base.specs.declared.limit.Limit.{Limit}
 use Rattle.cob_tree.specs.declared.program.Program.{Program}
 use Rattle.program_points.specs.declared.paths.trail.Trail.{Trail}
 use Rattle.pending_returns.specs.Summary.{IsWithin}
+use Rattle.cobol_print.specs.Program.{printed}
 use Rattle.cobol_read.specs.Reading.{Reads}
+use Rattle.fixed_point_laws.specs.Results.{IsFixed, ResultsAreFixed}
 use Rattle.cobol_read.proofs.OneWay.{one_way}
 use Rattle.restructure_core.specs.declared.fault.Refused.{Refused}
 use Rattle.restructure_core.specs.declared.fault.Refused.TheVariants as refused
 use Rattle.restructure_core.specs.declared.pipeline.Done.{Done}
 use Rattle.restructure_core.specs.Flow.{PassesRanges, HasFlowFault, IsFaultless}
+use Rattle.restructure_core.specs.Limit.{result_limit}
+use Rattle.restructure_core.specs.Made.{IsMadeOf}
 use Rattle.restructure_core.specs.Refusals.{of_read_refusal}
-use Rattle.restructure_core.specs.Answers.{IsUnread, IsPastRanges, IsFaultySource, PassesLimit, IsPastLimit, IsResultOf, IsRestructured, IsAccepted, HasCause, IsRefusedBy, IsRefusedByTrail}
+use Rattle.restructure_core.specs.Answers.{IsUnread, IsPastRanges, IsFaultySource, PassesLimit, IsPastLimit, IsResultOf, IsRestructured, IsAccepted, HasCause, IsRefusedBy, IsRefusedByTrail, IsDoneWith, IsResultText}
 use Rattle.restructure_core.proofs.Ranges.{limits-same, within-past}
+use Rattle.restructure_core.proofs.ReadWell.{clear-flow}
+use Rattle.restructure_core.proofs.ReadingBack.{within-limits}
 use Rattle.restructure_core.proofs.OneResult.{limited-faultless, done-faultless, limits-one, done-unlimited, dones-one}
 
 -- a result or a refusal
@@ -208,3 +214,39 @@ module _ (bytes : List ℕ) (outcome : Outcome) (done : IfOk outcome (IsRestruct
         from (faulty h) = absurd (source.faultless.never h.3)
         from (limited h) = absurd (source.within h.0 h.2)
         from (result h) = ok-is h.0 h.1
+
+  -- what a program was restructured to is restructured to itself
+  pub comes-again : ResultsAreFixed → IsResultText bytes → IsDoneWith bytes outcome
+  comes-again are_fixed source = unless-memory ((again : Done) × (outcome ≡ Ok again) × (again.text ≡ bytes))
+      (λ due. from (of-program made reads due)) where
+        h : IsRestructured source.0 source.1
+        h = source.2
+
+        made : Program
+        made = h.result.made.program
+
+        reads : Reads bytes made
+        reads = subst (λ text. Reads text made) source.3 h.read_back
+
+        is : IsMadeOf h.program h.result.made
+        is = h.result.is
+
+        fixed : IsFixed made
+        fixed =
+            are_fixed source.0 h.program made is.summary h.reads (clear-flow h.program is.summary is.clear)
+            is.clear.few is.split.is (within-limits h.program h.result.made is h.result.within)
+
+        from : IsOf made outcome → (again : Done) × (outcome ≡ Ok again) × (again.text ≡ bytes)
+        from (past g) = absurd (fixed.ranges g.0 g.2)
+        from (faulty g) = absurd (fixed.faultless g.3)
+        from (limited g) = absurd (unlimited g.0 g.2)
+          where
+            unlimited : (limit : Limit) → PassesLimit made limit → ⊥
+            unlimited limit (inl before) = fixed.within before.summary limit before.clear.is before.past
+            unlimited limit (inr long) =
+                let same = (fixed.again long.is.summary long.made long.is.clear.is long.is.split).0 in
+                let none : None ≡ Some limit = sym h.result.within ∙ ap result_limit (sym same) ∙ long.past in
+                cc
+        from (result g) =
+            let same = (fixed.again g.2.is.summary g.2.made g.2.is.clear.is g.2.is.split).0 in
+            (g.0, g.1, g.2.written ∙ ap printed same ∙ sym h.result.written ∙ source.3)

@@ -82,7 +82,7 @@ few-paragraphs program made summary split few =
 
 -- ---- results
 
-within-limits : (program : Program) (made : Split) → IsMadeOf program made →
+pub within-limits : (program : Program) (made : Split) → IsMadeOf program made →
     result_limit made.program ≡ None → IsWithinLimits made.program
 within-limits program made is none =
     let result = made.program in

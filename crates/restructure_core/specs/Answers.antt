@@ -130,3 +130,13 @@ IsRefusedBy refusal result = (result ≡ Err refusal) ⊎ (result ≡ Err refuse
 abbrev pub IsRefusedByTrail : {T : Type 0} → Program → Result T Refused → Type 0
 IsRefusedByTrail program result = ((trail : Trail) × (result ≡ Err (refused.Flow program trail)))
     ⊎ (result ≡ Err refused.NoMemory)
+
+-- the text of some program that was restructured
+abbrev pub IsResultText : List ℕ → Type 0
+IsResultText bytes = (source : List ℕ) × (done : Done) × IsRestructured source done
+    × (done.text ≡ bytes)
+
+-- the answer has this text, unless memory is wanted
+abbrev pub IsDoneWith : List ℕ → Result Done Refused → Type 0
+IsDoneWith text result =
+    ((done : Done) × (result ≡ Ok done) × (done.text ≡ text)) ⊎ (result ≡ Err refused.NoMemory)

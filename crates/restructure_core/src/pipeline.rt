@@ -9,6 +9,7 @@ ghost use Rattle.restructure_core.specs.Made.{IsClear};
 ghost use Rattle.restructure_core.specs.Answers.{IsUnread, IsPastRanges, IsFaultySource, IsPastLimit};
 ghost use Rattle.restructure_core.specs.Answers.{IsAccepted, IsRestructured, IsReported, IsAnswerTo};
 ghost use Rattle.restructure_core.specs.Answers.{HasCause, IsRefusedBy, IsRefusedByTrail};
+ghost use Rattle.restructure_core.specs.Answers.{IsDoneWith, IsResultText};
 
 use crate::fault::Refused;
 use crate::flow::{Flow, flow_of};
@@ -17,6 +18,7 @@ use crate::limit::print_result;
 use cob_base::Text;
 use cob_tree::Program;
 use cobol_read::read;
+use fixed_point_laws::results::results_are_fixed;
 use pending_returns::Summary;
 use procedure_split::report::{Report, report_of};
 use procedure_split::split;
@@ -50,7 +52,11 @@ pub fn restructure(alloc: Global, bytes: &[u8]) -> Result<Done, Refused>
     ensures past { (limit : limits.Limit) →
         IsPastLimit bytes.now limit → IsRefusedBy (Refused.Limit limit) result }
     ensures accepted { IsAccepted bytes.now → IsOk result ⊎ (result ≡ Err Refused.NoMemory) }
+
+    // what it wrote, it writes again
+    ensures again { IsResultText bytes.now → IsDoneWith bytes.now result }
 {
+    results_are_fixed();
     restructured(alloc, bytes)
 }
 

@@ -1,4 +1,4 @@
-use Rattle.restructure_core.proofs.OneAnswer.{comes-unread, comes-past, comes-faulty, comes-limited, comes-done}
+use Rattle.restructure_core.proofs.OneAnswer.{comes-unread, comes-past, comes-faulty, comes-limited, comes-done, comes-again}
 use Rattle.restructure_core.proofs.pipeline.restructure.Goals as goal
 
 pub returns-clause-unread : goal.returns-clause-unread
@@ -15,3 +15,6 @@ returns-clause-past c = comes-limited c.args.bytes.now c.restructured.result c.r
 
 pub returns-clause-accepted : goal.returns-clause-accepted
 returns-clause-accepted c = comes-done c.args.bytes.now c.restructured.result c.restructured.ensures.done c.restructured.ensures.refused
+
+pub returns-clause-again : goal.returns-clause-again
+returns-clause-again c = comes-again c.args.bytes.now c.restructured.result c.restructured.ensures.done c.restructured.ensures.refused c.results_are_fixed.ensures
