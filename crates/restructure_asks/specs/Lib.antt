@@ -17,5 +17,7 @@ pub mod Writing
 pub mod Running
 -- how a call of the top call ends
 pub mod Tool
+-- how a call of the program ends
+pub mod Program
 -- what follows of these
 pub mod Laws

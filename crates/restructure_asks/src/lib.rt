@@ -20,6 +20,7 @@ mod ask;
 mod kind;
 mod laws;
 mod made;
+mod program;
 mod reading;
 mod refusal;
 mod running;
@@ -36,6 +37,7 @@ pub use laws::{
     due_answer_comes, due_run_comes, one_answer_is_due, source_is_read_to_its_end,
     words_are_of_one_ask,
 };
+pub use program::program;
 pub use refusal::Refusal;
 use running::answer_run;
 pub use status::Status;

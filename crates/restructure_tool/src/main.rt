@@ -1,21 +1,20 @@
 //! A COBOL program in, a structured program that behaves the same out.
 //!
-//! `program` answers `--help` and `--version` by a page, and hands other words to `tool` of
-//! `restructure_asks`, whose promise is its own. `main` gives it standard input, output and error,
-//! and a bench with the current folder under the name DISK and a device NULL. Only tested: that
-//! calls succeed where memory is ample, what programs do with files of a folder, and the help's
-//! text.
+//! `main` gives `program` of `restructure_asks`, whose promise is its own, the words, standard input,
+//! output and error, and a bench with the current folder under the name DISK and a device NULL; the
+//! exit status is the number of its status. Only tested: that calls succeed where memory is ample,
+//! what programs do with files of a folder, and the help's text.
 #![tactic(auto)]
 
-mod program;
+mod host;
 #[cfg(test)]
 mod tests;
 
 use cob_base::{NoMemory, Sink, Source, StdSink, StdSource, Text};
 use file_model::folder::FolderDevice;
 use file_model::{Bench, Device, NullDevice};
-use program::{arguments, exit_code, program};
-use restructure_asks::{Refusal, Status, note};
+use host::{arguments, exit_code};
+use restructure_asks::{Refusal, Status, note, program};
 use std::alloc::Global;
 use std::process::ExitCode;
 

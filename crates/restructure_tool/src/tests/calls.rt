@@ -1,10 +1,9 @@
 //! A call over a source and sinks in memory, and what it has to give.
 
 use super::sources::{HELLO, HELLO_RESULT};
-use crate::program::program;
 use cob_base::{MemSink, MemSource, Source, Text};
 use file_model::Bench;
-use restructure_asks::{Status, tool};
+use restructure_asks::{Status, program, tool};
 use std::alloc::{AllocError, Global};
 use std::process::Abort;
 
@@ -82,7 +81,7 @@ pub fn ample(alloc: Global) -> MemSink {
     sink(alloc, 4096, Vec::new(alloc))
 }
 
-fn ends(alloc: Global, case: &Case) -> Result<Ends, AllocError> {
+fn outside_of(alloc: Global, case: &Case) -> Result<Ends, AllocError> {
     let bytes = text(alloc, case.source)?;
     let reads = vec![in alloc; case.read_fails]?;
     let writes = vec![in alloc; case.write_fails]?;
@@ -127,7 +126,7 @@ pub fn expect(rt: &impl Abort, status: Status, out: &MemSink, notes: &MemSink, w
 /// The program gives what the case wants.
 pub fn check(rt: &impl Abort, alloc: Global, case: &Case) -> Result<(), AllocError> {
     let words = words(alloc, case.words)?;
-    let mut ends = ends(alloc, case)?;
+    let mut ends = outside_of(alloc, case)?;
     let status = answer(alloc, words, &mut ends);
     let wanted = Wanted {
         status: case.status,

@@ -2,9 +2,8 @@
 
 use super::calls::{Wanted, ample, bare, expect_of_tool, words};
 use super::sources::{HELLO, HELLO_RESULT};
-use crate::program::program;
 use cob_base::{NoMemory, Source, StdSink, StdSource, Took};
-use restructure_asks::Status;
+use restructure_asks::{Status, program};
 use std::alloc::Global;
 use std::io::{self, ErrorKind, Write};
 use std::process::Abort;

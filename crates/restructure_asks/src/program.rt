@@ -1,22 +1,21 @@
-//! The command line: what the program answers itself, and its exit status.
+//! The command line: what the program answers itself.
 
 ghost use Rattle.std.specs.Prelude.{◌≡◌, map, string_bytes, take, true, false, None, is_some, IfOk, OnErr};
-ghost use Rattle.std.specs.Process.{exit_status};
 ghost use Rattle.cob_base.specs.Source.{source_call};
 ghost use Rattle.cob_base.specs.Sink.{sink_call};
 ghost use Rattle.restructure_asks.specs.Ask.{ask_of};
-ghost use Rattle.restructure_asks.specs.Status.{status_number};
 ghost use Rattle.restructure_asks.specs.Running.{IsDeviceTold};
 ghost use Rattle.restructure_asks.specs.Tool.{Ends, EndsWithFiles};
-ghost use Rattle.restructure_tool.specs.Program.{is_page, is_page_word, ShowsPage};
+ghost use Rattle.restructure_asks.specs.Program.{is_page, is_page_word, ShowsPage};
 
+use crate::refusal::Refusal;
+use crate::status::Status;
+use crate::tool;
+use crate::writing::{note, write_text};
 use cob_base::{NoMemory, Sink, Source};
 use file_model::operations::Watched;
 use file_model::{Bench, Device};
-use restructure_asks::{Refusal, Status, note, tool, write_text};
 use std::alloc::Global;
-use std::process::ExitCode;
-use std::{env, io};
 
 const HELP: &str = "\
 usage: restructure_tool restructure [--report] < SOURCE > RESULT
@@ -159,20 +158,4 @@ fn page_of_word(word: &str) -> Option<&'static str>
         return Some(VERSION);
     }
     None
-}
-
-/// The words behind the program's name; none where they can't be had as text, which is no ask.
-pub fn arguments(rt: &HostRuntime) -> Result<Vec<String>, NoMemory> {
-    match env::args(rt) {
-        Ok(words) => Ok(words.skip(1).collect(rt.alloc())?),
-        Err(error) if error.kind() == io::ErrorKind::OutOfMemory => Err(NoMemory),
-        Err(_) => Ok(Vec::new(rt.alloc())),
-    }
-}
-
-/// The exit status is the number of the status.
-pub fn exit_code(status: Status) -> ExitCode
-    ensures { exit_status result ≡ status_number status }
-{
-    ExitCode::from(status.number())
 }

@@ -1,2 +1,0 @@
--- how a call of the program ends
-pub mod Program

@@ -1,0 +1,26 @@
+//! What the host gives and takes: the words, and the exit status.
+
+ghost use Rattle.std.specs.Prelude.{◌≡◌};
+ghost use Rattle.std.specs.Process.{exit_status};
+ghost use Rattle.restructure_asks.specs.Status.{status_number};
+
+use cob_base::NoMemory;
+use restructure_asks::Status;
+use std::process::ExitCode;
+use std::{env, io};
+
+/// The words behind the program's name; none where they can't be had as text, which is no ask.
+pub fn arguments(rt: &HostRuntime) -> Result<Vec<String>, NoMemory> {
+    match env::args(rt) {
+        Ok(words) => Ok(words.skip(1).collect(rt.alloc())?),
+        Err(error) if error.kind() == io::ErrorKind::OutOfMemory => Err(NoMemory),
+        Err(_) => Ok(Vec::new(rt.alloc())),
+    }
+}
+
+/// The exit status is the number of the status.
+pub fn exit_code(status: Status) -> ExitCode
+    ensures { exit_status result ≡ status_number status }
+{
+    ExitCode::from(status.number())
+}
