@@ -1,30 +1,30 @@
 -- whether a range stands in a list, and none twice
-mod Standing
+pub mod Standing
 -- what stands where in lists
-mod Getting
+pub mod Getting
 -- flags of numbers
-mod Flags
+pub mod Flags
 -- whether one way alone is there
-mod Ways
+pub mod Ways
 -- how places were come to
-mod Tracing
+pub mod Tracing
 -- what was taken, from the last back
-mod Taking
+pub mod Taking
 -- moves lead to points of the program
-mod Leading
+pub mod Leading
 -- where an aim is met
-mod Aiming
+pub mod Aiming
 -- one lemma more
-mod Knowing
+pub mod Knowing
 -- ranges that are come to by calls
-mod Calling
+pub mod Calling
 -- chains along calls
-mod Chaining
+pub mod Chaining
 -- hops along a chain lead to its fault
-mod Hopping
+pub mod Hopping
 -- from a clash to a trail
-mod Trailing
+pub mod Trailing
 -- what is needed, and new numbers, so far
-mod Needing
+pub mod Needing
 -- a trail with fewer lemmas is accepted too
-mod Shortening
+pub mod Shortening

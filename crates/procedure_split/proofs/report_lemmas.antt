@@ -1,4 +1,4 @@
 -- two lists in one order
-mod Ascending
+pub mod Ascending
 -- a program has one report
-mod OneReport
+pub mod OneReport

@@ -1,10 +1,10 @@
 -- places added, one after the other
 pub mod Growing
 -- what single statements add
-mod Steps
+pub mod Steps
 -- what loops add
-mod Looping
+pub mod Looping
 -- statements of the tree, by what was built of their parts
-mod Choosing
+pub mod Choosing
 -- sentences, from the last one back
-mod Sentences
+pub mod Sentences

@@ -1,11 +1,11 @@
 -- What a form that was read was read of.
-mod Taken
+pub mod Taken
 -- A token that begins a statement is no header.
-mod Verbs
+pub mod Verbs
 -- How the scan of headers goes over tokens.
-mod Goes
+pub mod Goes
 -- Over sentences.
-mod Sentences
+pub mod Sentences
 -- Over what paragraphs are printed with.
 pub mod Printed
 -- Where a name stands first in a list.
@@ -19,8 +19,8 @@ pub mod Plainly
 -- Labels of paragraphs.
 pub mod Labels
 -- Where no fault is noted, and where a name is new.
-mod Clean
-mod Growth
+pub mod Clean
+pub mod Growth
 -- Over the division that is read.
 pub mod Division
 -- Names that can be printed.

@@ -1,3 +1,3 @@
-mod DigitWords
-mod WithinLemmas
-mod ScanLemmas
+pub mod DigitWords
+pub mod WithinLemmas
+pub mod ScanLemmas
