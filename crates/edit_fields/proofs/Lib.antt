@@ -1,2 +1,8 @@
 -- A text that is read on by one byte, or at its end; a symbol that is taken several times.
 pub mod ReadingLemmas
+-- What a mask has that no fault is found in.
+pub mod MaskLemmas
+-- A number that is cut, and its digits.
+pub mod FieldLemmas
+-- The bytes, one symbol on.
+pub mod EditedLemmas

@@ -1,6 +1,6 @@
 //! What a number shows through a mask.
 
-ghost use Rattle.std.specs.Prelude.{◌≡◌, ◌≤◌, length, slice_get, option_copied, Option};
+ghost use Rattle.std.specs.Prelude.{◌≡◌, ◌≤◌, length, slice_get};
 ghost use Rattle.edit_fields.specs.Field.{IsMask};
 ghost use Rattle.edit_fields.specs.Edited as edits;
 ghost use Rattle.edit_fields.specs.Edited.{edited, shown_size};
@@ -199,10 +199,11 @@ fn write(field: Field, mask: &[u8], into: &mut [u8])
     for (place, byte) in mask.iter().enumerate() {
         let symbol = byte.to_ascii_uppercase();
         pen = pen.passed(field, symbol);
-        if symbol != b'V' {
-            into[at] = field.byte_of(symbol, pen, symbol_at(mask, place + 1));
-            at += 1;
+        if symbol == b'V' {
+            continue;
         }
+        into[at] = field.byte_of(symbol, pen, symbol_at(mask, place + 1));
+        at += 1;
     }
 }
 

@@ -1,7 +1,6 @@
 //! A mask as a whole, and a number that is cut to its digits.
 
-ghost use Rattle.std.specs.Prelude.{◌≡◌, ◌+◌, ◌≤◌};
-ghost use Rattle.edit_fields.specs.Shape.{digits};
+ghost use Rattle.std.specs.Prelude.{◌≡◌, ◌^◌, ◌<◌, ◌≤◌, unsigned_abs};
 ghost use Rattle.edit_fields.specs.Field as fields;
 ghost use Rattle.edit_fields.specs.Field.{IsMask, IsNumber};
 
@@ -64,7 +63,8 @@ pub fn mask_digits(mask: &[u8]) -> Digits
 // The number behind a value that is cut.
 fn cut(value: Dec, shape: Shape) -> i128
     requires { IsNumber shape.whole shape.part }
-    ensures { result ≡ fields.cut value shape }
+    ensures value { result ≡ fields.cut value shape }
+    ensures short { unsigned_abs result < 2 ^ 64 }
 {
     store(value, shape.whole + shape.part, shape.part, false).value
 }
