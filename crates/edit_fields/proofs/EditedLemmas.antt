@@ -8,7 +8,7 @@ use Rattle.edit_fields.specs.declared.field.Field.{Field}
 use Rattle.edit_fields.specs.declared.edited.Pen.{Pen}
 use Rattle.edit_fields.specs.Symbol.{symbol_v}
 use Rattle.edit_fields.specs.Edited.{byte_of, one_more, passed, shown_size, with_byte, written}
-use Rattle.edit_fields.proofs.MaskLemmas.{then_taken, else_taken}
+use Rattle.edit_fields.proofs.BranchLemmas.{then_taken, else_taken}
 
 first_at : (xs : List ℕ) (n : ℕ) → slice_get xs n ≡ slice_get (drop n xs) 0
 first_at xs zero = refl

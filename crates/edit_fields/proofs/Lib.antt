@@ -1,3 +1,5 @@
+-- What holds on both branches of a choice.
+pub mod BranchLemmas
 -- A text that is read on by one byte, or at its end; a symbol that is taken several times.
 pub mod ReadingLemmas
 -- What a mask has that no fault is found in.
@@ -6,3 +8,9 @@ pub mod MaskLemmas
 pub mod FieldLemmas
 -- The bytes, one symbol on.
 pub mod EditedLemmas
+-- How many digits there are behind one symbol more.
+pub mod CountLemmas
+-- The laws.
+pub mod SymbolsHaveBytes
+pub mod NumbersAreReadBack
+pub mod OnlyNegativesAreMarked

@@ -4,6 +4,7 @@ use Rattle.std.proofs.Math.Seq.{drop-length}
 use Rattle.std.proofs.lemmas.Bool.{and_parts, or_parts, not-true, eqb-false, leb-true, ne_eqb, eqb-true}
 use Rattle.std.proofs.lemmas.Bool.Decides.{nat_tests}
 use Rattle.std.specs.Char.{to_ascii_uppercase}
+use Rattle.std.specs.Prelude.{unwrap_or}
 use Rattle.edit_fields.specs.declared.fault.MaskFault.{MaskFault}
 use Rattle.edit_fields.specs.declared.shape.Shape.{Shape}
 use Rattle.edit_fields.specs.declared.reading.Place.{Place}
@@ -14,16 +15,7 @@ use Rattle.edit_fields.specs.Shape.{behind, digits, empty, is_half, is_whole}
 use Rattle.edit_fields.specs.Extent.{ends_well, is_short, longer}
 use Rattle.edit_fields.specs.Reading.{added, added_by, end_fault, fault_from, is_counting, is_parenthesis, is_written_out, last_position, left_parenthesis, mask_fault_of, placed, right_parenthesis, start, step, step_by, symbol, symbol_fault}
 use Rattle.edit_fields.specs.Field.{IsMask, IsNumber, moved, shape_from, shape_of}
-
--- ---- branches
-
-pub then_taken : {A : Type 0} (b : Bool) (x y : A) → b ≡ true → (if b then x else y) ≡ x
-then_taken true x y h = refl
-then_taken false x y h = absurd cc
-
-pub else_taken : {A : Type 0} (b : Bool) (x y : A) → b ≡ false → (if b then x else y) ≡ y
-else_taken true x y h = absurd cc
-else_taken false x y h = refl
+use Rattle.edit_fields.proofs.BranchLemmas.{else_taken}
 
 -- ---- the end
 
@@ -68,7 +60,7 @@ not_counting false position = refl
 -- the reading goes on behind a symbol, which moves the shape
 record GoesOn (n upper : ℕ) (reading : Reading) (rest : List ℕ) : Type 0 where
   next : Reading
-  shape : next.shape ≡ moved upper reading.shape
+  comes : behind upper reading.shape ≡ Some next.shape
   counts : is_counting next.place ≡ false
   fault : fault_from n (Ok next) rest ≡ None
 
@@ -77,7 +69,7 @@ unfolding fault_from
 goes_by n upper reading rest None e h = absurd cc
 goes_by n upper reading rest (Some shape) e h = record {
   next = record reading { shape = shape; extent = longer upper reading.extent; place = if upper == symbol_v then places.Open else places.Behind n };
-  shape = sym (ap (λ o. Rattle.std.specs.Prelude.unwrap_or o reading.shape) e);
+  comes = e;
   counts = not_counting (upper == symbol_v) n;
   fault = h;
 }
@@ -90,23 +82,48 @@ goes_on_symbol n byte reading rest counts plain h =
 
 -- ---- all symbols
 
-number_of_rest : (text : List ℕ) (n : ℕ) (reading : Reading) → is_counting reading.place ≡ false → is_written_out text ≡ true → fault_from n (Ok reading) text ≡ None → IsNumber (shape_from reading.shape text).whole (shape_from reading.shape text).part
-unfolding fault_from shape_from
-number_of_rest [] n reading counts plain h = at_end (last_position n) reading h
-number_of_rest (byte ∷ rest) n reading counts plain h =
-    let parts = and_parts (not (is_parenthesis byte)) (is_written_out rest) plain in
-    let on = goes_on_symbol (n + 1) byte reading rest counts (not-true (is_parenthesis byte) parts.0) h in
-    subst (λ (s : Shape). IsNumber (shape_from s rest).whole (shape_from s rest).part) on.shape
-    (number_of_rest rest (n + 1) on.next on.counts parts.1 on.fault)
+-- each symbol of a text may come behind those before it, up to the last shape
+pub data Come : Shape → List ℕ → Shape → Type 0 where
+  ended : {shape : Shape} → Come shape [] shape
+  comes : {shape next last : Shape} {byte : ℕ} {rest : List ℕ} → behind (to_ascii_uppercase byte) shape ≡ Some next → Come next rest last → Come shape (byte ∷ rest) last
 
-pub mask_number : (mask : List ℕ) → IsMask mask → IsNumber (shape_of mask).whole (shape_of mask).part
-mask_number mask is = number_of_rest mask 0 start refl is.written_out is.no_fault
-
--- ---- the shape of a mask
+-- a symbol that may come is taken
+pub moved_to : (symbol : ℕ) (shape next : Shape) → behind symbol shape ≡ Some next → moved symbol shape ≡ next
+moved_to symbol shape next e = ap (λ o. unwrap_or o shape) e
 
 shape_next : (shape : Shape) (byte : ℕ) (rest : List ℕ) → shape_from shape (byte ∷ rest) ≡ shape_from (moved (to_ascii_uppercase byte) shape) rest
 unfolding shape_from
 shape_next shape byte rest = refl
+
+pub come_last : {shape last : Shape} {text : List ℕ} → Come shape text last → shape_from shape text ≡ last
+unfolding shape_from
+come_last ended = refl
+come_last (comes {shape} {next} {last} {byte} {rest} e come) = ap (λ s. shape_from s rest) (moved_to (to_ascii_uppercase byte) shape next e) ∙ come_last come
+
+-- the symbols of a mask come, and make a number
+pub record Whole (shape : Shape) (text : List ℕ) : Type 0 where
+  pub last : Shape
+  pub come : Come shape text last
+  pub number : IsNumber last.whole last.part
+
+whole_rest : (text : List ℕ) (n : ℕ) (reading : Reading) → is_counting reading.place ≡ false → is_written_out text ≡ true → fault_from n (Ok reading) text ≡ None → Whole reading.shape text
+unfolding fault_from
+whole_rest [] n reading counts plain h = record { last = reading.shape; come = ended; number = at_end (last_position n) reading h }
+whole_rest (byte ∷ rest) n reading counts plain h =
+    let parts = and_parts (not (is_parenthesis byte)) (is_written_out rest) plain in
+    let on = goes_on_symbol (n + 1) byte reading rest counts (not-true (is_parenthesis byte) parts.0) h in
+    let whole = whole_rest rest (n + 1) on.next on.counts parts.1 on.fault in
+    record { last = whole.last; come = comes on.comes whole.come; number = whole.number }
+
+pub mask_whole : (mask : List ℕ) → IsMask mask → Whole empty mask
+mask_whole mask is = whole_rest mask 0 start refl is.written_out is.no_fault
+
+pub mask_number : (mask : List ℕ) → IsMask mask → IsNumber (shape_of mask).whole (shape_of mask).part
+mask_number mask is =
+    let whole = mask_whole mask is in
+    subst (λ (s : Shape). IsNumber s.whole s.part) (sym (come_last whole.come)) whole.number
+
+-- ---- the shape of a mask
 
 pub shape_on : (mask : List ℕ) (n : ℕ) (shape : Shape) (upper : ℕ) (next all : Shape) → n < length mask → upper ≡ to_ascii_uppercase (get_or mask n 0) → next ≡ moved upper shape → all ≡ shape_from shape (drop n mask) → all ≡ shape_from next (drop (n + 1) mask)
 shape_on mask n shape upper next all h u e is =

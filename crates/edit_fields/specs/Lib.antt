@@ -8,3 +8,5 @@ pub mod Reading
 -- What a number shows through a mask.
 pub mod Field
 pub mod Edited
+-- What the laws cite.
+pub mod Laws

@@ -5,6 +5,7 @@ mod edited;
 mod extent;
 mod fault;
 mod field;
+pub mod laws;
 mod reading;
 mod shape;
 mod symbol;

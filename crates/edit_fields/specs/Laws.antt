@@ -1,0 +1,58 @@
+-- What holds of all masks and numbers.
+use Rattle.std.specs.Prelude.{◌≡◌, ℕ, ◌+◌, ◌-◌, ◌*◌, Bool, true, false, ◌==◌, ◌&&◌, ◌||◌, nat_le, List, [], ◌∷◌, length, drop, slice_index, unsigned_abs, if◌then◌else◌}
+use Rattle.std.specs.Char.{to_ascii_uppercase}
+use Rattle.std.specs.Int.{is_negative}
+use Rattle.std.specs.List.{list_any}
+use Rattle.cob_num.specs.declared.number.Dec.{Dec}
+use Rattle.edit_fields.specs.declared.shape.Shape.{Shape}
+use Rattle.edit_fields.specs.Symbol.{is_tail_letter, symbol_b, symbol_minus, symbol_r, symbol_v}
+use Rattle.edit_fields.specs.Shape.{empty}
+use Rattle.edit_fields.specs.Field.{IsMask, cut, moved, shape_of}
+use Rattle.edit_fields.specs.Edited.{edited, has_digit, shown_size}
+
+-- each symbol but V has one byte
+abbrev pub SymbolsHaveBytes : Type 0
+SymbolsHaveBytes = (mask : List ℕ) (value : Dec) → length (edited mask value) ≡ shown_size mask
+
+-- ---- what stands in a field is read back
+
+-- the digit that a byte is; what stands for a suppressed zero is zero
+abbrev pub digit_in : ℕ → ℕ
+digit_in byte = if nat_le 48 byte && nat_le byte 57 then byte - 48 else 0
+
+-- the number with the next byte, where that has a digit
+abbrev pub with_next : Bool → ℕ → ℕ → ℕ
+with_next counts number byte = if counts then number * 10 + digit_in byte else number
+
+-- the number that the bytes of the rest go on with
+unfoldable pub number_from : Shape → ℕ → List ℕ → List ℕ → ℕ
+number_from shape number [] bytes = number
+number_from shape number (byte ∷ rest) bytes =
+    if to_ascii_uppercase byte == symbol_v
+    then number_from (moved (to_ascii_uppercase byte) shape) number rest bytes
+    else number_from (moved (to_ascii_uppercase byte) shape)
+    (with_next (has_digit (to_ascii_uppercase byte) (moved (to_ascii_uppercase byte) shape))
+    number (slice_index bytes 0))
+    rest (drop 1 bytes)
+
+-- the digits of a field as one number, read from the left
+abbrev pub number_in : List ℕ → List ℕ → ℕ
+number_in mask bytes = number_from empty 0 mask bytes
+
+-- a field shows each digit of its number: only leading zeros are suppressed
+abbrev pub NumbersAreReadBack : Type 0
+NumbersAreReadBack =
+    (mask : List ℕ) (value : Dec) → IsMask mask →
+    number_in mask (edited mask value) ≡ unsigned_abs (cut value (shape_of mask))
+
+-- ---- the sign
+
+-- a minus, or a letter of CR or DB
+abbrev pub is_mark : ℕ → Bool
+is_mark byte = byte == symbol_minus || byte == symbol_b || byte == symbol_r || is_tail_letter byte
+
+-- a number that isn't negative once it is cut has no mark of one, zero least of all
+abbrev pub OnlyNegativesAreMarked : Type 0
+OnlyNegativesAreMarked =
+    (mask : List ℕ) (value : Dec) → IsMask mask →
+    is_negative (cut value (shape_of mask)) ≡ false → list_any is_mark (edited mask value) ≡ false

@@ -1,0 +1,18 @@
+//! What holds of all masks and numbers. These functions do nothing; their contracts are laws.
+
+ghost use Rattle.edit_fields.specs.Laws.{NumbersAreReadBack, OnlyNegativesAreMarked, SymbolsHaveBytes};
+
+/// A number fills its field: each symbol but V has one byte.
+pub fn symbols_have_bytes()
+    ensures { SymbolsHaveBytes }
+{}
+
+/// The digits of a field, read back, are the number that was put there.
+pub fn numbers_are_read_back()
+    ensures { NumbersAreReadBack }
+{}
+
+/// What isn't negative once it is cut shows no minus, CR or DB.
+pub fn only_negatives_are_marked()
+    ensures { OnlyNegativesAreMarked }
+{}
