@@ -25,14 +25,14 @@ one_more_tally count = elim (cases_lt (count + 1) 256) [
   | inr h ↦ inr (grind arith)
 ]
 
-with_digit_counts : (shape : Shape) → Counts true shape (with_digit shape)
+pub with_digit_counts : (shape : Shape) → Counts true shape (with_digit shape)
 with_digit_counts shape =
     either_way (λ next. Counts true shape next) shape.point _ _
     (λ _. elim (one_more_tally shape.part) [ inl h ↦ inl (omega (arith, h)) | inr h ↦ inr (omega (arith, h)) ])
     (λ _. elim (one_more_tally shape.whole) [ inl h ↦ inl (omega (arith, h)) | inr h ↦ inr (omega (arith, h)) ])
 
 -- the stage stays where a digit is counted
-with_digit_stage : (P : Stage → Type 0) (shape : Shape) → P shape.stage → P (with_digit shape).stage
+pub with_digit_stage : (P : Stage → Type 0) (shape : Shape) → P shape.stage → P (with_digit shape).stage
 with_digit_stage P shape p = either_way (λ (next : Shape). P next.stage) shape.point _ _ (λ _. p) (λ _. p)
 
 -- what is in a string is counted

@@ -62,6 +62,12 @@ size_skips mask n upper h u v = size_at mask n upper h u ∙ then_taken (upper =
 pub size_puts : (mask : List ℕ) (n upper : ℕ) → n < length mask → upper ≡ to_ascii_uppercase (get_or mask n 0) → (upper ≡ symbol_v → ⊥) → shown_size (drop n mask) ≡ shown_size (drop (n + 1) mask) + 1
 size_puts mask n upper h u v = size_at mask n upper h u ∙ else_taken (upper == symbol_v) _ _ (ne_eqb upper symbol_v v)
 
+pub size_ends : (mask : List ℕ) (n size : ℕ) → n ≡ length mask → shown_size mask ≡ size + shown_size (drop n mask) → size ≡ shown_size mask
+unfolding shown_size
+size_ends mask n size e is =
+    let past : drop n mask ≡ [] = ap (λ k. drop k mask) e ∙ drop-length mask in
+    omega (arith, is, ap shown_size past)
+
 pub none_left : (field : Field) (pen : Pen) (mask into all : List ℕ) (n at : ℕ) → n ≡ length mask → at + shown_size (drop n mask) ≡ length into → all ≡ take at into ++ written field pen (drop n mask) → into ≡ all
 unfolding written shown_size
 none_left field pen mask into all n at e room is =

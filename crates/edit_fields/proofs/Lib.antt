@@ -14,3 +14,4 @@ pub mod CountLemmas
 pub mod SymbolsHaveBytes
 pub mod NumbersAreReadBack
 pub mod OnlyNegativesAreMarked
+pub mod BeginningsGoOn

@@ -168,10 +168,10 @@ numbers_are_read_back mask value is =
     let few : field.digits ≤ 18 = omega (arith, full, whole.number.few_digits) in
     elim (cases_Bool field.blank) [
       | inl hidden ↦
-        let zero_number : field.number ≡ 0 = eqb-true field.number 0 (and_parts (not shape.nines) (field.number == 0) hidden).1 in
-        read_zero field hidden empty at_start mask ∙ sym zero_number
+          let zero_number : field.number ≡ 0 = eqb-true field.number 0 (and_parts (not shape.nines) (field.number == 0) hidden).1 in
+          read_zero field hidden empty at_start mask ∙ sym zero_number
       | inr visible ↦
-        let right : field.digits ≡ field.digits - digits empty = omega arith in
-        ap (λ n. number_from empty n mask (written field at_start mask)) (sym (nothing_above field.digits field.number (cut_short value shape)) ∙ ap (λ r. above r field.number) right)
-        ∙ read_back field visible few empty whole.last mask false false whole.come full
+          let right : field.digits ≡ field.digits - digits empty = omega arith in
+          ap (λ n. number_from empty n mask (written field at_start mask)) (sym (nothing_above field.digits field.number (cut_short value shape)) ∙ ap (λ r. above r field.number) right)
+          ∙ read_back field visible few empty whole.last mask false false whole.come full
     ]

@@ -1,12 +1,12 @@
 -- What holds of all masks and numbers.
-use Rattle.std.specs.Prelude.{◌≡◌, ℕ, ◌+◌, ◌-◌, ◌*◌, Bool, true, false, ◌==◌, ◌&&◌, ◌||◌, nat_le, List, [], ◌∷◌, length, drop, slice_index, unsigned_abs, if◌then◌else◌}
+use Rattle.std.specs.Prelude.{◌≡◌, ℕ, ◌+◌, ◌-◌, ◌*◌, Bool, true, false, ◌==◌, ◌&&◌, ◌||◌, nat_le, List, [], ◌∷◌, ◌++◌, length, drop, slice_index, unsigned_abs, Option, Some, option_and_then, if◌then◌else◌}
 use Rattle.std.specs.Char.{to_ascii_uppercase}
 use Rattle.std.specs.Int.{is_negative}
 use Rattle.std.specs.List.{list_any}
 use Rattle.cob_num.specs.declared.number.Dec.{Dec}
 use Rattle.edit_fields.specs.declared.shape.Shape.{Shape}
 use Rattle.edit_fields.specs.Symbol.{is_tail_letter, symbol_b, symbol_minus, symbol_r, symbol_v}
-use Rattle.edit_fields.specs.Shape.{empty}
+use Rattle.edit_fields.specs.Shape.{behind, empty, is_whole}
 use Rattle.edit_fields.specs.Field.{IsMask, cut, moved, shape_of}
 use Rattle.edit_fields.specs.Edited.{edited, has_digit, shown_size}
 
@@ -56,3 +56,18 @@ abbrev pub OnlyNegativesAreMarked : Type 0
 OnlyNegativesAreMarked =
     (mask : List ℕ) (value : Dec) → IsMask mask →
     is_negative (cut value (shape_of mask)) ≡ false → list_any is_mark (edited mask value) ≡ false
+
+-- ---- where a fault of order stands
+
+-- the symbols, each behind those before it
+unfoldable pub symbols_from : Shape → List ℕ → Option Shape
+symbols_from shape [] = Some shape
+symbols_from shape (symbol ∷ rest) =
+    option_and_then (λ next. symbols_from next rest) (behind symbol shape)
+
+-- symbols that may follow each other go on to those of a mask: with a digit, and a whole tail
+abbrev pub BeginningsGoOn : Type 0
+BeginningsGoOn =
+    (symbols : List ℕ) (shape : Shape) → symbols_from empty symbols ≡ Some shape →
+    (more : List ℕ) × (last : Shape) ×
+    (symbols_from empty (symbols ++ more) ≡ Some last) × (is_whole last ≡ true)

@@ -1,6 +1,7 @@
 -- How a text is read as a mask, byte by byte, and the first fault where it is none.
 use Rattle.std.specs.Prelude.{ℕ, zero, suc, ◌+◌, ◌-◌, ◌*◌, min, Bool, true, false, not, ◌==◌, ◌&&◌, ◌||◌, nat_le, List, [], ◌∷◌, Option, Some, None, Result, Ok, Err, if◌then◌else◌}
 use Rattle.std.specs.Char.{to_ascii_uppercase}
+use Rattle.std.specs.List.{list_all}
 use Rattle.edit_fields.specs.declared.fault.MaskFault.{MaskFault}
 use Rattle.edit_fields.specs.declared.fault.MaskFault.TheVariants as faults
 use Rattle.edit_fields.specs.declared.shape.Shape.{Shape}
@@ -135,5 +136,4 @@ mask_fault_of text = fault_from 0 (Ok start) text
 
 -- no count is left
 abbrev pub is_written_out : List ℕ → Bool
-is_written_out [] = true
-is_written_out (byte ∷ rest) = not (is_parenthesis byte) && is_written_out rest
+is_written_out text = list_all (λ byte. not (is_parenthesis byte)) text

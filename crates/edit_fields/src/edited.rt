@@ -190,6 +190,21 @@ fn symbol_at(mask: &[u8], place: usize) -> Option<u8>
     mask.get(place).copied()
 }
 
+/// How many bytes a mask shows: a V has none.
+pub fn mask_size(mask: &[u8]) -> usize
+    ensures { result ≡ shown_size mask.now }
+{
+    let mut size = 0;
+    for (place, byte) in mask.iter().enumerate() {
+        let symbol = byte.to_ascii_uppercase();
+        if symbol == b'V' {
+            continue;
+        }
+        size += 1;
+    }
+    size
+}
+
 fn write(field: Field, mask: &[u8], into: &mut [u8])
     requires { length into.old ≡ shown_size mask.now }
     ensures { into.new ≡ edits.written field edits.at_start mask.now }

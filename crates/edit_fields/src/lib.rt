@@ -1,4 +1,12 @@
-//! Edited pictures: masks, and the bytes that a number shows through one.
+//! Edited pictures: masks, and what a number shows through one.
+//!
+//! `mask_fault` judges the text of a mask, `mask_digits` and `mask_size` say how many digits and
+//! bytes it has, and `edit` writes the bytes that a number shows. Hold `specs/Shape`, which symbol
+//! may follow which, and `specs/Edited`, one case a rule, against ISO 1989:1985, PICTURE clause,
+//! editing rules; docs/DECISIONS.md has what is narrower here. That they are right is said by laws:
+//! what was shown is read back (`numbers_are_read_back`), a sign is shown below zero alone
+//! (`only_negatives_are_marked`), and a fault of order stands at the first byte up to which no mask
+//! begins (`beginnings_go_on`). Against GnuCOBOL it is tried only.
 #![tactic(auto)]
 
 mod edited;
@@ -9,16 +17,18 @@ pub mod laws;
 mod reading;
 mod shape;
 mod symbol;
+#[cfg(test)]
+mod tests;
 
 ghost use Rattle.std.specs.Prelude.{◌≡◌, ◌<◌, ◌^◌, length};
 ghost use Rattle.edit_fields.specs.Reading as readings;
 ghost use Rattle.edit_fields.specs.Reading.{mask_fault_of};
 
-pub use edited::{Pen, edit};
+pub use edited::{Pen, edit, mask_size};
 pub use extent::Extent;
 pub use fault::MaskFault;
 pub use field::{Digits, Field, mask_digits};
-pub use reading::{Place, Reading};
+pub use reading::{Place, Reading, is_written_out};
 pub use shape::{Shape, Stage};
 
 /// Why a text, its letters in either case, is no mask, or `None` where it is one.

@@ -33,6 +33,13 @@ fn is_parenthesis(byte: u8) -> bool
     byte == b'(' || byte == b')'
 }
 
+/// Whether a text has no counts.
+pub fn is_written_out(text: &[u8]) -> bool
+    ensures { result ≡ readings.is_written_out text.now }
+{
+    text.iter().all(|byte| !is_parenthesis(*byte))
+}
+
 fn is_digit(byte: u8) -> bool
     ensures { result ≡ readings.is_digit byte }
 {

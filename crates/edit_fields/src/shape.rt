@@ -101,23 +101,37 @@ impl Shape {
         ensures { result ≡ shapes.with_digit self }
     {
         if self.point {
-            Shape { part: tally(self.part, 1), ..self }
+            Shape {
+                part: tally(self.part, 1),
+                ..self
+            }
         } else {
-            Shape { whole: tally(self.whole, 1), ..self }
+            Shape {
+                whole: tally(self.whole, 1),
+                ..self
+            }
         }
     }
 
     fn in_string(self, symbol: u8) -> Shape
         ensures { result ≡ shapes.in_string symbol self }
     {
-        let string = Shape { stage: Stage::InString, string: symbol, ..self };
+        let string = Shape {
+            stage: Stage::InString,
+            string: symbol,
+            ..self
+        };
         string.with_digit()
     }
 
     fn in_nines(self) -> Shape
         ensures { result ≡ shapes.in_nines self }
     {
-        let nines = Shape { stage: Stage::Nines, nines: true, ..self };
+        let nines = Shape {
+            stage: Stage::Nines,
+            nines: true,
+            ..self
+        };
         nines.with_digit()
     }
 
@@ -128,7 +142,11 @@ impl Shape {
         if self.sign {
             None
         } else {
-            Some(Shape { stage, sign: true, ..self })
+            Some(Shape {
+                stage,
+                sign: true,
+                ..self
+            })
         }
     }
 
@@ -136,7 +154,11 @@ impl Shape {
     fn begun(self, stage: Stage) -> Option<Shape>
         ensures { result ≡ shapes.begun stage self }
     {
-        if self.point { None } else { Some(self.at(stage)) }
+        if self.point {
+            None
+        } else {
+            Some(self.at(stage))
+        }
     }
 
     fn begun_signed(self, sign: u8) -> Option<Shape>
@@ -274,7 +296,10 @@ impl Shape {
         if self.point {
             return None;
         }
-        let pointed = Shape { point: true, ..self };
+        let pointed = Shape {
+            point: true,
+            ..self
+        };
         pointed.behind_body()
     }
 
