@@ -15,3 +15,4 @@ pub mod SymbolsHaveBytes
 pub mod NumbersAreReadBack
 pub mod OnlyNegativesAreMarked
 pub mod BeginningsGoOn
+pub mod MasksAreWrittenOut

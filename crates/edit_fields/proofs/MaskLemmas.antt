@@ -48,37 +48,39 @@ not_upper byte h =
     let left = or_parts (byte == left_parenthesis) (byte == right_parenthesis) h in
     ne_eqb (to_ascii_uppercase byte) 40 (λ e. eqb-false byte 40 left.0 (upper_parenthesis byte e))
 
-step_symbol : (place : Place) (position byte : ℕ) (reading : Reading) → is_counting place ≡ false → (byte == left_parenthesis) ≡ false → step_by place position byte reading ≡ symbol position byte reading
+pub step_symbol : (place : Place) (position byte : ℕ) (reading : Reading) → is_counting place ≡ false → (byte == left_parenthesis) ≡ false → step_by place position byte reading ≡ symbol position byte reading
 step_symbol places.Open position byte reading open_place h = refl
 step_symbol (places.Behind at) position byte reading open_place h = else_taken (byte == left_parenthesis) _ (symbol position byte reading) h
 step_symbol (places.Count at count) position byte reading open_place h = absurd cc
 
-not_counting : (b : Bool) (position : ℕ) → is_counting (if b then places.Open else places.Behind position) ≡ false
+pub not_counting : (b : Bool) (position : ℕ) → is_counting (if b then places.Open else places.Behind position) ≡ false
 not_counting true position = refl
 not_counting false position = refl
 
 -- the reading goes on behind a symbol, which moves the shape
-record GoesOn (n upper : ℕ) (reading : Reading) (rest : List ℕ) : Type 0 where
-  next : Reading
-  comes : behind upper reading.shape ≡ Some next.shape
-  counts : is_counting next.place ≡ false
-  fault : fault_from n (Ok next) rest ≡ None
+pub record GoesOn (n upper : ℕ) (reading : Reading) (rest : List ℕ) : Type 0 where
+  pub shape : Shape
+  pub place : Place
+  pub comes : behind upper reading.shape ≡ Some shape
+  pub counts : is_counting place ≡ false
+  pub fault : fault_from n (Ok (record { shape = shape; extent = longer upper reading.extent; place = place })) rest ≡ None
 
 goes_by : (n upper : ℕ) (reading : Reading) (rest : List ℕ) (may : Option Shape) → behind upper reading.shape ≡ may → fault_from n (placed (symbol_fault n upper) (if upper == symbol_v then places.Open else places.Behind n) (added_by upper may reading)) rest ≡ None → GoesOn n upper reading rest
 unfolding fault_from
 goes_by n upper reading rest None e h = absurd cc
 goes_by n upper reading rest (Some shape) e h = record {
-  next = record reading { shape = shape; extent = longer upper reading.extent; place = if upper == symbol_v then places.Open else places.Behind n };
+  shape = shape;
+  place = if upper == symbol_v then places.Open else places.Behind n;
   comes = e;
   counts = not_counting (upper == symbol_v) n;
   fault = h;
 }
 
-goes_on_symbol : (n byte : ℕ) (reading : Reading) (rest : List ℕ) → is_counting reading.place ≡ false → is_parenthesis byte ≡ false → fault_from n (step n (to_ascii_uppercase byte) reading) rest ≡ None → GoesOn n (to_ascii_uppercase byte) reading rest
+pub goes_on_symbol : (n upper : ℕ) (reading : Reading) (rest : List ℕ) → is_counting reading.place ≡ false → (upper == left_parenthesis) ≡ false → fault_from n (step n upper reading) rest ≡ None → GoesOn n upper reading rest
 unfolding step
-goes_on_symbol n byte reading rest counts plain h =
-    goes_by n (to_ascii_uppercase byte) reading rest (behind (to_ascii_uppercase byte) reading.shape) refl
-    (subst (λ made. fault_from n made rest ≡ None) (step_symbol reading.place n (to_ascii_uppercase byte) reading counts (not_upper byte plain)) h)
+goes_on_symbol n upper reading rest counts plain h =
+    goes_by n upper reading rest (behind upper reading.shape) refl
+    (subst (λ made. fault_from n made rest ≡ None) (step_symbol reading.place n upper reading counts plain) h)
 
 -- ---- all symbols
 
@@ -111,8 +113,8 @@ unfolding fault_from
 whole_rest [] n reading counts plain h = record { last = reading.shape; come = ended; number = at_end (last_position n) reading h }
 whole_rest (byte ∷ rest) n reading counts plain h =
     let parts = and_parts (not (is_parenthesis byte)) (is_written_out rest) plain in
-    let on = goes_on_symbol (n + 1) byte reading rest counts (not-true (is_parenthesis byte) parts.0) h in
-    let whole = whole_rest rest (n + 1) on.next on.counts parts.1 on.fault in
+    let on = goes_on_symbol (n + 1) (to_ascii_uppercase byte) reading rest counts (not_upper byte (not-true (is_parenthesis byte) parts.0)) h in
+    let whole = whole_rest rest (n + 1) (record { shape = on.shape; extent = longer (to_ascii_uppercase byte) reading.extent; place = on.place }) on.counts parts.1 on.fault in
     record { last = whole.last; come = comes on.comes whole.come; number = whole.number }
 
 pub mask_whole : (mask : List ℕ) → IsMask mask → Whole empty mask

@@ -1,5 +1,5 @@
 -- What holds of all masks and numbers.
-use Rattle.std.specs.Prelude.{◌≡◌, ℕ, ◌+◌, ◌-◌, ◌*◌, Bool, true, false, ◌==◌, ◌&&◌, ◌||◌, nat_le, List, [], ◌∷◌, ◌++◌, length, drop, slice_index, unsigned_abs, Option, Some, option_and_then, if◌then◌else◌}
+use Rattle.std.specs.Prelude.{◌≡◌, ℕ, ◌+◌, ◌-◌, ◌*◌, Bool, true, false, ◌==◌, ◌&&◌, ◌||◌, nat_le, List, [], ◌∷◌, ◌++◌, length, drop, slice_index, unsigned_abs, Option, Some, None, option_and_then, if◌then◌else◌}
 use Rattle.std.specs.Char.{to_ascii_uppercase}
 use Rattle.std.specs.Int.{is_negative}
 use Rattle.std.specs.List.{list_any}
@@ -7,6 +7,7 @@ use Rattle.cob_num.specs.declared.number.Dec.{Dec}
 use Rattle.edit_fields.specs.declared.shape.Shape.{Shape}
 use Rattle.edit_fields.specs.Symbol.{is_tail_letter, symbol_b, symbol_minus, symbol_r, symbol_v}
 use Rattle.edit_fields.specs.Shape.{behind, empty, is_whole}
+use Rattle.edit_fields.specs.Reading.{mask_fault_of, written_out}
 use Rattle.edit_fields.specs.Field.{IsMask, cut, moved, shape_of}
 use Rattle.edit_fields.specs.Edited.{edited, has_digit, shown_size}
 
@@ -71,3 +72,9 @@ BeginningsGoOn =
     (symbols : List ℕ) (shape : Shape) → symbols_from empty symbols ≡ Some shape →
     (more : List ℕ) × (last : Shape) ×
     (symbols_from empty (symbols ++ more) ≡ Some last) × (is_whole last ≡ true)
+
+-- ---- counts
+
+-- a mask with counts stands for one without
+abbrev pub MasksAreWrittenOut : Type 0
+MasksAreWrittenOut = (text : List ℕ) → mask_fault_of text ≡ None → IsMask (written_out text)

@@ -1,5 +1,5 @@
 -- How a text is read as a mask, byte by byte, and the first fault where it is none.
-use Rattle.std.specs.Prelude.{ℕ, zero, suc, ◌+◌, ◌-◌, ◌*◌, min, Bool, true, false, not, ◌==◌, ◌&&◌, ◌||◌, nat_le, List, [], ◌∷◌, Option, Some, None, Result, Ok, Err, if◌then◌else◌}
+use Rattle.std.specs.Prelude.{ℕ, zero, suc, ◌+◌, ◌-◌, ◌*◌, min, Bool, true, false, not, ◌==◌, ◌&&◌, ◌||◌, nat_le, List, [], ◌∷◌, ◌++◌, replicate, Option, Some, None, Result, Ok, Err, if◌then◌else◌}
 use Rattle.std.specs.Char.{to_ascii_uppercase}
 use Rattle.std.specs.List.{list_all}
 use Rattle.edit_fields.specs.declared.fault.MaskFault.{MaskFault}
@@ -137,3 +137,18 @@ mask_fault_of text = fault_from 0 (Ok start) text
 -- no count is left
 abbrev pub is_written_out : List ℕ → Bool
 is_written_out text = list_all (λ byte. not (is_parenthesis byte)) text
+
+-- the symbols of the rest, behind this one: outside a count, or in one that is this so far
+unfoldable pub written_from : Option ℕ → ℕ → List ℕ → List ℕ
+written_from count last [] = []
+written_from None last (byte ∷ rest) =
+    if to_ascii_uppercase byte == left_parenthesis then written_from (Some 0) last rest
+    else to_ascii_uppercase byte ∷ written_from None (to_ascii_uppercase byte) rest
+written_from (Some count) last (byte ∷ rest) =
+    if is_digit (to_ascii_uppercase byte)
+    then written_from (Some (counted count (to_ascii_uppercase byte - 48))) last rest
+    else replicate (count - 1) last ++ written_from None last rest
+
+-- the symbols of a text, its letters in capitals and its counts written out
+abbrev pub written_out : List ℕ → List ℕ
+written_out text = written_from None 0 text

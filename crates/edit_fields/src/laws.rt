@@ -1,6 +1,6 @@
 //! What holds of all masks and numbers. These functions do nothing; their contracts are laws.
 
-ghost use Rattle.edit_fields.specs.Laws.{BeginningsGoOn, NumbersAreReadBack, OnlyNegativesAreMarked, SymbolsHaveBytes};
+ghost use Rattle.edit_fields.specs.Laws.{BeginningsGoOn, MasksAreWrittenOut, NumbersAreReadBack, OnlyNegativesAreMarked, SymbolsHaveBytes};
 
 /// A number fills its field: each symbol but V has one byte.
 pub fn symbols_have_bytes()
@@ -21,4 +21,9 @@ pub fn only_negatives_are_marked()
 /// first byte up to which no mask begins.
 pub fn beginnings_go_on()
     ensures { BeginningsGoOn }
+{}
+
+/// What a mask stands for, with its counts written out and in capitals, is a mask without faults.
+pub fn masks_are_written_out()
+    ensures { MasksAreWrittenOut }
 {}
