@@ -176,7 +176,7 @@ last_letter_same stages.Ended shape = tt
 
 -- ---- which symbols have digits
 
-sign_has : (symbol : ℕ) (next : Shape) → is_sign symbol ≡ true → has_digit symbol next ≡ is_string next.stage
+pub sign_has : (symbol : ℕ) (next : Shape) → is_sign symbol ≡ true → has_digit symbol next ≡ is_string next.stage
 sign_has symbol next is = elim (or_cases (symbol == 43) (symbol == 45) is) [
   | inl e ↦ subst (λ s. has_digit s next ≡ is_string next.stage) (sym (eqb-true symbol 43 e)) refl
   | inr e ↦ subst (λ s. has_digit s next ≡ is_string next.stage) (sym (eqb-true symbol 45 e)) refl

@@ -16,3 +16,5 @@ pub mod NumbersAreReadBack
 pub mod OnlyNegativesAreMarked
 pub mod BeginningsGoOn
 pub mod MasksAreWrittenOut
+pub mod StepLemmas
+pub mod NegativesAreMarked

@@ -21,9 +21,13 @@ use Rattle.edit_fields.proofs.CountLemmas.{Counts, behind_counts, come_digits}
 -- ---- the digits of a number
 
 -- the number without its last digits
-above : ℕ → ℕ → ℕ
+pub above : ℕ → ℕ → ℕ
 above zero number = number
 above (suc right) number = above right (number / 10)
+
+pub above_none : (number : ℕ) → above 0 number ≡ number
+unfolding above
+above_none number = refl
 
 digit_is : (right number : ℕ) → digit_of right number ≡ above right number % 10
 unfolding above
@@ -35,7 +39,7 @@ unfolding above
 above_more zero number = refl
 above_more (suc right) number = above_more right (number / 10)
 
-next_digit : (right number : ℕ) → above (suc right) number * 10 + digit_of right number ≡ above right number
+pub next_digit : (right number : ℕ) → above (suc right) number * 10 + digit_of right number ≡ above right number
 next_digit right number = omega (arith, above_more right number, digit_is right number)
 
 pub digit_small : (right number : ℕ) → digit_of right number ≤ 9
@@ -43,7 +47,7 @@ digit_small right number =
     let small : above right number % 10 < 10 = mod-lt (above right number) (omega arith) in
     omega (arith, digit_is right number, small)
 
-nothing_above : (right number : ℕ) → number < 10 ^ right → above right number ≡ 0
+pub nothing_above : (right number : ℕ) → number < 10 ^ right → above right number ≡ 0
 unfolding above
 nothing_above zero number h = omega arith
 nothing_above (suc right) number h =
@@ -74,7 +78,7 @@ digit_read : (d : ℕ) → d ≤ 9 → digit_in (48 + d) ≡ d
 digit_read d h = grind (arith, nat_tests)
 
 -- a digit is hidden where it is zero
-hidden_is_zero : (field : Field) (symbol : ℕ) (shown : Bool) (next : Shape) → has_digit symbol next ≡ true → (shown || is_shown field symbol next) ≡ false → digit_at field next ≡ 0
+pub hidden_is_zero : (field : Field) (symbol : ℕ) (shown : Bool) (next : Shape) → has_digit symbol next ≡ true → (shown || is_shown field symbol next) ≡ false → digit_at field next ≡ 0
 hidden_is_zero field symbol shown next has hidden = grind (arith, nat_tests)
 
 -- so a byte that has a digit reads as that

@@ -58,6 +58,12 @@ OnlyNegativesAreMarked =
     (mask : List ℕ) (value : Dec) → IsMask mask →
     is_negative (cut value (shape_of mask)) ≡ false → list_any is_mark (edited mask value) ≡ false
 
+-- a number below zero has one, where the mask has a sign
+abbrev pub NegativesAreMarked : Type 0
+NegativesAreMarked =
+    (mask : List ℕ) (value : Dec) → IsMask mask → (shape_of mask).sign ≡ true →
+    is_negative (cut value (shape_of mask)) ≡ true → list_any is_mark (edited mask value) ≡ true
+
 -- ---- where a fault of order stands
 
 -- the symbols, each behind those before it

@@ -1,6 +1,6 @@
 //! What holds of all masks and numbers. These functions do nothing; their contracts are laws.
 
-ghost use Rattle.edit_fields.specs.Laws.{BeginningsGoOn, MasksAreWrittenOut, NumbersAreReadBack, OnlyNegativesAreMarked, SymbolsHaveBytes};
+ghost use Rattle.edit_fields.specs.Laws.{BeginningsGoOn, MasksAreWrittenOut, NegativesAreMarked, NumbersAreReadBack, OnlyNegativesAreMarked, SymbolsHaveBytes};
 
 /// A number fills its field: each symbol but V has one byte.
 pub fn symbols_have_bytes()
@@ -15,6 +15,11 @@ pub fn numbers_are_read_back()
 /// What isn't negative once it is cut shows no minus, CR or DB.
 pub fn only_negatives_are_marked()
     ensures { OnlyNegativesAreMarked }
+{}
+
+/// What is negative once it is cut shows one, where the mask has a sign.
+pub fn negatives_are_marked()
+    ensures { NegativesAreMarked }
 {}
 
 /// Symbols that may follow each other go on to those of a mask, so a fault of order stands at the
