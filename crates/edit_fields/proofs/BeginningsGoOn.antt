@@ -1,14 +1,14 @@
 -- Symbols that may follow each other go on to those of a mask.
-use Rattle.std.proofs.Common.{◌≡◌, ℕ, zero, suc, ◌+◌, ◌≤◌, min, Bool, true, false, not, ◌==◌, ◌&&◌, ◌||◌, if◌then◌else◌, List, [], ◌∷◌, ◌++◌, Option, Some, None, IfSome, option_and_then, inl, inr, refl, sym, ap, ◌∙◌, subst, arith}
-use Rattle.std.proofs.lemmas.Bool.{and_from, eqb-true, ne_eqb, not_from_false, or_cases, or_left, or_right}
+use Rattle.std.proofs.Common.{◌≡◌, ℕ, ◌≤◌, true, false, not, ◌==◌, ◌&&◌, List, [], ◌∷◌, ◌++◌, Option, Some, None, IfSome, option_and_then, inl, inr, refl, sym, ap, ◌∙◌, subst, arith}
+use Rattle.std.proofs.lemmas.Bool.{and_from, eqb-true, ne_eqb, not_from_false, or_cases, or_left}
 use Rattle.edit_fields.specs.declared.shape.Stage.{Stage}
 use Rattle.edit_fields.specs.declared.shape.Stage.TheVariants as stages
 use Rattle.edit_fields.specs.declared.shape.Shape.{Shape}
 use Rattle.edit_fields.specs.Symbol.{is_currency_or_sign, is_insertion, is_point, is_sign, is_suppressor, is_tail_letter, symbol_9, symbol_b, symbol_c, symbol_d, symbol_dollar, symbol_r}
-use Rattle.edit_fields.specs.Shape.{again, begun, begun_signed, behind, body_by, digits, dollar_by, empty, in_nines, in_string, insertion_by, is_half, is_whole, last_letter_by, letter_by, nine_by, point_by, sign_behind_lead, sign_by, signed, suppressor_by, tally, with_digit}
+use Rattle.edit_fields.specs.Shape.{again, begun, begun_signed, behind, body_by, digits, dollar_by, empty, in_nines, in_string, insertion_by, is_half, is_whole, last_letter_by, letter_by, nine_by, point_by, sign_behind_lead, sign_by, signed, suppressor_by, with_digit}
 use Rattle.edit_fields.specs.Laws.{BeginningsGoOn, symbols_from}
-use Rattle.edit_fields.proofs.BranchLemmas.{either_way, some_of}
-use Rattle.edit_fields.proofs.CountLemmas.{with_digit_counts, with_digit_stage, Counts}
+use Rattle.edit_fields.proofs.BranchLemmas.{either_way}
+use Rattle.edit_fields.proofs.CountLemmas.{with_digit_counts, with_digit_stage}
 
 -- ---- what holds at each stage
 

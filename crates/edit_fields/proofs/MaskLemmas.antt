@@ -1,7 +1,7 @@
 -- What a mask has that no fault is found in: as many digits as a number.
-use Rattle.std.proofs.Common.{◌≡◌, ◌≢◌, ℕ, zero, suc, ◌+◌, ◌<◌, ◌≤◌, Bool, true, false, not, ◌&&◌, ◌||◌, if◌then◌else◌, List, [], ◌∷◌, length, get_or, drop, Ok, Err, Result, Option, Some, None, IsTrue, refl, sym, ap, ◌∙◌, subst, arith, add-one, drop-cons, ◌==◌, nat_le}
+use Rattle.std.proofs.Common.{◌≡◌, ℕ, suc, ◌+◌, ◌<◌, ◌≤◌, Bool, true, false, not, ◌&&◌, ◌||◌, if◌then◌else◌, List, [], ◌∷◌, length, get_or, drop, Ok, Option, Some, None, refl, sym, ap, ◌∙◌, subst, arith, add-one, drop-cons, ◌==◌, nat_le}
 use Rattle.std.proofs.Math.Seq.{drop-length}
-use Rattle.std.proofs.lemmas.Bool.{and_parts, or_parts, not-true, eqb-false, leb-true, ne_eqb, eqb-true}
+use Rattle.std.proofs.lemmas.Bool.{and_parts, or_parts, not-true, eqb-false, leb-true, ne_eqb}
 use Rattle.std.proofs.lemmas.Bool.Decides.{nat_tests}
 use Rattle.std.specs.Char.{to_ascii_uppercase}
 use Rattle.std.specs.Prelude.{unwrap_or}
@@ -13,7 +13,7 @@ use Rattle.edit_fields.specs.declared.reading.Reading.{Reading}
 use Rattle.edit_fields.specs.Symbol.{symbol_v}
 use Rattle.edit_fields.specs.Shape.{behind, digits, empty, is_half, is_whole}
 use Rattle.edit_fields.specs.Extent.{ends_well, is_short, longer}
-use Rattle.edit_fields.specs.Reading.{added, added_by, end_fault, fault_from, is_counting, is_parenthesis, is_written_out, last_position, left_parenthesis, mask_fault_of, placed, right_parenthesis, start, step, step_by, symbol, symbol_fault}
+use Rattle.edit_fields.specs.Reading.{added_by, end_fault, fault_from, is_counting, is_parenthesis, is_written_out, last_position, left_parenthesis, placed, right_parenthesis, start, step, step_by, symbol, symbol_fault}
 use Rattle.edit_fields.specs.Field.{IsMask, IsNumber, moved, shape_from, shape_of}
 use Rattle.edit_fields.proofs.BranchLemmas.{else_taken}
 

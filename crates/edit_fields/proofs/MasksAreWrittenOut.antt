@@ -1,5 +1,5 @@
 -- A mask with counts stands for one without.
-use Rattle.std.proofs.Common.{◌≡◌, ℕ, zero, suc, ◌+◌, ◌-◌, Bool, true, false, not, ◌==◌, ◌&&◌, ◌||◌, if◌then◌else◌, List, [], ◌∷◌, ◌++◌, replicate, Ok, Err, Result, Option, Some, None, IsTrue, inl, inr, refl, sym, ap, ◌∙◌, subst, arith, nat_le}
+use Rattle.std.proofs.Common.{◌≡◌, ℕ, zero, suc, ◌+◌, ◌-◌, Bool, true, false, not, ◌==◌, ◌&&◌, ◌||◌, if◌then◌else◌, List, [], ◌∷◌, ◌++◌, replicate, Ok, Err, Option, Some, None, inl, inr, refl, sym, ap, ◌∙◌, subst, nat_le}
 use Rattle.std.proofs.lemmas.Bool.{and_from, cases_Bool, eqb-true, not_from_false, or_from, or_parts}
 use Rattle.std.proofs.lemmas.Str.Ascii.{uppercase-uppercase}
 use Rattle.std.specs.Char.{to_ascii_uppercase}
@@ -13,12 +13,11 @@ use Rattle.edit_fields.specs.declared.reading.Reading.{Reading}
 use Rattle.edit_fields.specs.Symbol.{symbol_v}
 use Rattle.edit_fields.specs.Shape.{behind, digits, empty, is_whole}
 use Rattle.edit_fields.specs.Extent.{ends_well, is_short, longer, no_extent}
-use Rattle.edit_fields.specs.Reading.{added, added_by, closed, counted, end_fault, fault_from, fault_of, in_count, is_counting, is_digit, is_parenthesis, is_written_out, last_position, left_parenthesis, mask_fault_of, placed, repeated, repeated_on, right_parenthesis, start, step, step_by, symbol, symbol_fault, written_from, written_out}
-use Rattle.edit_fields.specs.Field.{IsMask}
+use Rattle.edit_fields.specs.Reading.{added_by, closed, counted, end_fault, fault_from, fault_of, is_counting, is_digit, is_parenthesis, is_written_out, last_position, left_parenthesis, placed, repeated, repeated_on, right_parenthesis, step, step_by, symbol, symbol_fault, written_from}
 use Rattle.edit_fields.specs.Laws.{MasksAreWrittenOut}
 use Rattle.edit_fields.proofs.BranchLemmas.{either_way, then_taken, else_taken}
 use Rattle.edit_fields.proofs.ReadingLemmas.{none_on}
-use Rattle.edit_fields.proofs.MaskLemmas.{GoesOn, goes_on_symbol, not_counting, step_symbol}
+use Rattle.edit_fields.proofs.MaskLemmas.{goes_on_symbol, not_counting, step_symbol}
 
 -- what was read, at a place
 abbrev at : Shape → Extent → Place → Reading
@@ -146,11 +145,11 @@ count_ends n byte position count shape extent rest Goal other h go =
     let ends = subst (λ made. fault_from n made rest ≡ None) (else_taken (is_digit byte) (Ok (at shape extent (places.Count position (counted count (byte - 48))))) _ other) h in
     elim (cases_Bool (byte == right_parenthesis)) [
       | inl right ↦
-        let closes = subst (λ made. fault_from n made rest ≡ None) (then_taken (byte == right_parenthesis) (closed n position count reading) (Err (fault_of n byte)) right) ends in
-        elim (cases_Bool (count == 0)) [
-          | inl none ↦ absurd (err_none n (faults.Order n) rest (subst (λ made. fault_from n made rest ≡ None) (then_taken (count == 0) (Err (faults.Order n)) (placed (faults.Order position) places.Open (repeated (count - 1) extent.last reading)) none) closes))
-          | inr some ↦ placed_through n position (repeated (count - 1) extent.last reading) rest Goal (subst (λ made. fault_from n made rest ≡ None) (else_taken (count == 0) (Err (faults.Order n)) (placed (faults.Order position) places.Open (repeated (count - 1) extent.last reading)) some) closes) go
-        ]
+          let closes = subst (λ made. fault_from n made rest ≡ None) (then_taken (byte == right_parenthesis) (closed n position count reading) (Err (fault_of n byte)) right) ends in
+          elim (cases_Bool (count == 0)) [
+            | inl none ↦ absurd (err_none n (faults.Order n) rest (subst (λ made. fault_from n made rest ≡ None) (then_taken (count == 0) (Err (faults.Order n)) (placed (faults.Order position) places.Open (repeated (count - 1) extent.last reading)) none) closes))
+            | inr some ↦ placed_through n position (repeated (count - 1) extent.last reading) rest Goal (subst (λ made. fault_from n made rest ≡ None) (else_taken (count == 0) (Err (faults.Order n)) (placed (faults.Order position) places.Open (repeated (count - 1) extent.last reading)) some) closes) go
+          ]
       | inr wrong ↦ absurd (err_none n (fault_of n byte) rest (subst (λ made. fault_from n made rest ≡ None) (else_taken (byte == right_parenthesis) (closed n position count reading) (Err (fault_of n byte)) wrong) ends))
     ]
 

@@ -1,6 +1,6 @@
 -- A number below zero has a mark of it, where the mask has a sign.
-use Rattle.std.proofs.Common.{◌≡◌, ℕ, zero, suc, ◌+◌, ◌-◌, ◌*◌, ◌<◌, ◌≤◌, Bool, true, false, not, ◌==◌, ◌&&◌, ◌||◌, if◌then◌else◌, List, [], ◌∷◌, slice_get, Option, Some, None, ℤ, pos, negsuc, unsigned_abs, ◌⊎◌, inl, inr, refl, sym, ap, ◌∙◌, subst, arith}
-use Rattle.std.proofs.lemmas.Bool.{and_from, and_left, and_parts, and_right, cases_Bool, eqb-true, ne_eqb, not_from_false, not_from_true, not-true, or_cases, or_left, or_parts, or_right}
+use Rattle.std.proofs.Common.{◌≡◌, ℕ, suc, ◌+◌, ◌-◌, ◌≤◌, Bool, true, false, not, ◌==◌, ◌&&◌, ◌||◌, if◌then◌else◌, List, [], ◌∷◌, slice_get, Option, Some, ℤ, pos, negsuc, unsigned_abs, inl, inr, refl, sym, ap, ◌∙◌, subst, arith}
+use Rattle.std.proofs.lemmas.Bool.{and_from, and_right, cases_Bool, eqb-true, ne_eqb, not_from_true, or_cases, or_left, or_parts, or_right}
 use Rattle.std.specs.Char.{to_ascii_uppercase}
 use Rattle.std.specs.Int.{is_negative}
 use Rattle.std.specs.List.{list_any}
@@ -9,12 +9,12 @@ use Rattle.edit_fields.specs.declared.shape.Stage.TheVariants as stages
 use Rattle.edit_fields.specs.declared.shape.Shape.{Shape}
 use Rattle.edit_fields.specs.declared.field.Field.{Field}
 use Rattle.edit_fields.specs.declared.edited.Pen.{Pen}
-use Rattle.edit_fields.specs.Symbol.{is_currency_or_sign, is_sign, is_tail_letter, space, symbol_b, symbol_dollar, symbol_minus, symbol_plus, symbol_star, symbol_v}
+use Rattle.edit_fields.specs.Symbol.{is_currency_or_sign, is_sign, is_tail_letter, space, symbol_dollar, symbol_minus, symbol_v}
 use Rattle.edit_fields.specs.Shape.{behind, digits, empty}
-use Rattle.edit_fields.specs.Field.{IsMask, IsNumber, cut, field_of, moved, shape_of}
-use Rattle.edit_fields.specs.Edited.{at_start, blank_byte, byte_of, digit_at, float_byte, has_digit, hidden_byte, is_shown, is_string, is_tail, letter_byte, passed, passed_to, shown_byte, shows_next, sign_byte, written}
+use Rattle.edit_fields.specs.Field.{cut, field_of, moved, shape_of}
+use Rattle.edit_fields.specs.Edited.{at_start, blank_byte, byte_of, digit_at, float_byte, has_digit, hidden_byte, is_shown, is_string, is_tail, letter_byte, passed_to, shown_byte, shows_next, sign_byte, written}
 use Rattle.edit_fields.specs.Laws.{NegativesAreMarked, is_mark}
-use Rattle.edit_fields.proofs.BranchLemmas.{either_way, then_taken, else_taken, some_of}
+use Rattle.edit_fields.proofs.BranchLemmas.{then_taken, else_taken, some_of}
 use Rattle.edit_fields.proofs.MaskLemmas.{Come, ended, comes, come_last, mask_whole, moved_to}
 use Rattle.edit_fields.proofs.FieldLemmas.{cut_short}
 use Rattle.edit_fields.proofs.CountLemmas.{Counts, behind_counts, come_digits, sign_has}
@@ -184,20 +184,20 @@ module _ (field : Field) (visible : field.blank ≡ false) (below : field.minus 
       let hides : ℕ = hidden_byte field (shows_next field (pen shape true false) (Some byte)) in
       elim (cases_Bool (is_shown field symbol next)) [
         | inl shown ↦
-          or_left (is_mark hides) (list_any is_mark (written field (pen shape true false) (byte ∷ rest)))
-          (float_marks field visible below (shows_next field (pen shape true false) (Some byte)) sign (ap (λ (s : Shape). is_shown field symbol s) to_next ∙ shown))
+            or_left (is_mark hides) (list_any is_mark (written field (pen shape true false) (byte ∷ rest)))
+            (float_marks field visible below (shows_next field (pen shape true false) (Some byte)) sign (ap (λ (s : Shape). is_shown field symbol s) to_next ∙ shown))
         | inr hidden ↦
-          let other : (symbol == symbol_v) ≡ false = elim (cases_Bool (symbol == symbol_v)) [
-            | inl v ↦ both_ways (is_shown field symbol next) (v_shown field symbol next v) hidden
-            | inr other ↦ other
-          ] in
-          let rest_on = float_comes rest next last sign come full (zeros_on symbol shape next last rest e come full zeros hidden) in
-          let byte_on : is_mark (byte_of field symbol (pen next true false) ahead) || list_any is_mark (written field (pen next true false) rest) ≡ true =
-              ap (λ b. is_mark b || list_any is_mark (written field (pen next true false) rest)) (hidden_at field visible below symbol (pen next true false) ahead refl) ∙ rest_on in
-          or_right (is_mark hides) (list_any is_mark (written field (pen shape true false) (byte ∷ rest)))
-          (subst (λ (s : Shape). list_any is_mark (if symbol == symbol_v then written field (passed_to field symbol (pen shape true false) s) rest else byte_of field symbol (passed_to field symbol (pen shape true false) s) ahead ∷ written field (passed_to field symbol (pen shape true false) s) rest) ≡ true) (sym to_next)
-          (subst (λ sh. list_any is_mark (if symbol == symbol_v then written field (pen next true sh) rest else byte_of field symbol (pen next true sh) ahead ∷ written field (pen next true sh) rest) ≡ true) (sym hidden)
-          (any_first (symbol == symbol_v) (byte_of field symbol (pen next true false) ahead) (written field (pen next true false) rest) other byte_on)))
+            let other : (symbol == symbol_v) ≡ false = elim (cases_Bool (symbol == symbol_v)) [
+              | inl v ↦ both_ways (is_shown field symbol next) (v_shown field symbol next v) hidden
+              | inr other ↦ other
+            ] in
+            let rest_on = float_comes rest next last sign come full (zeros_on symbol shape next last rest e come full zeros hidden) in
+            let byte_on : is_mark (byte_of field symbol (pen next true false) ahead) || list_any is_mark (written field (pen next true false) rest) ≡ true =
+            ap (λ b. is_mark b || list_any is_mark (written field (pen next true false) rest)) (hidden_at field visible below symbol (pen next true false) ahead refl) ∙ rest_on in
+            or_right (is_mark hides) (list_any is_mark (written field (pen shape true false) (byte ∷ rest)))
+            (subst (λ (s : Shape). list_any is_mark (if symbol == symbol_v then written field (passed_to field symbol (pen shape true false) s) rest else byte_of field symbol (passed_to field symbol (pen shape true false) s) ahead ∷ written field (passed_to field symbol (pen shape true false) s) rest) ≡ true) (sym to_next)
+            (subst (λ sh. list_any is_mark (if symbol == symbol_v then written field (pen next true sh) rest else byte_of field symbol (pen next true sh) ahead ∷ written field (pen next true sh) rest) ≡ true) (sym hidden)
+            (any_first (symbol == symbol_v) (byte_of field symbol (pen next true false) ahead) (written field (pen next true false) rest) other byte_on)))
       ]
 
   -- ---- the first sign
@@ -235,29 +235,29 @@ module _ (field : Field) (visible : field.blank ≡ false) (below : field.minus 
       let begun_on : Bool = begun || symbol == field.string in
       let shown_on : Bool = shown || is_shown field symbol next in
       let zeros_next : shown_on ≡ false → above (field.digits - digits next) field.number ≡ 0 =
-          λ hidden. let parts = or_parts shown (is_shown field symbol next) hidden in zeros_on symbol shape next last rest e come full (zeros parts.0) parts.1 in
+      λ hidden. let parts = or_parts shown (is_shown field symbol next) hidden in zeros_on symbol shape next last rest e come full (zeros parts.0) parts.1 in
       let bytes : List ℕ = written field (pen next begun_on shown_on) rest in
       let byte : ℕ = byte_of field symbol (pen next begun_on shown_on) (slice_get rest 0) in
       elim turn [
         | in_tail tail kind ↦
-          let seen : shown_on ≡ true = elim (cases_Bool shown_on) [
-            | inl seen ↦ seen
-            | inr hidden ↦
-              let right : field.digits - digits next ≡ 0 = omega (arith, full, tail_digits come tail) in
-              absurd (some (sym (above_none field.number) ∙ ap (λ n. above n field.number) (sym right) ∙ zeros_next hidden))
-          ] in
-          any_first (symbol == symbol_v) byte bytes (no_v symbol kind)
-          (or_left (is_mark byte) (list_any is_mark bytes) (tail_marks symbol (pen next begun_on shown_on) (slice_get rest 0) kind tail seen))
+            let seen : shown_on ≡ true = elim (cases_Bool shown_on) [
+              | inl seen ↦ seen
+              | inr hidden ↦
+                  let right : field.digits - digits next ≡ 0 = omega (arith, full, tail_digits come tail) in
+                  absurd (some (sym (above_none field.number) ∙ ap (λ n. above n field.number) (sym right) ∙ zeros_next hidden))
+            ] in
+            any_first (symbol == symbol_v) byte bytes (no_v symbol kind)
+            (or_left (is_mark byte) (list_any is_mark bytes) (tail_marks symbol (pen next begun_on shown_on) (slice_get rest 0) kind tail seen))
         | in_lead sign at_start at ↦
-          any_first (symbol == symbol_v) byte bytes (no_v symbol (or_left (is_sign symbol) (is_tail_letter symbol) sign))
-          (first_marks symbol next last begun_on shown_on rest sign (ap is_string at)
-          (λ h. subst (λ s. is_sign s ≡ true) (eqb-true symbol field.string (sym (ap (λ b. b || symbol == field.string) (start at_start)) ∙ h)) sign)
-          come full zeros_next)
+            any_first (symbol == symbol_v) byte bytes (no_v symbol (or_left (is_sign symbol) (is_tail_letter symbol) sign))
+            (first_marks symbol next last begun_on shown_on rest sign (ap is_string at)
+            (λ h. subst (λ s. is_sign s ≡ true) (eqb-true symbol field.string (sym (ap (λ b. b || symbol == field.string) (start at_start)) ∙ h)) sign)
+            come full zeros_next)
         | floats sign at ↦
-          any_first (symbol == symbol_v) byte bytes (no_v symbol (or_left (is_sign symbol) (is_tail_letter symbol) sign))
-          (first_marks symbol next last begun_on shown_on rest sign (ap is_string at)
-          (λ h. subst (λ s. is_sign s ≡ true) (sym (same ∙ once_floats symbol next last rest come (none_next symbol shape next e none) one at)) sign)
-          come full zeros_next)
+            any_first (symbol == symbol_v) byte bytes (no_v symbol (or_left (is_sign symbol) (is_tail_letter symbol) sign))
+            (first_marks symbol next last begun_on shown_on rest sign (ap is_string at)
+            (λ h. subst (λ s. is_sign s ≡ true) (sym (same ∙ once_floats symbol next last rest come (none_next symbol shape next e none) one at)) sign)
+            come full zeros_next)
       ]
 
   sign_comes : (text : List ℕ) (shape last : Shape) (begun shown : Bool) → Come shape text last → shape.sign ≡ false → last.sign ≡ true → (is_start shape.stage ≡ true → begun ≡ false) → NoneYet shape → 1 ≤ digits last → field.string ≡ last.string → digits last ≡ field.digits → (shown ≡ false → above (field.digits - digits shape) field.number ≡ 0) → list_any is_mark (written field (pen shape begun shown) text) ≡ true
@@ -277,9 +277,9 @@ module _ (field : Field) (visible : field.blank ≡ false) (below : field.minus 
           | inr turn ↦ turn_marks symbol shape next last begun shown rest e turn start none one same come full zeros
         ]
         | inr unsigned ↦
-          any_more (symbol == symbol_v) (byte_of field symbol on (slice_get rest 0)) (written field on rest)
-          (sign_comes rest next last begun_on shown_on come unsigned after (λ h. both_ways (is_start next.stage) h step.starts) (none_next symbol shape next e none) one same full
-          (λ hidden. let parts = or_parts shown (is_shown field symbol next) hidden in zeros_on symbol shape next last rest e come full (zeros parts.0) parts.1))
+            any_more (symbol == symbol_v) (byte_of field symbol on (slice_get rest 0)) (written field on rest)
+            (sign_comes rest next last begun_on shown_on come unsigned after (λ h. both_ways (is_start next.stage) h step.starts) (none_next symbol shape next e none) one same full
+            (λ hidden. let parts = or_parts shown (is_shown field symbol next) hidden in zeros_on symbol shape next last rest e come full (zeros parts.0) parts.1))
       ])
 
 -- ---- the law

@@ -1,17 +1,16 @@
 -- The digits of a field are the number that was put there.
-use Rattle.std.proofs.Common.{◌≡◌, ℕ, zero, suc, ◌+◌, ◌-◌, ◌*◌, ◌/◌, ◌%◌, ◌^◌, ◌<◌, ◌≤◌, Bool, true, false, not, ◌==◌, ◌&&◌, ◌||◌, if◌then◌else◌, List, [], ◌∷◌, drop, slice_get, slice_index, Option, Some, unsigned_abs, ◌⊎◌, inl, inr, refl, sym, ap, ◌∙◌, subst, arith, nat_le}
+use Rattle.std.proofs.Common.{◌≡◌, ℕ, zero, suc, ◌+◌, ◌-◌, ◌*◌, ◌/◌, ◌%◌, ◌^◌, ◌<◌, ◌≤◌, Bool, true, false, not, ◌==◌, ◌&&◌, ◌||◌, if◌then◌else◌, List, [], ◌∷◌, drop, slice_get, slice_index, Option, inl, inr, refl, sym, ap, ◌∙◌, subst, arith}
 use Rattle.std.proofs.Math.Nat.{mod-lt}
-use Rattle.std.proofs.lemmas.Bool.{and_parts, cases_Bool, eqb-true, not-false, not-true, or_parts}
+use Rattle.std.proofs.lemmas.Bool.{and_parts, cases_Bool, eqb-true, not-true}
 use Rattle.std.proofs.lemmas.Bool.Decides.{nat_tests}
 use Rattle.std.specs.Char.{to_ascii_uppercase}
-use Rattle.cob_num.specs.declared.number.Dec.{Dec}
 use Rattle.edit_fields.specs.declared.shape.Shape.{Shape}
 use Rattle.edit_fields.specs.declared.field.Field.{Field}
 use Rattle.edit_fields.specs.declared.edited.Pen.{Pen}
-use Rattle.edit_fields.specs.Symbol.{is_currency_or_sign, is_sign, space, symbol_9, symbol_b, symbol_dollar, symbol_minus, symbol_period, symbol_plus, symbol_star, symbol_v}
+use Rattle.edit_fields.specs.Symbol.{is_currency_or_sign, symbol_dollar, symbol_period, symbol_plus, symbol_star, symbol_v}
 use Rattle.edit_fields.specs.Shape.{behind, digits, empty}
-use Rattle.edit_fields.specs.Field.{IsMask, IsNumber, cut, digit_of, field_of, moved, shape_of}
-use Rattle.edit_fields.specs.Edited.{at_start, blank_byte, byte_of, digit_at, edited, float_byte, has_digit, hidden_byte, is_shown, is_tail, letter_byte, passed, passed_to, shown_byte, shows_next, sign_byte, written}
+use Rattle.edit_fields.specs.Field.{digit_of, field_of, moved, shape_of}
+use Rattle.edit_fields.specs.Edited.{at_start, blank_byte, byte_of, digit_at, float_byte, has_digit, hidden_byte, is_shown, passed, passed_to, shows_next, sign_byte, written}
 use Rattle.edit_fields.specs.Laws.{NumbersAreReadBack, digit_in, number_from, with_next}
 use Rattle.edit_fields.proofs.BranchLemmas.{either_way, then_taken, else_taken, some_of}
 use Rattle.edit_fields.proofs.MaskLemmas.{Come, ended, comes, come_last, mask_whole, moved_to}

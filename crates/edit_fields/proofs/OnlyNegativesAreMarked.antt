@@ -1,5 +1,5 @@
 -- A number that isn't negative once it is cut shows no minus, CR or DB.
-use Rattle.std.proofs.Common.{◌≡◌, ℕ, ◌+◌, ◌-◌, ◌%◌, ◌<◌, ◌≤◌, Bool, true, false, not, ◌==◌, ◌&&◌, ◌||◌, if◌then◌else◌, List, [], ◌∷◌, slice_get, Option, Some, inl, inr, refl, sym, ap, ◌∙◌, subst, arith}
+use Rattle.std.proofs.Common.{◌≡◌, ℕ, ◌+◌, ◌-◌, ◌≤◌, Bool, true, false, not, ◌==◌, ◌&&◌, ◌||◌, if◌then◌else◌, List, [], ◌∷◌, slice_get, Option, Some, inl, inr, refl, sym, subst, arith}
 use Rattle.std.proofs.lemmas.Bool.{cases_Bool, or_from, or_parts}
 use Rattle.std.proofs.lemmas.Bool.Decides.{nat_tests}
 use Rattle.std.specs.Char.{to_ascii_uppercase}
@@ -10,7 +10,7 @@ use Rattle.edit_fields.specs.declared.edited.Pen.{Pen}
 use Rattle.edit_fields.specs.Symbol.{is_currency_or_sign, is_sign, is_tail_letter, symbol_b, symbol_dollar, symbol_minus, symbol_period, symbol_plus, symbol_r, symbol_star, symbol_v}
 use Rattle.edit_fields.specs.Shape.{behind, digits, empty}
 use Rattle.edit_fields.specs.Field.{field_of, moved, shape_of}
-use Rattle.edit_fields.specs.Edited.{at_start, blank_byte, byte_of, digit_at, float_byte, has_digit, hidden_byte, is_shown, is_tail, letter_byte, passed, passed_to, shown_byte, shows_next, sign_byte, written}
+use Rattle.edit_fields.specs.Edited.{blank_byte, byte_of, digit_at, float_byte, has_digit, hidden_byte, is_shown, is_tail, passed_to, shown_byte, shows_next, sign_byte, written}
 use Rattle.edit_fields.specs.Laws.{OnlyNegativesAreMarked, is_mark}
 use Rattle.edit_fields.proofs.BranchLemmas.{either_way, some_of}
 use Rattle.edit_fields.proofs.MaskLemmas.{Come, ended, comes, mask_whole, moved_to}

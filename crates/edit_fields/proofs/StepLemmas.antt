@@ -1,11 +1,11 @@
 -- What one symbol more does to the sign, the string and the stage of a mask.
-use Rattle.std.proofs.Common.{◌≡◌, ℕ, ◌+◌, Bool, true, false, not, ◌==◌, ◌&&◌, ◌||◌, if◌then◌else◌, Option, Some, None, IfSome, ◌⊎◌, inl, inr, refl, sym, ap, ◌∙◌, subst}
+use Rattle.std.proofs.Common.{◌≡◌, ℕ, Bool, true, false, ◌==◌, ◌&&◌, ◌||◌, Option, Some, None, IfSome, ◌⊎◌, inl, inr, refl, sym, ap, ◌∙◌, subst}
 use Rattle.std.proofs.lemmas.Bool.{eqb-true, or_left, or_right}
 use Rattle.edit_fields.specs.declared.shape.Stage.{Stage}
 use Rattle.edit_fields.specs.declared.shape.Stage.TheVariants as stages
 use Rattle.edit_fields.specs.declared.shape.Shape.{Shape}
 use Rattle.edit_fields.specs.Symbol.{is_insertion, is_point, is_sign, is_suppressor, is_tail_letter, symbol_9, symbol_b, symbol_c, symbol_d, symbol_dollar, symbol_r}
-use Rattle.edit_fields.specs.Shape.{again, begun, begun_signed, behind, body_by, digits, dollar_by, in_nines, in_string, insertion_by, last_letter_by, letter_by, nine_by, point_by, sign_behind_lead, sign_by, signed, suppressor_by, with_digit}
+use Rattle.edit_fields.specs.Shape.{again, begun, begun_signed, behind, body_by, digits, dollar_by, in_nines, in_string, insertion_by, last_letter_by, letter_by, nine_by, point_by, sign_behind_lead, sign_by, signed, suppressor_by}
 use Rattle.edit_fields.specs.Edited.{is_tail}
 use Rattle.edit_fields.proofs.BranchLemmas.{either_way}
 

@@ -1,5 +1,5 @@
 -- A mask whose counts are written out, as a whole, and a number that is cut to its digits.
-use Rattle.std.specs.Prelude.{◌≡◌, ℕ, zero, suc, ◌+◌, ◌/◌, ◌%◌, ◌≤◌, Bool, true, false, not, ◌==◌, ◌&&◌, ℤ, unsigned_abs, List, [], ◌∷◌, None, unwrap_or, IsTrue}
+use Rattle.std.specs.Prelude.{◌≡◌, ℕ, zero, suc, ◌+◌, ◌/◌, ◌%◌, ◌≤◌, false, not, ◌==◌, ◌&&◌, ℤ, unsigned_abs, List, [], ◌∷◌, None, unwrap_or, IsTrue}
 use Rattle.std.specs.Char.{to_ascii_uppercase}
 use Rattle.std.specs.Int.{is_negative}
 use Rattle.cob_num.specs.declared.number.Dec.{Dec}

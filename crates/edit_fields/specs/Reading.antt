@@ -5,7 +5,6 @@ use Rattle.std.specs.List.{list_all}
 use Rattle.edit_fields.specs.declared.fault.MaskFault.{MaskFault}
 use Rattle.edit_fields.specs.declared.fault.MaskFault.TheVariants as faults
 use Rattle.edit_fields.specs.declared.shape.Shape.{Shape}
-use Rattle.edit_fields.specs.declared.extent.Extent.{Extent}
 use Rattle.edit_fields.specs.declared.reading.Place.{Place}
 use Rattle.edit_fields.specs.declared.reading.Place.TheVariants as places
 use Rattle.edit_fields.specs.declared.reading.Reading.{Reading}

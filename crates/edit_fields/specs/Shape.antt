@@ -4,7 +4,7 @@
 -- `$`. The body is a suppression string, then nines: the string is of Z, of `*`, or of two or more
 -- of one sign or of `$`, which floats. Insertions may stand anywhere in the body, and one point.
 -- The tail is a sign, CR or DB.
-use Rattle.std.specs.Prelude.{ℕ, ◌+◌, min, Bool, true, false, not, ◌==◌, ◌&&◌, ◌||◌, Option, Some, None, if◌then◌else◌}
+use Rattle.std.specs.Prelude.{ℕ, ◌+◌, min, Bool, true, false, not, ◌==◌, ◌&&◌, Option, Some, None, if◌then◌else◌}
 use Rattle.edit_fields.specs.declared.shape.Stage.{Stage}
 use Rattle.edit_fields.specs.declared.shape.Stage.TheVariants as stages
 use Rattle.edit_fields.specs.declared.shape.Shape.{Shape}

@@ -1,4 +1,4 @@
-use Rattle.std.proofs.Common.{◌≡◌, ◌+◌, length, Some, sym, ap, ◌∙◌, arith}
+use Rattle.std.proofs.Common.{◌≡◌, ◌+◌, length, sym, ap, ◌∙◌, arith}
 use Rattle.edit_fields.specs.Reading.{end_fault}
 use Rattle.edit_fields.proofs.ReadingLemmas.{goes_on, stops, ends}
 use Rattle.edit_fields.proofs.mask_fault.Goals as goal

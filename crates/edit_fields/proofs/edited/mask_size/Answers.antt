@@ -1,5 +1,4 @@
-use Rattle.std.proofs.Common.{◌≡◌, ◌+◌, length, arith}
-use Rattle.edit_fields.specs.Edited.{shown_size}
+use Rattle.std.proofs.Common.{◌≡◌, length, arith}
 use Rattle.edit_fields.proofs.EditedLemmas.{size_ends, size_puts, size_skips}
 use Rattle.edit_fields.proofs.edited.mask_size.Goals as goal
 

@@ -1,5 +1,4 @@
-use Rattle.std.proofs.Common.{◌≡◌, ◌+◌, ◌<◌, length, length-set, arith}
-use Rattle.edit_fields.specs.Edited.{shown_size}
+use Rattle.std.proofs.Common.{◌≡◌, ◌<◌, length, length-set, arith}
 use Rattle.edit_fields.proofs.EditedLemmas.{none_left, puts, size_puts, size_skips, skips}
 use Rattle.edit_fields.proofs.edited.write.Goals as goal
 

@@ -1,6 +1,6 @@
 use Rattle.std.proofs.Common.{◌≡◌, length, sym, subst, arith}
 use Rattle.edit_fields.specs.declared.shape.Shape.{Shape}
-use Rattle.edit_fields.specs.Field.{IsNumber, shape_of}
+use Rattle.edit_fields.specs.Field.{IsNumber}
 use Rattle.edit_fields.proofs.MaskLemmas.{mask_number, shape_ends, shape_on}
 use Rattle.edit_fields.proofs.field.shape_of.Goals as goal
 

@@ -1,5 +1,4 @@
-use Rattle.std.proofs.Common.{◌≡◌, ◌+◌, ◌-◌, sym, ap, ◌∙◌, arith, Some}
-use Rattle.edit_fields.specs.Reading.{repeated_on}
+use Rattle.std.proofs.Common.{◌+◌, ◌-◌, sym, ◌∙◌, arith}
 use Rattle.edit_fields.proofs.ReadingLemmas.{none_on, once_more}
 use Rattle.edit_fields.proofs.reading.Reading.repeated.Goals as goal
 
