@@ -72,7 +72,7 @@ symbol position byte reading =
     (if byte == symbol_v then places.Open else places.Behind position)
     (added byte reading)
 
--- a count is at least 1, and stands for its symbol: so a fault within the run has the symbol's place
+-- a count is at least 1; a fault within its run has the symbol's place
 abbrev pub closed : ℕ → ℕ → ℕ → Reading → Result Reading MaskFault
 closed position at count reading =
     if count == 0 then Err (faults.Order position) else
