@@ -70,8 +70,8 @@ zero_of_hidden field next =
 
 zero_of_blank : (field : Field) (symbol : ℕ) → digit_in (blank_byte field symbol) ≡ 0
 zero_of_blank field symbol =
-    either_way (λ (byte : ℕ). digit_in byte ≡ 0) (field.string == symbol_star && not (symbol == symbol_period)) _ _ (λ _. refl)
-    (λ _. either_way (λ (byte : ℕ). digit_in byte ≡ 0) (field.string == symbol_star) _ _ (λ _. refl) (λ _. refl))
+    either_way (λ (byte : ℕ). digit_in byte ≡ 0) (not (field.string == symbol_star)) _ _ (λ _. refl)
+    (λ _. either_way (λ (byte : ℕ). digit_in byte ≡ 0) (symbol == symbol_period) _ _ (λ _. refl) (λ _. refl))
 
 digit_read : (d : ℕ) → d ≤ 9 → digit_in (48 + d) ≡ d
 digit_read d h = grind (arith, nat_tests)

@@ -36,8 +36,8 @@ plain_hidden field next above_zero =
 
 plain_blank : (field : Field) (symbol : ℕ) → Plain (blank_byte field symbol)
 plain_blank field symbol =
-    either_way Plain (field.string == symbol_star && not (symbol == symbol_period)) _ _ (λ _. refl)
-    (λ _. either_way Plain (field.string == symbol_star) _ _ (λ _. refl) (λ _. refl))
+    either_way Plain (not (field.string == symbol_star)) _ _ (λ _. refl)
+    (λ _. either_way Plain (symbol == symbol_period) _ _ (λ _. refl) (λ _. refl))
 
 plain_digit : (d : ℕ) → d ≤ 9 → Plain (48 + d)
 plain_digit d h = grind (arith, nat_tests)

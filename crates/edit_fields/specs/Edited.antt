@@ -61,8 +61,8 @@ shows_next field pen (Some byte) = (passed field (to_ascii_uppercase byte) pen).
 -- where nothing is shown there are spaces; or asterisks, in which the period stands
 abbrev pub blank_byte : Field → ℕ → ℕ
 blank_byte field symbol =
-    if field.string == symbol_star && not (symbol == symbol_period) then symbol_star else
-    if field.string == symbol_star then symbol_period else space
+    if not (field.string == symbol_star) then space else
+    if symbol == symbol_period then symbol_period else symbol_star
 
 -- a sign - is shown where the number is negative, a sign + turns into it there
 abbrev pub sign_byte : Bool → ℕ → ℕ

@@ -109,19 +109,19 @@ impl Field {
         symbol == b'9'
             || symbol == b'.'
             || symbol == b'V'
-            || (has_digit(symbol, behind) && !(self.digit_at(behind) == 0))
+            || (has_digit(symbol, behind) && self.digit_at(behind) != 0)
     }
 
     // Where nothing is shown there are spaces; or asterisks, in which the period stands.
     fn blank_byte(self, symbol: u8) -> u8
         ensures { result ≡ edits.blank_byte self symbol }
     {
-        if self.string == b'*' && !(symbol == b'.') {
-            b'*'
-        } else if self.string == b'*' {
+        if self.string != b'*' {
+            b' '
+        } else if symbol == b'.' {
             b'.'
         } else {
-            b' '
+            b'*'
         }
     }
 

@@ -37,7 +37,7 @@ fn run_size(run: u8) -> u8
 fn is_edit(symbol: u8) -> bool
     ensures { result ≡ extents.is_edit symbol }
 {
-    !(symbol == b'9' || symbol == b'V')
+    symbol != b'9' && symbol != b'V'
 }
 
 impl Extent {
@@ -85,6 +85,6 @@ impl Extent {
     pub fn ends_well(self) -> bool
         ensures { result ≡ extents.ends_well self }
     {
-        !(self.last == b'.' || self.last == b',')
+        self.last != b'.' && self.last != b','
     }
 }

@@ -4,9 +4,9 @@
 //! bytes it has, and `edit` writes the bytes that a number shows. Hold `specs/Shape`, which symbol
 //! may follow which, and `specs/Edited`, one case a rule, against ISO 1989:1985, PICTURE clause,
 //! editing rules; docs/DECISIONS.md has what is narrower here. That they are right is said by laws:
-//! what was shown is read back (`numbers_are_read_back`), a sign is shown below zero alone
-//! (`only_negatives_are_marked`), and a fault of order stands at the first byte up to which no mask
-//! begins (`beginnings_go_on`). Against GnuCOBOL it is tried only.
+//! what was shown is read back (`numbers_are_read_back`); a sign is shown where the number is
+//! negative, and there alone (`negatives_are_marked`, `only_negatives_are_marked`); a fault of order
+//! stands at the first byte up to which no mask begins (`beginnings_go_on`). Rows by hand are tests.
 #![tactic(auto)]
 
 mod edited;

@@ -188,7 +188,7 @@ impl Reading {
         if self.is_counting() || !self.shape.is_whole() {
             return Some(MaskFault::Order(last));
         }
-        if !(self.shape.digits() <= 18) {
+        if self.shape.digits() > 18 {
             return Some(MaskFault::TooManyDigits(last));
         }
         if self.extent.is_short() && self.extent.edits && self.extent.ends_well() {

@@ -335,7 +335,7 @@ impl Shape {
     pub fn is_whole(self) -> bool
         ensures { result ≡ shapes.is_whole self }
     {
-        !(self.digits() == 0) && !self.is_half()
+        self.digits() != 0 && !self.is_half()
     }
 
     pub fn digits(self) -> u16
