@@ -18,3 +18,4 @@ pub mod BeginningsGoOn
 pub mod MasksAreWrittenOut
 pub mod StepLemmas
 pub mod NegativesAreMarked
+pub mod PrintedMasksAreRead

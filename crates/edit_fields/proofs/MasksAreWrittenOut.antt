@@ -20,7 +20,7 @@ use Rattle.edit_fields.proofs.ReadingLemmas.{none_on}
 use Rattle.edit_fields.proofs.MaskLemmas.{goes_on_symbol, not_counting, step_symbol}
 
 -- what was read, at a place
-abbrev at : Shape → Extent → Place → Reading
+abbrev pub at : Shape → Extent → Place → Reading
 at shape extent place = record { shape = shape; extent = extent; place = place }
 
 -- the count that is open at a place
@@ -35,13 +35,13 @@ record Reads (n : ℕ) (reading : Reading) (text : List ℕ) : Type 0 where
   plain : is_written_out text ≡ true
 
 -- a symbol in capitals that may have a count
-record Capital (last : ℕ) : Type 0 where
-  upper : to_ascii_uppercase last ≡ last
-  plain : is_parenthesis last ≡ false
+pub record Capital (last : ℕ) : Type 0 where
+  pub upper : to_ascii_uppercase last ≡ last
+  pub plain : is_parenthesis last ≡ false
 
 -- ---- symbols that may come
 
-none_some : {A : Type 0} (o : Option A) (x : A) → o ≡ None → o ≡ Some x → ⊥
+pub none_some : {A : Type 0} (o : Option A) (x : A) → o ≡ None → o ≡ Some x → ⊥
 none_some o x e f = cc
 
 left_none : (shape : Shape) → behind 40 shape ≡ None
@@ -52,7 +52,7 @@ right_none : (shape : Shape) → behind 41 shape ≡ None
 unfolding behind
 right_none shape = refl
 
-comes_plain : (byte : ℕ) (shape next : Shape) → behind byte shape ≡ Some next → is_parenthesis byte ≡ false
+pub comes_plain : (byte : ℕ) (shape next : Shape) → behind byte shape ≡ Some next → is_parenthesis byte ≡ false
 comes_plain byte shape next e =
     let left : (byte == left_parenthesis) ≡ false = elim (cases_Bool (byte == left_parenthesis)) [
       | inl is ↦ absurd (none_some (behind byte shape) next (ap (λ b. behind b shape) (eqb-true byte 40 is) ∙ left_none shape) e)
@@ -64,17 +64,17 @@ comes_plain byte shape next e =
     ] in
     or_from (byte == left_parenthesis) (byte == right_parenthesis) left right
 
-capital_of : (byte : ℕ) (shape next : Shape) → behind (to_ascii_uppercase byte) shape ≡ Some next → Capital (to_ascii_uppercase byte)
+pub capital_of : (byte : ℕ) (shape next : Shape) → behind (to_ascii_uppercase byte) shape ≡ Some next → Capital (to_ascii_uppercase byte)
 capital_of byte shape next e = record { upper = uppercase-uppercase byte; plain = comes_plain (to_ascii_uppercase byte) shape next e }
 
-longer_last : (byte : ℕ) (extent : Extent) → (longer byte extent).last ≡ byte
+pub longer_last : (byte : ℕ) (extent : Extent) → (longer byte extent).last ≡ byte
 longer_last byte extent = either_way (λ (e : Extent). e.last ≡ byte) (extent.last == byte) _ _ (λ is. eqb-true extent.last byte is) (λ _. refl)
 
-not_left : (byte : ℕ) → is_parenthesis byte ≡ false → (byte == left_parenthesis) ≡ false
+pub not_left : (byte : ℕ) → is_parenthesis byte ≡ false → (byte == left_parenthesis) ≡ false
 not_left byte plain = (or_parts (byte == left_parenthesis) (byte == right_parenthesis) plain).0
 
 -- a symbol that may come is taken at any place
-takes : (m byte : ℕ) (shape next : Shape) (extent : Extent) (place : Place) → is_counting place ≡ false → Capital byte → behind byte shape ≡ Some next → step m (to_ascii_uppercase byte) (at shape extent place) ≡ Ok (at next (longer byte extent) (if byte == symbol_v then places.Open else places.Behind m))
+pub takes : (m byte : ℕ) (shape next : Shape) (extent : Extent) (place : Place) → is_counting place ≡ false → Capital byte → behind byte shape ≡ Some next → step m (to_ascii_uppercase byte) (at shape extent place) ≡ Ok (at next (longer byte extent) (if byte == symbol_v then places.Open else places.Behind m))
 unfolding step
 takes m byte shape next extent place counts capital e =
     ap (λ b. step_by place m b (at shape extent place)) capital.upper
@@ -95,7 +95,7 @@ same_reading : (a b : Reading) → Some a ≡ Some b → a ≡ b
 same_reading a b e = cc
 
 -- a symbol that is taken once more
-added_through : (k last : ℕ) (reading after : Reading) (may : Option Shape) (Goal : Type 0) → behind last reading.shape ≡ may → repeated_on k last (added_by last may reading) ≡ Some after → ((next : Shape) → behind last reading.shape ≡ Some next → repeated_on k last (Some (at next (longer last reading.extent) reading.place)) ≡ Some after → Goal) → Goal
+pub added_through : (k last : ℕ) (reading after : Reading) (may : Option Shape) (Goal : Type 0) → behind last reading.shape ≡ may → repeated_on k last (added_by last may reading) ≡ Some after → ((next : Shape) → behind last reading.shape ≡ Some next → repeated_on k last (Some (at next (longer last reading.extent) reading.place)) ≡ Some after → Goal) → Goal
 added_through k last reading after None Goal e h go = absurd (none_some (repeated_on k last None) after (none_on k last) h)
 added_through k last reading after (Some next) Goal e h go = go next e h
 
@@ -112,7 +112,7 @@ repeat_same (suc k) m last shape extent place other after more counts capital is
 
 -- ---- what the text's reading says at each byte
 
-err_none : (n : ℕ) (fault : MaskFault) (rest : List ℕ) → fault_from n (Err fault) rest ≡ None → ⊥
+pub err_none : (n : ℕ) (fault : MaskFault) (rest : List ℕ) → fault_from n (Err fault) rest ≡ None → ⊥
 unfolding fault_from
 err_none n fault rest h = cc
 
@@ -162,7 +162,7 @@ end_moves false true true false x y z u v w h = absurd cc
 end_moves false true false good x y z u v w h = absurd cc
 end_moves false false few good x y z u v w h = absurd cc
 
-same_end : (last m : ℕ) (shape : Shape) (extent : Extent) (place other : Place) → is_counting other ≡ false → end_fault last (at shape extent place) ≡ None → end_fault m (at shape extent other) ≡ None
+pub same_end : (last m : ℕ) (shape : Shape) (extent : Extent) (place other : Place) → is_counting other ≡ false → end_fault last (at shape extent place) ≡ None → end_fault m (at shape extent other) ≡ None
 unfolding end_fault
 same_end last m shape extent place other counts h =
     subst (λ counting. (if counting || not (is_whole shape) then Some (faults.Order m) else (if not (nat_le (digits shape) 18) then Some (faults.TooManyDigits m) else (if is_short extent && extent.edits && ends_well extent then None else Some (faults.Order m)))) ≡ None) (sym counts)

@@ -1,5 +1,5 @@
 -- What holds of all masks and numbers.
-use Rattle.std.specs.Prelude.{◌≡◌, ℕ, ◌+◌, ◌-◌, ◌*◌, Bool, true, false, ◌==◌, ◌&&◌, ◌||◌, nat_le, List, [], ◌∷◌, ◌++◌, length, drop, slice_index, unsigned_abs, Option, Some, None, option_and_then, if◌then◌else◌}
+use Rattle.std.specs.Prelude.{◌≡◌, ℕ, ◌+◌, ◌-◌, ◌*◌, ◌/◌, ◌%◌, Bool, true, false, ◌==◌, ◌&&◌, ◌||◌, nat_le, nat_lt, List, [], ◌∷◌, ◌++◌, length, map, drop, slice_index, unsigned_abs, Option, Some, None, option_and_then, if◌then◌else◌}
 use Rattle.std.specs.Char.{to_ascii_uppercase}
 use Rattle.std.specs.Int.{is_negative}
 use Rattle.std.specs.List.{list_any}
@@ -7,7 +7,7 @@ use Rattle.cob_num.specs.declared.number.Dec.{Dec}
 use Rattle.edit_fields.specs.declared.shape.Shape.{Shape}
 use Rattle.edit_fields.specs.Symbol.{is_tail_letter, symbol_b, symbol_minus, symbol_r, symbol_v}
 use Rattle.edit_fields.specs.Shape.{behind, empty, is_whole}
-use Rattle.edit_fields.specs.Reading.{mask_fault_of, written_out}
+use Rattle.edit_fields.specs.Reading.{left_parenthesis, mask_fault_of, right_parenthesis, written_out}
 use Rattle.edit_fields.specs.Field.{IsMask, cut, moved, shape_of}
 use Rattle.edit_fields.specs.Edited.{edited, has_digit, shown_size}
 
@@ -84,3 +84,36 @@ BeginningsGoOn =
 -- a mask with counts stands for one without
 abbrev pub MasksAreWrittenOut : Type 0
 MasksAreWrittenOut = (text : List ℕ) → mask_fault_of text ≡ None → IsMask (written_out text)
+
+-- ---- printing
+
+-- a count of up to three digits, before what follows it
+abbrev pub count_text : ℕ → List ℕ → List ℕ
+count_text count more =
+    if nat_lt count 10 then (48 + count) ∷ more else
+    if nat_lt count 100 then (48 + count / 10) ∷ (48 + count % 10) ∷ more
+    else (48 + count / 10 / 10) ∷ (48 + count / 10 % 10) ∷ (48 + count % 10) ∷ more
+
+-- a run of one symbol, as `Z` or `Z(12)`, before what follows it
+abbrev pub run_text : ℕ → ℕ → List ℕ → List ℕ
+run_text symbol run more =
+    if run == 1 then symbol ∷ more
+    else symbol ∷ left_parenthesis ∷ count_text run (right_parenthesis ∷ more)
+
+-- the rest, behind a run of a symbol
+unfoldable pub printed_from : ℕ → ℕ → List ℕ → List ℕ
+printed_from symbol run [] = run_text symbol run []
+printed_from symbol run (byte ∷ rest) =
+    if symbol == byte then printed_from symbol (run + 1) rest
+    else run_text symbol run (printed_from byte 1 rest)
+
+-- a mask with its runs as counts
+abbrev pub printed : List ℕ → List ℕ
+printed [] = []
+printed (byte ∷ rest) = printed_from byte 1 rest
+
+-- what is printed of a mask in capitals is read as that mask
+abbrev pub PrintedMasksAreRead : Type 0
+PrintedMasksAreRead =
+    (mask : List ℕ) → IsMask mask → map to_ascii_uppercase mask ≡ mask →
+    (mask_fault_of (printed mask) ≡ None) × (written_out (printed mask) ≡ mask)

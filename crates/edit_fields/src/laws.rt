@@ -1,6 +1,6 @@
 //! What holds of all masks and numbers. These functions do nothing; their contracts are laws.
 
-ghost use Rattle.edit_fields.specs.Laws.{BeginningsGoOn, MasksAreWrittenOut, NegativesAreMarked, NumbersAreReadBack, OnlyNegativesAreMarked, SymbolsHaveBytes};
+ghost use Rattle.edit_fields.specs.Laws.{BeginningsGoOn, MasksAreWrittenOut, NegativesAreMarked, NumbersAreReadBack, OnlyNegativesAreMarked, PrintedMasksAreRead, SymbolsHaveBytes};
 
 /// A number fills its field: each symbol but V has one byte.
 pub fn symbols_have_bytes()
@@ -31,4 +31,9 @@ pub fn beginnings_go_on()
 /// What a mask stands for, with its counts written out and in capitals, is a mask without faults.
 pub fn masks_are_written_out()
     ensures { MasksAreWrittenOut }
+{}
+
+/// What is printed of a mask, each run of a symbol with its count, is read as that mask.
+pub fn printed_masks_are_read()
+    ensures { PrintedMasksAreRead }
 {}
