@@ -19,3 +19,4 @@ pub mod MasksAreWrittenOut
 pub mod StepLemmas
 pub mod NegativesAreMarked
 pub mod PrintedMasksAreRead
+pub mod PrintedMasksAreShort

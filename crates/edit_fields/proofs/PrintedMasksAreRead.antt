@@ -203,10 +203,10 @@ write_run (suc k) last symbol more capital short =
 -- ---- all runs
 
 -- each byte is in capitals, and no parenthesis
-capital_first : (byte : ℕ) (rest : List ℕ) → map to_ascii_uppercase (byte ∷ rest) ≡ byte ∷ rest → to_ascii_uppercase byte ≡ byte
+pub capital_first : (byte : ℕ) (rest : List ℕ) → map to_ascii_uppercase (byte ∷ rest) ≡ byte ∷ rest → to_ascii_uppercase byte ≡ byte
 capital_first byte rest e = cc
 
-capital_rest : (byte : ℕ) (rest : List ℕ) → map to_ascii_uppercase (byte ∷ rest) ≡ byte ∷ rest → map to_ascii_uppercase rest ≡ rest
+pub capital_rest : (byte : ℕ) (rest : List ℕ) → map to_ascii_uppercase (byte ∷ rest) ≡ byte ∷ rest → map to_ascii_uppercase rest ≡ rest
 capital_rest byte rest e = cc
 
 replicate_end : (k symbol : ℕ) (rest : List ℕ) → replicate (suc k) symbol ++ rest ≡ replicate k symbol ++ symbol ∷ rest
@@ -235,7 +235,7 @@ write_runs (byte ∷ rest) k last symbol capital upper plain short =
 
 -- ---- a mask is short
 
-end_good : (counting whole few good : Bool) (x y z : MaskFault) → (if counting || not whole then Some x else (if not few then Some y else (if good then None else Some z))) ≡ None → good ≡ true
+pub end_good : (counting whole few good : Bool) (x y z : MaskFault) → (if counting || not whole then Some x else (if not few then Some y else (if good then None else Some z))) ≡ None → good ≡ true
 end_good true whole few good x y z h = absurd cc
 end_good false true true true x y z h = refl
 end_good false true true false x y z h = absurd cc
@@ -255,7 +255,7 @@ longer_size byte extent = either_way (λ (e : Extent). e.size ≡ tally extent.s
 one_less : (size more : ℕ) → tally size 1 + more ≤ 160 → size + suc more ≤ 160
 one_less size more h = grind arith
 
-mask_short : (text : List ℕ) (n : ℕ) (shape : Shape) (extent : Extent) (place : Place) → is_counting place ≡ false → map to_ascii_uppercase text ≡ text → is_written_out text ≡ true → fault_from n (Ok (at shape extent place)) text ≡ None → extent.size + length text ≤ 160
+pub mask_short : (text : List ℕ) (n : ℕ) (shape : Shape) (extent : Extent) (place : Place) → is_counting place ≡ false → map to_ascii_uppercase text ≡ text → is_written_out text ≡ true → fault_from n (Ok (at shape extent place)) text ≡ None → extent.size + length text ≤ 160
 unfolding fault_from
 mask_short [] n shape extent place counts upper plain h = omega (arith, end_short (last_position n) (at shape extent place) h)
 mask_short (byte ∷ rest) n shape extent place counts upper plain h =

@@ -1,5 +1,5 @@
 -- What holds of all masks and numbers.
-use Rattle.std.specs.Prelude.{◌≡◌, ℕ, ◌+◌, ◌-◌, ◌*◌, ◌/◌, ◌%◌, Bool, true, false, ◌==◌, ◌&&◌, ◌||◌, nat_le, nat_lt, List, [], ◌∷◌, ◌++◌, length, map, drop, slice_index, unsigned_abs, Option, Some, None, option_and_then, if◌then◌else◌}
+use Rattle.std.specs.Prelude.{◌≡◌, ◌≤◌, ℕ, ◌+◌, ◌-◌, ◌*◌, ◌/◌, ◌%◌, Bool, true, false, ◌==◌, ◌&&◌, ◌||◌, nat_le, nat_lt, List, [], ◌∷◌, ◌++◌, length, map, drop, slice_index, unsigned_abs, Option, Some, None, option_and_then, if◌then◌else◌}
 use Rattle.std.specs.Char.{to_ascii_uppercase}
 use Rattle.std.specs.Int.{is_negative}
 use Rattle.std.specs.List.{list_any}
@@ -117,3 +117,8 @@ abbrev pub PrintedMasksAreRead : Type 0
 PrintedMasksAreRead =
     (mask : List ℕ) → IsMask mask → map to_ascii_uppercase mask ≡ mask →
     (mask_fault_of (printed mask) ≡ None) × (written_out (printed mask) ≡ mask)
+
+-- and is short enough for a line
+abbrev pub PrintedMasksAreShort : Type 0
+PrintedMasksAreShort =
+    (mask : List ℕ) → IsMask mask → map to_ascii_uppercase mask ≡ mask → length (printed mask) ≤ 50

@@ -1,6 +1,6 @@
 //! What holds of all masks and numbers. These functions do nothing; their contracts are laws.
 
-ghost use Rattle.edit_fields.specs.Laws.{BeginningsGoOn, MasksAreWrittenOut, NegativesAreMarked, NumbersAreReadBack, OnlyNegativesAreMarked, PrintedMasksAreRead, SymbolsHaveBytes};
+ghost use Rattle.edit_fields.specs.Laws.{BeginningsGoOn, MasksAreWrittenOut, NegativesAreMarked, NumbersAreReadBack, OnlyNegativesAreMarked, PrintedMasksAreRead, PrintedMasksAreShort, SymbolsHaveBytes};
 
 /// A number fills its field: each symbol but V has one byte.
 pub fn symbols_have_bytes()
@@ -36,4 +36,9 @@ pub fn masks_are_written_out()
 /// What is printed of a mask, each run of a symbol with its count, is read as that mask.
 pub fn printed_masks_are_read()
     ensures { PrintedMasksAreRead }
+{}
+
+/// What is printed of a mask has at most 50 bytes.
+pub fn printed_masks_are_short()
+    ensures { PrintedMasksAreShort }
 {}
