@@ -10,13 +10,14 @@ pub mod FieldLemmas
 pub mod EditedLemmas
 -- How many digits there are behind one symbol more.
 pub mod CountLemmas
+-- What one symbol more does to the sign, the string and the stage.
+pub mod StepLemmas
 -- The laws.
 pub mod SymbolsHaveBytes
 pub mod NumbersAreReadBack
 pub mod OnlyNegativesAreMarked
 pub mod BeginningsGoOn
 pub mod MasksAreWrittenOut
-pub mod StepLemmas
 pub mod NegativesAreMarked
 pub mod PrintedMasksAreRead
 pub mod PrintedMasksAreShort

@@ -1,7 +1,7 @@
 -- What is printed of a mask is read as that mask.
-use Rattle.std.proofs.Common.{◌≡◌, ℕ, zero, suc, ◌+◌, ◌-◌, ◌*◌, ◌/◌, ◌%◌, ◌<◌, ◌≤◌, min, Bool, true, false, not, ◌==◌, ◌&&◌, ◌||◌, if◌then◌else◌, List, [], ◌∷◌, ◌++◌, length, map, replicate, Ok, Err, Option, Some, None, IfSome, inl, inr, refl, sym, ap, ◌∙◌, subst, arith, add-one, nat_le, nat_lt}
-use Rattle.std.proofs.Math.Nat.{min-eq_left, mod-lt}
-use Rattle.std.proofs.lemmas.Bool.{and_parts, cases_Bool, eqb-false, eqb-true, leb-true, ltb-false, ltb-true, ne_eqb, not-true}
+use Rattle.std.proofs.Common.{◌≡◌, ℕ, zero, suc, ◌+◌, ◌-◌, ◌*◌, ◌/◌, ◌%◌, ◌<◌, ◌≤◌, Bool, true, false, not, ◌==◌, ◌&&◌, ◌||◌, if◌then◌else◌, List, [], ◌∷◌, ◌++◌, length, map, replicate, Ok, Err, Some, None, IfSome, inl, inr, refl, sym, ap, ◌∙◌, subst, arith, add-one, nat_le, nat_lt}
+use Rattle.std.proofs.Math.Nat.{min-eq_left}
+use Rattle.std.proofs.lemmas.Bool.{and_parts, cases_Bool, eqb-true, leb-true, ltb-true, ne_eqb, not-true}
 use Rattle.std.proofs.lemmas.Bool.Decides.{nat_tests}
 use Rattle.std.specs.Char.{to_ascii_uppercase}
 use Rattle.edit_fields.specs.declared.fault.MaskFault.{MaskFault}
@@ -14,14 +14,13 @@ use Rattle.edit_fields.specs.declared.reading.Place.{Place}
 use Rattle.edit_fields.specs.declared.reading.Place.TheVariants as places
 use Rattle.edit_fields.specs.declared.reading.Reading.{Reading}
 use Rattle.edit_fields.specs.Symbol.{symbol_v}
-use Rattle.edit_fields.specs.Shape.{behind, body_by, digits, empty, is_whole, point_by, tally}
+use Rattle.edit_fields.specs.Shape.{behind, body_by, digits, empty, is_whole, tally}
 use Rattle.edit_fields.specs.Extent.{ends_well, is_short, longer, no_extent, run_size}
-use Rattle.edit_fields.specs.Reading.{added_by, closed, counted, end_fault, fault_from, fault_of, in_count, is_counting, is_digit, is_parenthesis, is_written_out, last_position, left_parenthesis, mask_fault_of, placed, repeated, repeated_on, right_parenthesis, start, step, written_from, written_out}
-use Rattle.edit_fields.specs.Field.{IsMask}
-use Rattle.edit_fields.specs.Laws.{PrintedMasksAreRead, count_text, printed, printed_from, run_text}
+use Rattle.edit_fields.specs.Reading.{added_by, counted, end_fault, fault_from, in_count, is_counting, is_digit, is_parenthesis, is_written_out, last_position, left_parenthesis, mask_fault_of, placed, repeated, repeated_on, right_parenthesis, start, step, written_from}
+use Rattle.edit_fields.specs.Laws.{PrintedMasksAreRead, count_text, printed_from, run_text}
 use Rattle.edit_fields.proofs.BranchLemmas.{either_way, then_taken, else_taken, some_of}
 use Rattle.edit_fields.proofs.MaskLemmas.{goes_on_symbol, not_counting}
-use Rattle.edit_fields.proofs.MasksAreWrittenOut.{Capital, at, added_through, comes_plain, longer_last, none_some, not_left, same_end, takes}
+use Rattle.edit_fields.proofs.MasksAreWrittenOut.{Capital, at, added_through, longer_last, none_some, not_left, same_end, takes}
 
 -- ---- one digit of a count
 
@@ -124,9 +123,9 @@ v_once shape point = then_taken shape.point None (body_by shape.stage (record sh
 twice_no_v : (symbol : ℕ) (shape next after : Shape) → behind symbol shape ≡ Some next → behind symbol next ≡ Some after → (symbol == symbol_v) ≡ false
 twice_no_v symbol shape next after e f = elim (cases_Bool (symbol == symbol_v)) [
   | inl v ↦
-    let is : symbol ≡ 86 = eqb-true symbol 86 v in
-    let point : next.point ≡ true = some_of (λ (s : Shape). s.point ≡ true) (behind 86 shape) next (ap (λ b. behind b shape) (sym is) ∙ e) (v_points shape) in
-    absurd (none_some (behind 86 next) after (v_once next point) (ap (λ b. behind b next) (sym is) ∙ f))
+      let is : symbol ≡ 86 = eqb-true symbol 86 v in
+      let point : next.point ≡ true = some_of (λ (s : Shape). s.point ≡ true) (behind 86 shape) next (ap (λ b. behind b shape) (sym is) ∙ e) (v_points shape) in
+      absurd (none_some (behind 86 next) after (v_once next point) (ap (λ b. behind b next) (sym is) ∙ f))
   | inr other ↦ other
 ]
 
@@ -172,9 +171,9 @@ read_more n k symbol shape extent place after more counts capital short e go =
     let other : (symbol == symbol_v) ≡ false = twice_no_v symbol shape next second f h in
     let last_is : (longer symbol extent).last ≡ symbol = longer_last symbol extent in
     let run : (p : ℕ) → repeated ((suc (suc k)) - 1) (longer symbol extent).last (at next (longer symbol extent) (places.Count p (suc (suc k)))) ≡ Some (at after.shape after.extent (places.Count p (suc (suc k)))) =
-        λ (p : ℕ). ap (λ s. repeated ((suc (suc k)) - 1) s (at next (longer symbol extent) (places.Count p (suc (suc k))))) last_is
-        ∙ (let less : (suc (suc k)) - 1 ≡ suc k = omega arith in ap (λ j. repeated j symbol (at next (longer symbol extent) (places.Count p (suc (suc k))))) less)
-        ∙ moved_place (suc k) symbol next (longer symbol extent) place (places.Count p (suc (suc k))) after g in
+    λ (p : ℕ). ap (λ s. repeated ((suc (suc k)) - 1) s (at next (longer symbol extent) (places.Count p (suc (suc k))))) last_is
+    ∙ (let less : (suc (suc k)) - 1 ≡ suc k = omega arith in ap (λ j. repeated j symbol (at next (longer symbol extent) (places.Count p (suc (suc k))))) less)
+    ∙ moved_place (suc k) symbol next (longer symbol extent) place (places.Count p (suc (suc k))) after g in
     ap (λ made. fault_from (n + 1) made (left_parenthesis ∷ count_text (suc (suc k)) (right_parenthesis ∷ more))) (takes (n + 1) symbol shape next extent place counts capital f)
     ∙ ap (λ p. fault_from (n + 1) (Ok (at next (longer symbol extent) p)) (left_parenthesis ∷ count_text (suc (suc k)) (right_parenthesis ∷ more))) (else_taken (symbol == symbol_v) places.Open (places.Behind (n + 1)) other)
     ∙ read_count (n + 1 + 1) (n + 1) (suc (suc k)) next (longer symbol extent) (right_parenthesis ∷ more) short
@@ -261,7 +260,7 @@ mask_short [] n shape extent place counts upper plain h = omega (arith, end_shor
 mask_short (byte ∷ rest) n shape extent place counts upper plain h =
     let parts = and_parts (not (is_parenthesis byte)) (is_written_out rest) plain in
     let on = goes_on_symbol (n + 1) byte (at shape extent place) rest counts (not_left byte (not-true (is_parenthesis byte) parts.0))
-        (subst (λ b. fault_from (n + 1) (step (n + 1) b (at shape extent place)) rest ≡ None) (capital_first byte rest upper) h) in
+    (subst (λ b. fault_from (n + 1) (step (n + 1) b (at shape extent place)) rest ≡ None) (capital_first byte rest upper) h) in
     let rest_short = mask_short rest (n + 1) on.shape (longer byte extent) on.place on.counts (capital_rest byte rest upper) parts.1 on.fault in
     one_less extent.size (length rest) (subst (λ s. s + length rest ≤ 160) (longer_size byte extent) rest_short)
 
@@ -277,7 +276,7 @@ read_runs (byte ∷ rest) n m k symbol shape extent place after other counts ope
     let no_parenthesis : is_parenthesis byte ≡ false = not-true (is_parenthesis byte) parts.0 in
     let shorter : suc k + suc (length rest) < 200 = short in
     let on = goes_on_symbol (m + 1) byte (at after.shape after.extent other) rest open_other (not_left byte no_parenthesis)
-        (subst (λ b. fault_from (m + 1) (step (m + 1) b (at after.shape after.extent other)) rest ≡ None) (capital_first byte rest upper) h) in
+    (subst (λ b. fault_from (m + 1) (step (m + 1) b (at after.shape after.extent other)) rest ≡ None) (capital_first byte rest upper) h) in
     either_way (λ (l : List ℕ). fault_from n (Ok (at shape extent place)) l ≡ None) (symbol == byte) _ _
     (λ same.
     let is : symbol ≡ byte = eqb-true symbol byte same in
@@ -306,9 +305,8 @@ printed_masks_are_read (byte ∷ rest) is upper =
     let capital : Capital byte = record { upper = capital_first byte rest upper; plain = no_parenthesis } in
     let fits : 0 + suc (length rest) ≤ 160 = mask_short (byte ∷ rest) 0 empty no_extent places.Open refl upper is.written_out is.no_fault in
     let on = goes_on_symbol 1 byte start rest refl (not_left byte no_parenthesis)
-        (subst (λ b. fault_from 1 (step 1 b start) rest ≡ None) (capital_first byte rest upper) is.no_fault) in
-    (
+    (subst (λ b. fault_from 1 (step 1 b start) rest ≡ None) (capital_first byte rest upper) is.no_fault) in (
       read_runs rest 0 1 0 byte empty no_extent places.Open (at on.shape (longer byte no_extent) places.Open) on.place refl on.counts capital (capital_rest byte rest upper) parts.1 (omega arith)
-      (ap (λ may. added_by byte may start) on.comes) on.fault,
-      write_runs rest 0 0 byte capital (capital_rest byte rest upper) parts.1 (omega arith)
+          (ap (λ may. added_by byte may start) on.comes) on.fault,
+      write_runs rest 0 0 byte capital (capital_rest byte rest upper) parts.1 (omega arith),
     )

@@ -1,5 +1,5 @@
 -- What is printed of a mask has at most 50 bytes.
-use Rattle.std.proofs.Common.{◌≡◌, ℕ, zero, suc, ◌+◌, ◌/◌, ◌%◌, ◌<◌, ◌≤◌, min, Bool, true, false, not, ◌==◌, ◌&&◌, if◌then◌else◌, List, [], ◌∷◌, length, map, Ok, Some, None, inl, inr, refl, sym, ap, ◌∙◌, subst, arith, add-one, nat_le, nat_lt}
+use Rattle.std.proofs.Common.{◌≡◌, ℕ, zero, suc, ◌+◌, ◌/◌, ◌%◌, ◌<◌, ◌≤◌, true, false, not, ◌==◌, ◌&&◌, if◌then◌else◌, List, [], ◌∷◌, length, map, Ok, Some, None, inl, inr, refl, sym, ap, ◌∙◌, subst, arith, add-one, nat_le, nat_lt}
 use Rattle.std.proofs.lemmas.Bool.{and_parts, cases_Bool, eq-eqb, eqb-true, ne_eqb, leb-true, lt-leb, not-true}
 use Rattle.std.specs.Char.{to_ascii_uppercase}
 use Rattle.edit_fields.specs.declared.shape.Shape.{Shape}
@@ -8,10 +8,9 @@ use Rattle.edit_fields.specs.declared.reading.Place.{Place}
 use Rattle.edit_fields.specs.declared.reading.Place.TheVariants as places
 use Rattle.edit_fields.specs.declared.reading.Reading.{Reading}
 use Rattle.edit_fields.specs.Shape.{behind, digits, empty, is_whole, tally}
-use Rattle.edit_fields.specs.Extent.{ends_well, is_edit, is_short, longer, no_extent, run_size}
-use Rattle.edit_fields.specs.Reading.{end_fault, fault_from, is_counting, is_parenthesis, is_written_out, last_position, left_parenthesis, mask_fault_of, right_parenthesis, start, step}
-use Rattle.edit_fields.specs.Field.{IsMask}
-use Rattle.edit_fields.specs.Laws.{PrintedMasksAreShort, count_text, printed, printed_from, run_text}
+use Rattle.edit_fields.specs.Extent.{ends_well, is_short, longer, no_extent, run_size}
+use Rattle.edit_fields.specs.Reading.{end_fault, fault_from, is_counting, is_parenthesis, is_written_out, last_position, left_parenthesis, right_parenthesis, start, step}
+use Rattle.edit_fields.specs.Laws.{PrintedMasksAreShort, count_text, printed_from, run_text}
 use Rattle.edit_fields.proofs.BranchLemmas.{either_way, then_taken, else_taken}
 use Rattle.edit_fields.proofs.MaskLemmas.{goes_on_symbol}
 use Rattle.edit_fields.proofs.MasksAreWrittenOut.{at, longer_last, none_some, not_left}
@@ -22,18 +21,18 @@ use Rattle.edit_fields.proofs.PrintedMasksAreRead.{capital_first, capital_rest, 
 count_length : (symbol k : ℕ) (more : List ℕ) → length (symbol ∷ left_parenthesis ∷ count_text k (right_parenthesis ∷ more)) ≡ (if nat_lt k 10 then 4 else if nat_lt k 100 then 5 else 6) + length more
 count_length symbol k more = elim (cases_Bool (nat_lt k 10)) [
   | inl ten ↦
-    ap (λ l. length (symbol ∷ left_parenthesis ∷ l)) (then_taken (nat_lt k 10) ((48 + k) ∷ right_parenthesis ∷ more) _ ten)
-    ∙ (let four : length (symbol ∷ left_parenthesis ∷ (48 + k) ∷ right_parenthesis ∷ more) ≡ 4 + length more = omega arith in four)
-    ∙ ap (λ n. n + length more) (sym (then_taken (nat_lt k 10) 4 (if nat_lt k 100 then 5 else 6) ten))
+      ap (λ l. length (symbol ∷ left_parenthesis ∷ l)) (then_taken (nat_lt k 10) ((48 + k) ∷ right_parenthesis ∷ more) _ ten)
+      ∙ (let four : length (symbol ∷ left_parenthesis ∷ (48 + k) ∷ right_parenthesis ∷ more) ≡ 4 + length more = omega arith in four)
+      ∙ ap (λ n. n + length more) (sym (then_taken (nat_lt k 10) 4 (if nat_lt k 100 then 5 else 6) ten))
   | inr more_digits ↦ elim (cases_Bool (nat_lt k 100)) [
     | inl hundred ↦
-      ap (λ l. length (symbol ∷ left_parenthesis ∷ l)) (else_taken (nat_lt k 10) ((48 + k) ∷ right_parenthesis ∷ more) _ more_digits ∙ then_taken (nat_lt k 100) ((48 + k / 10) ∷ (48 + k % 10) ∷ right_parenthesis ∷ more) _ hundred)
-      ∙ (let five : length (symbol ∷ left_parenthesis ∷ (48 + k / 10) ∷ (48 + k % 10) ∷ right_parenthesis ∷ more) ≡ 5 + length more = omega arith in five)
-      ∙ ap (λ n. n + length more) (sym (else_taken (nat_lt k 10) 4 (if nat_lt k 100 then 5 else 6) more_digits ∙ then_taken (nat_lt k 100) 5 6 hundred))
+        ap (λ l. length (symbol ∷ left_parenthesis ∷ l)) (else_taken (nat_lt k 10) ((48 + k) ∷ right_parenthesis ∷ more) _ more_digits ∙ then_taken (nat_lt k 100) ((48 + k / 10) ∷ (48 + k % 10) ∷ right_parenthesis ∷ more) _ hundred)
+        ∙ (let five : length (symbol ∷ left_parenthesis ∷ (48 + k / 10) ∷ (48 + k % 10) ∷ right_parenthesis ∷ more) ≡ 5 + length more = omega arith in five)
+        ∙ ap (λ n. n + length more) (sym (else_taken (nat_lt k 10) 4 (if nat_lt k 100 then 5 else 6) more_digits ∙ then_taken (nat_lt k 100) 5 6 hundred))
     | inr three ↦
-      ap (λ l. length (symbol ∷ left_parenthesis ∷ l)) (else_taken (nat_lt k 10) ((48 + k) ∷ right_parenthesis ∷ more) _ more_digits ∙ else_taken (nat_lt k 100) ((48 + k / 10) ∷ (48 + k % 10) ∷ right_parenthesis ∷ more) _ three)
-      ∙ (let six : length (symbol ∷ left_parenthesis ∷ (48 + k / 10 / 10) ∷ (48 + k / 10 % 10) ∷ (48 + k % 10) ∷ right_parenthesis ∷ more) ≡ 6 + length more = omega arith in six)
-      ∙ ap (λ n. n + length more) (sym (else_taken (nat_lt k 10) 4 (if nat_lt k 100 then 5 else 6) more_digits ∙ else_taken (nat_lt k 100) 5 6 three))
+        ap (λ l. length (symbol ∷ left_parenthesis ∷ l)) (else_taken (nat_lt k 10) ((48 + k) ∷ right_parenthesis ∷ more) _ more_digits ∙ else_taken (nat_lt k 100) ((48 + k / 10) ∷ (48 + k % 10) ∷ right_parenthesis ∷ more) _ three)
+        ∙ (let six : length (symbol ∷ left_parenthesis ∷ (48 + k / 10 / 10) ∷ (48 + k / 10 % 10) ∷ (48 + k % 10) ∷ right_parenthesis ∷ more) ≡ 6 + length more = omega arith in six)
+        ∙ ap (λ n. n + length more) (sym (else_taken (nat_lt k 10) 4 (if nat_lt k 100 then 5 else 6) more_digits ∙ else_taken (nat_lt k 100) 5 6 three))
   ]
 ]
 
@@ -84,7 +83,7 @@ short_runs (byte ∷ rest) n k symbol shape extent place counts upper plain is_l
     let no_parenthesis : is_parenthesis byte ≡ false = not-true (is_parenthesis byte) parts.0 in
     let shorter : suc k + suc (length rest) < 200 = short in
     let on = goes_on_symbol (n + 1) byte (at shape extent place) rest counts (not_left byte no_parenthesis)
-        (subst (λ b. fault_from (n + 1) (step (n + 1) b (at shape extent place)) rest ≡ None) (capital_first byte rest upper) h) in
+    (subst (λ b. fault_from (n + 1) (step (n + 1) b (at shape extent place)) rest ≡ None) (capital_first byte rest upper) h) in
     either_way (λ (l : List ℕ). extent.printed + length l ≤ 50) (symbol == byte) _ _
     (λ same.
     let is : symbol ≡ byte = eqb-true symbol byte same in
@@ -119,10 +118,10 @@ printed_masks_are_short (byte ∷ rest) is upper =
     let no_parenthesis : is_parenthesis byte ≡ false = not-true (is_parenthesis byte) parts.0 in
     let fits : 0 + suc (length rest) ≤ 160 = mask_short (byte ∷ rest) 0 empty no_extent places.Open refl upper is.written_out is.no_fault in
     let on = goes_on_symbol 1 byte start rest refl (not_left byte no_parenthesis)
-        (subst (λ b. fault_from 1 (step 1 b start) rest ≡ None) (capital_first byte rest upper) is.no_fault) in
+    (subst (λ b. fault_from 1 (step 1 b start) rest ≡ None) (capital_first byte rest upper) is.no_fault) in
     elim (cases_Bool (0 == byte)) [
       | inl null ↦ absurd (null_none byte on.shape (eqb-true 0 byte null) on.comes)
       | inr other ↦
-        let short = short_runs rest 1 0 byte on.shape (longer byte no_extent) on.place on.counts (capital_rest byte rest upper) parts.1 (longer_last byte no_extent) (other_run byte no_extent other) (omega arith) on.fault in
-        omega (arith, short)
+          let short = short_runs rest 1 0 byte on.shape (longer byte no_extent) on.place on.counts (capital_rest byte rest upper) parts.1 (longer_last byte no_extent) (other_run byte no_extent other) (omega arith) on.fault in
+          omega (arith, short)
     ]

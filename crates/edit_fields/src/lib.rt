@@ -2,13 +2,13 @@
 //!
 //! `mask_fault` judges the text of a mask, `mask_digits` and `mask_size` say how many digits and
 //! bytes it has, and `edit` writes what a number shows. Hold `specs/Shape`, which symbol may follow
-//! which, and `specs/Edited`, one case a rule, against ISO 1989:1985, PICTURE clause, editing rules;
-//! docs/DECISIONS.md has what is narrower here. Laws say that they are right: what was shown is read
-//! back (`numbers_are_read_back`), a sign is shown where the number is negative, and there alone
-//! (`negatives_are_marked`, `only_negatives_are_marked`), a fault of order stands at the first byte
-//! up to which no mask begins (`beginnings_go_on`), and masks with counts stand for those without,
-//! as they are printed too (`masks_are_written_out`, `printed_masks_are_read`). Rows that were worked
-//! by hand are tests.
+//! which, and `specs/Edited`, one case a rule, against ISO 1989:1985, PICTURE clause;
+//! docs/DECISIONS.md has what is narrower here. Laws say that they are right: what was shown is
+//! read back (`numbers_are_read_back`), a sign is shown where the number is negative, and there
+//! alone (`negatives_are_marked`, `only_negatives_are_marked`), a fault of order stands at the
+//! first byte up to which no mask begins (`beginnings_go_on`), and masks with counts stand for
+//! those without, as they are printed too (`masks_are_written_out`, `printed_masks_are_read`).
+//! Rows that were worked by hand are tests.
 #![tactic(auto)]
 
 mod edited;
