@@ -1,0 +1,5 @@
+use Rattle.edit_fields.proofs.PrintedMasksAreShort as law
+use Rattle.edit_fields.proofs.laws.printed_masks_are_short.Goals as goal
+
+pub returns : goal.returns
+returns c = law.printed_masks_are_short

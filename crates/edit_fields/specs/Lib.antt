@@ -1,0 +1,12 @@
+-- The symbols of a mask, and which may follow which.
+pub mod Symbol
+pub mod Shape
+-- How long a mask is, written out and as it is printed.
+pub mod Extent
+-- How a text is read as a mask, and why it is none.
+pub mod Reading
+-- What a number shows through a mask.
+pub mod Field
+pub mod Edited
+-- What the laws cite.
+pub mod Laws

@@ -1,0 +1,233 @@
+//! What a number shows through a mask.
+
+ghost use Rattle.std.specs.Prelude.{◌≡◌, ◌≤◌, length, slice_get};
+ghost use Rattle.edit_fields.specs.Field.{IsMask};
+ghost use Rattle.edit_fields.specs.Edited as edits;
+ghost use Rattle.edit_fields.specs.Edited.{edited, shown_size};
+
+use crate::field::{Field, digit_of, field_of, moved, shape_of};
+use crate::shape::{Shape, Stage};
+use crate::symbol::{is_currency_or_sign, is_sign, is_suppressor};
+use cob_num::Dec;
+
+/// What stands left of a place.
+#[derive(Clone, Copy)]
+pub struct Pen {
+    pub shape: Shape,
+    /// The suppression string has begun.
+    pub begun: bool,
+    /// The first shown place was reached.
+    pub shown: bool,
+}
+
+fn is_string(stage: Stage) -> bool
+    ensures { result ≡ edits.is_string stage }
+{
+    match stage {
+        Stage::InString => true,
+        _ => false,
+    }
+}
+
+fn is_tail(stage: Stage) -> bool
+    ensures { result ≡ edits.is_tail stage }
+{
+    match stage {
+        Stage::Letter(_) => true,
+        Stage::Ended => true,
+        _ => false,
+    }
+}
+
+fn has_digit(symbol: u8, behind: Shape) -> bool
+    ensures { result ≡ edits.has_digit symbol behind }
+{
+    symbol == b'9'
+        || is_suppressor(symbol)
+        || (is_currency_or_sign(symbol) && is_string(behind.stage))
+}
+
+// A sign - is shown where the number is negative, a sign + turns into it there.
+fn sign_byte(minus: bool, sign: u8) -> u8
+    ensures { result ≡ edits.sign_byte minus sign }
+{
+    if minus {
+        b'-'
+    } else if sign == b'+' {
+        b'+'
+    } else {
+        b' '
+    }
+}
+
+impl Pen {
+    fn at_start() -> Pen
+        ensures { result ≡ edits.at_start }
+    {
+        Pen {
+            shape: Shape::empty(),
+            begun: false,
+            shown: false,
+        }
+    }
+
+    // Behind one symbol more.
+    fn passed(self, field: Field, symbol: u8) -> Pen
+        ensures { result ≡ edits.passed field symbol self }
+    {
+        let shape = moved(self.shape, symbol);
+        Pen {
+            shape,
+            begun: self.begun || symbol == field.string,
+            shown: self.shown || field.is_shown(symbol, shape),
+        }
+    }
+
+    // Whether the next place is shown.
+    fn shows_next(self, field: Field, next: Option<u8>) -> bool
+        ensures { result ≡ edits.shows_next field self next }
+    {
+        match next {
+            Some(byte) => self.passed(field, byte.to_ascii_uppercase()).shown,
+            None => false,
+        }
+    }
+}
+
+impl Field {
+    fn digit_at(self, behind: Shape) -> u8
+        ensures digit { result ≡ edits.digit_at self behind }
+        ensures short { result ≤ 9 }
+    {
+        digit_of(self.number, self.digits.saturating_sub(behind.digits()))
+    }
+
+    // The first shown place: a digit that isn't zero, a 9, the period, or the place behind V.
+    fn is_shown(self, symbol: u8, behind: Shape) -> bool
+        ensures { result ≡ edits.is_shown self symbol behind }
+    {
+        symbol == b'9'
+            || symbol == b'.'
+            || symbol == b'V'
+            || (has_digit(symbol, behind) && self.digit_at(behind) != 0)
+    }
+
+    // Where nothing is shown there are spaces; or asterisks, in which the period stands.
+    fn blank_byte(self, symbol: u8) -> u8
+        ensures { result ≡ edits.blank_byte self symbol }
+    {
+        if self.string != b'*' {
+            b' '
+        } else if symbol == b'.' {
+            b'.'
+        } else {
+            b'*'
+        }
+    }
+
+    fn float_byte(self) -> u8
+        ensures { result ≡ edits.float_byte self }
+    {
+        if self.string == b'$' {
+            b'$'
+        } else {
+            sign_byte(self.minus, self.string)
+        }
+    }
+
+    // In the string, left of the first shown place, which may be the next.
+    fn hidden_byte(self, next: bool) -> u8
+        ensures { result ≡ edits.hidden_byte self next }
+    {
+        if is_currency_or_sign(self.string) && next {
+            self.float_byte()
+        } else if self.string == b'*' {
+            b'*'
+        } else {
+            b' '
+        }
+    }
+
+    fn shown_byte(self, symbol: u8, behind: Shape) -> u8
+        ensures { result ≡ edits.shown_byte self symbol behind }
+    {
+        if has_digit(symbol, behind) {
+            b'0' + self.digit_at(behind)
+        } else if is_sign(symbol) {
+            sign_byte(self.minus, symbol)
+        } else if is_tail(behind.stage) {
+            self.letter_byte(symbol)
+        } else if symbol == b'B' {
+            b' '
+        } else {
+            symbol
+        }
+    }
+
+    // A letter of CR or DB.
+    fn letter_byte(self, letter: u8) -> u8
+        ensures { result ≡ edits.letter_byte self letter }
+    {
+        if self.minus { letter } else { b' ' }
+    }
+
+    fn byte_of(self, symbol: u8, pen: Pen, next: Option<u8>) -> u8
+        ensures { result ≡ edits.byte_of self symbol pen next }
+    {
+        if self.blank {
+            self.blank_byte(symbol)
+        } else if pen.begun && !pen.shown {
+            self.hidden_byte(pen.shows_next(self, next))
+        } else {
+            self.shown_byte(symbol, pen.shape)
+        }
+    }
+}
+
+fn symbol_at(mask: &[u8], place: usize) -> Option<u8>
+    ensures { result ≡ slice_get mask.now place }
+{
+    mask.get(place).copied()
+}
+
+/// How many bytes a mask shows: a V has none.
+pub fn mask_size(mask: &[u8]) -> usize
+    ensures { result ≡ shown_size mask.now }
+{
+    let mut size = 0;
+    for (place, byte) in mask.iter().enumerate() {
+        let symbol = byte.to_ascii_uppercase();
+        if symbol == b'V' {
+            continue;
+        }
+        size += 1;
+    }
+    size
+}
+
+fn write(field: Field, mask: &[u8], into: &mut [u8])
+    requires { length into.old ≡ shown_size mask.now }
+    ensures { into.new ≡ edits.written field edits.at_start mask.now }
+{
+    let mut pen = Pen::at_start();
+    let mut at = 0;
+    for (place, byte) in mask.iter().enumerate() {
+        let symbol = byte.to_ascii_uppercase();
+        pen = pen.passed(field, symbol);
+        if symbol == b'V' {
+            continue;
+        }
+        into[at] = field.byte_of(symbol, pen, symbol_at(mask, place + 1));
+        at += 1;
+    }
+}
+
+/// The bytes that a value shows through a mask whose counts are written out, which has as many
+/// bytes as `into`, V aside.
+pub fn edit(mask: &[u8], value: Dec, into: &mut [u8])
+    requires mask { IsMask mask.now }
+    requires size { length into.old ≡ shown_size mask.now }
+    ensures { into.new ≡ edited mask.now value }
+{
+    write(field_of(value, shape_of(mask)), mask, into);
+}

@@ -1,0 +1,97 @@
+//! A mask as a whole, and a number that is cut to its digits.
+
+ghost use Rattle.std.specs.Prelude.{◌≡◌, ◌^◌, ◌<◌, ◌≤◌, unsigned_abs};
+ghost use Rattle.edit_fields.specs.Field as fields;
+ghost use Rattle.edit_fields.specs.Field.{IsMask, IsNumber};
+
+use crate::shape::Shape;
+use cob_num::{Dec, store};
+
+/// How many digits a mask has left of the point, and right of it.
+#[derive(Clone, Copy, Debug, PartialEq, Eq)]
+pub struct Digits {
+    pub whole: u8,
+    pub part: u8,
+}
+
+/// A number that is cut to the digits of a mask.
+#[derive(Clone, Copy)]
+pub struct Field {
+    /// The symbol of the mask's suppression string, or 0.
+    pub string: u8,
+    pub digits: u16,
+    pub number: u64,
+    pub minus: bool,
+    /// Nothing is shown of it.
+    pub blank: bool,
+}
+
+// Where a symbol may not come, those before it stay.
+pub fn moved(shape: Shape, symbol: u8) -> Shape
+    ensures { result ≡ fields.moved symbol shape }
+{
+    match shape.behind(symbol) {
+        Some(next) => next,
+        None => shape,
+    }
+}
+
+/// All symbols of a mask whose counts are written out.
+pub fn shape_of(mask: &[u8]) -> Shape
+    ensures shape { result ≡ fields.shape_of mask.now }
+    ensures number { IsMask mask.now → IsNumber result.whole result.part }
+{
+    let mut shape = Shape::empty();
+    for (place, byte) in mask.iter().enumerate() {
+        shape = moved(shape, byte.to_ascii_uppercase());
+    }
+    shape
+}
+
+/// How many digits a mask has whose counts are written out: 1 to 18 together.
+pub fn mask_digits(mask: &[u8]) -> Digits
+    ensures digits { result ≡ fields.digits_of mask.now }
+    ensures number { IsMask mask.now → IsNumber result.whole result.part }
+{
+    let shape = shape_of(mask);
+    Digits {
+        whole: shape.whole,
+        part: shape.part,
+    }
+}
+
+// The number behind a value that is cut.
+fn cut(value: Dec, shape: Shape) -> i128
+    requires { IsNumber shape.whole shape.part }
+    ensures value { result ≡ fields.cut value shape }
+    ensures short { unsigned_abs result < 2 ^ 64 }
+{
+    store(value, shape.whole + shape.part, shape.part, false).value
+}
+
+pub fn field_of(value: Dec, shape: Shape) -> Field
+    requires { IsNumber shape.whole shape.part }
+    ensures { result ≡ fields.field_of value shape }
+{
+    let cut = cut(value, shape);
+    let number = cut.unsigned_abs() as u64;
+    Field {
+        string: shape.string,
+        digits: shape.digits(),
+        number,
+        minus: cut < 0,
+        blank: !shape.nines && number == 0,
+    }
+}
+
+/// The digit that has so many digits to the right of it.
+pub fn digit_of(number: u64, right: u16) -> u8
+    ensures digit { result ≡ fields.digit_of right number }
+    ensures short { result ≤ 9 }
+{
+    let mut rest = number;
+    for place in 0..right {
+        rest /= 10;
+    }
+    (rest % 10) as u8
+}
