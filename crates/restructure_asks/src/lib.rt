@@ -17,10 +17,10 @@ ghost use Rattle.restructure_asks.specs.Tool.{Ends, EndsWithFiles};
 
 mod answer;
 mod ask;
+mod command_line;
 mod kind;
 mod laws;
 mod made;
-mod program;
 mod reading;
 mod refusal;
 mod running;
@@ -31,13 +31,13 @@ mod writing;
 use answer::{answer_check, answer_generate, answer_report, answer_restructure, answer_trial};
 pub use ask::{Ask, ask_of};
 use cob_base::{Sink, Source};
+pub use command_line::program;
 use file_model::operations::Watched;
 use file_model::{Bench, Device};
 pub use laws::{
     due_answer_comes, due_run_comes, one_answer_is_due, source_is_read_to_its_end,
     words_are_of_one_ask,
 };
-pub use program::program;
 pub use refusal::Refusal;
 use running::answer_run;
 pub use status::Status;

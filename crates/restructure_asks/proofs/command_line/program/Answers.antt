@@ -6,7 +6,7 @@ use Rattle.file_model.specs.contracts.operations.watched.BoxDynDeviceWatched.The
 use Rattle.restructure_asks.specs.Ask.{ask_of}
 use Rattle.restructure_asks.specs.Tool.{Ends, EndsWithFiles}
 use Rattle.restructure_asks.specs.Program.{is_page}
-use Rattle.restructure_asks.proofs.program.program.Goals as goal
+use Rattle.restructure_asks.proofs.command_line.program.Goals as goal
 
 if-ok : {T E : Type 0} (r : Result T E) (x : T) (P : T → Type 0) → r ≡ Ok x → P x → IfOk r P
 if-ok r x P is h = subst (λ q. IfOk q P) (sym is) h
