@@ -4,7 +4,6 @@ use cob_base::{Items, NoMemory, Text, Word};
 use cob_tree::{Control, FlowFault, Operand, Paragraph, Program, Sentence, Stmt};
 use meanings::plain::{Over, PlainState, begun, plain_step};
 use std::alloc::Global;
-use std::mem;
 use std::test::Fail;
 
 fn shown(alloc: Global, byte: u8) -> Result<Stmt, NoMemory> {
@@ -23,7 +22,7 @@ fn number(digit: u8) -> u32 {
 }
 
 /// A letter is displayed, `>n` goes to a paragraph, `(nm` performs two and those between, `.` stops,
-/// and `,` goes on; anything else begins the next paragraph.
+/// and `,` goes on.
 fn statement(alloc: Global, what: &[u8]) -> Result<Option<Stmt>, NoMemory> {
     Ok(match what {
         [b'>', to, ..] => Some(Stmt::Go(number(*to))),
@@ -49,35 +48,50 @@ fn paragraph(alloc: Global, stmts: Items<Stmt>) -> Result<Paragraph, NoMemory> {
     })
 }
 
-/// A program of paragraphs of one sentence, each statement of which is three bytes of the text.
-fn program(alloc: Global, text: &str) -> Result<Program, Fail> {
-    let mut paragraphs = Items::new(alloc);
+/// Statements, each of which is three bytes of the text.
+fn statements(alloc: Global, text: &str) -> Result<Items<Stmt>, NoMemory> {
     let mut stmts = Items::new(alloc);
     for what in text.as_bytes().chunks(3) {
-        match statement(alloc, what)? {
-            Some(stmt) => stmts.push(stmt)?,
-            None => {
-                let whole = mem::replace(&mut stmts, Items::new(alloc));
-                paragraphs.push(paragraph(alloc, whole)?)?;
-            }
+        if let Some(stmt) = statement(alloc, what)? {
+            stmts.push(stmt)?;
         }
     }
-    paragraphs.push(paragraph(alloc, stmts)?)?;
+    Ok(stmts)
+}
+
+/// Paragraphs of one sentence, with a `/` between them.
+fn paragraphs(alloc: Global, text: &str) -> Result<Items<Paragraph>, NoMemory> {
+    let mut paragraphs = Items::new(alloc);
+    for part in text.split('/') {
+        let stmts = statements(alloc, part)?;
+        paragraphs.push(paragraph(alloc, stmts)?)?;
+    }
+    Ok(paragraphs)
+}
+
+fn program(alloc: Global, text: &str) -> Result<Program, Fail> {
+    let name = Word::new(b"P").ok_or(NoMemory)?;
     Ok(Program {
-        name: Word::new(b"P").ok_or(NoMemory)?,
+        name,
         files: Items::new(alloc),
         entries: Items::new(alloc),
-        paragraphs,
+        paragraphs: paragraphs(alloc, text)?,
     })
+}
+
+fn state_after(alloc: Global, program: &Program, steps: u32) -> Result<PlainState, NoMemory> {
+    let mut state = begun(alloc, program)?;
+    for _ in 0..steps {
+        plain_step(alloc, program, &mut state)?;
+    }
+    Ok(state)
 }
 
 fn after(alloc: Global, text: &str, steps: u32) -> Result<PlainState, Fail> {
     let program = program(alloc, text)?;
-    let mut state = begun(alloc, &program)?;
-    for _ in 0..steps {
-        plain_step(alloc, &program, &mut state)?;
-    }
-    Ok(state)
+    let state = state_after(alloc, &program, steps);
+    drop(program);
+    Ok(state?)
 }
 
 /// How a run stands: `-` where it goes on, `S` where it stopped, and the fault with its paragraph.
@@ -94,43 +108,29 @@ fn standing(state: &PlainState) -> (u8, u32) {
 fn runs_as_said(rt: HostRuntime) -> Result<(), Fail> {
     for (text, steps, shown, paragraph, pending, over) in [
         // it falls through, and stops past the last paragraph
-        ("A  /  B  ", 2, "A", 0, 0, (b'-', 0)),
-        ("A  /  B  ", 3, "A", 1, 0, (b'-', 0)),
-        ("A  /  B  ", 6, "AB", 1, 0, (b'S', 0)),
+        ("A  /B  ", 2, "A", 0, 0, (b'-', 0)),
+        ("A  /B  ", 3, "A", 1, 0, (b'-', 0)),
+        ("A  /B  ", 6, "AB", 1, 0, (b'S', 0)),
         // a range of two paragraphs is performed, and left at its end
-        ("(12A  .  /  B  /  C  ", 1, "", 1, 1, (b'-', 0)),
-        ("(12A  .  /  B  /  C  ", 4, "B", 2, 1, (b'-', 0)),
-        ("(12A  .  /  B  /  C  ", 7, "BC", 0, 0, (b'-', 0)),
-        ("(12A  .  /  B  /  C  ", 9, "BCA", 0, 0, (b'S', 0)),
+        ("(12A  .  /B  /C  ", 1, "", 1, 1, (b'-', 0)),
+        ("(12A  .  /B  /C  ", 4, "B", 2, 1, (b'-', 0)),
+        ("(12A  .  /B  /C  ", 7, "BC", 0, 0, (b'-', 0)),
+        ("(12A  .  /B  /C  ", 9, "BCA", 0, 0, (b'S', 0)),
         // a jump out of the range keeps its return pending
-        (
-            "(11A  .  /  >3 /  B  /  C  ,  >4 /  D  ",
-            2,
-            "",
-            3,
-            1,
-            (b'-', 0),
-        ),
-        (
-            "(11A  .  /  >3 /  B  /  C  ,  >4 /  D  ",
-            8,
-            "CD",
-            4,
-            1,
-            (b'S', 0),
-        ),
+        ("(11A  .  />3 /B  /C  ,  >4 /D  ", 2, "", 3, 1, (b'-', 0)),
+        ("(11A  .  />3 /B  /C  ,  >4 /D  ", 8, "CD", 4, 1, (b'S', 0)),
         // which is taken at the range's end
-        ("(12A  .  /  >3 /  B  /  C  >2 ", 4, "C", 2, 1, (b'-', 0)),
-        ("(12A  .  /  >3 /  B  /  C  >2 ", 9, "CBA", 0, 0, (b'S', 0)),
+        ("(12A  .  />3 /B  /C  >2 ", 4, "C", 2, 1, (b'-', 0)),
+        ("(12A  .  />3 /B  /C  >2 ", 9, "CBA", 0, 0, (b'S', 0)),
         // a pending range ends where the innermost one doesn't
-        ("(12.  /  (33/  B  /  >2 ", 5, "B", 2, 2, (b'-', 0)),
-        ("(12.  /  (33/  B  /  >2 ", 6, "B", 2, 2, (b'O', 2)),
+        ("(12.  /(33/B  />2 ", 5, "B", 2, 2, (b'-', 0)),
+        ("(12.  /(33/B  />2 ", 6, "B", 2, 2, (b'O', 2)),
         // a range is performed that ends where a pending one does
-        ("(11.  /  (11", 1, "", 1, 1, (b'-', 0)),
-        ("(11.  /  (11", 2, "", 1, 1, (b'R', 1)),
+        ("(11.  /(11", 1, "", 1, 1, (b'-', 0)),
+        ("(11.  /(11", 2, "", 1, 1, (b'R', 1)),
         // what is over stays
-        ("(11.  /  (11", 9, "", 1, 1, (b'R', 1)),
-        ("(12.  /  (33/  B  /  >2 ", 9, "B", 2, 2, (b'O', 2)),
+        ("(11.  /(11", 9, "", 1, 1, (b'R', 1)),
+        ("(12.  /(33/B  />2 ", 9, "B", 2, 2, (b'O', 2)),
         ("A  .  B  ", 9, "A", 0, 0, (b'S', 0)),
     ] {
         let state = after(rt.alloc(), text, steps)?;
