@@ -13,6 +13,7 @@ use Rattle.edit_fields.specs.Field.{digit_of, field_of, moved, shape_of}
 
 -- ---- where the digits stand
 
+-- within the suppression string, behind its first symbol where that floats
 abbrev pub is_string : Stage → Bool
 is_string stages.InString = true
 is_string _ = false
@@ -98,6 +99,7 @@ shown_byte field symbol behind =
     if is_tail behind.stage then letter_byte field symbol else
     if symbol == symbol_b then space else symbol
 
+-- blank, hidden left of the first shown place in the string, or shown
 abbrev pub byte_of : Field → ℕ → Pen → Option ℕ → ℕ
 byte_of field symbol pen next =
     if field.blank then blank_byte field symbol else
@@ -123,6 +125,7 @@ written field pen (byte ∷ rest) =
 abbrev pub edited : List ℕ → Dec → List ℕ
 edited mask value = written (field_of value (shape_of mask)) at_start mask
 
+-- with the byte of one symbol more
 abbrev pub one_more : ℕ → ℕ → ℕ
 one_more symbol size = if symbol == symbol_v then size else size + 1
 

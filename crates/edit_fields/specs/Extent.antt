@@ -4,6 +4,7 @@ use Rattle.edit_fields.specs.declared.extent.Extent.{Extent}
 use Rattle.edit_fields.specs.Symbol.{symbol_9, symbol_comma, symbol_period, symbol_v}
 use Rattle.edit_fields.specs.Shape.{tally}
 
+-- of no symbol yet
 abbrev pub no_extent : Extent
 no_extent = record { size = 0; printed = 0; last = 0; run = 0; edits = false }
 

@@ -28,6 +28,7 @@ shape_from shape (byte ∷ rest) = shape_from (moved (to_ascii_uppercase byte) s
 abbrev pub shape_of : List ℕ → Shape
 shape_of mask = shape_from empty mask
 
+-- how many digits a mask has left and right of the point
 abbrev pub digits_of : List ℕ → Digits
 digits_of mask = record { whole = (shape_of mask).whole; part = (shape_of mask).part }
 

@@ -14,20 +14,25 @@ use Rattle.edit_fields.specs.Extent.{ends_well, is_short, longer, no_extent}
 
 -- ---- bytes of a count
 
+-- where a count begins
 abbrev pub left_parenthesis : ℕ
 left_parenthesis = 40
 
+-- where it ends
 abbrev pub right_parenthesis : ℕ
 right_parenthesis = 41
 
+-- one of the two
 abbrev pub is_parenthesis : ℕ → Bool
 is_parenthesis byte = byte == left_parenthesis || byte == right_parenthesis
 
+-- a digit of a count
 abbrev pub is_digit : ℕ → Bool
 is_digit byte = nat_le 48 byte && nat_le byte 57
 
 -- ---- one byte more
 
+-- before the first byte
 abbrev pub start : Reading
 start = record { shape = empty; extent = no_extent; place = places.Open }
 
@@ -49,6 +54,7 @@ added_by symbol None reading = None
 added_by symbol (Some shape) reading =
     Some (record reading { shape = shape; extent = longer symbol reading.extent })
 
+-- the symbol behind what was read
 abbrev pub added : ℕ → Reading → Option Reading
 added symbol reading = added_by symbol (behind symbol reading.shape) reading
 
@@ -58,9 +64,11 @@ repeated_on zero symbol reading = reading
 repeated_on (suc n) symbol None = None
 repeated_on (suc n) symbol (Some reading) = repeated_on n symbol (added symbol reading)
 
+-- the same, so many times
 abbrev pub repeated : ℕ → ℕ → Reading → Option Reading
 repeated count symbol reading = repeated_on count symbol (Some reading)
 
+-- what was read and where the next byte stands, or this fault
 abbrev pub placed : MaskFault → Place → Option Reading → Result Reading MaskFault
 placed fault place None = Err fault
 placed fault place (Some reading) = Ok (record reading { place = place })
@@ -82,6 +90,7 @@ closed position at count reading =
 abbrev pub counted : ℕ → ℕ → ℕ
 counted count digit = min (count * 10 + digit) 200
 
+-- a byte within a count: a digit, or its end
 abbrev pub in_count : ℕ → ℕ → ℕ → ℕ → Reading → Result Reading MaskFault
 in_count position at count byte reading =
     if is_digit byte
@@ -89,6 +98,7 @@ in_count position at count byte reading =
     if byte == right_parenthesis then closed position at count reading
     else Err (fault_of position byte)
 
+-- a byte behind what was read, by where it stands
 abbrev pub step_by : Place → ℕ → ℕ → Reading → Result Reading MaskFault
 step_by places.Open position byte reading = symbol position byte reading
 step_by (places.Behind at) position byte reading =
@@ -102,6 +112,7 @@ step position byte reading = step_by reading.place position byte reading
 
 -- ---- the end
 
+-- a count isn't ended
 abbrev pub is_counting : Place → Bool
 is_counting (places.Count at count) = true
 is_counting _ = false

@@ -14,6 +14,7 @@ use Rattle.edit_fields.specs.Symbol.{is_insertion, is_point, is_sign, is_suppres
 abbrev pub tally : ℕ → ℕ → ℕ
 tally count more = min (count + more) 255
 
+-- the mask of no symbol
 abbrev pub empty : Shape
 empty = record {
   stage = stages.Start;
@@ -37,6 +38,7 @@ with_digit shape =
 abbrev pub in_string : ℕ → Shape → Shape
 in_string symbol shape = with_digit (record shape { stage = stages.InString; string = symbol })
 
+-- the symbol is a 9
 abbrev pub in_nines : Shape → Shape
 in_nines shape = with_digit (record shape { stage = stages.Nines; nines = true })
 
@@ -49,6 +51,7 @@ signed stage shape =
 abbrev pub begun : Stage → Shape → Option Shape
 begun stage shape = if shape.point then None else Some (record shape { stage = stage })
 
+-- a sign that may float begins left of the point, where there is none yet
 abbrev pub begun_signed : ℕ → Shape → Option Shape
 begun_signed sign shape = if shape.point then None else signed (stages.Once sign) shape
 
@@ -64,6 +67,7 @@ sign_behind_lead lead sign shape =
     if lead == sign then Some (in_string sign shape) else
     if lead == symbol_dollar then begun_signed sign shape else None
 
+-- a sign is the lead, floats, or ends the mask
 abbrev pub sign_by : Stage → ℕ → Shape → Option Shape
 sign_by stages.Start sign shape = signed (stages.Lead sign) shape
 sign_by (stages.Lead lead) sign shape = sign_behind_lead lead sign shape
@@ -78,6 +82,7 @@ sign_by stages.Ended sign shape = None
 
 -- ---- the `$`
 
+-- a `$` is in the lead, or floats
 abbrev pub dollar_by : Stage → Shape → Option Shape
 dollar_by stages.Start shape = Some (record shape { stage = stages.Lead symbol_dollar })
 dollar_by (stages.Lead lead) shape =
@@ -95,6 +100,7 @@ dollar_by stages.Ended shape = None
 
 -- ---- Z and `*`
 
+-- Z and `*` stand before the first 9, all of one kind
 abbrev pub suppressor_by : Stage → ℕ → Shape → Option Shape
 suppressor_by stages.Start symbol shape = Some (in_string symbol shape)
 suppressor_by (stages.Lead lead) symbol shape = Some (in_string symbol shape)
@@ -134,22 +140,26 @@ body_by stages.Nines shape = Some shape
 body_by (stages.Letter letter) shape = None
 body_by stages.Ended shape = None
 
+-- an insertion stands anywhere before the tail; behind the D of DB stands its B
 abbrev pub insertion_by : Stage → ℕ → Shape → Option Shape
 insertion_by (stages.Letter letter) symbol shape =
     if letter == symbol_d && symbol == symbol_b
     then Some (record shape { stage = stages.Ended }) else None
 insertion_by stage symbol shape = body_by stage shape
 
+-- there is one point
 abbrev pub point_by : Stage → Shape → Option Shape
 point_by stage shape = if shape.point then None else body_by stage (record shape { point = true })
 
 -- ---- CR and DB
 
+-- the tail begins behind a digit
 abbrev pub letter_by : Stage → ℕ → Shape → Option Shape
 letter_by stages.InString letter shape = signed (stages.Letter letter) shape
 letter_by stages.Nines letter shape = signed (stages.Letter letter) shape
 letter_by _ letter shape = None
 
+-- behind the C of CR stands its R
 abbrev pub last_letter_by : Stage → Shape → Option Shape
 last_letter_by (stages.Letter letter) shape =
     if letter == symbol_c then Some (record shape { stage = stages.Ended }) else None
@@ -171,6 +181,7 @@ behind symbol shape =
 
 -- ---- the digits
 
+-- left and right of the point together
 abbrev pub digits : Shape → ℕ
 digits shape = shape.whole + shape.part
 

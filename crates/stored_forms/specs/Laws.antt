@@ -15,9 +15,11 @@ pub record AreBytes (size : ℕ) (bytes : List ℕ) : Type 0 where
 
 -- ---- what is written
 
+-- a binary item has its size
 abbrev pub BinaryHasSize : Type 0
 BinaryHasSize = (value : ℤ) (digits : ℕ) → length (binary_bytes value digits) ≡ binary_size digits
 
+-- and so has a packed one
 abbrev pub PackedHasSize : Type 0
 PackedHasSize =
     (value : ℤ) (digits : ℕ) (signed : Bool) → IsHeld value digits signed
@@ -31,11 +33,13 @@ PackedHasHalves =
 
 -- ---- what is written reads back
 
+-- a value that a binary item holds is read from the bytes written for it
 abbrev pub BinaryReadsBack : Type 0
 BinaryReadsBack =
     (value : ℤ) (digits : ℕ) (signed : Bool) → digits ≤ 18 → IsHeld value digits signed
     → binary_value (binary_bytes value digits) digits signed ≡ Some value
 
+-- and from those of a packed one
 abbrev pub PackedReadsBack : Type 0
 PackedReadsBack =
     (value : ℤ) (digits : ℕ) (signed : Bool) → IsHeld value digits signed
@@ -66,6 +70,7 @@ pub record IsPacked (bytes : List ℕ) (digits : ℕ) (signed : Bool) (value : �
       ≡ replicate (fill_count digits) 0 ++ low_digits 10 digits (unsigned_abs value)
       ++ last_half bytes ∷ []
 
+-- and a packed item so where its half bytes are of that value
 abbrev pub PackedReadsByRule : Type 0
 PackedReadsByRule =
     (bytes : List ℕ) (digits : ℕ) (signed : Bool) (value : ℤ)
@@ -81,6 +86,7 @@ BinaryValuesApart =
     → IsHeld one digits signed → IsHeld other digits signed
     → binary_bytes one digits ≡ binary_bytes other digits → one ≡ other
 
+-- and so of packed items
 abbrev pub PackedValuesApart : Type 0
 PackedValuesApart =
     (one other : ℤ) (digits : ℕ) (signed : Bool)
@@ -101,6 +107,7 @@ pub record SameButSign (one other : List ℕ) (signed : Bool) (value : ℤ) : Ty
   pub one_sign : Tells (last_half one) signed value
   pub other_sign : Tells (last_half other) signed value
 
+-- a value is read from the same half bytes of a number alone
 abbrev pub PackedBytesAreOne : Type 0
 PackedBytesAreOne =
     (one other : List ℕ) (digits : ℕ) (signed : Bool) (value : ℤ)

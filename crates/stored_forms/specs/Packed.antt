@@ -17,9 +17,11 @@ fill_count digits = 1 - digits % 2
 abbrev pub plus_half : ℕ
 plus_half = 0xC
 
+-- of a number below zero
 abbrev pub minus_half : ℕ
 minus_half = 0xD
 
+-- of an item without a sign
 abbrev pub unsigned_half : ℕ
 unsigned_half = 0xF
 
@@ -62,6 +64,7 @@ halves_of (byte ∷ rest) = (byte / 16) ∷ (byte % 16) ∷ halves_of rest
 abbrev pub number_halves : List ℕ → List ℕ
 number_halves bytes = take (length (halves_of bytes) - 1) (halves_of bytes)
 
+-- the half byte of the sign
 abbrev pub last_half : List ℕ → ℕ
 last_half bytes = slice_index bytes (length bytes - 1) % 16
 
