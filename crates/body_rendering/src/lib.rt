@@ -12,5 +12,4 @@ pub mod own_statements;
 mod pieces;
 mod procedure;
 
-pub use pieces::write_body;
 pub use procedure::write_procedure;

@@ -9,7 +9,7 @@ ghost use Rattle.body_rendering.specs.Bodies.{IsMade, AreMade, AddsStmts, AddsLi
 
 use crate::leaves::{add_jump, add_last, add_return, add_stop};
 use crate::own_statements::write_stmt;
-use branch_tree::{End, Leaves, Picker, Piece, Tree, drop_pieces, drop_trees};
+use branch_tree::{End, Leaves, Picker, Piece, Tree, drop_trees};
 use cob_base::{Items, NoMemory};
 use cob_tree::Stmt;
 use statement_builders::arms::Placed;
@@ -315,29 +315,4 @@ pub fn add_body(
         (AddsStmts cells.now places.now (seen_body pieces.old) made.old made.new) }
 {
     add_pieces(alloc, pieces, made, cells, places)
-}
-
-/// The statements of a body. Err where memory is wanted, where a range that is performed has no
-/// place or a cell no item, and where a number or a choice doesn't fit its item.
-pub fn write_body(
-    alloc: Global,
-    pieces: Vec<Piece>,
-    cells: &[CellItem],
-    places: &[Placed],
-) -> Result<Items<Stmt>, NoMemory>
-    ensures { IfOk result (λ made. AreMade cells.now places.now (seen_body pieces.items) made) }
-{
-    let mut pieces = pieces;
-    let mut made = Items::new(alloc);
-    match add_body(alloc, &mut made, pieces.as_mut_slice(), cells, places) {
-        Ok(()) => {
-            drop_pieces(pieces);
-            Ok(made)
-        }
-        Err(fault) => {
-            drop_pieces(pieces);
-            drop_stmts(made);
-            Err(fault)
-        }
-    }
 }

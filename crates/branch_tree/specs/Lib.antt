@@ -8,15 +8,5 @@ pub mod Trees
 pub mod Graphs
 -- what calls make of trees
 pub mod Changes
--- what a graph that is rewritten holds
-pub mod Helds
--- what holds of it
-pub mod Sounds
--- the counts of its leaves
-pub mod Countings
--- how it is stored
-pub mod Works
--- nodes into slots, and back
-pub mod Fillings
 -- what trees within a loop are stated as
 pub mod Within

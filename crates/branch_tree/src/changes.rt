@@ -6,12 +6,8 @@ ghost use Rattle.branch_tree.specs.Changes.{GoesOn};
 ghost use Rattle.branch_tree.specs.Trees.{seen_tree};
 
 use crate::graph::Node;
-use crate::kept::Kept;
 use crate::tree::{End, Piece, Tree};
-use crate::work::Work;
 use cob_base::Items;
-use slab::Slab;
-use std::alloc::AllocFailed;
 use std::collections::VecDeque;
 use std::mem;
 
@@ -89,17 +85,5 @@ pub fn drop_body(_body: VecDeque<Piece>) {}
 /// Lets a tree go.
 pub fn drop_tree(_tree: Tree) {}
 
-/// Lets a node go.
-pub fn drop_kept(_kept: Kept) {}
-
-/// Lets a node go that found no slot.
-pub fn drop_failed(_failed: AllocFailed<Kept>) {}
-
 /// Lets nodes go.
 pub fn drop_nodes(_nodes: Vec<Node>) {}
-
-/// Lets slots go.
-pub fn drop_slots(_slots: Slab<Kept>) {}
-
-/// Lets a graph go that was rewritten.
-pub fn drop_work(_work: Work) {}

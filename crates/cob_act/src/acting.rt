@@ -81,20 +81,6 @@ fn of_sum(guarded: bool, answer: Result<bool, Abend>) -> Done
     }
 }
 
-/// Whether a statement needs no device.
-pub fn is_inner(stmt: &Stmt) -> bool
-    ensures { result ≡ is_inner stmt.now }
-{
-    match stmt {
-        Stmt::Opens(_) => false,
-        Stmt::Closes(_) => false,
-        Stmt::Read { .. } => false,
-        Stmt::Write { .. } => false,
-        Stmt::Rewrite { .. } => false,
-        _ => true,
-    }
-}
-
 /// Does a statement that needs no device. Bytes that are shown are put into `shown`.
 pub fn act(
     program: &Program,

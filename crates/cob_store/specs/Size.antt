@@ -1,5 +1,5 @@
 -- How long items are, worked out from the last entry to the first.
-use Rattle.std.specs.Prelude.{ℕ, ◌+◌, ◌-◌, ◌*◌, ◌^◌, min, Bool, if◌then◌else◌, nat_lt, ◌==◌, List, [], ◌∷◌, Option, Some, None}
+use Rattle.std.specs.Prelude.{ℕ, ◌+◌, ◌-◌, ◌*◌, ◌^◌, min, Bool, true, false, ◌||◌, if◌then◌else◌, nat_lt, ◌==◌, List, [], ◌∷◌, Option, Some, None}
 use Rattle.cob_tree.specs.declared.picture.Picture.{Picture}
 use Rattle.cob_tree.specs.declared.picture.Picture.TheVariants as pictures
 use Rattle.cob_tree.specs.declared.picture.Sign.{Sign}
@@ -25,6 +25,11 @@ picture_size (pictures.Any size) sign = size
 -- a level 88 takes no storage
 abbrev pub is_condition : Entry → Bool
 is_condition entry = entry.level == 88
+
+-- nor does one whose level is none, among entries that may be faulty
+abbrev pub is_bare : (faulty : Bool) → Entry → Bool
+is_bare true entry = is_condition entry || entry.level == 0
+is_bare false entry = is_condition entry
 
 -- an item of level 77 stands in no group and has no items in it, wherever it is written
 abbrev pub is_apart : Entry → Bool
@@ -72,15 +77,23 @@ item_sized entry size later = record {
 abbrev pub apart_sized : ℕ → Sized → Sized
 apart_sized size later = record { sizes = size ∷ later.sizes; pieces = later.pieces }
 
-abbrev pub sized_by : Entry → Sized → Sized
-sized_by entry later =
-    if is_condition entry
+abbrev pub sized_by_either : (faulty : Bool) → Entry → Sized → Sized
+sized_by_either faulty entry later =
+    if is_bare faulty entry
     then apart_sized 0 later
     else if is_apart entry
     then apart_sized (size_by entry.picture entry.sign 0) later
     else item_sized entry (size_by entry.picture entry.sign
     (inside entry.level 0 later.pieces)) later
 
+abbrev pub sized_either : (faulty : Bool) → List Entry → Sized
+sized_either faulty [] = record { sizes = []; pieces = [] }
+sized_either faulty (entry ∷ entries) =
+    sized_by_either faulty entry (sized_either faulty entries)
+
+abbrev pub sized_by : Entry → Sized → Sized
+sized_by = sized_by_either false
+
+-- of entries without fault
 abbrev pub sized : List Entry → Sized
-sized [] = record { sizes = []; pieces = [] }
-sized (entry ∷ entries) = sized_by entry (sized entries)
+sized = sized_either false

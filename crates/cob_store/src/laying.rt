@@ -1,15 +1,15 @@
 //! Where the items of a program lie.
 
-ghost use Rattle.std.specs.Prelude.{◌≡◌, Ok, ◌∷◌, ◌++◌, ◌<◌, [], ◌^◌, OnOk, length, option_copied, slice_get};
-ghost use Rattle.cob_base.specs.Answers.{Answers, Makes};
+ghost use Rattle.std.specs.Prelude.{◌≡◌, Ok, ◌++◌, ◌<◌, [], ◌^◌, OnOk, length, option_copied};
+ghost use Rattle.cob_base.specs.Answers.{Makes};
 ghost use Rattle.cob_store.specs.Laying.{alone_laid, apart_laid, below_laid, condition_laid, dims_of, form_by, groups_of, item_laid, laid_by, last_area, layout_of, lengthened, next_by, root_by, same_file, start_by};
 
 use crate::area::{Area, Areas, Dim, Form, area_at};
 use crate::known::Dims;
-use crate::size::{is_apart, is_condition, sizes_of, times};
+use crate::size::{is_apart, is_condition, stacked_sizes, times};
 use crate::stack::Stack;
 use cob_base::{Items, NoMemory};
-use cob_tree::{Entry, NameFault, Picture, Sign};
+use cob_tree::{Entry, Picture, Sign};
 use std::alloc::Global;
 
 /// A group that is open: where its next item begins.
@@ -270,11 +270,11 @@ fn lay(alloc: Global, laid: &mut Laid, entry: &Entry, size: u32) -> Result<(), N
 }
 
 /// Where each item lies, and how long each root is. The faults of the entries aren't looked for.
-pub fn layout(alloc: Global, entries: &[Entry]) -> Result<Areas, NameFault>
+pub fn layout(alloc: Global, entries: &[Entry]) -> Result<Areas, NoMemory>
     requires { length entries.now < 2 ^ 31 }
-    ensures { Answers NameFault.NoMemory (Ok (layout_of entries.now)) result }
+    ensures { Makes (layout_of entries.now) result }
 {
-    let mut sizes = sizes_of(alloc, entries)?;
+    let mut sizes = stacked_sizes(alloc, entries)?;
     let mut laid = Laid {
         areas: Items::new(alloc),
         roots: Items::new(alloc),

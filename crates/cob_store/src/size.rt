@@ -2,10 +2,11 @@
 
 ghost use Rattle.std.specs.Prelude.{◌≡◌};
 ghost use Rattle.cob_base.specs.Answers.{Makes};
-ghost use Rattle.cob_store.specs.Size.{added, behind, inside, is_apart, is_condition, picture_size, sign_size, size_by, sized, times};
+ghost use Rattle.cob_store.specs.Size.{added, behind, inside, is_apart, is_bare, is_condition, picture_size, sign_size, size_by, sized, sized_either, times};
+ghost use Rattle.cob_store.specs.sizes.Size as judged;
 
 use crate::stack::Stack;
-use cob_base::NoMemory;
+use cob_base::{Items, NoMemory};
 use cob_tree::{Entry, Picture, Sign};
 use std::alloc::Global;
 
@@ -41,6 +42,16 @@ pub fn is_condition(entry: &Entry) -> bool
     ensures { result ≡ is_condition entry.now }
 {
     entry.level == 88
+}
+
+fn is_bare(faulty: bool, entry: &Entry) -> bool
+    ensures { result ≡ is_bare faulty entry.now }
+{
+    if faulty {
+        is_condition(entry) || entry.level == 0
+    } else {
+        is_condition(entry)
+    }
 }
 
 pub fn is_apart(entry: &Entry) -> bool
@@ -93,8 +104,8 @@ fn take_inside(pieces: &mut Stack<Piece>, depth: u8) -> u32
 }
 
 // The sizes of all entries, the first in front.
-pub fn sizes_of(alloc: Global, entries: &[Entry]) -> Result<Stack<u32>, NoMemory>
-    ensures { Makes (sized entries.now).sizes result }
+fn sizes_back(alloc: Global, entries: &[Entry], faulty: bool) -> Result<Stack<u32>, NoMemory>
+    ensures { Makes (sized_either faulty entries.now).sizes result }
 {
     let mut sizes = Stack::new(alloc);
     let mut pieces = Stack::new(alloc);
@@ -102,7 +113,7 @@ pub fn sizes_of(alloc: Global, entries: &[Entry]) -> Result<Stack<u32>, NoMemory
     while at > 0 {
         at -= 1;
         let entry = &entries[at];
-        if is_condition(entry) {
+        if is_bare(faulty, entry) {
             sizes.push(0)?;
         } else if is_apart(entry) {
             sizes.push(size_by(entry.picture, entry.sign, 0))?;
@@ -117,4 +128,31 @@ pub fn sizes_of(alloc: Global, entries: &[Entry]) -> Result<Stack<u32>, NoMemory
         }
     }
     Ok(sizes)
+}
+
+/// The bytes of one occurrence of each entry, the first in front; a size past the last number of 32
+/// bits counts as that.
+pub fn stacked_sizes(alloc: Global, entries: &[Entry]) -> Result<Stack<u32>, NoMemory>
+    ensures { Makes (sized entries.now).sizes result }
+{
+    sizes_back(alloc, entries, false)
+}
+
+// What is stacked, from the front on.
+fn in_order(alloc: Global, mut stack: Stack<u32>) -> Result<Items<u32>, NoMemory>
+    ensures { Makes stack result }
+{
+    let mut sizes = Items::new(alloc);
+    while let Some(size) = stack.pop() {
+        sizes.push(size)?;
+    }
+    Ok(sizes)
+}
+
+/// The same of entries that may be faulty: one of a level that is none takes no bytes.
+pub fn sizes_of(alloc: Global, entries: &[Entry]) -> Result<Items<u32>, NoMemory>
+    ensures { Makes (judged.sized entries.now).sizes result }
+{
+    let sizes = sizes_back(alloc, entries, true)?;
+    in_order(alloc, sizes)
 }

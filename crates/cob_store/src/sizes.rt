@@ -2,12 +2,10 @@
 //!
 //! `sizes_of` works out the bytes of one occurrence of each entry, from the last entry to the
 //! first, by `specs/sizes/Size`; `storage_of` counts the bytes of all items by
-//! `specs/sizes/Storage`, and `storage_limit` says whether they are too many. The faults of the
-//! entries aren't looked for: an entry of a level that is none takes no bytes.
+//! `specs/sizes/Storage`, and `storage_limit` there says whether they are too many. The faults of
+//! the entries aren't looked for: an entry of a level that is none takes no bytes.
 
-mod size;
-mod stack;
 mod storage;
 
-pub use crate::sizes::size::sizes_of;
-pub use crate::sizes::storage::{storage_limit, storage_of};
+pub use crate::size::sizes_of;
+pub use crate::sizes::storage::storage_of;

@@ -22,11 +22,9 @@ pub enum NameFault {
     Value(u32),
     #[error("line {0}: a use that the item doesn't serve")]
     Usage(u32),
-    #[error("out of memory")]
-    NoMemory,
 }
 
-/// Why no part of a program was parsed.
+/// What is wrong with the text of a program.
 #[derive(Clone, Copy, Debug, PartialEq, Eq, Error)]
 pub enum ParseFault {
     /// The line of the first token up to which the tokens begin no program.
@@ -34,7 +32,14 @@ pub enum ParseFault {
     Syntax(u32),
     #[error("{0}")]
     Name(NameFault),
-    #[error("past a limit: {0:?}")]
+}
+
+/// Why no part of a program was parsed.
+#[derive(Clone, Copy, Debug, PartialEq, Eq, Error)]
+pub enum ParseError {
+    #[error("{0}")]
+    Fault(ParseFault),
+    #[error("{0}")]
     Limit(Limit),
     #[error("out of memory")]
     NoMemory,
@@ -43,32 +48,10 @@ pub enum ParseFault {
 /// Why a program wasn't split into its procedures.
 #[derive(Clone, Copy, Debug, PartialEq, Eq, Error)]
 pub enum SplitFault {
-    #[error("past a limit: {0:?}")]
+    #[error("{0}")]
     Limit(Limit),
     #[error("out of memory")]
     NoMemory,
-}
-
-impl From<NoMemory> for NameFault {
-    ghost use Rattle.std.specs.Prelude.{◌≡◌};
-    ghost use Rattle.cob_tree.specs.declared.fault.NameFault.TheVariants.{NoMemory as Memory};
-
-    ghost from_gives = { λ _ e. e ≡ Memory };
-
-    fn from(_: NoMemory) -> NameFault {
-        NameFault::NoMemory
-    }
-}
-
-impl From<NoMemory> for ParseFault {
-    ghost use Rattle.std.specs.Prelude.{◌≡◌};
-    ghost use Rattle.cob_tree.specs.declared.fault.ParseFault.TheVariants.{NoMemory as Memory};
-
-    ghost from_gives = { λ _ e. e ≡ Memory };
-
-    fn from(_: NoMemory) -> ParseFault {
-        ParseFault::NoMemory
-    }
 }
 
 impl From<NoMemory> for SplitFault {

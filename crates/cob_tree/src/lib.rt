@@ -33,7 +33,7 @@ pub use control::Control;
 pub use digits::{Digits, digits_value, is_digit};
 pub use ending::{Abend, FlowFault};
 pub use entry::{Entry, Span};
-pub use fault::{NameFault, ParseFault, SplitFault};
+pub use fault::{NameFault, ParseError, ParseFault, SplitFault};
 pub use file::{FileEntry, How, Opening};
 pub use number::Number;
 pub use picture::{Picture, Sign};

@@ -21,11 +21,12 @@ use Rattle.cobol_lex.specs.declared.token.Token.{Token}
 use Rattle.cobol_lex.specs.declared.awaits.Awaits.{Awaits}
 use Rattle.cobol_lex.specs.declared.awaits.Awaits.TheVariants as awaits
 use Rattle.cobol_lex.specs.declared.fault.LexFault.TheVariants as fault
+use Rattle.cobol_lex.specs.declared.fault.LexError.TheVariants as error
 use Rattle.cobol_lex.proofs.LexemeLengthLemmas.{takes_next}
 use Rattle.cobol_lex.specs.declared.token.TokenKind.{TokenKind}
 use Rattle.cobol_lex.specs.declared.token.TokenKind.TheVariants as kind
 use Rattle.cobol_lex.specs.declared.lexeme.Lexeme.{Lexeme}
-use Rattle.cobol_lex.specs.declared.fault.LexFault.{LexFault}
+use Rattle.cobol_lex.specs.declared.fault.LexError.{LexError}
 use Rattle.cobol_lex.proofs.WordLemmas.{fits-IsWord}
 use Rattle.cobol_lex.proofs.BoolLemmas.{and_left, and_right, either_way, same_byte}
 use Rattle.cobol_lex.proofs.RunsOnLemmas.{stop_word, word_run-on}
@@ -33,7 +34,7 @@ use Rattle.cobol_lex.proofs.TokenReadsBack.{token_reads_back}
 use Rattle.cobol_lex.proofs.PictureReadsBack.{picture_reads_back}
 
 -- no token begins with a separator
-separator_begins_none : (before line b : ℕ) (rest : List ℕ) → is_separator b ≡ true → plain_lexeme before line (b ∷ rest) ≡ Err (fault.BadWord line)
+separator_begins_none : (before line b : ℕ) (rest : List ℕ) → is_separator b ≡ true → plain_lexeme before line (b ∷ rest) ≡ Err (error.Fault (fault.BadWord line))
 separator_begins_none before line b rest separates =
     let quote : is_quote b ≡ false = grind (arith, tests) in
     let digit : is_digit b ≡ false = grind (arith, tests) in
@@ -55,7 +56,7 @@ begins_other before line (b ∷ w) more lexeme is some =
     (λ separates. let none = separator_begins_none before line b (w ++ more) separates in absurd (differ line lexeme (sym none ∙ is)))
     (λ other. other)
   where
-    differ : (line : ℕ) (lexeme : Lexeme) → ◌≡◌ {A = Result Lexeme LexFault} (Err (fault.BadWord line)) (Ok lexeme) → ⊥
+    differ : (line : ℕ) (lexeme : Lexeme) → ◌≡◌ {A = Result Lexeme LexError} (Err (error.Fault (fault.BadWord line))) (Ok lexeme) → ⊥
     differ line lexeme h = cc
 
 -- the word that a picture begins with is the same before what ends it

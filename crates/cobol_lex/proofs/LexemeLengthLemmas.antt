@@ -16,20 +16,20 @@ use Rattle.cobol_lex.specs.declared.token.TokenKind.{TokenKind}
 use Rattle.cobol_lex.specs.declared.awaits.Awaits.{Awaits}
 use Rattle.cobol_lex.specs.declared.lexeme.Lexeme.{Lexeme}
 use Rattle.cobol_lex.specs.declared.literal.Quoted.{Quoted}
-use Rattle.cobol_lex.specs.declared.fault.LexFault.{LexFault}
-use Rattle.cobol_lex.specs.declared.fault.LexFault.TheVariants as fault
+use Rattle.cobol_lex.specs.declared.fault.LexError.{LexError}
+use Rattle.cobol_lex.specs.declared.fault.LexError.TheVariants as error
 use Rattle.cobol_lex.proofs.LiteralLemmas.{quoted_within}
 use Rattle.cobol_lex.proofs.RunLemmas.{run_within}
 
 -- the token takes at least one byte, and at most so many
-abbrev pub Takes : ℕ → Result Lexeme LexFault → Type 0
+abbrev pub Takes : ℕ → Result Lexeme LexError → Type 0
 Takes most lexeme = (c : Lexeme) → lexeme ≡ Ok c → (0 < c.length) × (c.length ≤ most)
 
-takes_choice : (v : Bool) (most : ℕ) (x y : Result Lexeme LexFault) → (v ≡ true → Takes most x) → (v ≡ false → Takes most y) → Takes most (if v then x else y)
+takes_choice : (v : Bool) (most : ℕ) (x y : Result Lexeme LexError) → (v ≡ true → Takes most x) → (v ≡ false → Takes most y) → Takes most (if v then x else y)
 takes_choice true most x y in_x in_y = in_x refl
 takes_choice false most x y in_x in_y = in_y refl
 
-takes_none : (most : ℕ) (fault : LexFault) → Takes most (Err fault)
+takes_none : (most : ℕ) (fault : LexError) → Takes most (Err fault)
 takes_none most fault c is = cc
 
 takes : (most length : ℕ) (kind : TokenKind) → 0 < length → length ≤ most → Takes most (Ok (record { kind = kind; length = length }))
@@ -37,7 +37,7 @@ takes most length kind some within c is =
     let same : length ≡ c.length = cc in
     (omega arith, omega arith)
 
-takes_lexeme_of : (most length : ℕ) (kind : Result TokenKind LexFault) → 0 < length → length ≤ most → Takes most (lexeme_of length kind)
+takes_lexeme_of : (most length : ℕ) (kind : Result TokenKind LexError) → 0 < length → length ≤ most → Takes most (lexeme_of length kind)
 takes_lexeme_of most length (Ok kind) some within = takes most length kind some within
 takes_lexeme_of most length (Err fault) some within = takes_none most fault
 
@@ -137,7 +137,7 @@ pub takes_next : (awaits : Awaits) (before line : ℕ) (bytes : List ℕ) → Ta
 takes_next awaits before line bytes =
     takes_choice (awaits_picture awaits bytes) _ _ _ (λ _. takes_picture line _ (picture_run bytes) (picture_within bytes)) (λ _. takes_plain before line bytes)
 
-pub answer_takes : (awaits : Awaits) (before line : ℕ) (bytes : List ℕ) (answer : Result Lexeme LexFault) → Answers fault.NoMemory (next_lexeme awaits before line bytes) answer →
+pub answer_takes : (awaits : Awaits) (before line : ℕ) (bytes : List ℕ) (answer : Result Lexeme LexError) → Answers error.NoMemory (next_lexeme awaits before line bytes) answer →
     IfOk answer (λ lexeme. (0 < lexeme.length) × (lexeme.length ≤ length bytes))
 answer_takes awaits before line bytes (Ok lexeme) h = takes_next awaits before line bytes lexeme h
 answer_takes awaits before line bytes (Err fault) h = tt

@@ -13,19 +13,19 @@ use Rattle.ref_format.specs.declared.placed.Placed.{Placed}
 use Rattle.cobol_lex.specs.declared.token.Token.{Token}
 use Rattle.cobol_lex.specs.declared.awaits.Awaits.{Awaits}
 use Rattle.cobol_lex.specs.declared.lexeme.Lexeme.{Lexeme}
-use Rattle.cobol_lex.specs.declared.fault.LexFault.{LexFault}
-use Rattle.cobol_lex.specs.declared.fault.LexFault.TheVariants as fault
+use Rattle.cobol_lex.specs.declared.fault.LexError.{LexError}
+use Rattle.cobol_lex.specs.declared.fault.LexError.TheVariants as error
 
 -- the tokens that have been read stand before those of what is left
-abbrev pub tokens_behind : List Token → Result (List Token) LexFault → Result (List Token) LexFault
+abbrev pub tokens_behind : List Token → Result (List Token) LexError → Result (List Token) LexError
 tokens_behind front (Ok tokens) = Ok (front ++ tokens)
 tokens_behind front (Err fault) = Err fault
 
-pub behind_none : (tokens : Result (List Token) LexFault) → tokens_behind [] tokens ≡ tokens
+pub behind_none : (tokens : Result (List Token) LexError) → tokens_behind [] tokens ≡ tokens
 behind_none (Ok tokens) = refl
 behind_none (Err fault) = refl
 
-behind_token : (front : List Token) (token : Token) (tokens : Result (List Token) LexFault) →
+behind_token : (front : List Token) (token : Token) (tokens : Result (List Token) LexError) →
     tokens_behind front (with_token token tokens) ≡ tokens_behind (front ++ token ∷ []) tokens
 behind_token front token (Ok tokens) = ap Ok (sym (append_assoc front (token ∷ []) tokens))
 behind_token front token (Err fault) = refl
@@ -114,7 +114,7 @@ over_token awaits before at text p front lexeme within is_p other next some most
     ∙ behind_token front token _
     ∙ ap (tokens_behind (front ++ token ∷ [])) (passed ∙ ap (λ b. tokens_from 0 (awaits_behind awaits lexeme.kind) b (drop more rest)) last ∙ ap (tokens_from 0 (awaits_behind awaits lexeme.kind) _) left)
 
-pub at_fault : (awaits : Awaits) (before at : ℕ) (text : List Placed) (p : Placed) (front : List Token) (fault : LexFault) →
+pub at_fault : (awaits : Awaits) (before at : ℕ) (text : List Placed) (p : Placed) (front : List Token) (fault : LexError) →
     at < length text → get_or text at p ≡ p → is_separator p.byte ≡ false →
     next_lexeme awaits before p.line (bytes_of (drop at text)) ≡ Err fault →
     tokens_behind front (tokens_from 0 awaits before (drop at text)) ≡ Err fault
@@ -138,7 +138,7 @@ pub bytes_left : (n : ℕ) (bytes : List ℕ) (text : List Placed) → bytes ≡
 bytes_left n bytes text placed = take_rest n bytes ∙ ap (drop n) placed ∙ drop_bytes n text
 
 -- a loop goes on behind separators
-pub on_separators : (awaits : Awaits) (before before' at end : ℕ) (text : List Placed) (d : Placed) (bytes : List ℕ) (front : List Token) (whole : Result (List Token) LexFault) →
+pub on_separators : (awaits : Awaits) (before before' at end : ℕ) (text : List Placed) (d : Placed) (bytes : List ℕ) (front : List Token) (whole : Result (List Token) LexError) →
     bytes ≡ bytes_of text →
     tokens_behind front (tokens_from 0 awaits before (drop at text)) ≡ whole →
     at < length text →
@@ -171,7 +171,7 @@ on_separators awaits before before' at end text d bytes front whole placed so_fa
     sym (ap (tokens_behind front) skipped) ∙ so_far
 
 -- the same behind a token
-pub on_token : (awaits awaits' : Awaits) (before before' at : ℕ) (text : List Placed) (d : Placed) (bytes left : List ℕ) (front front' : List Token) (lexeme : Lexeme) (whole : Result (List Token) LexFault) →
+pub on_token : (awaits awaits' : Awaits) (before before' at : ℕ) (text : List Placed) (d : Placed) (bytes left : List ℕ) (front front' : List Token) (lexeme : Lexeme) (whole : Result (List Token) LexError) →
     bytes ≡ bytes_of text →
     left ≡ bytes_of (drop at text) →
     tokens_behind front (tokens_from 0 awaits before (drop at text)) ≡ whole →
@@ -191,7 +191,7 @@ on_token awaits awaits' before before' at text d bytes left front front' lexeme 
     let last_is : before' ≡ get_or (bytes_of text) (at + lexeme.length - 1) 0 = last ∙ ap (λ b. get_or b (at + lexeme.length - 1) 0) placed in
     rw (awaited, last_is, added) (sym step ∙ so_far)
 
-pub on_fault : (awaits : Awaits) (before at : ℕ) (text : List Placed) (d : Placed) (left : List ℕ) (front : List Token) (fault : LexFault) (whole : Result (List Token) LexFault) →
+pub on_fault : (awaits : Awaits) (before at : ℕ) (text : List Placed) (d : Placed) (left : List ℕ) (front : List Token) (fault : LexError) (whole : Result (List Token) LexError) →
     left ≡ bytes_of (drop at text) →
     tokens_behind front (tokens_from 0 awaits before (drop at text)) ≡ whole →
     at < length text →
@@ -203,6 +203,6 @@ on_fault awaits before at text d left front fault whole same so_far within other
     let next_is : next_lexeme awaits before p.line (bytes_of (drop at text)) ≡ Err fault = ap (next_lexeme awaits before p.line) (sym same) ∙ next in
     sym so_far ∙ at_fault awaits before at text p front fault within (get_or-default text at p d within) other next_is
 
-pub fault_answer : (whole answer : Result (List Token) LexFault) (found : LexFault) → IsErrAnd answer (λ e. e ≡ found) → (found ≢ fault.NoMemory → whole ≡ Err found) → Answers fault.NoMemory whole answer
+pub fault_answer : (whole answer : Result (List Token) LexError) (found : LexError) → IsErrAnd answer (λ e. e ≡ found) → (found ≢ error.NoMemory → whole ≡ Err found) → Answers error.NoMemory whole answer
 fault_answer whole (Ok tokens) found is h = absurd is
 fault_answer whole (Err e) found is h = λ other. h (λ memory. other (is ∙ memory)) ∙ ap Err (sym is)

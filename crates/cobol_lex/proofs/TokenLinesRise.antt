@@ -13,7 +13,7 @@ use Rattle.cobol_lex.specs.declared.token.Token.{Token}
 use Rattle.cobol_lex.specs.declared.awaits.Awaits.{Awaits}
 use Rattle.cobol_lex.specs.declared.awaits.Awaits.TheVariants as awaits
 use Rattle.cobol_lex.specs.declared.lexeme.Lexeme.{Lexeme}
-use Rattle.cobol_lex.specs.declared.fault.LexFault.{LexFault}
+use Rattle.cobol_lex.specs.declared.fault.LexError.{LexError}
 
 abbrev line_of : Token → ℕ
 line_of token = token.line
@@ -22,23 +22,23 @@ abbrev placed_line : Placed → ℕ
 placed_line p = p.line
 
 -- the lines of the tokens, where there are tokens, rise from here
-abbrev Rise : ℕ → Result (List Token) LexFault → Type 0
+abbrev Rise : ℕ → Result (List Token) LexError → Type 0
 Rise least (Ok tokens) = RisesFrom line_of least tokens
 Rise least (Err fault) = Unit {0}
 
-rise_lower : (least line : ℕ) (tokens : Result (List Token) LexFault) → least ≤ line → Rise line tokens → Rise least tokens
+rise_lower : (least line : ℕ) (tokens : Result (List Token) LexError) → least ≤ line → Rise line tokens → Rise least tokens
 rise_lower least line (Ok tokens) le h = rises_lower line_of least line tokens le h
 rise_lower least line (Err fault) le h = tt
 
-rise_token : (least : ℕ) (token : Token) (tokens : Result (List Token) LexFault) → least ≤ token.line → Rise token.line tokens → Rise least (with_token token tokens)
+rise_token : (least : ℕ) (token : Token) (tokens : Result (List Token) LexError) → least ≤ token.line → Rise token.line tokens → Rise least (with_token token tokens)
 rise_token least token (Ok tokens) le h = (le, h)
 rise_token least token (Err fault) le h = tt
 
-rise_lexeme : (least : ℕ) (lexeme : Result Lexeme LexFault) (follows : Lexeme → Result (List Token) LexFault) → ((c : Lexeme) → Rise least (follows c)) → Rise least (after_lexeme lexeme follows)
+rise_lexeme : (least : ℕ) (lexeme : Result Lexeme LexError) (follows : Lexeme → Result (List Token) LexError) → ((c : Lexeme) → Rise least (follows c)) → Rise least (after_lexeme lexeme follows)
 rise_lexeme least (Ok lexeme) follows h = h lexeme
 rise_lexeme least (Err fault) follows h = tt
 
-rise_choice : (least : ℕ) (v : Bool) (x y : Result (List Token) LexFault) → Rise least x → Rise least y → Rise least (if v then x else y)
+rise_choice : (least : ℕ) (v : Bool) (x y : Result (List Token) LexError) → Rise least x → Rise least y → Rise least (if v then x else y)
 rise_choice least true x y in_x in_y = in_x
 rise_choice least false x y in_x in_y = in_y
 

@@ -14,7 +14,7 @@ use Rattle.cobol_lex.specs.Laws.{TokenReadsBack}
 use Rattle.cobol_lex.specs.declared.token.TokenKind.TheVariants as kind
 use Rattle.cobol_lex.specs.declared.literal.Quoted.{Quoted}
 use Rattle.cobol_lex.specs.declared.lexeme.Lexeme.{Lexeme}
-use Rattle.cobol_lex.specs.declared.fault.LexFault.{LexFault}
+use Rattle.cobol_lex.specs.declared.fault.LexError.{LexError}
 use Rattle.cobol_lex.proofs.LiteralLemmas.{quoted-cons}
 use Rattle.cobol_lex.proofs.WordLemmas.{word_kind-word}
 use Rattle.cobol_lex.proofs.BoolLemmas.{or_left, or_right, and_left, and_right, or_true, either_way, not_false, and_no, same_byte}
@@ -62,7 +62,7 @@ reads_quoted (b ∷ value) rest inside stops =
     rw other (quoted-cons 34 b (doubled value ++ 34 ∷ rest) ∙ rw (other, no_end, more) (ap (λ q. Some q) (quoted_same b b _ _ _ refl (omega arith)))))
 
 literal_same : (value : List ℕ) (n m : ℕ) → n ≡ m →
-    ◌≡◌ {A = Result Lexeme LexFault} (Ok (record { kind = kind.Literal value; length = n })) (Ok (record { kind = kind.Literal value; length = m }))
+    ◌≡◌ {A = Result Lexeme LexError} (Ok (record { kind = kind.Literal value; length = n })) (Ok (record { kind = kind.Literal value; length = m }))
 literal_same value n m h = ap (λ k. Ok (record { kind = kind.Literal value; length = k })) h
 
 quote_stops : (rest : List ℕ) → begins (λ b. b == 34 || b == 61 || b == 42) rest ≡ false → begins (λ b. b == 34) rest ≡ false

@@ -7,6 +7,7 @@ use Rattle.cob_base.specs.Spelling.{IsWord, word_byte, folded}
 use Rattle.cobol_lex.specs.Word.{fits_word, word_kind}
 use Rattle.cobol_lex.specs.declared.token.TokenKind.TheVariants as kind
 use Rattle.cobol_lex.specs.declared.fault.LexFault.TheVariants as fault
+use Rattle.cobol_lex.specs.declared.fault.LexError.TheVariants as error
 
 pub fits-IsWord : (run : List ℕ) → fits_word run ≡ true → IsWord run
 fits-IsWord run h =
@@ -29,8 +30,8 @@ word_kind-word line run word is_word folded_is =
     let fits : fits_word run ≡ true = IsWord-fits run is_word in
     rw (folded_is, fits)
 
-pub word_kind-none : (line : ℕ) (run : List ℕ) → (IsWord run → ⊥) → Err (fault.BadWord line) ≡ word_kind line run
+pub word_kind-none : (line : ℕ) (run : List ℕ) → (IsWord run → ⊥) → Err (error.Fault (fault.BadWord line)) ≡ word_kind line run
 word_kind-none line run none =
-    let P : Bool → Type 0 = λ v. (fits_word run ≡ v) → Err (fault.BadWord line) ≡ (if v then Ok (kind.Word (folded run)) else Err (fault.BadWord line)) in
+    let P : Bool → Type 0 = λ v. (fits_word run ≡ v) → Err (error.Fault (fault.BadWord line)) ≡ (if v then Ok (kind.Word (folded run)) else Err (error.Fault (fault.BadWord line))) in
     let cases : (v : Bool) → P v = λ v. elim v as P [ true ↦ λ h. absurd (none (fits-IsWord run h)) | false ↦ λ h. refl ] in
     cases (fits_word run) refl

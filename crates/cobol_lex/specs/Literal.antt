@@ -4,8 +4,9 @@ use Rattle.cob_base.specs.Bytes.{line_feed}
 use Rattle.cobol_lex.specs.declared.token.TokenKind.TheVariants as kind
 use Rattle.cobol_lex.specs.declared.lexeme.Lexeme.{Lexeme}
 use Rattle.cobol_lex.specs.declared.literal.Quoted.{Quoted}
-use Rattle.cobol_lex.specs.declared.fault.LexFault.{LexFault}
+use Rattle.cobol_lex.specs.declared.fault.LexError.{LexError}
 use Rattle.cobol_lex.specs.declared.fault.LexFault.TheVariants as fault
+use Rattle.cobol_lex.specs.declared.fault.LexError.TheVariants as error
 
 -- the literal ends here
 abbrev pub closed : Option Quoted
@@ -28,14 +29,14 @@ quoted_by mark (b ∷ c ∷ rest) =
     else with_byte b 1 (quoted_by mark (c ∷ rest))
 
 -- the token of a literal, by what it has behind its opening mark: 1 to 160 bytes
-abbrev pub quoted_lexeme : (line : ℕ) → Option Quoted → Result Lexeme LexFault
-quoted_lexeme line None = Err (fault.OpenLiteral line)
+abbrev pub quoted_lexeme : (line : ℕ) → Option Quoted → Result Lexeme LexError
+quoted_lexeme line None = Err (error.Fault (fault.OpenLiteral line))
 quoted_lexeme line (Some quoted) =
     if nat_le 1 (length quoted.value) && nat_le (length quoted.value) 160
     then Ok (record { kind = kind.Literal quoted.value; length = 1 + quoted.taken })
-    else Err (fault.BadWord line)
+    else Err (error.Fault (fault.BadWord line))
 
 -- the literal that begins with the first byte
-abbrev pub literal_lexeme : (line : ℕ) → List ℕ → Result Lexeme LexFault
-literal_lexeme line [] = Err (fault.OpenLiteral line)
+abbrev pub literal_lexeme : (line : ℕ) → List ℕ → Result Lexeme LexError
+literal_lexeme line [] = Err (error.Fault (fault.OpenLiteral line))
 literal_lexeme line (mark ∷ rest) = quoted_lexeme line (quoted_by mark rest)

@@ -8,8 +8,9 @@ use Rattle.cobol_lex.specs.Byte.{is_digit, is_sign, is_point, leads_sign, begins
 use Rattle.cobol_lex.specs.Word.{word_kind}
 use Rattle.cobol_lex.specs.declared.token.TokenKind.{TokenKind}
 use Rattle.cobol_lex.specs.declared.token.TokenKind.TheVariants as kind
-use Rattle.cobol_lex.specs.declared.fault.LexFault.{LexFault}
+use Rattle.cobol_lex.specs.declared.fault.LexError.{LexError}
 use Rattle.cobol_lex.specs.declared.fault.LexFault.TheVariants as fault
+use Rattle.cobol_lex.specs.declared.fault.LexError.TheVariants as error
 
 -- ---- where a number stands
 
@@ -66,18 +67,19 @@ decimal_number run bytes = record {
   scale = length (decimals bytes);
 }
 
-abbrev pub decimal_kind : (line : ℕ) → (run bytes : List ℕ) → Result TokenKind LexFault
+abbrev pub decimal_kind : (line : ℕ) → (run bytes : List ℕ) → Result TokenKind LexError
 decimal_kind line run bytes =
-    if not (is_decimal bytes) then Err (fault.BadNumber line)
-    else if nat_lt 18 (length (digits_of bytes)) then Err (fault.TooManyDigits line)
+    if not (is_decimal bytes) then Err (error.Fault (fault.BadNumber line))
+    else if nat_lt 18 (length (digits_of bytes)) then Err (error.Fault (fault.TooManyDigits line))
     else Ok (kind.Decimal (decimal_number run bytes))
 
-abbrev pub digits_kind : (line : ℕ) → List ℕ → Result TokenKind LexFault
+abbrev pub digits_kind : (line : ℕ) → List ℕ → Result TokenKind LexError
 digits_kind line run =
-    if nat_lt 18 (length run) then Err (fault.TooManyDigits line) else Ok (kind.Digits run)
+    if nat_lt 18 (length run) then Err (error.Fault (fault.TooManyDigits line))
+    else Ok (kind.Digits run)
 
 -- the token of a run that begins as a number
-abbrev pub number_kind : (line : ℕ) → List ℕ → Result TokenKind LexFault
+abbrev pub number_kind : (line : ℕ) → List ℕ → Result TokenKind LexError
 number_kind line run =
     if begins is_sign run || list_any is_point run then decimal_kind line run (unsigned run)
     else if list_all is_digit run then digits_kind line run

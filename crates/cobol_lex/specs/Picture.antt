@@ -5,8 +5,9 @@ use Rattle.cob_base.specs.Bytes.{period, comma, semicolon}
 use Rattle.cobol_lex.specs.Byte.{is_white}
 use Rattle.cobol_lex.specs.declared.token.TokenKind.TheVariants as kind
 use Rattle.cobol_lex.specs.declared.lexeme.Lexeme.{Lexeme}
-use Rattle.cobol_lex.specs.declared.fault.LexFault.{LexFault}
+use Rattle.cobol_lex.specs.declared.fault.LexError.{LexError}
 use Rattle.cobol_lex.specs.declared.fault.LexFault.TheVariants as fault
+use Rattle.cobol_lex.specs.declared.fault.LexError.TheVariants as error
 
 -- `.`, `,` or `;`
 abbrev pub ends_picture : ℕ → Bool
@@ -25,7 +26,7 @@ filled_run bytes = take_while (λ b. not (is_white b)) bytes
 abbrev pub picture_run : List ℕ → List ℕ
 picture_run bytes = less_last ends_picture (filled_run bytes)
 
-abbrev pub picture_lexeme : (line : ℕ) → List ℕ → Result Lexeme LexFault
-picture_lexeme line [] = Err (fault.BadWord line)
+abbrev pub picture_lexeme : (line : ℕ) → List ℕ → Result Lexeme LexError
+picture_lexeme line [] = Err (error.Fault (fault.BadWord line))
 picture_lexeme line (b ∷ rest) =
     Ok (record { kind = kind.Picture (b ∷ rest); length = length (b ∷ rest) })

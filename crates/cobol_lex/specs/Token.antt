@@ -9,23 +9,23 @@ use Rattle.cobol_lex.specs.declared.token.Token.{Token}
 use Rattle.cobol_lex.specs.declared.awaits.Awaits.{Awaits}
 use Rattle.cobol_lex.specs.declared.awaits.Awaits.TheVariants as awaits
 use Rattle.cobol_lex.specs.declared.lexeme.Lexeme.{Lexeme}
-use Rattle.cobol_lex.specs.declared.fault.LexFault.{LexFault}
+use Rattle.cobol_lex.specs.declared.fault.LexError.{LexError}
 
 -- a token in front
-abbrev pub with_token : Token → Result (List Token) LexFault → Result (List Token) LexFault
+abbrev pub with_token : Token → Result (List Token) LexError → Result (List Token) LexError
 with_token token (Ok tokens) = Ok (token ∷ tokens)
 with_token token (Err fault) = Err fault
 
 -- what follows a lexeme, or the fault that there is in place of one
-abbrev pub after_lexeme : Result Lexeme LexFault → (Lexeme → Result (List Token) LexFault) →
-    Result (List Token) LexFault
+abbrev pub after_lexeme : Result Lexeme LexError → (Lexeme → Result (List Token) LexError) →
+    Result (List Token) LexError
 after_lexeme (Ok lexeme) follows = follows lexeme
 after_lexeme (Err fault) follows = Err fault
 
 -- The tokens of what is left of a text, of which the first bytes belong to the token before.
 -- `before` is the byte that stands before what is left.
 abbrev pub tokens_from : (taken : ℕ) → Awaits → (before : ℕ) → List Placed →
-    Result (List Token) LexFault
+    Result (List Token) LexError
 tokens_from taken awaits before [] = Ok []
 tokens_from (suc taken) awaits before (p ∷ rest) = tokens_from taken awaits p.byte rest
 tokens_from zero awaits before (p ∷ rest) =
@@ -35,5 +35,5 @@ tokens_from zero awaits before (p ∷ rest) =
     (tokens_from (lexeme.length - 1) (awaits_behind awaits lexeme.kind) p.byte rest))
 
 -- the tokens of a text, or its first fault; before the text stands no byte that lets a sign count
-abbrev pub tokens_of : List Placed → Result (List Token) LexFault
+abbrev pub tokens_of : List Placed → Result (List Token) LexError
 tokens_of text = tokens_from 0 awaits.Any 0 text

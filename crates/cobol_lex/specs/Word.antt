@@ -6,8 +6,9 @@ use Rattle.cob_base.specs.Bytes.{hyphen}
 use Rattle.cob_base.specs.Spelling.{word_byte, folded}
 use Rattle.cobol_lex.specs.declared.token.TokenKind.{TokenKind}
 use Rattle.cobol_lex.specs.declared.token.TokenKind.TheVariants as kind
-use Rattle.cobol_lex.specs.declared.fault.LexFault.{LexFault}
+use Rattle.cobol_lex.specs.declared.fault.LexError.{LexError}
 use Rattle.cobol_lex.specs.declared.fault.LexFault.TheVariants as fault
+use Rattle.cobol_lex.specs.declared.fault.LexError.TheVariants as error
 
 -- the letters, digits and hyphens at the front
 abbrev pub word_run : List ℕ → List ℕ
@@ -20,8 +21,9 @@ fits_word run =
     && not (slice_index run 0 == hyphen) && not (slice_index run (length run - 1) == hyphen)
 
 -- the token of a run that is no number
-abbrev pub word_kind : (line : ℕ) → List ℕ → Result TokenKind LexFault
-word_kind line run = if fits_word run then Ok (kind.Word (folded run)) else Err (fault.BadWord line)
+abbrev pub word_kind : (line : ℕ) → List ℕ → Result TokenKind LexError
+word_kind line run =
+    if fits_word run then Ok (kind.Word (folded run)) else Err (error.Fault (fault.BadWord line))
 
 -- the run is this word, in either case
 abbrev pub spells : (word run : List ℕ) → Bool

@@ -1,4 +1,4 @@
-//! What is wrong with a text that has no tokens.
+//! What is wrong with a text that has no tokens, and why none are made.
 
 ghost use Rattle.std.specs.Prelude.{◌≡◌};
 
@@ -22,26 +22,33 @@ pub enum LexFault {
     /// A number of more than 18 digits.
     #[error("too many digits in line {0}")]
     TooManyDigits(u32),
+}
+
+/// Why no tokens are made of a text.
+#[derive(Clone, Copy, Debug, PartialEq, Eq, Error)]
+pub enum LexError {
+    #[error("{0}")]
+    Fault(LexFault),
     #[error("out of memory")]
     NoMemory,
 }
 
-impl From<NoMemory> for LexFault {
-    ghost use Rattle.cobol_lex.specs.declared.fault.LexFault.TheVariants as variants;
+impl From<NoMemory> for LexError {
+    ghost use Rattle.cobol_lex.specs.declared.fault.LexError.TheVariants as variants;
 
     ghost from_gives = { λ _ fault. fault ≡ variants.NoMemory };
 
-    fn from(_: NoMemory) -> LexFault {
-        LexFault::NoMemory
+    fn from(_: NoMemory) -> LexError {
+        LexError::NoMemory
     }
 }
 
-impl From<AllocError> for LexFault {
-    ghost use Rattle.cobol_lex.specs.declared.fault.LexFault.TheVariants as variants;
+impl From<AllocError> for LexError {
+    ghost use Rattle.cobol_lex.specs.declared.fault.LexError.TheVariants as variants;
 
     ghost from_gives = { λ _ fault. fault ≡ variants.NoMemory };
 
-    fn from(_: AllocError) -> LexFault {
-        LexFault::NoMemory
+    fn from(_: AllocError) -> LexError {
+        LexError::NoMemory
     }
 }

@@ -2,12 +2,12 @@
 
 ghost use Rattle.std.specs.Prelude.{◌≡◌, ◌<◌, ◌≤◌, length, IfOk};
 ghost use Rattle.cob_base.specs.Answers.{Answers};
-ghost use Rattle.cobol_lex.specs.declared.fault.LexFault.TheVariants.{NoMemory as Memory};
+ghost use Rattle.cobol_lex.specs.declared.fault.LexError.TheVariants.{NoMemory as Memory};
 ghost use Rattle.cobol_lex.specs.Lexeme.{lexeme_of, mark_lexeme, plain_lexeme, next_lexeme};
 
 use crate::awaits::{Awaits, awaits_picture};
 use crate::byte::{is_letter, is_mark, is_quote};
-use crate::fault::LexFault;
+use crate::fault::{LexError, LexFault};
 use crate::literal::literal_lexeme;
 use crate::number::{begins_number, number_kind, number_run};
 use crate::picture::{picture_lexeme, picture_run};
@@ -23,7 +23,7 @@ pub struct Lexeme {
 }
 
 /// A period, a mark or a pair of marks.
-fn mark_lexeme(line: u32, b: u8, rest: &[u8]) -> Result<Lexeme, LexFault>
+fn mark_lexeme(line: u32, b: u8, rest: &[u8]) -> Result<Lexeme, LexError>
     ensures { result ≡ mark_lexeme line b rest.now }
 {
     let (kind, length) = match (b, rest) {
@@ -32,12 +32,12 @@ fn mark_lexeme(line: u32, b: u8, rest: &[u8]) -> Result<Lexeme, LexFault>
         (b'<', [b'=', ..]) => (TokenKind::LessEqual, 2),
         (b'>', [b'=', ..]) => (TokenKind::GreaterEqual, 2),
         _ if is_mark(b) => (TokenKind::Mark(b), 1),
-        _ => return Err(LexFault::BadWord(line)),
+        _ => return Err(LexError::Fault(LexFault::BadWord(line))),
     };
     Ok(Lexeme { kind, length })
 }
 
-fn lexeme_of(length: usize, kind: Result<TokenKind, LexFault>) -> Result<Lexeme, LexFault>
+fn lexeme_of(length: usize, kind: Result<TokenKind, LexError>) -> Result<Lexeme, LexError>
     ensures { result ≡ lexeme_of length kind }
 {
     match kind {
@@ -46,11 +46,11 @@ fn lexeme_of(length: usize, kind: Result<TokenKind, LexFault>) -> Result<Lexeme,
     }
 }
 
-fn plain_lexeme(alloc: Global, before: u8, line: u32, bytes: &[u8]) -> Result<Lexeme, LexFault>
+fn plain_lexeme(alloc: Global, before: u8, line: u32, bytes: &[u8]) -> Result<Lexeme, LexError>
     ensures { Answers Memory (plain_lexeme before line bytes.now) result }
 {
     let [b, rest @ ..] = bytes else {
-        return Err(LexFault::BadWord(line));
+        return Err(LexError::Fault(LexFault::BadWord(line)));
     };
     if is_quote(*b) {
         literal_lexeme(alloc, line, bytes)
@@ -72,7 +72,7 @@ pub fn next_lexeme(
     before: u8,
     line: u32,
     bytes: &[u8],
-) -> Result<Lexeme, LexFault>
+) -> Result<Lexeme, LexError>
     ensures value { Answers Memory (next_lexeme awaits before line bytes.now) result }
     ensures within { IfOk result
         (λ lexeme. (0 < lexeme.length) × (lexeme.length ≤ length bytes.now)) }

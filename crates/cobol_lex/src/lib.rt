@@ -20,15 +20,14 @@ mod separator;
 mod token;
 mod word;
 
-ghost use Rattle.std.specs.Prelude.{◌≡◌};
 ghost use Rattle.cob_base.specs.Answers.{Answers};
 ghost use Rattle.cobol_lex.specs.Token.{tokens_of};
-ghost use Rattle.cobol_lex.specs.declared.fault.LexFault.TheVariants.{NoMemory as Memory};
+ghost use Rattle.cobol_lex.specs.declared.fault.LexError.TheVariants.{NoMemory as Memory};
 
 use awaits::{Awaits, awaits_behind};
 use byte::is_separator;
 use cob_base::Items;
-pub use fault::LexFault;
+pub use fault::{LexError, LexFault};
 pub use laws::{
     laid_reads_back, picture_reads_back, text_reads_back, token_lines_rise, token_reads_back,
     tokens_cover,
@@ -43,7 +42,7 @@ pub use token::{Token, TokenKind};
 ///
 /// The text's bytes lie on the lines that `text` gives them. A sign at the very beginning of a text
 /// doesn't count, since nothing stands before it.
-pub fn tokens(alloc: Global, text: &[Placed]) -> Result<Items<Token>, LexFault>
+pub fn tokens(alloc: Global, text: &[Placed]) -> Result<Items<Token>, LexError>
     ensures { Answers Memory (tokens_of text.now) result }
 {
     let held = bytes_of(alloc, text)?;

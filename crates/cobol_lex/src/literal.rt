@@ -1,10 +1,10 @@
 //! Literals.
 
 ghost use Rattle.cob_base.specs.Answers.{Answers, Makes};
-ghost use Rattle.cobol_lex.specs.declared.fault.LexFault.TheVariants.{NoMemory as Memory};
+ghost use Rattle.cobol_lex.specs.declared.fault.LexError.TheVariants.{NoMemory as Memory};
 ghost use Rattle.cobol_lex.specs.Literal.{quoted_by, literal_lexeme};
 
-use crate::fault::LexFault;
+use crate::fault::{LexError, LexFault};
 use crate::lexeme::Lexeme;
 use crate::token::TokenKind;
 use cob_base::{NoMemory, Text};
@@ -43,17 +43,17 @@ fn quoted_by(alloc: Global, mark: u8, rest: &[u8]) -> Result<Option<Quoted>, NoM
 }
 
 /// The literal that begins here.
-pub fn literal_lexeme(alloc: Global, line: u32, bytes: &[u8]) -> Result<Lexeme, LexFault>
+pub fn literal_lexeme(alloc: Global, line: u32, bytes: &[u8]) -> Result<Lexeme, LexError>
     ensures { Answers Memory (literal_lexeme line bytes.now) result }
 {
     let [mark, rest @ ..] = bytes else {
-        return Err(LexFault::OpenLiteral(line));
+        return Err(LexError::Fault(LexFault::OpenLiteral(line)));
     };
     let Some(Quoted { value, taken }) = quoted_by(alloc, *mark, rest)? else {
-        return Err(LexFault::OpenLiteral(line));
+        return Err(LexError::Fault(LexFault::OpenLiteral(line)));
     };
     if value.len() == 0 || value.len() > MOST_BYTES {
-        return Err(LexFault::BadWord(line));
+        return Err(LexError::Fault(LexFault::BadWord(line)));
     }
     Ok(Lexeme {
         kind: TokenKind::Literal(value),

@@ -4,12 +4,12 @@ ghost use Rattle.std.specs.Prelude.{◌≡◌, ◌||◌, ◌≤◌, length, coun
 ghost use Rattle.std.specs.List.{list_all, list_any};
 ghost use Rattle.cobol_lex.specs.Byte.{is_digit, is_point};
 ghost use Rattle.cob_base.specs.Answers.{Answers, Makes};
-ghost use Rattle.cobol_lex.specs.declared.fault.LexFault.TheVariants.{NoMemory as Memory};
+ghost use Rattle.cobol_lex.specs.declared.fault.LexError.TheVariants.{NoMemory as Memory};
 ghost use Rattle.cobol_lex.specs.Number.{begins_number, begins_unsigned, number_run, unsigned, unsigned_length};
 ghost use Rattle.cobol_lex.specs.Number.{decimal_kind, decimals, digits_kind, digits_of, is_decimal, number_kind};
 
 use crate::byte::{begins_digit, begins_sign, is_digit, is_word_byte, leads_sign};
-use crate::fault::LexFault;
+use crate::fault::{LexError, LexFault};
 use crate::token::TokenKind;
 use crate::word::word_kind;
 use cob_base::{Boxed, NoMemory, Text};
@@ -120,15 +120,15 @@ fn scale_of(bytes: &[u8]) -> usize
 }
 
 #[tactic(auto, using(crate::proofs::RunLemmas::decimals_within))]
-fn decimal_kind(alloc: Global, line: u32, run: &[u8], bytes: &[u8]) -> Result<TokenKind, LexFault>
+fn decimal_kind(alloc: Global, line: u32, run: &[u8], bytes: &[u8]) -> Result<TokenKind, LexError>
     ensures { Answers Memory (decimal_kind line run.now bytes.now) result }
 {
     if !is_decimal(bytes) {
-        return Err(LexFault::BadNumber(line));
+        return Err(LexError::Fault(LexFault::BadNumber(line)));
     }
     let digits = digits_of(alloc, bytes)?;
     if digits.len() > MOST_DIGITS {
-        return Err(LexFault::TooManyDigits(line));
+        return Err(LexError::Fault(LexFault::TooManyDigits(line)));
     }
     let number = Number {
         negative: matches!(run, [b'-', ..]),
@@ -138,18 +138,18 @@ fn decimal_kind(alloc: Global, line: u32, run: &[u8], bytes: &[u8]) -> Result<To
     Ok(TokenKind::Decimal(Boxed::new(alloc, number)?))
 }
 
-fn digits_kind(alloc: Global, line: u32, run: &[u8]) -> Result<TokenKind, LexFault>
+fn digits_kind(alloc: Global, line: u32, run: &[u8]) -> Result<TokenKind, LexError>
     ensures { Answers Memory (digits_kind line run.now) result }
 {
     if run.len() > MOST_DIGITS {
-        return Err(LexFault::TooManyDigits(line));
+        return Err(LexError::Fault(LexFault::TooManyDigits(line)));
     }
     let bytes = Vec::from_slice(alloc, run)?;
     Ok(TokenKind::Digits(Text { bytes }))
 }
 
 /// The token of a run that begins as a number.
-pub fn number_kind(alloc: Global, line: u32, run: &[u8]) -> Result<TokenKind, LexFault>
+pub fn number_kind(alloc: Global, line: u32, run: &[u8]) -> Result<TokenKind, LexError>
     ensures { Answers Memory (number_kind line run.now) result }
 {
     if begins_sign(run) || has_point(run) {

@@ -2,11 +2,11 @@
 
 ghost use Rattle.std.specs.Prelude.{◌≡◌, length};
 ghost use Rattle.cob_base.specs.Answers.{Answers};
-ghost use Rattle.cobol_lex.specs.declared.fault.LexFault.TheVariants.{NoMemory as Memory};
+ghost use Rattle.cobol_lex.specs.declared.fault.LexError.TheVariants.{NoMemory as Memory};
 ghost use Rattle.cobol_lex.specs.Picture.{ends_picture, filled_run, picture_run, picture_lexeme};
 
 use crate::byte::is_white;
-use crate::fault::LexFault;
+use crate::fault::{LexError, LexFault};
 use crate::lexeme::Lexeme;
 use crate::token::TokenKind;
 use cob_base::Text;
@@ -43,11 +43,11 @@ pub fn picture_run(bytes: &[u8]) -> &[u8]
     }
 }
 
-pub fn picture_lexeme(alloc: Global, line: u32, run: &[u8]) -> Result<Lexeme, LexFault>
+pub fn picture_lexeme(alloc: Global, line: u32, run: &[u8]) -> Result<Lexeme, LexError>
     ensures { Answers Memory (picture_lexeme line run.now) result }
 {
     if run.is_empty() {
-        return Err(LexFault::BadWord(line));
+        return Err(LexError::Fault(LexFault::BadWord(line)));
     }
     let bytes = Vec::from_slice(alloc, run)?;
     Ok(Lexeme {

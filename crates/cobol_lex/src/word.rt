@@ -4,7 +4,7 @@ ghost use Rattle.std.specs.Prelude.{◌≡◌, ◌≤◌, codes, length};
 ghost use Rattle.cobol_lex.specs.Word.{word_run, word_kind, spells};
 
 use crate::byte::is_word_byte;
-use crate::fault::LexFault;
+use crate::fault::{LexError, LexFault};
 use crate::lanes::word_byte_run;
 use crate::token::TokenKind;
 use cob_base::Word;
@@ -39,11 +39,11 @@ pub fn word_run(bytes: &[u8]) -> &[u8]
     &bytes[..word_length(bytes)]
 }
 
-pub fn word_kind(line: u32, run: &[u8]) -> Result<TokenKind, LexFault>
+pub fn word_kind(line: u32, run: &[u8]) -> Result<TokenKind, LexError>
     ensures { result ≡ word_kind line run.now }
 {
     match Word::new(run) {
-        None => Err(LexFault::BadWord(line)),
+        None => Err(LexError::Fault(LexFault::BadWord(line))),
         Some(word) => Ok(TokenKind::Word(word)),
     }
 }

@@ -4,12 +4,12 @@ use Rattle.cob_base.specs.declared.limit.Limit.{Limit}
 use Rattle.cob_base.specs.declared.limit.LimitKind.TheVariants as limits
 use Rattle.cob_tree.specs.declared.fault.ParseFault.TheVariants as faults
 use Rattle.cob_tree.specs.declared.program.Program.{Program}
-use Rattle.ref_format.specs.declared.fault.FormatFault.{FormatFault}
-use Rattle.ref_format.specs.declared.fault.FormatFault.TheVariants as format
+use Rattle.ref_format.specs.declared.fault.FormatError.{FormatError}
+use Rattle.ref_format.specs.declared.fault.FormatError.TheVariants as format
 use Rattle.ref_format.specs.declared.placed.Placed.{Placed}
 use Rattle.ref_format.specs.Joining.{program_text}
-use Rattle.cobol_lex.specs.declared.fault.LexFault.{LexFault}
-use Rattle.cobol_lex.specs.declared.fault.LexFault.TheVariants as lex
+use Rattle.cobol_lex.specs.declared.fault.LexError.{LexError}
+use Rattle.cobol_lex.specs.declared.fault.LexError.TheVariants as lex
 use Rattle.cobol_lex.specs.declared.token.Token.{Token}
 use Rattle.cobol_lex.specs.Token.{tokens_of}
 use Rattle.parser_combinators.specs.declared.note.Note.{Note}
@@ -20,13 +20,16 @@ use Rattle.parser_combinators.specs.declared.why.Unread.TheVariants as unread
 use Rattle.parser_combinators.specs.Form.{Outcome, Got, Stop}
 use Rattle.parser_combinators.specs.Reading.{start, fault_line}
 use Rattle.cob_store.specs.sizes.Storage.{storage_limit, storage_of}
-use Rattle.parser_combinators.specs.faults.Fault.{passed, name_fault}
+use Rattle.parser_combinators.specs.faults.Fault.{name_fault, passed_by_one}
 use Rattle.cobol_read.specs.declared.program.Declarations.{Declarations}
 use Rattle.cobol_read.specs.declared.program.ProgramDraft.{ProgramDraft}
 use Rattle.cobol_read.specs.declared.refusal.ReadRefusal.{ReadRefusal}
 use Rattle.cobol_read.specs.declared.refusal.ReadRefusal.TheVariants as refusals
+use Rattle.cobol_read.specs.declared.refusal.ReadFault.{ReadFault}
+use Rattle.cobol_read.specs.declared.refusal.ReadFault.TheVariants as read
 use Rattle.cobol_read.specs.LeftOut.{first_left_out}
-use Rattle.cobol_read.specs.Limit.{source_limit, token_limit, paragraph_limit, past_source, past_tokens, past_paragraphs}
+use Rattle.cob_base.specs.Limit.{max_source, max_tokens, max_paragraphs}
+use Rattle.cobol_read.specs.Limit.{past_source, past_tokens, past_paragraphs}
 use Rattle.cobol_read.specs.Program.{declarations_of, fault_in, program, program_of}
 
 abbrev pub Answer : Type 0
@@ -36,7 +39,7 @@ Answer = Result Program ReadRefusal
 
 abbrev pub with_few_paragraphs : Program → Answer
 with_few_paragraphs found =
-    if nat_le (length found.paragraphs) paragraph_limit then Ok found
+    if nat_le (length found.paragraphs) max_paragraphs then Ok found
     else Err (refusals.Limit (past_paragraphs (length found.paragraphs)))
 
 abbrev pub within_storage : Option Limit → Program → Answer
@@ -44,7 +47,8 @@ within_storage (Some limit) found = Err (refusals.Limit limit)
 within_storage None found = with_few_paragraphs found
 
 abbrev pub name_refusal : Note → ReadRefusal
-name_refusal note = refusals.Parse (faults.Name (name_fault note.kind note.position.line))
+name_refusal note =
+    refusals.Fault (read.Parse (faults.Name (name_fault note.kind note.position.line)))
 
 abbrev pub named : Option Note → Program → Answer
 named (Some note) found = Err (name_refusal note)
@@ -53,10 +57,10 @@ named None found = within_storage (storage_limit false (storage_of found.entries
 -- ---- the syntax
 
 abbrev pub stop_refusal : Why → (line : ℕ) → ReadRefusal
-stop_refusal whys.Syntax line = refusals.Parse (faults.Syntax line)
-stop_refusal whys.Terms line = refusals.Limit (passed limits.Terms)
-stop_refusal whys.Parens line = refusals.Limit (passed limits.Parens)
-stop_refusal whys.Nesting line = refusals.Limit (passed limits.Nesting)
+stop_refusal whys.Syntax line = refusals.Fault (read.Parse (faults.Syntax line))
+stop_refusal whys.Terms line = refusals.Limit (passed_by_one limits.Terms)
+stop_refusal whys.Parens line = refusals.Limit (passed_by_one limits.Parens)
+stop_refusal whys.Nesting line = refusals.Limit (passed_by_one limits.Nesting)
 
 -- want of memory is told as that
 abbrev pub unread_refusal : Unread → (line : ℕ) → ReadRefusal
@@ -70,34 +74,34 @@ parsed tokens known (Got draft behind) =
 
 -- ---- before it
 
-abbrev pub worded : Option ReadRefusal → List Token → Answer
-worded (Some refusal) tokens = Err refusal
+abbrev pub worded : Option ReadFault → List Token → Answer
+worded (Some fault) tokens = Err (refusals.Fault fault)
 worded None tokens =
     parsed tokens (declarations_of tokens) ((program (declarations_of tokens)).reads (start tokens))
 
 abbrev pub with_few_tokens : List Token → Answer
 with_few_tokens tokens =
-    if nat_le (length tokens) token_limit then worded (first_left_out tokens) tokens
+    if nat_le (length tokens) max_tokens then worded (first_left_out tokens) tokens
     else Err (refusals.Limit (past_tokens (length tokens)))
 
-abbrev pub lex_refusal : LexFault → ReadRefusal
+abbrev pub lex_refusal : LexError → ReadRefusal
+lex_refusal (lex.Fault fault) = refusals.Fault (read.Lex fault)
 lex_refusal lex.NoMemory = refusals.NoMemory
-lex_refusal fault = refusals.Lex fault
 
-abbrev pub format_refusal : FormatFault → ReadRefusal
+abbrev pub format_refusal : FormatError → ReadRefusal
+format_refusal (format.Fault fault) = refusals.Fault (read.Format fault)
 format_refusal format.NoMemory = refusals.NoMemory
-format_refusal fault = refusals.Format fault
 
-abbrev pub lexed : Result (List Token) LexFault → Answer
+abbrev pub lexed : Result (List Token) LexError → Answer
 lexed (Ok tokens) = with_few_tokens tokens
-lexed (Err fault) = Err (lex_refusal fault)
+lexed (Err error) = Err (lex_refusal error)
 
-abbrev pub formatted : Result (List Placed) FormatFault → Answer
+abbrev pub formatted : Result (List Placed) FormatError → Answer
 formatted (Ok text) = lexed (tokens_of text)
-formatted (Err fault) = Err (format_refusal fault)
+formatted (Err error) = Err (format_refusal error)
 
 -- what these bytes are read to
 abbrev pub answer_of : List ℕ → Answer
 answer_of bytes =
-    if nat_le (length bytes) source_limit then formatted (program_text bytes)
+    if nat_le (length bytes) max_source then formatted (program_text bytes)
     else Err (refusals.Limit past_source)

@@ -7,10 +7,10 @@ use Rattle.cob_tree.specs.declared.fault.NameFault.{NameFault}
 use Rattle.cob_tree.specs.declared.fault.ParseFault.{ParseFault}
 use Rattle.cob_tree.specs.declared.fault.ParseFault.TheVariants as faults
 use Rattle.cob_tree.specs.declared.program.Program.{Program}
-use Rattle.ref_format.specs.declared.fault.FormatFault.TheVariants as format
+use Rattle.ref_format.specs.declared.fault.FormatError.TheVariants as format
 use Rattle.ref_format.specs.declared.placed.Placed.{Placed}
 use Rattle.ref_format.specs.Joining.{program_text}
-use Rattle.cobol_lex.specs.declared.fault.LexFault.TheVariants as lex
+use Rattle.cobol_lex.specs.declared.fault.LexError.TheVariants as lex
 use Rattle.cobol_lex.specs.declared.token.Token.{Token}
 use Rattle.cobol_lex.specs.Token.{tokens_of}
 use Rattle.parser_combinators.specs.declared.note.Note.{Note}
@@ -18,19 +18,22 @@ use Rattle.parser_combinators.specs.declared.why.Why.{Why}
 use Rattle.parser_combinators.specs.declared.why.Why.TheVariants as whys
 use Rattle.parser_combinators.specs.Reading.{AllSpell, Stops, start, fault_line}
 use Rattle.cob_store.specs.sizes.Storage.{storage_limit, storage_of}
-use Rattle.parser_combinators.specs.faults.Fault.{passed, name_fault}
+use Rattle.parser_combinators.specs.faults.Fault.{name_fault, passed_by_one}
 use Rattle.cobol_read.specs.declared.program.ProgramDraft.{ProgramDraft}
 use Rattle.cobol_read.specs.declared.refusal.ReadRefusal.{ReadRefusal}
 use Rattle.cobol_read.specs.declared.refusal.ReadRefusal.TheVariants as refusals
+use Rattle.cobol_read.specs.declared.refusal.ReadFault.{ReadFault}
+use Rattle.cobol_read.specs.declared.refusal.ReadFault.TheVariants as read
 use Rattle.cobol_read.specs.LeftOut.{first_left_out}
-use Rattle.cobol_read.specs.Limit.{source_limit, token_limit, paragraph_limit, past_source, past_tokens, past_paragraphs}
+use Rattle.cob_base.specs.Limit.{max_source, max_tokens, max_paragraphs}
+use Rattle.cobol_read.specs.Limit.{past_source, past_tokens, past_paragraphs}
 use Rattle.cobol_read.specs.Program.{declarations_of, fault_in, program, program_of}
 
 -- ---- the steps of reading, each behind those before
 
 -- a source that is no longer than its limit, in the format
 pub record HasText (bytes : List ℕ) (text : List Placed) : Type 0 where
-  pub within : length bytes ≤ source_limit
+  pub within : length bytes ≤ max_source
   pub formatted : program_text bytes ≡ Ok text
 
 pub record HasTokens (bytes : List ℕ) (tokens : List Token) : Type 0 where
@@ -41,7 +44,7 @@ pub record HasTokens (bytes : List ℕ) (tokens : List Token) : Type 0 where
 -- no more tokens than their limit
 pub record HasFewTokens (bytes : List ℕ) (tokens : List Token) : Type 0 where
   pub has_tokens : HasTokens bytes tokens
-  pub few : length tokens ≤ token_limit
+  pub few : length tokens ≤ max_tokens
 
 -- and no word among them that is left out
 pub record HasWords (bytes : List ℕ) (tokens : List Token) : Type 0 where
@@ -66,7 +69,7 @@ pub record HasRoom (bytes : List ℕ) (found : Program) : Type 0 where
 -- the bytes are this program, within all limits of reading
 pub record Reads (bytes : List ℕ) (found : Program) : Type 0 where
   pub has_room : HasRoom bytes found
-  pub few : length found.paragraphs ≤ paragraph_limit
+  pub few : length found.paragraphs ≤ max_paragraphs
 
 -- ---- the causes of refusals
 
@@ -78,14 +81,15 @@ StopsAt bytes why line =
     × (line ≡ fault_line tokens rest)
 
 abbrev pub PassesOne : List ℕ → Why → LimitKind → Limit → Type 0
-PassesOne bytes why kind limit = ((line : ℕ) × StopsAt bytes why line) × (limit ≡ passed kind)
+PassesOne bytes why kind limit =
+    ((line : ℕ) × StopsAt bytes why line) × (limit ≡ passed_by_one kind)
 
 abbrev pub IsTooLong : List ℕ → Limit → Type 0
-IsTooLong bytes limit = (source_limit < length bytes) × (limit ≡ past_source)
+IsTooLong bytes limit = (max_source < length bytes) × (limit ≡ past_source)
 
 abbrev pub HasManyTokens : List ℕ → Limit → Type 0
 HasManyTokens bytes limit =
-    (tokens : List Token) × HasTokens bytes tokens × (token_limit < length tokens)
+    (tokens : List Token) × HasTokens bytes tokens × (max_tokens < length tokens)
     × (limit ≡ past_tokens (length tokens))
 
 abbrev pub IsPastStorage : List ℕ → Limit → Type 0
@@ -95,7 +99,7 @@ IsPastStorage bytes limit =
 
 abbrev pub HasManyParagraphs : List ℕ → Limit → Type 0
 HasManyParagraphs bytes limit =
-    (found : Program) × HasRoom bytes found × (paragraph_limit < length found.paragraphs)
+    (found : Program) × HasRoom bytes found × (max_paragraphs < length found.paragraphs)
     × (limit ≡ past_paragraphs (length found.paragraphs))
 
 -- a limit that is passed, by its kind
@@ -109,9 +113,9 @@ IsPast bytes limits.Storage limit = IsPastStorage bytes limit
 IsPast bytes limits.Paragraphs limit = HasManyParagraphs bytes limit
 IsPast bytes _ limit = ⊥
 
-abbrev pub HasLeftOut : List ℕ → ReadRefusal → Type 0
-HasLeftOut bytes refusal =
-    (tokens : List Token) × HasFewTokens bytes tokens × (first_left_out tokens ≡ Some refusal)
+abbrev pub HasLeftOut : List ℕ → ReadFault → Type 0
+HasLeftOut bytes fault =
+    (tokens : List Token) × HasFewTokens bytes tokens × (first_left_out tokens ≡ Some fault)
 
 -- a fault of a name, in a program without a fault of syntax
 abbrev pub HasNameFault : List ℕ → NameFault → Type 0
@@ -122,20 +126,20 @@ HasNameFault bytes fault =
 abbrev pub IsParseFault : List ℕ → ParseFault → Type 0
 IsParseFault bytes (faults.Syntax line) = StopsAt bytes whys.Syntax line
 IsParseFault bytes (faults.Name fault) = HasNameFault bytes fault
-IsParseFault bytes (faults.Limit limit) = ⊥
-IsParseFault bytes faults.NoMemory = ⊥
+
+-- the cause of each fault
+abbrev pub HasFault : List ℕ → ReadFault → Type 0
+HasFault bytes (read.Format fault) =
+    (length bytes ≤ max_source) × (program_text bytes ≡ Err (format.Fault fault))
+HasFault bytes (read.Lex fault) =
+    (text : List Placed) × HasText bytes text × (tokens_of text ≡ Err (lex.Fault fault))
+HasFault bytes (read.LeftOut word line) = HasLeftOut bytes (read.LeftOut word line)
+HasFault bytes (read.Power line) = HasLeftOut bytes (read.Power line)
+HasFault bytes (read.Parse fault) = IsParseFault bytes fault
 
 -- the cause of each refusal; want of memory may come at any place
 abbrev pub HasCause : List ℕ → ReadRefusal → Type 0
-HasCause bytes (refusals.Format format.NoMemory) = ⊥
-HasCause bytes (refusals.Format fault) =
-    (length bytes ≤ source_limit) × (program_text bytes ≡ Err fault)
-HasCause bytes (refusals.Lex lex.NoMemory) = ⊥
-HasCause bytes (refusals.Lex fault) =
-    (text : List Placed) × HasText bytes text × (tokens_of text ≡ Err fault)
-HasCause bytes (refusals.LeftOut word line) = HasLeftOut bytes (refusals.LeftOut word line)
-HasCause bytes (refusals.Power line) = HasLeftOut bytes (refusals.Power line)
-HasCause bytes (refusals.Parse fault) = IsParseFault bytes fault
+HasCause bytes (refusals.Fault fault) = HasFault bytes fault
 HasCause bytes (refusals.Limit limit) = IsPast bytes limit.kind limit
 HasCause bytes refusals.NoMemory = Unit {0}
 

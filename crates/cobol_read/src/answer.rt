@@ -9,25 +9,24 @@ ghost use Rattle.parser_combinators.specs.Reading.{start};
 ghost use Rattle.cobol_read.specs.declared.refusal.ReadRefusal.TheVariants.{NoMemory as Memory};
 ghost use Rattle.cobol_read.specs.Answer as answers;
 ghost use Rattle.cobol_read.specs.LeftOut as words;
-ghost use Rattle.cobol_read.specs.Limit.{token_limit};
+ghost use Rattle.cob_base.specs.Limit.{max_tokens};
 ghost use Rattle.cobol_read.specs.Program as forms;
 
 use crate::declarations::declarations_of;
 use crate::left_out::first_left_out;
-use crate::limit::{
-    PARAGRAPH_LIMIT, SOURCE_LIMIT, TOKEN_LIMIT, past_paragraphs, past_source, past_tokens,
-};
+use crate::limit::{past_paragraphs, past_source, past_tokens};
 use crate::program::{Declarations, ProgramDraft, program};
-use crate::refusal::ReadRefusal;
+use crate::refusal::{ReadFault, ReadRefusal};
+use cob_base::limit::{MAX_PARAGRAPHS, MAX_SOURCE, MAX_TOKENS, passed};
 use cob_base::{Items, Limit, LimitKind, NoMemory};
-use cob_store::sizes::{storage_limit, storage_of};
+use cob_store::sizes::storage_of;
 use cob_tree::{Entry, FileEntry, ParseFault, Program};
 use cobol_grammar::data_forms::Divisions;
-use cobol_lex::{LexFault, Token, tokens};
+use cobol_lex::{LexError, Token, tokens};
 use declaration_checks::{Declared, declared_of};
-use parser_combinators::faults::{name_fault, passed};
+use parser_combinators::faults::{name_fault, passed_by_one};
 use parser_combinators::{Cursor, Note, Unread, Why};
-use ref_format::{FormatFault, Placed, unfold};
+use ref_format::{FormatError, Placed, unfold};
 use std::alloc::Global;
 
 // ---- behind the syntax
@@ -36,7 +35,7 @@ fn with_few_paragraphs(found: Program) -> Result<Program, ReadRefusal>
     ensures { result ≡ answers.with_few_paragraphs found }
 {
     let count = found.paragraphs.len();
-    if count <= PARAGRAPH_LIMIT {
+    if count <= MAX_PARAGRAPHS {
         Ok(found)
     } else {
         drop(found);
@@ -60,14 +59,14 @@ fn name_refusal(note: Note) -> ReadRefusal
     ensures { result ≡ answers.name_refusal note }
 {
     let fault = name_fault(note.kind, note.position.line);
-    ReadRefusal::Parse(ParseFault::Name(fault))
+    ReadRefusal::Fault(ReadFault::Parse(ParseFault::Name(fault)))
 }
 
 fn stored(alloc: Global, found: Program) -> Result<Program, ReadRefusal>
     ensures { Answers Memory (answers.named None found) result }
 {
     match storage_of(alloc, found.entries.as_slice()) {
-        Ok(count) => within_storage(storage_limit(false, count), found),
+        Ok(count) => within_storage(passed(LimitKind::Storage, false, count), found),
         Err(fault) => {
             drop(found);
             Err(ReadRefusal::from(fault))
@@ -93,10 +92,10 @@ fn stop_refusal(why: Why, line: u32) -> ReadRefusal
     ensures { result ≡ answers.stop_refusal why line }
 {
     match why {
-        Why::Syntax => ReadRefusal::Parse(ParseFault::Syntax(line)),
-        Why::Terms => ReadRefusal::Limit(passed(LimitKind::Terms)),
-        Why::Parens => ReadRefusal::Limit(passed(LimitKind::Parens)),
-        Why::Nesting => ReadRefusal::Limit(passed(LimitKind::Nesting)),
+        Why::Syntax => ReadRefusal::Fault(ReadFault::Parse(ParseFault::Syntax(line))),
+        Why::Terms => ReadRefusal::Limit(passed_by_one(LimitKind::Terms)),
+        Why::Parens => ReadRefusal::Limit(passed_by_one(LimitKind::Parens)),
+        Why::Nesting => ReadRefusal::Limit(passed_by_one(LimitKind::Nesting)),
     }
 }
 
@@ -220,11 +219,11 @@ fn parsed(alloc: Global, tokens: &[Token], known: Declarations) -> Result<Progra
 // ---- before it
 
 fn worded(alloc: Global, tokens: &[Token]) -> Result<Program, ReadRefusal>
-    requires { length tokens.now ≤ token_limit }
+    requires { length tokens.now ≤ max_tokens }
     ensures { Answers Memory (answers.worded (words.first_left_out tokens.now) tokens.now) result }
 {
     match first_left_out(tokens) {
-        Some(refusal) => Err(refusal),
+        Some(fault) => Err(ReadRefusal::Fault(fault)),
         None => parsed(alloc, tokens, declarations_of(alloc, tokens)?),
     }
 }
@@ -232,28 +231,28 @@ fn worded(alloc: Global, tokens: &[Token]) -> Result<Program, ReadRefusal>
 fn with_few_tokens(alloc: Global, tokens: &[Token]) -> Result<Program, ReadRefusal>
     ensures { Answers Memory (answers.with_few_tokens tokens.now) result }
 {
-    if tokens.len() <= TOKEN_LIMIT {
+    if tokens.len() <= MAX_TOKENS {
         worded(alloc, tokens)
     } else {
         Err(ReadRefusal::Limit(past_tokens(tokens.len())))
     }
 }
 
-fn lex_refusal(fault: LexFault) -> ReadRefusal
-    ensures { result ≡ answers.lex_refusal fault }
+fn lex_refusal(error: LexError) -> ReadRefusal
+    ensures { result ≡ answers.lex_refusal error }
 {
-    match fault {
-        LexFault::NoMemory => ReadRefusal::NoMemory,
-        fault => ReadRefusal::Lex(fault),
+    match error {
+        LexError::Fault(fault) => ReadRefusal::Fault(ReadFault::Lex(fault)),
+        LexError::NoMemory => ReadRefusal::NoMemory,
     }
 }
 
-fn format_refusal(fault: FormatFault) -> ReadRefusal
-    ensures { result ≡ answers.format_refusal fault }
+fn format_refusal(error: FormatError) -> ReadRefusal
+    ensures { result ≡ answers.format_refusal error }
 {
-    match fault {
-        FormatFault::NoMemory => ReadRefusal::NoMemory,
-        fault => ReadRefusal::Format(fault),
+    match error {
+        FormatError::Fault(fault) => ReadRefusal::Fault(ReadFault::Format(fault)),
+        FormatError::NoMemory => ReadRefusal::NoMemory,
     }
 }
 
@@ -270,7 +269,7 @@ fn lexed(alloc: Global, text: &[Placed]) -> Result<Program, ReadRefusal>
 pub fn answer_of(alloc: Global, bytes: &[u8]) -> Result<Program, ReadRefusal>
     ensures { Answers Memory (answers.answer_of bytes.now) result }
 {
-    if bytes.len() > SOURCE_LIMIT {
+    if bytes.len() > MAX_SOURCE {
         return Err(ReadRefusal::Limit(past_source()));
     }
     match unfold(alloc, bytes) {

@@ -27,8 +27,7 @@ ghost use Rattle.cobol_read.specs.Reading.{HasCause, IsAnswered, Reads};
 use answer::answer_of;
 use cob_tree::Program;
 pub use laws::source_is_read_one_way;
-pub use limit::SOURCE_LIMIT;
-pub use refusal::ReadRefusal;
+pub use refusal::{ReadFault, ReadRefusal};
 use std::alloc::Global;
 
 /// The program that these bytes are, or why they are none: of several reasons the first in the

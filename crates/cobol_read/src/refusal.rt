@@ -6,10 +6,9 @@ use cobol_lex::LexFault;
 use ref_format::FormatFault;
 use thiserror::Error;
 
-/// Why a source isn't a program of this language. A limit that is passed is always `Limit`, and
-/// want of memory `NoMemory`.
+/// Why a source isn't a program of this language.
 #[derive(Debug, Drop, Error)]
-pub enum ReadRefusal {
+pub enum ReadFault {
     #[error("{0}")]
     Format(FormatFault),
     #[error("{0}")]
@@ -22,7 +21,14 @@ pub enum ReadRefusal {
     Power(u32),
     #[error("{0}")]
     Parse(ParseFault),
-    #[error("past a limit: {0:?}")]
+}
+
+/// Why no program is read.
+#[derive(Debug, Drop, Error)]
+pub enum ReadRefusal {
+    #[error("{0}")]
+    Fault(ReadFault),
+    #[error("{0}")]
     Limit(Limit),
     #[error("out of memory")]
     NoMemory,

@@ -3,10 +3,8 @@
 ghost use Rattle.std.specs.Prelude.{◌≡◌, ◌≢◌, ◌<◌, ◌≤◌, vec_len, ◌^◌, [], ℕ, List, IfOk, false, length, map, replicate, slice_get, take};
 ghost use Rattle.std.specs.declared.option.Option.{Option};
 ghost use Rattle.cob_tree.specs.declared.program.Program.{Program};
-ghost use Rattle.cob_base.specs.Answers.{Makes};
 ghost use Rattle.cob_base.specs.Faults.{Rose};
 ghost use Rattle.cob_base.specs.Sink.{SinkCall, sink_call};
-ghost use Rattle.cob_store.specs.Laying.{layout_of};
 ghost use Rattle.meanings.specs.statements.Does.{declared_in};
 ghost use Rattle.cobol_theory.specs.cobol_meaning.Runs.{Files, begun_in, world_with};
 ghost use Rattle.file_model.specs.Status.{closed_row};
@@ -29,8 +27,8 @@ use crate::machine::{Ending, Machine, Step};
 use cob_act::files::close_left;
 use cob_base::giving::give_all;
 use cob_base::{NoMemory, Sink, Text};
-use cob_store::{Areas, Stack, Store, layout};
-use cob_tree::{Entry, Program};
+use cob_store::{Stack, Store, layout};
+use cob_tree::Program;
 use file_model::operations::Watched;
 use file_model::{Bench, Device, FileTable};
 use std::alloc::Global;
@@ -46,16 +44,6 @@ pub enum Ran {
     /// The sink failed.
     WriteFault,
     NoMemory,
-}
-
-fn areas_of(alloc: Global, entries: &[Entry]) -> Result<Areas, NoMemory>
-    requires { length entries.now < 2 ^ 31 }
-    ensures { Makes (layout_of entries.now) result }
-{
-    match layout(alloc, entries) {
-        Ok(areas) => Ok(areas),
-        Err(_) => Err(NoMemory),
-    }
 }
 
 // No file is open.
@@ -87,7 +75,7 @@ pub fn start<'a>(alloc: Global, program: &'a Program) -> Result<Machine<'a>, NoM
     ensures shut { IfOk result (λ machine. some_open machine.table.rows ≡ false) }
 {
     let table = table_of(alloc, program)?;
-    let areas = areas_of(alloc, program.entries.as_slice())?;
+    let areas = layout(alloc, program.entries.as_slice())?;
     let store = Store::initial(alloc, &areas, program.entries.as_slice())?;
     let areas = with_known(program, areas, &store)?;
     let mut machine = Machine {

@@ -9,10 +9,10 @@ use crate::neg::{neg, prim};
 use crate::test_words::{
     alone_part, and_joined, at_join, close_cond, close_side, joined_whole, or_joined, part_of,
 };
+use cob_base::limit::MAX_PARENS;
 use cob_tree::Cond;
 use cobol_grammar::cond_forms::{Joined, Part, Primary, Read, Setting};
 use cobol_grammar::expr_forms::Side;
-use expr_parse::actions::MAX_PARENS;
 use parser_combinators::{Cursor, Position, Unread, Why};
 use std::alloc::Global;
 use symbol_tables::data_names::NameTable;

@@ -6,13 +6,12 @@ ghost use Rattle.cobol_grammar.specs.expr_forms.Operand as operands;
 ghost use Rattle.cobol_grammar.specs.expr_forms.Levels as knots;
 ghost use Rattle.cobol_grammar.specs.expr_forms.Levels.{inner};
 
-use crate::actions::{
-    MAX_PARENS, at_operand, both_behind, drop_subs, found_fault, ref_side, tally,
-};
+use crate::actions::{at_operand, both_behind, drop_subs, found_fault, ref_side, tally};
 use crate::expression::{expr, in_nested, literal_operand};
 use crate::front::in_suffix;
 use crate::reference::qualifiers;
 use crate::window::in_window;
+use cob_base::limit::MAX_PARENS;
 use cob_base::{Items, Word};
 use cob_tree::Window;
 use cobol_grammar::expr_forms::{Behind, Side, Suffix};

@@ -1,26 +1,26 @@
 //! Sources in the reference format and their texts, worked by hand.
 
 use cob_base::Items;
-use ref_format::{FormatFault, Placed, unfold};
+use ref_format::{FormatError, FormatFault, Placed, unfold};
 use std::alloc::Global;
 use std::test::Fail;
 
-fn unfolded(alloc: Global, source: &[u8]) -> Result<Items<Placed>, FormatFault> {
+fn unfolded(alloc: Global, source: &[u8]) -> Result<Items<Placed>, FormatError> {
     if source.len() >= 1 << 31 {
-        return Err(FormatFault::NoMemory);
+        return Err(FormatError::NoMemory);
     }
     unfold(alloc, source)
 }
 
 /// The text of a source, without the spaces at the end of each of its lines.
-fn text_of(alloc: Global, source: &[u8]) -> Result<Vec<u8>, FormatFault> {
+fn text_of(alloc: Global, source: &[u8]) -> Result<Vec<u8>, FormatError> {
     let text = unfolded(alloc, source)?;
     let mut shown = Vec::new(alloc);
     for placed in text.as_slice() {
         if placed.byte == b'\n' {
             trim(&mut shown);
         }
-        shown.push(placed.byte).map_err(|_| FormatFault::NoMemory)?;
+        shown.push(placed.byte).map_err(|_| FormatError::NoMemory)?;
     }
     trim(&mut shown);
     Ok(shown)
@@ -106,7 +106,8 @@ fn faults(rt: HostRuntime) -> Result<(), Fail> {
     for (source, want) in FAULTS {
         match text_of(rt.alloc(), source) {
             Ok(_) => assert!(rt; false, "{want}"),
-            Err(fault) => assert_eq!(rt; fault, want),
+            Err(FormatError::Fault(fault)) => assert_eq!(rt; fault, want),
+            Err(FormatError::NoMemory) => assert!(rt; false, "out of memory"),
         }
     }
     Ok(())

@@ -1,7 +1,7 @@
 //! Texts and their tokens, by the rules of the tokens.
 
 use cob_base::{Copied, Text};
-use cobol_lex::{Token, TokenKind, tokens};
+use cobol_lex::{LexError, Token, TokenKind, tokens};
 use ref_format::Placed;
 use std::alloc::Global;
 use std::process::Abort;
@@ -61,11 +61,12 @@ fn expect(rt: &impl Abort, alloc: Global, parts: &[&[u8]], wanted: &[u8]) -> Res
     let text = placed(alloc, parts)?;
     let found = match tokens(alloc, &text) {
         Ok(tokens) => shown(alloc, tokens.as_slice())?,
-        Err(fault) => {
+        Err(LexError::Fault(fault)) => {
             let mut found = Text::new(alloc);
             found.add(format!(in alloc; "{fault:?}")?.as_bytes())?;
             found
         }
+        Err(LexError::NoMemory) => Text::new(alloc),
     };
     assert_eq!(rt; found.as_slice(), wanted);
     Ok(())

@@ -6,15 +6,16 @@ ghost use Rattle.control_flow_theory.specs.semantics.Graph as graph;
 ghost use Rattle.control_flow_theory.specs.graph_rules.Loops.{Flagged, Endless, loop_of};
 ghost use Rattle.control_flow_theory.specs.graph_rules.Reduced.{close_graph, at_most_one};
 ghost use Rattle.control_flow_theory.specs.graph_rules.Shapes.{flat};
-ghost use Rattle.branch_tree.specs.Helds.{seen_work};
+ghost use Rattle.graph_rewriting.specs.Helds.{seen_work};
 ghost use Rattle.branch_tree.specs.Trees.{seen_tree};
 ghost use Rattle.tree_rules.specs.Targets.{seen_targets};
 ghost use Rattle.loop_rules.specs.Closed.{Closes, CloseLoop, closed, closed_live, may_loop, turns};
 ghost use Rattle.loop_rules.specs.Forms.{end_by};
 
 use crate::forms::{Form, Turning, close_after, close_before, end_of, form_of, looped};
-use branch_tree::{Added, Label, Leaves, Piece, Test, Tree, Work};
+use branch_tree::{Added, Label, Leaves, Piece, Test, Tree};
 use cob_base::NoMemory;
+use graph_rewriting::Work;
 use std::alloc::Global;
 use tree_rules::{Targets, other_targets};
 

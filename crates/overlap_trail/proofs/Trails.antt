@@ -3,7 +3,7 @@ use Rattle.std.proofs.Common.{◌≡◌, Bool, ◌+◌, ◌<◌, ℕ, zero, suc,
 use Rattle.std.proofs.lemmas.List.{map-append}
 use Rattle.std.proofs.lemmas.Option.{slice_get_read}
 use Rattle.cob_tree.specs.declared.program.Range.{Range}
-use Rattle.program_points.specs.declared.paths.trail.FlowFault.{FlowFault}
+use Rattle.cob_tree.specs.declared.ending.FlowFault.{FlowFault}
 use Rattle.program_points.specs.declared.paths.trail.Move.{Move}
 use Rattle.program_points.specs.declared.paths.trail.Lemma.{Lemma}
 use Rattle.program_points.specs.declared.paths.trail.Hop.{Hop}

@@ -3,7 +3,7 @@ use Rattle.std.specs.Prelude.{ℕ, ◌≡◌, ◌<◌, Bool, false, ◌==◌, Li
 use Rattle.cob_tree.specs.declared.program.Range.{Range}
 use Rattle.program_points.specs.declared.paths.trail.Move.{Move}
 use Rattle.program_points.specs.declared.paths.trail.Hop.{Hop}
-use Rattle.program_points.specs.declared.paths.trail.FlowFault.{FlowFault}
+use Rattle.cob_tree.specs.declared.ending.FlowFault.{FlowFault}
 use Rattle.control_flow_theory.specs.language.Language.{Chooser, Paragraph, Program}
 use Rattle.control_flow_theory.specs.language.Items.{items_of}
 use Rattle.program_points.specs.paths.Step.{at, start}

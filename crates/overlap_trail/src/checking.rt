@@ -10,8 +10,8 @@ ghost use Rattle.overlap_trail.specs.Checking.{aim_of, exits_of, aim_behind, Hop
 
 use crate::judge::Goal;
 use crate::leg::{Leg, one_leg};
-use cob_tree::{Program, Range};
-use program_points::paths::{FlowFault, Hop, Lemma, Move, Trail};
+use cob_tree::{FlowFault, Program, Range};
+use program_points::paths::{Hop, Lemma, Move, Trail};
 
 /// Whether the moves lead from the range's entry to where they are to lead.
 pub fn leads(

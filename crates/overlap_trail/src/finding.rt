@@ -15,5 +15,5 @@ mod once;
 mod route;
 mod short;
 
-pub use crate::finding::finding::{accepted, find};
-pub use crate::finding::once::{all_once, is_in, is_same};
+pub use crate::finding::finding::find;
+pub use crate::finding::once::is_same;

@@ -8,8 +8,8 @@ ghost use Rattle.program_points.specs.declared.paths.trail.Move.TheVariants.{Int
 ghost use Rattle.overlap_trail.specs.Checking.{aim_of, exits_of, top_is, below_is};
 
 use crate::follow::next_move;
-use cob_tree::Range;
-use program_points::paths::{FlowFault, Hop, Move};
+use cob_tree::{FlowFault, Range};
+use program_points::paths::{Hop, Move};
 
 /// What moves are to lead to.
 #[derive(Debug, Clone, Copy)]

@@ -5,30 +5,26 @@ ghost use Rattle.std.specs.Prelude.{◌≡◌};
 ghost use Rattle.parser_combinators.specs.faults.Fault as faults;
 
 use crate::{NameKind, Why};
+use cob_base::limit::past;
 use cob_base::{Limit, LimitKind};
-use cob_tree::{NameFault, ParseFault};
+use cob_tree::{NameFault, ParseError, ParseFault};
 
 /// A limit of reading, passed by one.
-pub fn passed(kind: LimitKind) -> Limit
-    ensures { result ≡ faults.passed kind }
+pub fn passed_by_one(kind: LimitKind) -> Limit
+    ensures { result ≡ faults.passed_by_one kind }
 {
-    Limit {
-        kind,
-        of_result: false,
-        counted: 501,
-        limit: 500,
-    }
+    past(kind, false, kind.most() + 1)
 }
 
 /// Why nothing is read, with the line at which it stops.
-pub fn stop_fault(why: Why, line: u32) -> ParseFault
-    ensures { result ≡ faults.stop_fault why line }
+pub fn stop_error(why: Why, line: u32) -> ParseError
+    ensures { result ≡ faults.stop_error why line }
 {
     match why {
-        Why::Syntax => ParseFault::Syntax(line),
-        Why::Terms => ParseFault::Limit(passed(LimitKind::Terms)),
-        Why::Parens => ParseFault::Limit(passed(LimitKind::Parens)),
-        Why::Nesting => ParseFault::Limit(passed(LimitKind::Nesting)),
+        Why::Syntax => ParseError::Fault(ParseFault::Syntax(line)),
+        Why::Terms => ParseError::Limit(passed_by_one(LimitKind::Terms)),
+        Why::Parens => ParseError::Limit(passed_by_one(LimitKind::Parens)),
+        Why::Nesting => ParseError::Limit(passed_by_one(LimitKind::Nesting)),
     }
 }
 

@@ -1,5 +1,6 @@
 -- The limit, and the summary of a program.
 use Rattle.std.proofs.Common.{◌≡◌, ◌<◌, ◌≤◌, ℕ, Bool, List, length, ap, sym, ◌∙◌, subst, Some, slice_get}
+use Rattle.cob_base.specs.Limit.{max_ranges}
 use Rattle.cob_tree.specs.declared.fault.SplitFault.{SplitFault}
 use Rattle.cob_tree.specs.declared.fault.SplitFault.TheVariants as fault
 use Rattle.cob_tree.specs.declared.program.Program as tree
@@ -15,11 +16,11 @@ use Rattle.pending_returns.specs.declared.facts.Summary.{Summary}
 use Rattle.pending_returns.specs.Summary.{IsSummary, IsLimit, IsWithin, IsPast}
 use Rattle.pending_returns.specs.Tabled.{RangesRise, SummarisesTable}
 
-pub past-limit : (program : tree.Program) (ranges : List Range) (counted : ℕ) (refused : SplitFault) → AreRangesOf program ranges → counted ≡ length ranges → 5000 < counted → IsLimit counted refused → IsPast program refused
+pub past-limit : (program : tree.Program) (ranges : List Range) (counted : ℕ) (refused : SplitFault) → AreRangesOf program ranges → counted ≡ length ranges → max_ranges < counted → IsLimit counted refused → IsPast program refused
 past-limit program ranges counted (fault.Limit limit) are size lt is = (counted, (ranges, are, sym size), lt, is)
 past-limit program ranges counted fault.NoMemory are size lt is = absurd is
 
-pub within-limit : (program : tree.Program) (ranges : List Range) (counted : ℕ) → AreRangesOf program ranges → counted ≡ length ranges → counted ≤ 5000 → IsWithin program
+pub within-limit : (program : tree.Program) (ranges : List Range) (counted : ℕ) → AreRangesOf program ranges → counted ≡ length ranges → counted ≤ max_ranges → IsWithin program
 within-limit program ranges counted are size le = (counted, (ranges, are, sym size), le)
 
 pub out-of-memory : (program : tree.Program) (refused : SplitFault) → refused ≡ fault.NoMemory → IsPast program refused

@@ -1,5 +1,6 @@
 -- What a summary tells of a program.
 use Rattle.std.specs.Prelude.{ℕ, suc, ◌≡◌, ◌<◌, ◌≤◌, ◌↔◌, Bool, true, false, List, length, Some, slice_get}
+use Rattle.cob_base.specs.Limit.{max_ranges, past}
 use Rattle.cob_base.specs.declared.limit.Limit.{Limit}
 use Rattle.cob_base.specs.declared.limit.LimitKind.TheVariants.{Ranges}
 use Rattle.cob_tree.specs.declared.fault.SplitFault.{SplitFault}
@@ -59,11 +60,10 @@ NamesSoMany program counted = (ranges : List Range) × AreRangesOf program range
     × (length ranges ≡ counted)
 
 abbrev pub IsWithin : tree.Program → Type 0
-IsWithin program = (counted : ℕ) × NamesSoMany program counted × (counted ≤ 5000)
+IsWithin program = (counted : ℕ) × NamesSoMany program counted × (counted ≤ max_ranges)
 
 abbrev pub limit_at : ℕ → Limit
-limit_at counted =
-    record { kind = Ranges; of_result = false; counted = counted; limit = 5000 }
+limit_at counted = past Ranges false counted
 
 abbrev pub IsLimit : ℕ → SplitFault → Type 0
 IsLimit counted (fault.Limit limit) = limit ≡ limit_at counted
@@ -71,6 +71,7 @@ IsLimit counted fault.NoMemory = ⊥
 
 -- want of memory, or the limit, where it is passed
 abbrev pub IsPast : tree.Program → SplitFault → Type 0
-IsPast program (fault.Limit limit) = (counted : ℕ) × NamesSoMany program counted × (5000 < counted)
+IsPast program (fault.Limit limit) =
+    (counted : ℕ) × NamesSoMany program counted × (max_ranges < counted)
     × (limit ≡ limit_at counted)
 IsPast program fault.NoMemory = Unit {0}

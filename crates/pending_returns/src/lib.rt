@@ -19,4 +19,4 @@ pub use facts::{RangeFacts, Summary, level_of, levels_of};
 pub use keeping::{kept_facts, ranks_of, renumbered};
 pub use listing::{lists, number_of, rising};
 pub use passing::{mark_owners, marked_owners};
-pub use summary::{RANGES, limit_of, summarise};
+pub use summary::{limit_of, summarise};

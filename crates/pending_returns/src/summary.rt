@@ -1,6 +1,7 @@
 //! The summary of a program.
 
 ghost use Rattle.std.specs.Prelude.{◌≡◌, ◌<◌, ◌≤◌, Some, length, slice_get, IfOk, MatchResult};
+ghost use Rattle.cob_base.specs.Limit.{max_ranges};
 ghost use Rattle.control_flow_theory.specs.language.Control.{control_of};
 ghost use Rattle.program_points.specs.paths.Flow.{main_range};
 ghost use Rattle.program_points.specs.numbering.Kinds.{never_first_of};
@@ -14,15 +15,13 @@ use crate::keeping::{kept_facts, ranks_of};
 use crate::levels::settle;
 use crate::listing::lists;
 use crate::passing::marked_owners;
-use cob_base::{Items, Limit, LimitKind, NoMemory};
+use cob_base::limit::{MAX_RANGES, past};
+use cob_base::{Items, LimitKind, NoMemory};
 use cob_tree::{Program, SplitFault};
 use program_points::perform_ranges::ranges_of;
 use program_points::point_table::Table;
 use program_points::table_building::table_of;
 use std::alloc::Global;
-
-/// The most distinct ranges that the PERFORM statements of a program name, main included.
-pub const RANGES: usize = 5_000;
 
 /// The summary of a program that has these places.
 pub fn summary_of(alloc: Global, table: &Table) -> Result<Summary, NoMemory>
@@ -49,26 +48,21 @@ pub fn summary_of(alloc: Global, table: &Table) -> Result<Summary, NoMemory>
 pub fn limit_of(counted: usize) -> SplitFault
     ensures { IsLimit counted result }
 {
-    SplitFault::Limit(Limit {
-        kind: LimitKind::Ranges,
-        of_result: false,
-        counted: counted as u64,
-        limit: RANGES as u64,
-    })
+    SplitFault::Limit(past(LimitKind::Ranges, false, counted as u64))
 }
 
 /// The summary of a program of at least one paragraph. Limit exactly where its PERFORM statements
-/// name more than `RANGES` distinct ranges, main included.
+/// name more than 5,000 distinct ranges, main included.
 pub fn summarise(alloc: Global, program: &Program) -> Result<Summary, SplitFault>
     requires { 0 < length program.now.paragraphs }
     ensures summary { IfOk result (λ summary. IsSummary (never_first_of program.now.files)
         (control_of program.now) summary) }
-    ensures few { IfOk result (λ summary. length summary.ranges ≤ 5000) }
+    ensures few { IfOk result (λ summary. length summary.ranges ≤ max_ranges) }
     ensures limit { MatchResult result (λ summary. IsWithin program.now)
         (λ fault. IsPast program.now fault) }
 {
     let ranges = ranges_of(alloc, program)?;
-    if ranges.len() > RANGES {
+    if ranges.len() > MAX_RANGES {
         return Err(limit_of(ranges.len()));
     }
     let table = table_of(alloc, program, ranges)?;

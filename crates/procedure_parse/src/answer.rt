@@ -9,10 +9,10 @@ ghost use Rattle.procedure_parse.specs.Answer as answers;
 use crate::drafts::drop_paragraphs;
 use crate::paragraph::division;
 use cob_base::Items;
-use cob_tree::{NameFault, Paragraph, ParseFault};
+use cob_tree::{NameFault, Paragraph, ParseError, ParseFault};
 use cobol_grammar::part_readers::Parts;
 use cobol_lex::Token;
-use parser_combinators::faults::{name_fault, stop_fault};
+use parser_combinators::faults::{name_fault, stop_error};
 use parser_combinators::{Cursor, Note, Unread};
 use std::alloc::Global;
 
@@ -34,13 +34,13 @@ fn first_fault(earlier: Option<NameFault>, noted: Option<Note>) -> Option<NameFa
 /// Where they spell none, the fault tells why and the line of the first token up to which they
 /// begin no division, or of the last token where more are needed. A name fault, which is the one of
 /// the divisions before or else the first here, is answered only where the whole syntax has none.
-pub fn read_division<P: Parts>(
+pub fn parse_procedure<P: Parts>(
     parts: &P,
     alloc: Global,
     tokens: &[Token],
     from: usize,
     earlier: Option<NameFault>,
-) -> Result<Items<Paragraph>, ParseFault>
+) -> Result<Items<Paragraph>, ParseError>
     requires { from ≤ length tokens.now }
     ensures found { IfOk result (λ found.
         answers.Spelled (form (P.parts parts.now)) tokens.now from found None) }
@@ -56,10 +56,10 @@ pub fn read_division<P: Parts>(
             None => Ok(found),
             Some(fault) => {
                 drop_paragraphs(found);
-                Err(ParseFault::Name(fault))
+                Err(ParseError::Fault(ParseFault::Name(fault)))
             }
         },
-        Err(Unread::Stop(why)) => Err(stop_fault(why, cursor.fault_line(tokens))),
-        Err(Unread::NoMemory) => Err(ParseFault::NoMemory),
+        Err(Unread::Stop(why)) => Err(stop_error(why, cursor.fault_line(tokens))),
+        Err(Unread::NoMemory) => Err(ParseError::NoMemory),
     }
 }

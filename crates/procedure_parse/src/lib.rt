@@ -1,9 +1,9 @@
 //! Reads the PROCEDURE DIVISION, over any readers of operands, references, conditions and names
 //! (`Parts`).
 //!
-//! `read_division` gives the paragraphs that a list of tokens spells from a place on, or the first
-//! fault with its line. Hold `specs/Answer` against the forms of `stmt_forms` (ISO 1989:1985,
-//! PROCEDURE DIVISION). `division` reads exactly by the form of its name.
+//! `parse_procedure` gives the paragraphs that a list of tokens spells from a place on, or the
+//! first fault with its line. Hold `specs/Answer` against the forms of `stmt_forms` (ISO
+//! 1989:1985, PROCEDURE DIVISION). `division` reads exactly by the form of its name.
 #![tactic(auto)]
 
 mod answer;
@@ -11,5 +11,5 @@ pub mod drafts;
 mod paragraph;
 pub mod statements;
 
-pub use answer::read_division;
+pub use answer::parse_procedure;
 pub use paragraph::division;

@@ -12,6 +12,7 @@ use crate::drafts::{
     stmt_added,
 };
 use crate::statements::{stmts_from, stmts_with};
+use cob_base::limit::MAX_NESTING;
 use cob_base::{Items, NoMemory, Word};
 use cob_tree::{Paragraph, Sentence, Stmt};
 use cobol_grammar::part_readers::{Parts, at_procedure, at_stmt};
@@ -19,9 +20,6 @@ use cobol_grammar::stmt_forms::{Outline, Scope};
 use parser_combinators::{Cursor, Position, Unread, Why};
 use simple_stmt_parse::verbs::exit_behind;
 use std::alloc::Global;
-
-/// How deep statements may nest.
-const MAX_NESTING: u32 = 500;
 
 #[tactic(auto, unfolding(cobol_grammar::specs::stmt_forms::Paragraph::sentence_closed))]
 fn sentence_closed(cursor: &mut Cursor<'_>, stmts: Items<Stmt>) -> Result<Sentence, Unread>

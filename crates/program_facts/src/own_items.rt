@@ -6,5 +6,7 @@
 mod owning;
 mod statement;
 
-pub use crate::own_items::owning::is_own_test;
+pub use crate::own_items::owning::{
+    is_own_arith, is_own_control, is_own_move, is_own_subject, is_own_test,
+};
 pub use crate::own_items::statement::{is_own_stmt, is_own_stmts};

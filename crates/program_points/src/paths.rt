@@ -10,4 +10,4 @@
 pub mod laws;
 mod trail;
 
-pub use crate::paths::trail::{FlowFault, Hop, Lemma, Move, Trail};
+pub use crate::paths::trail::{Hop, Lemma, Move, Trail};

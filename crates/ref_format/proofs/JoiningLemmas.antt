@@ -1,11 +1,13 @@
 -- The literal at a text's end.
-use Rattle.std.proofs.Common.{◌≡◌, ℕ, zero, suc, ◌+◌, ◌<◌, ◌==◌, ◌||◌, Bool, true, false, cond, List, [], ◌∷◌, ◌++◌, length, take, drop, set, get_or, replicate, arith, append_assoc, reverse, Option, None, Some, Ok, Err, sym, ap, refl, ◌∙◌}
+use Rattle.std.proofs.Common.{◌≡◌, ℕ, zero, suc, ◌+◌, ◌<◌, ◌==◌, ◌||◌, Bool, true, false, cond, List, [], ◌∷◌, ◌++◌, length, take, drop, set, get_or, replicate, arith, append_assoc, reverse, Option, None, Some, Result, Ok, Err, sym, ap, refl, ◌∙◌, subst}
 use Rattle.std.specs.List.{list_any}
 use Rattle.std.proofs.lemmas.List.{reverse-append, reverse-reverse, map-append, take_more, take_more_set, drop-set-lt}
 use Rattle.std.proofs.Math.Seq.{drop-drop}
 use Rattle.std.proofs.lemmas.Bool.Decides.{Decides-eqb}
 use Rattle.ref_format.specs.declared.placed.Placed.{Placed}
 use Rattle.ref_format.specs.declared.fault.FormatFault.{FormatFault}
+use Rattle.ref_format.specs.declared.fault.FormatError.{FormatError}
+use Rattle.ref_format.specs.declared.fault.FormatError.TheVariants.{Fault}
 use Rattle.ref_format.specs.declared.joining.Literal.{Literal}
 use Rattle.ref_format.specs.declared.joining.Literal.TheVariants.{Closed, InQuotes, InApostrophes}
 use Rattle.ref_format.specs.Placed.{placed, bytes_of}
@@ -84,9 +86,12 @@ pub none_of_ok : {A : Type 0} (fault : Option FormatFault) (value answer : A) �
 none_of_ok None value answer e = refl
 none_of_ok (Some found) value answer e = absurd cc
 
-pub some_of_err : {A : Type 0} (fault : Option FormatFault) (value : A) (error : FormatFault) → joined_or fault (Ok value) ≡ Err error → fault ≡ Some error
+pub some_of_err : {A : Type 0} (fault : Option FormatFault) (value : A) (error : FormatError) → joined_or fault (Ok value) ≡ Err error → (found : FormatFault) × (fault ≡ Some found) × (error ≡ Fault found)
 some_of_err None value error e = absurd cc
-some_of_err (Some found) value error e = cc
+some_of_err (Some found) value error e = (found, refl, cc)
+
+pub err_told : {A : Type 0} (meant : Result A FormatError) (fault : FormatFault) (error : FormatError) → meant ≡ Err (Fault fault) → error ≡ Fault fault → meant ≡ Err error
+err_told meant fault error is e = subst (λ f. meant ≡ Err f) (sym e) is
 
 -- ---- bytes that are put over blanks
 

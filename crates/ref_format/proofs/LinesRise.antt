@@ -14,7 +14,7 @@ use Rattle.ref_format.specs.Placed.{placed}
 use Rattle.ref_format.specs.Joining.{literal_at_end, trimmed, continuing, line_end, with_line, fault_of, joined, joined_or, program_text}
 use Rattle.std.specs.List.Sorted.{IsNonDecreasingBy}
 use Rattle.cob_base.proofs.RisingLemmas.{rising-from_pairs}
-use Rattle.ref_format.specs.declared.fault.FormatFault.{FormatFault}
+use Rattle.ref_format.specs.declared.fault.FormatError.{FormatError}
 use Rattle.ref_format.specs.Laws.{LinesRise}
 use Rattle.ref_format.proofs.TextStandsOnKeptLines.{Last, trimmed_cut, front_of_all, All-placed, All-line_end, All-with_line}
 
@@ -96,7 +96,7 @@ rise : (bytes : List ℕ) → IfOk (program_text bytes) Rising
 unfolding program_text kept_lines
 rise bytes = Rising-joined None [] (kept_lines bytes) 1 tt (λ n e. absurd (cc)) (All-nil (λ p. p.line ≤ 1)) (λ i j d less within. absurd (omega (arith, less, within))) (kept_rise 1 [] 1 (map card_of (lines bytes)) (omega arith))
 
-rising_ok : (text : Result (List Placed) FormatFault) → IfOk text Rising → IfOk text (IsNonDecreasingBy (λ p. p.line))
+rising_ok : (text : Result (List Placed) FormatError) → IfOk text Rising → IfOk text (IsNonDecreasingBy (λ p. p.line))
 rising_ok (Ok text) h = rising-from_pairs (λ p. p.line) text h
 rising_ok (Err fault) h = tt
 

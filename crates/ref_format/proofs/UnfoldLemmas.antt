@@ -5,6 +5,8 @@ use Rattle.std.specs.List.{list_any}
 use Rattle.std.specs.Str.Lines.{lines}
 use Rattle.ref_format.specs.declared.placed.Placed.{Placed}
 use Rattle.ref_format.specs.declared.fault.FormatFault.{FormatFault}
+use Rattle.ref_format.specs.declared.fault.FormatError.{FormatError}
+use Rattle.ref_format.specs.declared.fault.FormatError.TheVariants.{Fault}
 use Rattle.ref_format.specs.Column.{card_of}
 use Rattle.ref_format.specs.Entry.{is_division, is_comment_header, entry_goes_on, is_without_text, in_entry}
 use Rattle.ref_format.specs.Line.{Line, kept_behind, kept_lines, line_of}
@@ -25,7 +27,7 @@ kept_behind-by before number (card ∷ cards) =
     ap (λ rest. if out then rest else line_of number card ∷ rest) (kept_behind-by (card ∷ before) (number + 1) cards)
 
 -- what is still to come of the program text
-unfoldable pub text_behind : Bool → Bool → ℕ → Option ℕ → List Placed → List ℕ → Result (List Placed) FormatFault
+unfoldable pub text_behind : Bool → Bool → ℕ → Option ℕ → List Placed → List ℕ → Result (List Placed) FormatError
 text_behind over inside number last text bytes = joined last text (kept_by over inside number (map card_of (lines bytes)))
 
 pub text_behind-all : (bytes : List ℕ) → text_behind false false 1 None [] bytes ≡ program_text bytes
@@ -47,7 +49,7 @@ module _ (over inside now_over now_inside drops : Bool) (number : ℕ) (last : O
   unfolding text_behind
   text_behind-dropped e = turn ∙ rw e refl
 
-  pub text_behind-fault : (fault : FormatFault) → drops ≡ false → fault_of last (literal_at_end text) (line_of number card) ≡ Some fault → text_behind over inside number last text bytes ≡ Err fault
+  pub text_behind-fault : (fault : FormatFault) → drops ≡ false → fault_of last (literal_at_end text) (line_of number card) ≡ Some fault → text_behind over inside number last text bytes ≡ Err (Fault fault)
   text_behind-fault fault e f = turn ∙ rw e (rw f refl)
 
   pub text_behind-kept : drops ≡ false → fault_of last (literal_at_end text) (line_of number card) ≡ None → text_behind over inside number last text bytes ≡ text_behind now_over now_inside (number + 1) (Some number) (with_line last text (line_of number card)) rest

@@ -4,6 +4,8 @@ use Rattle.std.specs.List.{list_any}
 use Rattle.cob_base.specs.Bytes.{line_feed, space, quote, apostrophe}
 use Rattle.ref_format.specs.declared.placed.Placed.{Placed}
 use Rattle.ref_format.specs.declared.fault.FormatFault.{FormatFault}
+use Rattle.ref_format.specs.declared.fault.FormatError.{FormatError}
+use Rattle.ref_format.specs.declared.fault.FormatError.TheVariants.{Fault}
 use Rattle.ref_format.specs.declared.fault.FormatFault.TheVariants.{BadIndicator, BadByte, BadContinuation}
 use Rattle.ref_format.specs.declared.joining.Joining.{Joining}
 use Rattle.ref_format.specs.declared.joining.Literal.{Literal}
@@ -99,20 +101,20 @@ fault_of last literal line =
 -- ---- the text
 
 -- the fault, or else this
-abbrev pub joined_or : {A : Type 0} → Option FormatFault → Result A FormatFault →
-    Result A FormatFault
-joined_or (Some fault) rest = Err fault
+abbrev pub joined_or : {A : Type 0} → Option FormatFault → Result A FormatError →
+    Result A FormatError
+joined_or (Some fault) rest = Err (Fault fault)
 joined_or None rest = rest
 
 -- this text, whose last kept line is `last`, with these lines behind it, or their first fault
-abbrev pub joined : Option ℕ → List Placed → List Line → Result (List Placed) FormatFault
+abbrev pub joined : Option ℕ → List Placed → List Line → Result (List Placed) FormatError
 joined last text [] = Ok text
 joined last text (line ∷ lines) =
     joined_or (fault_of last (literal_at_end text) line)
     (joined (Some line.number) (with_line last text line) lines)
 
 -- the program text of a source, or its first fault
-unfoldable pub program_text : List ℕ → Result (List Placed) FormatFault
+unfoldable pub program_text : List ℕ → Result (List Placed) FormatError
 program_text bytes = joined None [] (kept_lines bytes)
 
 -- ---- the text so far, as the code holds it

@@ -1,11 +1,11 @@
-//! Why a source isn't in the reference format.
+//! What isn't in the reference format, and why a source isn't unfolded.
 
 ghost use Rattle.std.specs.Prelude.{◌≡◌};
 
 use cob_base::NoMemory;
 use thiserror::Error;
 
-/// Why a source isn't in the reference format. The number is that of the line, from 1.
+/// What isn't in the reference format. The number is that of the line, from 1.
 #[derive(Debug, Drop, PartialEq, Eq, Error)]
 pub enum FormatFault {
     /// Column 7 holds none of space, `-`, `*`, `/`, `D` and `d`.
@@ -18,16 +18,23 @@ pub enum FormatFault {
     /// from column 12 on, or not the mark of the literal that it continues.
     #[error("a wrong continuation in line {0}")]
     BadContinuation(u32),
+}
+
+/// Why a source isn't unfolded.
+#[derive(Debug, Drop, PartialEq, Eq, Error)]
+pub enum FormatError {
+    #[error("{0}")]
+    Fault(FormatFault),
     #[error("out of memory")]
     NoMemory,
 }
 
-impl From<NoMemory> for FormatFault {
-    ghost use Rattle.ref_format.specs.declared.fault.FormatFault.TheVariants.{NoMemory as Memory};
+impl From<NoMemory> for FormatError {
+    ghost use Rattle.ref_format.specs.declared.fault.FormatError.TheVariants.{NoMemory as Memory};
 
     ghost from_gives = { λ _ e. e ≡ Memory };
 
-    fn from(_: NoMemory) -> FormatFault {
-        FormatFault::NoMemory
+    fn from(_: NoMemory) -> FormatError {
+        FormatError::NoMemory
     }
 }

@@ -1,10 +1,10 @@
 //! The text of the kept lines.
 
 ghost use Rattle.ref_format.specs.Joining.{has_mark};
-ghost use Rattle.std.specs.Prelude.{◌≡◌, None, Some, OnOk, ◌++◌, [], length};
+ghost use Rattle.std.specs.Prelude.{◌≡◌, None, Some, OnOk, ◌++◌, []};
 
 use crate::column::{behind_spaces, blank, controls};
-use crate::fault::FormatFault;
+use crate::fault::{FormatError, FormatFault};
 use crate::placed::Placed;
 use cob_base::NoMemory;
 use std::alloc::Global;
@@ -94,7 +94,7 @@ impl Joining {
     ghost use Rattle.ref_format.specs.Placed.{placed};
     ghost use Rattle.ref_format.specs.Joining.{IsSound, behind, unspaced_end, line_end, trimmed, continuing};
     ghost use Rattle.ref_format.specs.Joining.{with_line, fault_of, joined_or, is_bad_continuation};
-    ghost use Rattle.ref_format.specs.declared.fault.FormatFault.TheVariants.{NoMemory as Memory};
+    ghost use Rattle.ref_format.specs.declared.fault.FormatError.TheVariants.{NoMemory as Memory};
     ghost use Rattle.ref_format.specs.declared.joining.Literal.TheVariants.{Closed};
 
     pub fn new(alloc: Global) -> Joining
@@ -110,7 +110,7 @@ impl Joining {
     }
 
     /// Takes the next kept line.
-    pub fn add(&mut self, number: u32, card: &[u8; 72]) -> Result<(), FormatFault>
+    pub fn add(&mut self, number: u32, card: &[u8; 72]) -> Result<(), FormatError>
         requires { IsSound self.old }
         ensures sound { OnOk result (IsSound self.new) }
         ensures last { OnOk result (self.new.last ≡ Some number) }
@@ -121,7 +121,7 @@ impl Joining {
             Answers Memory (joined_or fault (Ok tt)) result }
     {
         if let Some(fault) = self.fault(number, card) {
-            return Err(fault);
+            return Err(FormatError::Fault(fault));
         }
         if card[6] == b'-' {
             self.go_on(number, card)?;

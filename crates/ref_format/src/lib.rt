@@ -15,15 +15,15 @@ mod laws;
 mod line;
 mod placed;
 
-ghost use Rattle.std.specs.Prelude.{◌≡◌, ◌<◌, ◌^◌, length};
+ghost use Rattle.std.specs.Prelude.{◌<◌, ◌^◌, length};
 ghost use Rattle.cob_base.specs.Answers.{Answers};
 ghost use Rattle.ref_format.specs.Joining.{program_text};
-ghost use Rattle.ref_format.specs.declared.fault.FormatFault.TheVariants.{NoMemory as Memory};
+ghost use Rattle.ref_format.specs.declared.fault.FormatError.TheVariants.{NoMemory as Memory};
 
 use cob_base::Items;
 use column::card_of_line;
 use entry::Entries;
-pub use fault::FormatFault;
+pub use fault::{FormatError, FormatFault};
 use joining::Joining;
 pub use laws::{lines_rise, plain_lines_are_read, rows_are_read, text_stands_on_kept_lines};
 use line::first_line;
@@ -33,7 +33,7 @@ use std::alloc::Global;
 /// The program text of a source in the reference format, each byte with its line, or the fault of
 /// the first line that isn't in the format. On one line a wrong indicator comes before a control
 /// character, and that before a wrong continuation.
-pub fn unfold(alloc: Global, bytes: &[u8]) -> Result<Items<Placed>, FormatFault>
+pub fn unfold(alloc: Global, bytes: &[u8]) -> Result<Items<Placed>, FormatError>
     requires { length bytes.now < 2 ^ 31 }
     ensures { Answers Memory (program_text bytes.now) result }
 {

@@ -14,8 +14,8 @@ use Rattle.tree_rules.proofs.InlineRows.{graph_with, graph_same}
 use Rattle.tree_rules.proofs.ByLabel.{without_with, first_alone, rising_tail, lowest_is, lowest_none}
 use Rattle.tree_rules.proofs.MoveRows.{both, apart, inline_is, has_inline, tree_inline, count_inline}
 use Rattle.control_flow_theory.proofs.graph_rules_lemmas.shapes.Reducing.{with-other}
-use Rattle.branch_tree.specs.Sounds.{IsSound}
-use Rattle.branch_tree.proofs.NodeRows.{has_with, with_none, without_none, has_not_without, leaves_with, leaves_split}
+use Rattle.graph_rewriting.specs.Sounds.{IsSound}
+use Rattle.graph_rewriting.proofs.NodeRows.{has_with, with_none, without_none, has_not_without, leaves_with, leaves_split}
 use Rattle.loop_rules.specs.Closed.{may_loop}
 use Rattle.region_rewrite.specs.exit_rule.Exits.{may_exit}
 use Rattle.region_rewrite.specs.Candidates.{AllIn, AllInBut, TargetsIn, Grows, Enters, Fixed, Holds, HoldsBut}

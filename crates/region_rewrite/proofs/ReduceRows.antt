@@ -8,7 +8,7 @@ use Rattle.control_flow_theory.specs.graph_rules.Reduced.{Graph, tree_in, has_no
 use Rattle.control_flow_theory.specs.closing.Closes.{none_left_out, has_exits, exits_graph}
 use Rattle.control_flow_theory.specs.closing.Dispatches.{Rising}
 use Rattle.control_flow_theory.specs.closing.Targets.{with_exits}
-use Rattle.branch_tree.proofs.NodeRows.{has_with, rising_with, tree_with}
+use Rattle.graph_rewriting.proofs.NodeRows.{has_with, rising_with, tree_with}
 use Rattle.tree_rules.specs.Joins.{joined_at}
 use Rattle.tree_rules.proofs.LeafRows.{joined_leaves}
 use Rattle.tree_rules.proofs.MoveRows.{both}

@@ -12,7 +12,7 @@ use Rattle.branch_tree.specs.declared.graph.Node as code
 use Rattle.branch_tree.specs.declared.tree.Tree as code_tree
 use Rattle.branch_tree.specs.Graphs.{seen_nodes}
 use Rattle.branch_tree.specs.Trees.{seen_tree, seen_trees}
-use Rattle.branch_tree.proofs.CountRows.{arm_next, arms_end}
+use Rattle.graph_rewriting.proofs.CountRows.{arm_next, arms_end}
 use Rattle.region_rewrite.specs.Candidates.{AllIn, AllInBut, ArmTargetsIn, Grows, TargetsIn}
 
 away : (k q : ℕ) → q ≢ k → is_at (nat_cmp k) q ≡ false

@@ -14,7 +14,8 @@ use Rattle.branch_tree.specs.Trees.{seen_tree, seen_body, seen_end}
 use Rattle.branch_tree.proofs.TreeRows.{seen_tree_is}
 use Rattle.region_rewrite.specs.written_nesting.Nesting.{nesting}
 use Rattle.region_rewrite.specs.declared.shaping.Shaped.{Shaped}
-use Rattle.region_rewrite.specs.Shape.{first_tree, max_nesting, Shapes}
+use Rattle.cob_base.specs.Limit.{max_nesting}
+use Rattle.region_rewrite.specs.Shape.{first_tree, Shapes}
 
 -- the last of one node is that node
 pub one_is : (nodes rest : List code.Node) (node : code.Node) → length nodes ≡ 1 → nodes ≡ rest ++ node ∷ [] →

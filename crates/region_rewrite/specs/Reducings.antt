@@ -1,7 +1,7 @@
 -- A graph while the rules reduce it.
 use Rattle.control_flow_theory.specs.semantics.Graph.{Label}
 use Rattle.control_flow_theory.specs.graph_rules.Reduced.{Graph}
-use Rattle.branch_tree.specs.Helds.{seen_work}
+use Rattle.graph_rewriting.specs.Helds.{seen_work}
 use Rattle.region_rewrite.specs.Candidates.{Holds, HoldsBut}
 use Rattle.region_rewrite.specs.declared.reducing.Reducing.{Reducing}
 

@@ -1,5 +1,6 @@
 -- What becomes of a graph of which one node is left.
-use Rattle.std.specs.Prelude.{ℕ, ◌≡◌, ◌<◌, ◌≤◌, true, List, [], ◌∷◌, map, Result, Ok, Err}
+use Rattle.std.specs.Prelude.{ℕ, ◌≡◌, ◌+◌, ◌<◌, ◌≤◌, true, List, [], ◌∷◌, map, Result, Ok, Err}
+use Rattle.cob_base.specs.Limit.{max_nesting, past}
 use Rattle.cob_base.specs.declared.limit.Limit.{Limit}
 use Rattle.cob_base.specs.declared.limit.LimitKind.TheVariants.{Nesting}
 use Rattle.cob_tree.specs.declared.fault.SplitFault.{SplitFault}
@@ -12,13 +13,8 @@ use Rattle.branch_tree.specs.Trees.{seen_body, seen_end}
 use Rattle.region_rewrite.specs.written_nesting.Nesting.{nesting}
 use Rattle.region_rewrite.specs.declared.shaping.Shaped.{Shaped}
 
--- the most levels of statements in a result, one in the other
-abbrev pub max_nesting : ℕ
-max_nesting = 500
-
 abbrev pub nesting_passed : Limit
-nesting_passed =
-    record { kind = Nesting; of_result = true; counted = 501; limit = max_nesting }
+nesting_passed = past Nesting true (max_nesting + 1)
 
 -- the tree of the first node
 abbrev pub first_tree : List Node → Tree

@@ -3,13 +3,14 @@
 ghost use Rattle.std.specs.Prelude.{◌≡◌, OnOk};
 ghost use Rattle.control_flow_theory.specs.graph_rules.Reduced.{tree_in};
 ghost use Rattle.branch_tree.specs.Trees.{seen_tree, seen_trees};
-ghost use Rattle.branch_tree.specs.Helds.{seen_work};
+ghost use Rattle.graph_rewriting.specs.Helds.{seen_work};
 ghost use Rattle.region_rewrite.specs.Candidates.{AllIn, ArmTargetsIn, Grows, IsLowest, TargetsIn};
 ghost use Rattle.region_rewrite.specs.Rules.{applies};
 
 use crate::exit_rule::may_exit;
-use branch_tree::{End, Label, Tree, Work};
+use branch_tree::{End, Label, Tree};
 use cob_base::NoMemory;
+use graph_rewriting::Work;
 use loop_rules::may_loop;
 use std::collections::BTreeSet;
 use tree_rules::may_inline;

@@ -8,15 +8,16 @@ ghost use Rattle.control_flow_theory.specs.closing.Closes.{IsClosed, closed_grap
 ghost use Rattle.control_flow_theory.specs.graph_rules.Reduced.{has_node, join_graph, reduced, size};
 ghost use Rattle.control_flow_theory.specs.graph_rules.Shapes.{joined};
 ghost use Rattle.branch_tree.specs.Graphs.{seen_graph, seen_nodes};
-ghost use Rattle.branch_tree.specs.Helds.{seen_work};
+ghost use Rattle.graph_rewriting.specs.Helds.{seen_work};
 ghost use Rattle.region_rewrite.specs.Candidates.{Fixed};
 ghost use Rattle.region_rewrite.specs.Reducings.{StateHolds, graph_in};
 
 use crate::exiting::all_steps;
 use crate::joining::{enough_steps, join_graph};
 use crate::reducing::{Reducing, steps};
-use branch_tree::{Graph, Label, Node, Work, drop_work};
+use branch_tree::{Graph, Label, Node};
 use cob_base::NoMemory;
+use graph_rewriting::{Work, drop_work};
 use state_dispatch::dispatch;
 use std::alloc::Global;
 use std::collections::BTreeSet;

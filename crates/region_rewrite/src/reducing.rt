@@ -10,8 +10,9 @@ ghost use Rattle.region_rewrite.specs.Reducings.{StateHolds, StateHoldsBut, grap
 ghost use Rattle.region_rewrite.specs.Steps.{LoopSteps, Steps};
 
 use crate::candidates::{Rule, next, put_node_targets};
-use branch_tree::{Label, Work};
+use branch_tree::Label;
 use cob_base::NoMemory;
+use graph_rewriting::Work;
 use loop_rules::close_loop;
 use std::alloc::Global;
 use std::collections::BTreeSet;

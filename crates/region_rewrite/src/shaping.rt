@@ -10,6 +10,7 @@ ghost use Rattle.region_rewrite.specs.Shape.{Shapes, nesting_passed};
 use crate::ordering::close;
 use crate::written_nesting::body_nesting;
 use branch_tree::{Added, End, Graph, Node, Piece, Tree};
+use cob_base::limit::{MAX_NESTING, past};
 use cob_base::{Limit, LimitKind};
 use cob_tree::SplitFault;
 use std::alloc::Global;
@@ -24,18 +25,10 @@ pub struct Shaped {
     pub added: Vec<Added>,
 }
 
-/// The most levels of statements in a result, one in the other.
-const MAX_NESTING: u32 = 500;
-
 fn nesting_passed() -> Limit
     ensures { result ≡ nesting_passed }
 {
-    Limit {
-        kind: LimitKind::Nesting,
-        of_result: true,
-        counted: MAX_NESTING as u64 + 1,
-        limit: MAX_NESTING as u64,
-    }
+    past(LimitKind::Nesting, true, MAX_NESTING as u64 + 1)
 }
 
 /// What the one node of a graph holds, where it isn't nested too deep.

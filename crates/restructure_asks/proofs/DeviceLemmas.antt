@@ -20,7 +20,8 @@ use Rattle.restructure_asks.specs.declared.texts.Texts.{Texts}
 use Rattle.restructure_asks.specs.Refusal.{line_of, of_refused, refused_status, status_of}
 use Rattle.restructure_asks.specs.Running.{IsDeviceTold, TellsCame, refusal_of, unread}
 use Rattle.restructure_asks.specs.Tool.{EndsOfText}
-use Rattle.restructure_asks.specs.Writing.{Notes, Takes, Writes}
+use Rattle.cob_base.specs.giving.Giving.{Takes}
+use Rattle.restructure_asks.specs.Writing.{Notes, Writes}
 
 -- the line of a device went to the notes
 record Told (r : Refusal) (notes : SinkCall) : Type 0 where

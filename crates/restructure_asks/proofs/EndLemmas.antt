@@ -11,7 +11,8 @@ use Rattle.restructure_core.specs.declared.pipeline.Done.{Done}
 use Rattle.cob_tree.specs.declared.program.Program.{Program}
 use Rattle.cobol_read.specs.declared.refusal.ReadRefusal.TheVariants as rd
 use Rattle.cobol_read.specs.Reading.{Reads}
-use Rattle.cobol_read.specs.Limit.{source_limit, past_source}
+use Rattle.cob_base.specs.Limit.{max_source}
+use Rattle.cobol_read.specs.Limit.{past_source}
 use Rattle.restructure_core.specs.Refusals.{of_read_refusal}
 use Rattle.restructure_core.specs.Answers.{IsUnread, IsFaultySourceBy, IsPastRanges, IsPastLimit, IsRestructured, HasCause}
 use Rattle.restructure_asks.proofs.LengthLemmas.{short-read, short-either}
@@ -26,21 +27,22 @@ use Rattle.restructure_asks.specs.Ask.{reads}
 use Rattle.restructure_asks.specs.Refusal.{status_of, line_of}
 use Rattle.restructure_asks.specs.Answer.{Answer, IsUnasked, IsRefusalOf, IsOfRestructure, IsOfReport, IsOfCheck, IsDue, IsMadeFor, IsAnswered}
 use Rattle.restructure_asks.specs.Reading.{Tells, left_after, IsRead, IsReadWithin, IsReadFault}
-use Rattle.restructure_asks.specs.Writing.{Takes, Keeps, Notes, NotesNoMemory, Writes, IsGiven}
+use Rattle.cob_base.specs.giving.Giving.{Takes, Keeps}
+use Rattle.restructure_asks.specs.Writing.{Notes, NotesNoMemory, Writes, IsGiven}
 use Rattle.restructure_asks.specs.Tool.{EndsOfText, Ends, EndsUnread}
 
 -- What is due to the text that was read is due to the bytes of the source.
 
 -- what was read within the limit is all
-pub whole-read : (bytes text : List ℕ) → text ≡ take (source_limit + 1) bytes → length text ≤ source_limit → text ≡ bytes
+pub whole-read : (bytes text : List ℕ) → text ≡ take (max_source + 1) bytes → length text ≤ max_source → text ≡ bytes
 whole-read bytes text is short =
-    let taken : length text ≡ min (source_limit + 1) (length bytes) = ap length is ∙ length-take (source_limit + 1) bytes in
-    is ∙ take_all (source_limit + 1) bytes (omega (arith, taken, short))
+    let taken : length text ≡ min (max_source + 1) (length bytes) = ap length is ∙ length-take (max_source + 1) bytes in
+    is ∙ take_all (max_source + 1) bytes (omega (arith, taken, short))
 
 -- a text past the limit is of bytes past the limit
-pub long-read : (bytes text : List ℕ) → text ≡ take (source_limit + 1) bytes → source_limit < length text → source_limit < length bytes
+pub long-read : (bytes text : List ℕ) → text ≡ take (max_source + 1) bytes → max_source < length text → max_source < length bytes
 long-read bytes text is long =
-    let taken : length text ≡ min (source_limit + 1) (length bytes) = ap length is ∙ length-take (source_limit + 1) bytes in
+    let taken : length text ≡ min (max_source + 1) (length bytes) = ap length is ∙ length-take (max_source + 1) bytes in
     omega (arith, taken, long)
 
 -- what was made for an ask is due, or the source failed, or memory was wanted
@@ -51,7 +53,7 @@ Came ask source answer = IsAnswered ask source answer
 
 module _ (source : SourceCall) (text : List ℕ) (read : IsRead source text) where
   -- what holds of the text within the limit holds of the bytes
-  short : (P : List ℕ → Type 0) → length text ≤ source_limit → P text → P read.bytes
+  short : (P : List ℕ → Type 0) → length text ≤ max_source → P text → P read.bytes
   short P few h = subst P (whole-read read.bytes text read.front few) h
 
   -- a text that isn't read is of bytes that aren't
@@ -105,7 +107,7 @@ module _ (source : SourceCall) (text : List ℕ) (read : IsRead source text) whe
   check-due (Err r) h = refusal-due r h
 
   -- what is made of the text is due to the bytes
-  made-came : (ask : Option Ask) (answer : Answer) → reads ask ≡ source_limit + 1 → (IsDue ask text answer → IsDue ask read.bytes answer) → IsMadeFor ask text answer → Came ask source answer
+  made-came : (ask : Option Ask) (answer : Answer) → reads ask ≡ max_source + 1 → (IsDue ask text answer → IsDue ask read.bytes answer) → IsMadeFor ask text answer → Came ask source answer
   made-came ask answer all due (inl h) = inl (record {
     bytes = read.bytes;
     told = read.told;
@@ -115,7 +117,7 @@ module _ (source : SourceCall) (text : List ℕ) (read : IsRead source text) whe
   made-came ask answer all due (inr none) = inr (inr (
     none,
     record {
-      count = source_limit + 1;
+      count = max_source + 1;
       within = omega (arith, all);
       left = read.left;
     },
@@ -254,7 +256,7 @@ module _ (ask : Option Ask) (source : SourceCall) (out notes : SinkCall) where
 -- The ends of asks.
 
 -- a source that failed, or for which memory was wanted
-unread-why : (ask : Option Ask) (source : SourceCall) (r : Refusal) → reads ask ≡ source_limit + 1 → (r ≡ refusal.ReadFault) ⊎ (r ≡ refusal.NoMemory) → (r ≡ refusal.ReadFault → Rose source.count source.count_now) → IsReadWithin (source_limit + 1) source → Came ask source (Err r)
+unread-why : (ask : Option Ask) (source : SourceCall) (r : Refusal) → reads ask ≡ max_source + 1 → (r ≡ refusal.ReadFault) ⊎ (r ≡ refusal.NoMemory) → (r ≡ refusal.ReadFault → Rose source.count source.count_now) → IsReadWithin (max_source + 1) source → Came ask source (Err r)
 unread-why ask source r all (inl is) rose within =
     inr (inl (ap Err is, record { asked = omega (arith, all); rose = rose is; read = subst (λ n. IsReadWithin n source) (sym all) within }))
 unread-why ask source r all (inr is) rose within = inr (inr (ap Err is, subst (λ n. IsReadWithin n source) (sym all) within))
@@ -270,7 +272,7 @@ module _ (source : SourceCall) (out notes : SinkCall) (answer : Status) where
     pub check-ends : IsMadeFor (Some Check) text made → Ends (Some Check) source out notes answer
     check-ends h = given-ends (Some Check) source out notes made answer (made-came source text read (Some Check) made refl (check-due source text read made) h) given
 
-  module _ (r : Refusal) (only : (r ≡ refusal.ReadFault) ⊎ (r ≡ refusal.NoMemory)) (rose : r ≡ refusal.ReadFault → Rose source.count source.count_now) (within : IsReadWithin (source_limit + 1) source) (kept : Keeps out) (noted : Notes r notes answer) where
+  module _ (r : Refusal) (only : (r ≡ refusal.ReadFault) ⊎ (r ≡ refusal.NoMemory)) (rose : r ≡ refusal.ReadFault → Rose source.count source.count_now) (within : IsReadWithin (max_source + 1) source) (kept : Keeps out) (noted : Notes r notes answer) where
     pub restructure-unread : Ends (Some Restructure) source out notes answer
     restructure-unread = refusal-ends (Some Restructure) source out notes r answer (unread-why (Some Restructure) source r refl only rose within) kept noted
 

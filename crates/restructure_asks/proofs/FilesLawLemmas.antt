@@ -111,11 +111,7 @@ module _ (steps : ℕ) (bytes : List ℕ) (files : Files) (due : Option Refusal)
   refused-told : (why : ReadRefusal) (notes : SinkCall) (answer : Status) → IsUnread bytes (of_read_refusal why) → TellsCame (Some (unread why)) notes answer → IsOneOf (statuses_over due) answer
   refused-told (rd.Limit limit) notes answer h g = due-noted (refusal.Refused (refused.Limit limit)) notes answer h (inr (inl refl)) g
   refused-told rd.NoMemory notes answer h g = noted-over refusal.NoMemory due notes answer (no-memory-over due) g
-  refused-told (rd.Format fault) notes answer h g = due-noted (refusal.Refused (refused.NotSubset (rd.Format fault))) notes answer h (inr (inl refl)) g
-  refused-told (rd.Lex fault) notes answer h g = due-noted (refusal.Refused (refused.NotSubset (rd.Lex fault))) notes answer h (inr (inl refl)) g
-  refused-told (rd.LeftOut word line) notes answer h g = due-noted (refusal.Refused (refused.NotSubset (rd.LeftOut word line))) notes answer h (inr (inl refl)) g
-  refused-told (rd.Power line) notes answer h g = due-noted (refusal.Refused (refused.NotSubset (rd.Power line))) notes answer h (inr (inl refl)) g
-  refused-told (rd.Parse fault) notes answer h g = due-noted (refusal.Refused (refused.NotSubset (rd.Parse fault))) notes answer h (inr (inl refl)) g
+  refused-told (rd.Fault fault) notes answer h g = due-noted (refusal.Refused (refused.NotSubset fault)) notes answer h (inr (inl refl)) g
 
   module _ (old new : List desk.Seen) (tells : TellFiles old files) where
     ends-in : (program : Program) (end : Ending) (out : SinkCall) → ComesOver bytes steps out old new (came.Ran program (ran.Ended end)) → EndsOnFiles bytes steps files program end

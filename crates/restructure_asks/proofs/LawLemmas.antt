@@ -5,7 +5,7 @@ use Rattle.std.proofs.Math.ListN.{drop_of_length-le}
 use Rattle.cob_base.specs.Source.{SourceCall}
 use Rattle.cob_base.specs.Sink.{SinkCall}
 use Rattle.cob_tree.specs.declared.program.Program.{Program}
-use Rattle.cobol_read.specs.Limit.{source_limit}
+use Rattle.cob_base.specs.Limit.{max_source}
 use Rattle.procedure_split.specs.report.Lines.{report_text}
 use Rattle.restructure_core.specs.declared.fault.Refused.{Refused}
 use Rattle.restructure_core.specs.declared.fault.Refused.TheVariants as refused
@@ -330,4 +330,4 @@ generated-comes n source out notes status.Budget h = absurd h
 generated-comes n source out notes status.NoMemory h = inr (inr (inl refl))
 
 pub all-read : WithinLimitAllIsRead
-all-read bytes within = ap Some (drop_of_length-le bytes (let few : length bytes ≤ source_limit + 1 = omega (arith, within) in few))
+all-read bytes within = ap Some (drop_of_length-le bytes (let few : length bytes ≤ max_source + 1 = omega (arith, within) in few))

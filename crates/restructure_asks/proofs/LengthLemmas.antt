@@ -7,17 +7,18 @@ use Rattle.cob_base.specs.declared.limit.LimitKind.TheVariants as limits
 use Rattle.cob_tree.specs.declared.program.Program.{Program}
 use Rattle.cob_tree.specs.declared.fault.ParseFault.{ParseFault}
 use Rattle.cob_tree.specs.declared.fault.ParseFault.TheVariants as parse
-use Rattle.ref_format.specs.declared.fault.FormatFault.TheVariants as format
-use Rattle.cobol_lex.specs.declared.fault.LexFault.TheVariants as lex
 use Rattle.cobol_lex.specs.declared.token.Token.{Token}
 use Rattle.cobol_read.specs.declared.refusal.ReadRefusal.{ReadRefusal}
 use Rattle.cobol_read.specs.declared.refusal.ReadRefusal.TheVariants as read
-use Rattle.cobol_read.specs.Limit.{source_limit, past_source}
-use Rattle.cobol_read.specs.Reading.{Reads, HasSyntax, HasTokens, HasText, HasWords, IsPast, IsParseFault, HasCause}
+use Rattle.cobol_read.specs.declared.refusal.ReadFault.{ReadFault}
+use Rattle.cobol_read.specs.declared.refusal.ReadFault.TheVariants as faults
+use Rattle.cob_base.specs.Limit.{max_source}
+use Rattle.cobol_read.specs.Limit.{past_source}
+use Rattle.cobol_read.specs.Reading.{Reads, HasSyntax, HasTokens, HasText, HasWords, IsPast, IsParseFault, HasFault, HasCause}
 
 module _ (bytes : List ℕ) where
   abbrev Short : Type 0
-  Short = length bytes ≤ source_limit
+  Short = length bytes ≤ max_source
 
   short-text : {text : _} → HasText bytes text → Short
   short-text h = h.within
@@ -38,12 +39,10 @@ module _ (bytes : List ℕ) where
   short-parse : (fault : ParseFault) → IsParseFault bytes fault → Short
   short-parse (parse.Syntax line) h = short-words h.0 h.2
   short-parse (parse.Name fault) h = short-syntax h.0 h.2
-  short-parse (parse.Limit limit) h = absurd h
-  short-parse parse.NoMemory h = absurd h
 
   -- bytes past the limit on the source are refused for it
   abbrev Long : ReadRefusal → Type 0
-  Long why = (why ≡ read.Limit past_source) × (source_limit < length bytes)
+  Long why = (why ≡ read.Limit past_source) × (max_source < length bytes)
 
   past-either : (kind : LimitKind) (limit : Limit) → IsPast bytes kind limit → Short ⊎ Long (read.Limit limit)
   past-either limits.Source limit h = inr (ap read.Limit h.1, h.0)
@@ -57,18 +56,14 @@ module _ (bytes : List ℕ) where
   past-either limits.Nodes limit h = absurd h
   past-either limits.Bytes limit h = absurd h
 
+  short-fault : (fault : ReadFault) → HasFault bytes fault → Short
+  short-fault (faults.Format fault) h = h.0
+  short-fault (faults.Lex fault) h = short-text h.1
+  short-fault (faults.LeftOut word line) h = short-tokens h.0 h.1.has_tokens
+  short-fault (faults.Power line) h = short-tokens h.0 h.1.has_tokens
+  short-fault (faults.Parse fault) h = short-parse fault h
+
   pub short-either : (why : ReadRefusal) → why ≢ read.NoMemory → HasCause bytes why → Short ⊎ Long why
-  short-either (read.Format format.NoMemory) some h = absurd h
-  short-either (read.Format (format.BadIndicator line)) some h = inl h.0
-  short-either (read.Format (format.BadByte line)) some h = inl h.0
-  short-either (read.Format (format.BadContinuation line)) some h = inl h.0
-  short-either (read.Lex lex.NoMemory) some h = absurd h
-  short-either (read.Lex (lex.OpenLiteral line)) some h = inl (short-text h.1)
-  short-either (read.Lex (lex.BadWord line)) some h = inl (short-text h.1)
-  short-either (read.Lex (lex.BadNumber line)) some h = inl (short-text h.1)
-  short-either (read.Lex (lex.TooManyDigits line)) some h = inl (short-text h.1)
-  short-either (read.LeftOut word line) some h = inl (short-tokens h.0 h.1.has_tokens)
-  short-either (read.Power line) some h = inl (short-tokens h.0 h.1.has_tokens)
-  short-either (read.Parse fault) some h = inl (short-parse fault h)
+  short-either (read.Fault fault) some h = inl (short-fault fault h)
   short-either (read.Limit limit) some h = past-either limit.kind limit h
   short-either read.NoMemory some h = absurd (some refl)

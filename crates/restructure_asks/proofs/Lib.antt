@@ -3,7 +3,7 @@
 pub mod WordsLemmas
 -- what was read piece by piece
 pub mod ReadingLemmas
--- what was given piece by piece
+-- what goes to the notes, and what is written
 pub mod WritingLemmas
 -- how long the bytes are that are read, or refused
 pub mod LengthLemmas

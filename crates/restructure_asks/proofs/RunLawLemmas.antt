@@ -219,11 +219,7 @@ module _ (steps : ℕ) (bytes : List ℕ) (due : Option Refusal) (is_due : IsRun
   refused-told : (why : ReadRefusal) (notes : SinkCall) (answer : Status) → IsUnread bytes (of_read_refusal why) → TellsCame (Some (unread why)) notes answer → IsOneOf (statuses_of_run due) answer
   refused-told (rd.Limit limit) notes answer h g = due-noted (refusal.Refused (refused.Limit limit)) notes answer h (inl refl) g
   refused-told rd.NoMemory notes answer h g = noted refusal.NoMemory due notes answer (no-memory-comes due) g
-  refused-told (rd.Format fault) notes answer h g = due-noted (refusal.Refused (refused.NotSubset (rd.Format fault))) notes answer h (inl refl) g
-  refused-told (rd.Lex fault) notes answer h g = due-noted (refusal.Refused (refused.NotSubset (rd.Lex fault))) notes answer h (inl refl) g
-  refused-told (rd.LeftOut word line) notes answer h g = due-noted (refusal.Refused (refused.NotSubset (rd.LeftOut word line))) notes answer h (inl refl) g
-  refused-told (rd.Power line) notes answer h g = due-noted (refusal.Refused (refused.NotSubset (rd.Power line))) notes answer h (inl refl) g
-  refused-told (rd.Parse fault) notes answer h g = due-noted (refusal.Refused (refused.NotSubset (rd.Parse fault))) notes answer h (inl refl) g
+  refused-told (rd.Fault fault) notes answer h g = due-noted (refusal.Refused (refused.NotSubset fault)) notes answer h (inl refl) g
 
   came-told : (c : Came) (out notes : SinkCall) (answer : Status) → Comes bytes steps out c → TellsCame (refusal_of steps c) notes answer → IsOneOf (statuses_of_run due) answer
   came-told (came.Ran program (ran.Ended ending.Stopped)) out notes answer h g =

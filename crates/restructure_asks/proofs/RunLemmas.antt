@@ -6,11 +6,12 @@ use Rattle.cob_base.specs.Source.{SourceCall}
 use Rattle.cob_base.specs.Sink.{SinkCall}
 use Rattle.cobol_read.specs.declared.refusal.ReadRefusal.{ReadRefusal}
 use Rattle.cobol_read.specs.declared.refusal.ReadRefusal.TheVariants as rd
-use Rattle.cobol_read.specs.Limit.{source_limit, past_source}
+use Rattle.cob_base.specs.Limit.{max_source}
+use Rattle.cobol_read.specs.Limit.{past_source}
 use Rattle.restructure_core.specs.declared.run.Came.{Came}
 use Rattle.restructure_core.specs.declared.run.Came.TheVariants as came
 use Rattle.file_model.specs.operations.Seen.{Seen}
-use Rattle.restructure_core.specs.run.Answers.{Comes, ComesOver, IsWriteFault, Keeps as Kept}
+use Rattle.restructure_core.specs.run.Answers.{Comes, ComesOver, IsWriteFault}
 use Rattle.restructure_asks.proofs.LengthLemmas.{short-read, short-either}
 use Rattle.restructure_asks.proofs.EndLemmas.{whole-read, long-read}
 use Rattle.restructure_asks.specs.declared.refusal.Refusal.{Refusal}
@@ -19,17 +20,18 @@ use Rattle.restructure_asks.specs.declared.status.Status.{Status}
 use Rattle.restructure_asks.specs.declared.status.Status.TheVariants as status
 use Rattle.restructure_asks.specs.Reading.{IsRead, IsReadWithin, IsReadFault}
 use Rattle.restructure_asks.specs.Running.{IsRun, EndsOfRun, EndsOfRunWithFiles, TellsCame, refusal_of}
-use Rattle.restructure_asks.specs.Writing.{Keeps, Notes}
+use Rattle.cob_base.specs.giving.Giving.{Keeps}
+use Rattle.restructure_asks.specs.Writing.{Notes}
 
 -- What came of the text that was read came of the bytes of the source.
 module _ (steps : ℕ) (source : SourceCall) (out : SinkCall) (text : List ℕ) (read : IsRead source text) where
   run-of : (c : Came) → Comes read.bytes steps out c → IsRun steps source out c
   run-of c h = record { bytes = read.bytes; told = read.told; comes = h; left = read.left }
 
-  short : (c : Came) → length text ≤ source_limit → Comes text steps out c → IsRun steps source out c
+  short : (c : Came) → length text ≤ max_source → Comes text steps out c → IsRun steps source out c
   short c few h = run-of c (subst (λ b. Comes b steps out c) (whole-read read.bytes text read.front few) h)
 
-  long : (why : ReadRefusal) → why ≡ rd.Limit past_source → source_limit < length text → why ≢ rd.NoMemory → Kept out → IsRun steps source out (came.Refused why)
+  long : (why : ReadRefusal) → why ≡ rd.Limit past_source → max_source < length text → why ≢ rd.NoMemory → Keeps out → IsRun steps source out (came.Refused why)
   long why is past some kept = subst (λ w. IsRun steps source out (came.Refused w)) (sym is) (run-of (came.Refused (rd.Limit past_source)) ((long-read read.bytes text read.front past, refl), (λ e. cc), kept))
 
   pub was-run : (c : Came) → Comes text steps out c → IsRun steps source out c
@@ -58,9 +60,9 @@ module _ (steps : ℕ) (source : SourceCall) (out : SinkCall) (text : List ℕ) 
       inl (record { told = record { came = came.NoMemory; run = was-run came.NoMemory h; told = told; fault = fault }; over = tt })
 
 -- a source that failed, or for which memory was wanted, wasn't run
-pub unrun : (steps : ℕ) (source : SourceCall) (out notes : SinkCall) (r : Refusal) (answer : Status) → (r ≡ refusal.ReadFault) ⊎ (r ≡ refusal.NoMemory) → (r ≡ refusal.ReadFault → Rose source.count source.count_now) → IsReadWithin (source_limit + 1) source → Keeps out → Notes r notes answer → EndsOfRun steps source out notes answer
+pub unrun : (steps : ℕ) (source : SourceCall) (out notes : SinkCall) (r : Refusal) (answer : Status) → (r ≡ refusal.ReadFault) ⊎ (r ≡ refusal.NoMemory) → (r ≡ refusal.ReadFault → Rose source.count source.count_now) → IsReadWithin (max_source + 1) source → Keeps out → Notes r notes answer → EndsOfRun steps source out notes answer
 unrun steps source out notes r answer which rose within kept noted = inr (record { refusal = r; why = why which; kept = kept; noted = noted }) where
-  why : (r ≡ refusal.ReadFault) ⊎ (r ≡ refusal.NoMemory) → (r ≡ refusal.ReadFault) × IsReadFault (source_limit + 1) source ⊎ (r ≡ refusal.NoMemory) × IsReadWithin (source_limit + 1) source
+  why : (r ≡ refusal.ReadFault) ⊎ (r ≡ refusal.NoMemory) → (r ≡ refusal.ReadFault) × IsReadFault (max_source + 1) source ⊎ (r ≡ refusal.NoMemory) × IsReadWithin (max_source + 1) source
   why (inl is) = inl (is, record { asked = omega arith; rose = rose is; read = within })
   why (inr is) = inr (is, within)
 

@@ -2,7 +2,7 @@
 use Rattle.std.specs.Prelude.{ℕ, ◌≤◌, ◌+◌, nat_lt, if◌then◌else◌, Bool, true, false, List, [], ◌∷◌, Option, Some, None, option_map, option_and_then, codes}
 use Rattle.std.specs.Str.{bytes_eq}
 use Rattle.cob_tree.specs.Digits.{digits_value}
-use Rattle.cobol_read.specs.Limit.{source_limit}
+use Rattle.cob_base.specs.Limit.{max_source}
 use Rattle.restructure_asks.specs.declared.ask.Ask.{Ask}
 use Rattle.restructure_asks.specs.declared.ask.Ask.TheVariants.{Restructure, Report, Check, Run, Generate, Trial}
 
@@ -80,9 +80,9 @@ is_run _ = false
 -- how many bytes of the source are read: to its end, or to the first byte past the limit
 abbrev pub reads : Option Ask → ℕ
 reads None = 0
-reads (Some Restructure) = source_limit + 1
-reads (Some Report) = source_limit + 1
-reads (Some Check) = source_limit + 1
-reads (Some (Run steps)) = source_limit + 1
+reads (Some Restructure) = max_source + 1
+reads (Some Report) = max_source + 1
+reads (Some Check) = max_source + 1
+reads (Some (Run steps)) = max_source + 1
 reads (Some (Generate n)) = 0
 reads (Some (Trial n)) = 0

@@ -1,5 +1,5 @@
 -- What isn't in the subset: the kind of each fault of reading, and its line.
-use Rattle.std.specs.Prelude.{ℕ, List, [], ◌++◌, codes}
+use Rattle.std.specs.Prelude.{ℕ, List, ◌++◌, codes}
 use Rattle.std.specs.Fmt.{decimal}
 use Rattle.cob_tree.specs.declared.fault.NameFault.{NameFault}
 use Rattle.cob_tree.specs.declared.fault.NameFault.TheVariants as name
@@ -9,27 +9,23 @@ use Rattle.ref_format.specs.declared.fault.FormatFault.{FormatFault}
 use Rattle.ref_format.specs.declared.fault.FormatFault.TheVariants as format
 use Rattle.cobol_lex.specs.declared.fault.LexFault.{LexFault}
 use Rattle.cobol_lex.specs.declared.fault.LexFault.TheVariants as lex
-use Rattle.cobol_read.specs.declared.refusal.ReadRefusal.{ReadRefusal}
-use Rattle.cobol_read.specs.declared.refusal.ReadRefusal.TheVariants as read
+use Rattle.cobol_read.specs.declared.refusal.ReadFault.{ReadFault}
+use Rattle.cobol_read.specs.declared.refusal.ReadFault.TheVariants as read
 
 -- a kind at a line of the source
 abbrev pub at_line : (kind : List ℕ) → (line : ℕ) → List ℕ
 at_line kind line = kind ++ codes " LINE " ++ decimal line
 
--- Want of memory and limits have refusals of their own, and no kind here.
-
 abbrev pub format_kind : FormatFault → List ℕ
 format_kind (format.BadIndicator line) = at_line (codes "BAD-INDICATOR") line
 format_kind (format.BadByte line) = at_line (codes "BAD-BYTE") line
 format_kind (format.BadContinuation line) = at_line (codes "BAD-CONTINUATION") line
-format_kind format.NoMemory = []
 
 abbrev pub lex_kind : LexFault → List ℕ
 lex_kind (lex.OpenLiteral line) = at_line (codes "OPEN-LITERAL") line
 lex_kind (lex.BadWord line) = at_line (codes "BAD-WORD") line
 lex_kind (lex.BadNumber line) = at_line (codes "BAD-NUMBER") line
 lex_kind (lex.TooManyDigits line) = at_line (codes "TOO-MANY-DIGITS") line
-lex_kind lex.NoMemory = []
 
 abbrev pub name_kind : NameFault → List ℕ
 name_kind (name.Duplicate line) = at_line (codes "DUPLICATE") line
@@ -40,19 +36,14 @@ name_kind (name.Picture line) = at_line (codes "PICTURE") line
 name_kind (name.Redefines line) = at_line (codes "REDEFINES") line
 name_kind (name.Value line) = at_line (codes "VALUE") line
 name_kind (name.Usage line) = at_line (codes "USAGE") line
-name_kind name.NoMemory = []
 
 abbrev pub parse_kind : ParseFault → List ℕ
 parse_kind (parse.Syntax line) = at_line (codes "SYNTAX") line
 parse_kind (parse.Name fault) = name_kind fault
-parse_kind (parse.Limit limit) = []
-parse_kind parse.NoMemory = []
 
-abbrev pub kind_at : ReadRefusal → List ℕ
+abbrev pub kind_at : ReadFault → List ℕ
 kind_at (read.Format fault) = format_kind fault
 kind_at (read.Lex fault) = lex_kind fault
 kind_at (read.LeftOut word line) = at_line (codes "LEFT-OUT " ++ word) line
 kind_at (read.Power line) = at_line (codes "LEFT-OUT **") line
 kind_at (read.Parse fault) = parse_kind fault
-kind_at (read.Limit limit) = []
-kind_at read.NoMemory = []

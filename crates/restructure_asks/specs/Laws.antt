@@ -7,7 +7,7 @@ use Rattle.program_points.specs.declared.paths.trail.Trail.{Trail}
 use Rattle.file_model.specs.operations.Seen.{Seen}
 use Rattle.cobol_theory.specs.cobol_meaning.Runs.{Files}
 use Rattle.cobol_run.specs.Over.{TellFiles}
-use Rattle.cobol_read.specs.Limit.{source_limit}
+use Rattle.cob_base.specs.Limit.{max_source}
 use Rattle.restructure_core.specs.declared.fault.Refused.TheVariants as refused
 use Rattle.restructure_core.specs.Answers.{IsAccepted, IsFaultySource, IsResultText}
 use Rattle.restructure_asks.specs.declared.ask.Ask.{Ask}
@@ -161,7 +161,7 @@ GeneratedComes =
 -- of bytes within the limit nothing is left
 abbrev pub WithinLimitAllIsRead : Type 0
 WithinLimitAllIsRead =
-    (bytes : List ℕ) → length bytes ≤ source_limit →
+    (bytes : List ℕ) → length bytes ≤ max_source →
     left_after (reads (Some Restructure)) (Some bytes) ≡ Some []
 
 -- where a source tells the text of some program that was restructured, a call to restructure it is

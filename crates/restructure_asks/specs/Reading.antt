@@ -2,7 +2,7 @@
 use Rattle.std.specs.Prelude.{ℕ, ◌≡◌, ◌+◌, ◌<◌, ◌≤◌, List, take, drop, Option, Some, None}
 use Rattle.cob_base.specs.Faults.{Rose}
 use Rattle.cob_base.specs.Source.{SourceCall}
-use Rattle.cobol_read.specs.Limit.{source_limit}
+use Rattle.cob_base.specs.Limit.{max_source}
 
 -- these are the bytes, where they are told
 abbrev pub Tells : Option (List ℕ) → List ℕ → Type 0
@@ -18,8 +18,8 @@ left_after n (Some bytes) = Some (drop n bytes)
 pub record IsRead (source : SourceCall) (text : List ℕ) : Type 0 where
   pub bytes : List ℕ
   pub told : Tells source.told bytes
-  pub front : text ≡ take (source_limit + 1) bytes
-  pub left : source.left ≡ left_after (source_limit + 1) source.told
+  pub front : text ≡ take (max_source + 1) bytes
+  pub left : source.left ≡ left_after (max_source + 1) source.told
 
 -- at most so many bytes were read
 pub record IsReadWithin (most : ℕ) (source : SourceCall) : Type 0 where

@@ -5,13 +5,9 @@ use Rattle.cob_base.specs.Bytes.{line_feed}
 use Rattle.cob_base.specs.Limit.{limit_text}
 use Rattle.cob_tree.specs.declared.ending.Abend.{Abend}
 use Rattle.cob_tree.specs.declared.ending.Abend.TheVariants as abends
-use Rattle.cob_tree.specs.declared.ending.FlowFault.{FlowFault}
-use Rattle.cob_tree.specs.declared.ending.FlowFault.TheVariants as flow
-use Rattle.program_points.specs.declared.paths.trail.FlowFault as path
-use Rattle.program_points.specs.declared.paths.trail.FlowFault.TheVariants as paths
 use Rattle.restructure_core.specs.declared.fault.Refused.{Refused}
 use Rattle.restructure_core.specs.declared.fault.Refused.TheVariants as refused
-use Rattle.cobol_read.specs.declared.refusal.ReadRefusal.{ReadRefusal}
+use Rattle.cobol_read.specs.declared.refusal.ReadFault.{ReadFault}
 use Rattle.overlap_trail.specs.notes.Trail.{fault_text, trail_text}
 use Rattle.restructure_asks.specs.Kind.{kind_at}
 use Rattle.restructure_asks.specs.declared.status.Status.{Status}
@@ -43,7 +39,7 @@ status_of refusal.ReadFault = status.ReadFault
 status_of refusal.WriteFault = status.WriteFault
 status_of refusal.NoMemory = status.NoMemory
 
-abbrev pub not_subset_text : ReadRefusal → List ℕ
+abbrev pub not_subset_text : ReadFault → List ℕ
 not_subset_text why = codes "NOT SUBSET " ++ kind_at why
 
 abbrev pub refused_text : Refused → List ℕ
@@ -51,11 +47,6 @@ refused_text (refused.NotSubset why) = not_subset_text why
 refused_text (refused.Flow program trail) = trail_text program.paragraphs trail
 refused_text (refused.Limit limit) = limit_text limit
 refused_text refused.NoMemory = codes "NO MEMORY"
-
--- the fault of flow that a trail would show
-abbrev pub fault_of : FlowFault → path.FlowFault
-fault_of (flow.Overlap paragraph) = paths.Overlap paragraph
-fault_of (flow.Reentry paragraph) = paths.Reentry paragraph
 
 abbrev pub abend_text : Abend → List ℕ
 abend_text abends.BadDigits = codes "ABEND BAD-DIGITS"
@@ -68,7 +59,7 @@ device_text name = codes "DEVICE FAULT " ++ name
 abbrev pub refusal_text : Refusal → List ℕ
 refusal_text refusal.Usage = codes "USAGE"
 refusal_text (refusal.Refused refused) = refused_text refused
-refusal_text (refusal.Fault program fault) = fault_text program.paragraphs (fault_of fault)
+refusal_text (refusal.Fault program fault) = fault_text program.paragraphs fault
 refusal_text (refusal.Abend abend) = abend_text abend
 refusal_text (refusal.Budget steps) = codes "BUDGET " ++ decimal steps
 refusal_text (refusal.Device name) = device_text name

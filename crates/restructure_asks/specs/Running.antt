@@ -10,7 +10,7 @@ use Rattle.control_flow_theory.specs.semantics.Outcome.{Standing}
 use Rattle.cobol_theory.specs.cobol_meaning.Runs.{Files, source_run}
 use Rattle.cobol_read.specs.declared.refusal.ReadRefusal.{ReadRefusal}
 use Rattle.cobol_read.specs.Reading.{Reads}
-use Rattle.cobol_read.specs.Limit.{source_limit}
+use Rattle.cob_base.specs.Limit.{max_source}
 use Rattle.cobol_run.specs.declared.machine.Ending.{Ending}
 use Rattle.cobol_run.specs.declared.machine.Ending.TheVariants as ending
 use Rattle.cobol_run.specs.declared.running.Ran.{Ran}
@@ -29,7 +29,8 @@ use Rattle.restructure_asks.specs.declared.status.Status.{Status}
 use Rattle.restructure_asks.specs.declared.status.Status.TheVariants as status
 use Rattle.restructure_asks.specs.Reading.{Tells, left_after, IsReadWithin, IsReadFault}
 use Rattle.restructure_asks.specs.Refusal.{line_of, of_refused}
-use Rattle.restructure_asks.specs.Writing.{Takes, Keeps, Notes, NotesNoMemory}
+use Rattle.cob_base.specs.giving.Giving.{Takes, Keeps}
+use Rattle.restructure_asks.specs.Writing.{Notes, NotesNoMemory}
 
 -- the refusal of a source that isn't read
 abbrev pub unread : ReadRefusal → Refusal
@@ -123,7 +124,7 @@ pub record IsRun (steps : ℕ) (source : SourceCall) (out : SinkCall) (came : Ca
   pub bytes : List ℕ
   pub told : Tells source.told bytes
   pub comes : Comes bytes steps out came
-  pub left : source.left ≡ left_after (source_limit + 1) source.told
+  pub left : source.left ≡ left_after (max_source + 1) source.told
 
 -- the source was run, and what came of it is told; at a write fault the sink failed
 pub record IsRunTold (steps : ℕ) (source : SourceCall) (out notes : SinkCall) (answer : Status)
@@ -136,8 +137,8 @@ pub record IsRunTold (steps : ℕ) (source : SourceCall) (out notes : SinkCall) 
 -- the source failed, or memory was wanted before anything ran, which was noted
 pub record IsUnrun (source : SourceCall) (out notes : SinkCall) (answer : Status) : Type 0 where
   pub refusal : Refusal
-  pub why : (refusal ≡ refusals.ReadFault) × IsReadFault (source_limit + 1) source
-      ⊎ (refusal ≡ refusals.NoMemory) × IsReadWithin (source_limit + 1) source
+  pub why : (refusal ≡ refusals.ReadFault) × IsReadFault (max_source + 1) source
+      ⊎ (refusal ≡ refusals.NoMemory) × IsReadWithin (max_source + 1) source
   pub kept : Keeps out
   pub noted : Notes refusal notes answer
 

@@ -15,7 +15,8 @@ use Rattle.restructure_asks.specs.Answer.{IsAnswered}
 use Rattle.restructure_asks.specs.Reading.{IsReadWithin, IsReadFault}
 use Rattle.restructure_asks.specs.Running.{EndsOfRun, EndsOfRunWithFiles}
 use Rattle.restructure_asks.specs.Refusal.{line_of, status_of}
-use Rattle.restructure_asks.specs.Writing.{Gains, GainsReport, Takes, Keeps, NotesNoMemory, IsWriteFault}
+use Rattle.cob_base.specs.giving.Giving.{Gains, Takes, Keeps}
+use Rattle.restructure_asks.specs.Writing.{GainsReport, NotesNoMemory, IsWriteFault}
 
 -- the text that is due was written, and nothing was noted but the report that is due
 pub record IsDone (ask : Option Ask) (source : SourceCall) (out notes : SinkCall) : Type 0 where

@@ -1,6 +1,7 @@
 -- What a sink gains.
-use Rattle.std.specs.Prelude.{ℕ, ◌≡◌, ◌⊎◌, List, ◌++◌, take, Option, Some, None, Result, Ok, Err}
+use Rattle.std.specs.Prelude.{ℕ, ◌≡◌, ◌⊎◌, List, Option, Some, None, Result, Ok, Err}
 use Rattle.cob_base.specs.Faults.{Rose}
+use Rattle.cob_base.specs.giving.Giving.{Gains, Keeps, Takes}
 use Rattle.cob_base.specs.Sink.{SinkCall}
 use Rattle.restructure_asks.specs.declared.texts.Texts.{Texts}
 use Rattle.restructure_asks.specs.declared.refusal.Refusal.{Refusal}
@@ -8,25 +9,6 @@ use Rattle.restructure_asks.specs.declared.refusal.Refusal.TheVariants as refusa
 use Rattle.restructure_asks.specs.declared.status.Status.{Status}
 use Rattle.restructure_asks.specs.declared.status.Status.TheVariants as status
 use Rattle.restructure_asks.specs.Refusal.{status_of, line_of}
-
--- what is held then is what was held, and these bytes
-abbrev pub Gained : List ℕ → Option (List ℕ) → Option (List ℕ) → Type 0
-Gained bytes None now = now ≡ None
-Gained bytes (Some held) now = now ≡ Some (held ++ bytes)
-
--- the sink gained these bytes
-abbrev pub Gains : List ℕ → SinkCall → Type 0
-Gains bytes sink = Gained bytes sink.held sink.now
-
--- the sink gained a front of these bytes, and all of them unless its count rose
-pub record Takes (bytes : List ℕ) (sink : SinkCall) : Type 0 where
-  pub some : ℕ
-  pub gained : Gains (take some bytes) sink
-  pub all : (Rose sink.count sink.count_now → ⊥) → take some bytes ≡ bytes
-
--- the sink holds what it held
-abbrev pub Keeps : SinkCall → Type 0
-Keeps sink = sink.now ≡ sink.held
 
 -- the line that tells want of memory went to the notes, or nothing did
 abbrev pub NotesNoMemory : SinkCall → Type 0

@@ -1,28 +1,26 @@
 //! What isn't in the subset: the kind of each fault of reading, and its line.
 
 ghost use Rattle.cob_base.specs.Answers.{Makes};
-ghost use Rattle.cobol_read.specs.declared.refusal.ReadRefusal.TheVariants as read;
+ghost use Rattle.cobol_read.specs.declared.refusal.ReadFault.TheVariants as read;
 ghost use Rattle.restructure_asks.specs.Kind as kinds;
 
 use cob_base::{NoMemory, Text, Word};
 use cob_tree::{NameFault, ParseFault};
 use cobol_lex::LexFault;
-use cobol_read::ReadRefusal;
+use cobol_read::ReadFault;
 use ref_format::FormatFault;
 use std::alloc::Global;
 
 /// The kind and the line, as the line of status 2 tells them.
-pub fn kind_at(alloc: Global, refusal: &ReadRefusal) -> Result<Text, NoMemory>
-    ensures { Makes (kinds.kind_at refusal.now) result }
+pub fn kind_at(alloc: Global, fault: &ReadFault) -> Result<Text, NoMemory>
+    ensures { Makes (kinds.kind_at fault.now) result }
 {
-    match refusal {
-        ReadRefusal::Format(fault) => format_kind(alloc, fault),
-        ReadRefusal::Lex(fault) => lex_kind(alloc, fault),
-        ReadRefusal::LeftOut(word, line) => left_out_kind(alloc, word, *line),
-        ReadRefusal::Power(line) => at_line(alloc, b"LEFT-OUT **", *line),
-        ReadRefusal::Parse(fault) => parse_kind(alloc, fault),
-        ReadRefusal::Limit(_) => Ok(Text::new(alloc)),
-        ReadRefusal::NoMemory => Ok(Text::new(alloc)),
+    match fault {
+        ReadFault::Format(fault) => format_kind(alloc, fault),
+        ReadFault::Lex(fault) => lex_kind(alloc, fault),
+        ReadFault::LeftOut(word, line) => left_out_kind(alloc, word, *line),
+        ReadFault::Power(line) => at_line(alloc, b"LEFT-OUT **", *line),
+        ReadFault::Parse(fault) => parse_kind(alloc, fault),
     }
 }
 
@@ -33,7 +31,6 @@ fn format_kind(alloc: Global, fault: &FormatFault) -> Result<Text, NoMemory>
         FormatFault::BadIndicator(line) => at_line(alloc, b"BAD-INDICATOR", *line),
         FormatFault::BadByte(line) => at_line(alloc, b"BAD-BYTE", *line),
         FormatFault::BadContinuation(line) => at_line(alloc, b"BAD-CONTINUATION", *line),
-        FormatFault::NoMemory => Ok(Text::new(alloc)),
     }
 }
 
@@ -45,7 +42,6 @@ fn lex_kind(alloc: Global, fault: &LexFault) -> Result<Text, NoMemory>
         LexFault::BadWord(line) => at_line(alloc, b"BAD-WORD", *line),
         LexFault::BadNumber(line) => at_line(alloc, b"BAD-NUMBER", *line),
         LexFault::TooManyDigits(line) => at_line(alloc, b"TOO-MANY-DIGITS", *line),
-        LexFault::NoMemory => Ok(Text::new(alloc)),
     }
 }
 
@@ -55,8 +51,6 @@ fn parse_kind(alloc: Global, fault: &ParseFault) -> Result<Text, NoMemory>
     match fault {
         ParseFault::Syntax(line) => at_line(alloc, b"SYNTAX", *line),
         ParseFault::Name(fault) => name_kind(alloc, fault),
-        ParseFault::Limit(_) => Ok(Text::new(alloc)),
-        ParseFault::NoMemory => Ok(Text::new(alloc)),
     }
 }
 
@@ -72,7 +66,6 @@ fn name_kind(alloc: Global, fault: &NameFault) -> Result<Text, NoMemory>
         NameFault::Redefines(line) => at_line(alloc, b"REDEFINES", *line),
         NameFault::Value(line) => at_line(alloc, b"VALUE", *line),
         NameFault::Usage(line) => at_line(alloc, b"USAGE", *line),
-        NameFault::NoMemory => Ok(Text::new(alloc)),
     }
 }
 

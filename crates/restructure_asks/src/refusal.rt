@@ -11,7 +11,7 @@ use crate::kind::kind_at;
 use crate::status::Status;
 use cob_base::{Limit, NoMemory, Text};
 use cob_tree::{Abend, FlowFault, Program};
-use cobol_read::ReadRefusal;
+use cobol_read::ReadFault;
 use overlap_trail::notes::{fault_text, trail_text};
 use restructure_core::Refused;
 use std::alloc::Global;
@@ -95,7 +95,7 @@ impl Refusal {
             Refusal::Usage => told(alloc, b"USAGE"),
             Refusal::Refused(refused) => refused_text(alloc, refused),
             Refusal::Fault(program, fault) => {
-                fault_text(alloc, program.paragraphs.as_slice(), fault_of(*fault))
+                fault_text(alloc, program.paragraphs.as_slice(), *fault)
             }
             Refusal::Abend(abend) => abend_text(alloc, *abend),
             Refusal::Budget(steps) => numbered(alloc, b"BUDGET ", *steps),
@@ -129,23 +129,13 @@ fn refused_text(alloc: Global, refused: &Refused) -> Result<Text, NoMemory>
     }
 }
 
-fn not_subset_text(alloc: Global, why: &ReadRefusal) -> Result<Text, NoMemory>
+fn not_subset_text(alloc: Global, why: &ReadFault) -> Result<Text, NoMemory>
     ensures { Makes (refusals.not_subset_text why.now) result }
 {
     let kind = kind_at(alloc, why)?;
     let mut text = told(alloc, b"NOT SUBSET ")?;
     text.add(kind.as_slice())?;
     Ok(text)
-}
-
-// The fault of flow that a trail would show.
-fn fault_of(fault: FlowFault) -> program_points::paths::FlowFault
-    ensures { result ≡ refusals.fault_of fault }
-{
-    match fault {
-        FlowFault::Overlap(paragraph) => program_points::paths::FlowFault::Overlap(paragraph),
-        FlowFault::Reentry(paragraph) => program_points::paths::FlowFault::Reentry(paragraph),
-    }
 }
 
 fn abend_text(alloc: Global, abend: Abend) -> Result<Text, NoMemory>

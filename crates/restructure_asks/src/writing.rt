@@ -1,15 +1,14 @@
 //! Texts and lines into sinks.
 
-ghost use Rattle.std.specs.Prelude.{◌≡◌, ◌≤◌, length, drop, true, false};
-ghost use Rattle.cob_base.specs.Faults.{Rose};
 ghost use Rattle.cob_base.specs.Sink.{sink_call};
 ghost use Rattle.restructure_asks.specs.Texts.{text_alone, with_report};
-ghost use Rattle.restructure_asks.specs.Writing.{Gains, Takes, Writes, IsGiven, Notes, NotesLine};
+ghost use Rattle.restructure_asks.specs.Writing.{Writes, IsGiven, Notes, NotesLine};
 
 use crate::refusal::Refusal;
 use crate::status::Status;
 use crate::texts::Texts;
-use cob_base::{Gave, NoMemory, Sink};
+use cob_base::giving::give_all;
+use cob_base::{NoMemory, Sink};
 use std::alloc::Global;
 
 /// Gives an answer: its texts are written, or its refusal is noted.
@@ -117,30 +116,4 @@ fn note_line<N: Sink>(line: &[u8], status: Status, notes: &mut N) -> Status
     }
     let _ = give_all(notes, line);
     status
-}
-
-/// Gives all these bytes, for which there is room; false where the sink failed.
-fn give_all<K: Sink>(sink: &mut K, bytes: &[u8]) -> bool
-    requires { length bytes.now ≤ K.spare sink.old }
-    ensures front { Takes bytes.now (sink_call K.held K.faults sink.old sink.new) }
-    ensures all { result ≡ true → Gains bytes.now (sink_call K.held K.faults sink.old sink.new) }
-    ensures failed { result ≡ false → Rose (K.faults sink.old) (K.faults sink.new) }
-{
-    let mut rest = bytes;
-    while !rest.is_empty() {
-        match sink.give(rest) {
-            Gave::All => return true,
-            Gave::Part(count) => rest = behind(rest, count),
-            Gave::Failed => return false,
-        }
-    }
-    true
-}
-
-// The bytes behind so many.
-fn behind(bytes: &[u8], count: usize) -> &[u8]
-    requires { count ≤ length bytes.now }
-    ensures { result.now ≡ drop count bytes.now }
-{
-    &bytes[count..]
 }

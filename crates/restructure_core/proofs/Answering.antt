@@ -112,26 +112,14 @@ unread : (bytes : List ℕ) (why : ReadRefusal) → why ≢ read.NoMemory → re
 unread bytes read.NoMemory some h = tt
 unread bytes (read.Limit limit) some h =
     inl (record { why = read.Limit limit; some = some; cause = h; is = refl })
-unread bytes (read.Format fault) some h =
-    record { why = read.Format fault; some = some; cause = h; is = refl }
-unread bytes (read.Lex fault) some h =
-    record { why = read.Lex fault; some = some; cause = h; is = refl }
-unread bytes (read.LeftOut word line) some h =
-    record { why = read.LeftOut word line; some = some; cause = h; is = refl }
-unread bytes (read.Power line) some h =
-    record { why = read.Power line; some = some; cause = h; is = refl }
-unread bytes (read.Parse fault) some h =
-    record { why = read.Parse fault; some = some; cause = h; is = refl }
+unread bytes (read.Fault fault) some h =
+    record { why = read.Fault fault; some = some; cause = h; is = refl }
 
 of-unread : (bytes : List ℕ) (why : ReadRefusal) → reading.HasCause bytes why →
     HasCause bytes (of_read_refusal why)
 of-unread bytes read.NoMemory h = tt
 of-unread bytes (read.Limit limit) h = unread bytes (read.Limit limit) (λ e. cc) h
-of-unread bytes (read.Format fault) h = unread bytes (read.Format fault) (λ e. cc) h
-of-unread bytes (read.Lex fault) h = unread bytes (read.Lex fault) (λ e. cc) h
-of-unread bytes (read.LeftOut word line) h = unread bytes (read.LeftOut word line) (λ e. cc) h
-of-unread bytes (read.Power line) h = unread bytes (read.Power line) (λ e. cc) h
-of-unread bytes (read.Parse fault) h = unread bytes (read.Parse fault) (λ e. cc) h
+of-unread bytes (read.Fault fault) h = unread bytes (read.Fault fault) (λ e. cc) h
 
 pub refused_unread : (bytes : List ℕ) (why : ReadRefusal) (refusal : Refused) →
     refusal ≡ of_read_refusal why → reading.HasCause bytes why → HasCause bytes refusal

@@ -1,5 +1,6 @@
 -- What is found of a program's flow.
 use Rattle.std.proofs.Common.{◌≡◌, ◌≤◌, length, sym, subst}
+use Rattle.cob_base.specs.Limit.{max_ranges}
 use Rattle.cob_tree.specs.declared.fault.SplitFault.{SplitFault}
 use Rattle.cob_tree.specs.declared.fault.SplitFault.TheVariants as split
 use Rattle.cob_tree.specs.declared.program.Program.{Program}
@@ -16,7 +17,7 @@ use Rattle.restructure_core.specs.Refusals.{of_split_fault}
 
 pub clear_flow : (program : Program) (summary : Summary) → IsWithin program →
     IsSummary (never_first_of program.files) (control_of program) summary →
-    length summary.ranges ≤ 5000 → (HasFlowFault program → ⊥) → IsClear program summary
+    length summary.ranges ≤ max_ranges → (HasFlowFault program → ⊥) → IsClear program summary
 clear_flow program summary within is few never =
     record { faultless = record { within = within; never = never }; is = is; few = few }
 

@@ -1,19 +1,20 @@
 -- What is printed of what a program that is read is split into reads to it.
-use Rattle.std.proofs.Common.{◌≡◌, ◌≤◌, ℕ, zero, suc, Bool, true, false, nat_le, nat_lt, if◌then◌else◌, List, [], ◌∷◌, map, length, replicate, slice_set, Option, Some, None, refl, ap, arith, ltb-false}
+use Rattle.std.proofs.Common.{◌≡◌, ◌≤◌, ℕ, zero, suc, Bool, true, false, nat_lt, if◌then◌else◌, List, [], ◌∷◌, map, length, replicate, slice_set, Option, Some, None, refl, ap, arith, ltb-false}
 use Rattle.cob_base.specs.declared.limit.Limit.{Limit}
 use Rattle.cob_base.specs.declared.limit.LimitKind.TheVariants as limits
 use Rattle.cob_tree.specs.declared.program.Program.{Program}
 use Rattle.cob_store.specs.sizes.Storage.{storage_limit, storage_of}
-use Rattle.program_facts.specs.term_counts.Program.{max_terms, terms_limit, terms_of}
+use Rattle.program_facts.specs.term_counts.Program.{terms_limit, terms_of}
 use Rattle.out_names.specs.Ordering.{first_ready, order_from, order_of}
 use Rattle.procedure_split.specs.plan.Planned.{calls_of, range_at}
 use Rattle.pending_returns.specs.declared.facts.RangeFacts.{RangeFacts}
 use Rattle.pending_returns.specs.declared.facts.Summary.{Summary}
 use Rattle.procedure_split.specs.declared.writing.Split.{Split}
 use Rattle.procedure_split.specs.Split.{IsSplit}
-use Rattle.cobol_read.specs.Limit.{token_limit}
+use Rattle.cob_base.specs.Limit.{max_paragraphs, max_ranges, max_terms, passed}
+use Rattle.cob_base.proofs.LimitLemmas.{within, within-either}
 use Rattle.end_to_end_laws.specs.results.readable_results.Laws.{IsWithinLimits, SplitProgramsReadBack}
-use Rattle.restructure_core.specs.Limit.{byte_limit, byte_count, token_count, else_limit, text_limit, part_limit, result_limit}
+use Rattle.restructure_core.specs.Limit.{byte_count, token_count, else_limit, text_limit, part_limit, result_limit}
 use Rattle.restructure_core.specs.Made.{IsMadeOf}
 use Rattle.restructure_core.specs.Results.{ResultsReadBack}
 use Rattle.restructure_core.proofs.ReadWell.{clear-flow}
@@ -40,15 +41,6 @@ unpassed limit count one other =
 under : (limit count : ℕ) → nat_lt limit count ≡ false → count ≤ limit
 under limit count e = omega (arith, ltb-false limit count e)
 
-abbrev stored_as : Bool → ℕ → Limit
-stored_as of_result counted =
-    record { kind = limits.Storage; of_result = of_result; counted = counted; limit = 16777216 }
-
-stored-alike : (counted : ℕ) → storage_limit true counted ≡ None → storage_limit false counted ≡ None
-stored-alike counted =
-    elim (nat_le counted 16777216) as (λ t. (if t then None else Some (stored_as true counted)) ≡ None →
-    (if t then None else Some (stored_as false counted)) ≡ None) [ true ↦ λ e. refl | false ↦ λ e. cc ]
-
 -- ---- paragraphs
 
 few-from : (count : ℕ) (calls : List (List ℕ)) (stands : List Bool) (next : Option ℕ) →
@@ -73,7 +65,7 @@ few-ordered ranges =
     omega (arith, ordered, few, all)
 
 few-paragraphs : (program made : Program) (summary : Summary) → IsSplit program summary made →
-    length summary.ranges ≤ 5000 → length made.paragraphs ≤ 5000
+    length summary.ranges ≤ max_ranges → length made.paragraphs ≤ max_paragraphs
 few-paragraphs program made summary split few =
     let count = split.written.paragraphs.count in
     let order = ap (λ list. length list) split.plan.is.stands in
@@ -90,15 +82,15 @@ within-limits program made is none =
     let text = second-none (part_limit result) (text_limit result) none in
     let stored = first-none (storage_limit true (storage_of result.entries)) (terms_limit result) parts in
     let terms = second-none (storage_limit true (storage_of result.entries)) (terms_limit result) parts in
-    let tokens = unpassed token_limit (token_count result) _ _ text in
-    let bytes = unpassed byte_limit (byte_count result) _ _ tokens.1 in
+    let tokens = first-none (passed limits.Tokens true (token_count result)) (passed limits.Bytes true (byte_count result)) text in
+    let bytes = second-none (passed limits.Tokens true (token_count result)) (passed limits.Bytes true (byte_count result)) text in
     record {
-      stored = stored-alike (storage_of result.entries) stored;
+      stored = within-either limits.Storage true false (storage_of result.entries) stored;
       few = few-paragraphs program result is.summary is.split.is is.clear.few;
       terms = under max_terms (terms_of result) (unpassed max_terms (terms_of result) _ _ terms).0;
       short = record {
-        bytes = under byte_limit (byte_count result) bytes.0;
-        tokens = under token_limit (token_count result) tokens.0;
+        bytes = within limits.Bytes true (byte_count result) bytes;
+        tokens = within limits.Tokens true (token_count result) tokens;
       };
     }
 

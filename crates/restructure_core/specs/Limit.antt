@@ -1,23 +1,14 @@
 -- The limits of the result. How deep it nests is judged as it is made.
-use Rattle.std.specs.Prelude.{ℕ, true, nat_lt, if◌then◌else◌, length, Option, Some, None}
+use Rattle.std.specs.Prelude.{ℕ, true, length, Option, Some, None}
+use Rattle.cob_base.specs.Limit.{passed}
 use Rattle.cob_base.specs.declared.limit.Limit.{Limit}
-use Rattle.cob_base.specs.declared.limit.LimitKind.{LimitKind}
 use Rattle.cob_base.specs.declared.limit.LimitKind.TheVariants as limits
 use Rattle.cob_tree.specs.declared.program.Program.{Program}
 use Rattle.cob_store.specs.sizes.Storage.{storage_limit, storage_of}
 use Rattle.program_facts.specs.term_counts.Program.{terms_limit}
 use Rattle.cobol_print.specs.units.Division.{program_units}
-use Rattle.cobol_read.specs.Limit.{token_limit}
 use Rattle.cobol_print.specs.Unit.{all_tokens}
 use Rattle.cobol_print.specs.Program.{printed}
-
--- how many bytes the written text may have
-abbrev pub byte_limit : ℕ
-byte_limit = 4194304
-
-abbrev pub past : LimitKind → (counted limit : ℕ) → Limit
-past kind counted limit =
-    record { kind = kind; of_result = true; counted = counted; limit = limit }
 
 -- the first of two, where they are passed
 abbrev pub else_limit : (first second : Option Limit) → Option Limit
@@ -34,9 +25,7 @@ byte_count program = length (printed program)
 -- the first of the two limits that is passed, each by its exact count
 abbrev pub first_past : (tokens bytes : ℕ) → Option Limit
 first_past tokens bytes =
-    if nat_lt token_limit tokens then Some (past limits.Tokens tokens token_limit)
-    else if nat_lt byte_limit bytes then Some (past limits.Bytes bytes byte_limit)
-    else None
+    else_limit (passed limits.Tokens true tokens) (passed limits.Bytes true bytes)
 
 -- the limit of its text that the result passes
 abbrev pub text_limit : Program → Option Limit

@@ -1,5 +1,6 @@
 -- The structured program that a program is restructured to.
 use Rattle.std.specs.Prelude.{◌≤◌, length}
+use Rattle.cob_base.specs.Limit.{max_ranges}
 use Rattle.cob_base.specs.declared.limit.Limit.{Limit}
 use Rattle.cob_tree.specs.declared.fault.SplitFault.TheVariants as split
 use Rattle.cob_tree.specs.declared.program.Program.{Program}
@@ -18,7 +19,7 @@ pub record IsClear (program : Program) (summary : Summary) : Type 0 where
   pub faultless : IsFaultless program
   pub is : IsSummary (never_first_of program.files) (control_of program) summary
   -- no more than a text may name
-  pub few : length summary.ranges ≤ 5000
+  pub few : length summary.ranges ≤ max_ranges
 
 -- what control of the program comes to
 abbrev pub IsFlowOf : Program → Flow → Type 0

@@ -8,9 +8,9 @@ use Rattle.restructure_core.specs.declared.fault.Refused.TheVariants.{NotSubset,
 
 -- a limit and want of memory have refusals of their own
 abbrev pub of_read_refusal : ReadRefusal → Refused
+of_read_refusal (read.Fault fault) = NotSubset fault
 of_read_refusal (read.Limit limit) = Limit limit
 of_read_refusal read.NoMemory = NoMemory
-of_read_refusal other = NotSubset other
 
 abbrev pub of_split_fault : SplitFault → Refused
 of_split_fault (split.Limit limit) = Limit limit

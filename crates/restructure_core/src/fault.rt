@@ -2,20 +2,20 @@
 
 use cob_base::{Limit, NoMemory};
 use cob_tree::{Program, SplitFault};
-use cobol_read::ReadRefusal;
+use cobol_read::{ReadFault, ReadRefusal};
 use program_points::paths::Trail;
 use thiserror::Error;
 
 /// Why a source was refused.
 #[derive(Debug, Drop, Error)]
 pub enum Refused {
-    /// The bytes are no program; never for a limit or want of memory, which have their own.
+    /// The bytes are no program.
     #[error("{0}")]
-    NotSubset(ReadRefusal),
+    NotSubset(ReadFault),
     /// The bytes are this program, and a flow path of it comes to a fault, which the trail shows.
     #[error("a fault of flow")]
     Flow(Program, Trail),
-    #[error("past a limit: {0:?}")]
+    #[error("{0}")]
     Limit(Limit),
     #[error("out of memory")]
     NoMemory,
@@ -40,9 +40,9 @@ impl From<ReadRefusal> for Refused {
 
     fn from(refusal: ReadRefusal) -> Refused {
         match refusal {
+            ReadRefusal::Fault(fault) => Refused::NotSubset(fault),
             ReadRefusal::Limit(limit) => Refused::Limit(limit),
             ReadRefusal::NoMemory => Refused::NoMemory,
-            other => Refused::NotSubset(other),
         }
     }
 }

@@ -7,19 +7,14 @@ ghost use Rattle.restructure_core.specs.Limit as limits;
 ghost use Rattle.restructure_core.specs.Answers.{IsPrinted, IsText};
 
 use crate::fault::Refused;
+use cob_base::limit::passed;
 use cob_base::{Limit, LimitKind, NoMemory, Text};
-use cob_store::sizes::{storage_limit, storage_of};
+use cob_store::sizes::storage_of;
 use cob_tree::Program;
 use cobol_print::units::program_units;
 use cobol_print::{PrintUnit, print_units};
 use program_facts::term_counts::terms_limit;
 use std::alloc::Global;
-
-/// How many tokens the result may have.
-const TOKEN_LIMIT: usize = 500_000;
-
-/// How many bytes its text may have.
-const BYTE_LIMIT: usize = 4_194_304;
 
 /// The text of a program that is the result, or the first limit that it passes.
 #[tactic(auto, using(crate::proofs::Limits::first_limits, crate::proofs::Limits::text_printed))]
@@ -37,7 +32,7 @@ fn first_limit(alloc: Global, program: &Program) -> Result<Option<Limit>, NoMemo
     ensures { Makes (limits.part_limit program.now) result }
 {
     let storage = storage_of(alloc, program.entries.as_slice())?;
-    match storage_limit(true, storage) {
+    match passed(LimitKind::Storage, true, storage) {
         Some(limit) => Ok(Some(limit)),
         None => Ok(terms_limit(program)),
     }
@@ -77,22 +72,8 @@ fn token_count(units: &[PrintUnit]) -> Result<usize, NoMemory>
 fn first_past(tokens: usize, bytes: usize) -> Option<Limit>
     ensures { result ≡ limits.first_past tokens bytes }
 {
-    if tokens > TOKEN_LIMIT {
-        return Some(past(LimitKind::Tokens, tokens, TOKEN_LIMIT));
-    }
-    if bytes > BYTE_LIMIT {
-        return Some(past(LimitKind::Bytes, bytes, BYTE_LIMIT));
-    }
-    None
-}
-
-fn past(kind: LimitKind, counted: usize, limit: usize) -> Limit
-    ensures { result ≡ limits.past kind counted limit }
-{
-    Limit {
-        kind,
-        of_result: true,
-        counted: counted as u64,
-        limit: limit as u64,
+    match passed(LimitKind::Tokens, true, tokens as u64) {
+        Some(limit) => Some(limit),
+        None => passed(LimitKind::Bytes, true, bytes as u64),
     }
 }

@@ -1,3 +1,5 @@
+-- Words, names and literals that a line may have anywhere.
+pub mod Free
 -- Tokens that a line may have anywhere.
 pub mod Tokens
 -- The tokens of places and expressions.
@@ -14,8 +16,6 @@ pub mod Given
 pub mod Made
 -- The tokens of each source can be printed.
 pub mod printable_tokens_lemmas
--- Programs of one paragraph that shows literals and stops can be printed, and with which tokens.
-pub mod display_programs_lemmas
 -- What is read of such tokens can be printed: references, operands, expressions and conditions.
 pub mod printable_exprs_lemmas
 -- So can statements and paragraphs, over open forms of operands and conditions.

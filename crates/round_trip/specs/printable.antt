@@ -10,8 +10,6 @@ pub mod Whole
 pub mod Laws
 -- The tokens of each source can be printed.
 pub mod printable_tokens
--- Programs of one paragraph that shows literals and stops can be printed, and with which tokens.
-pub mod display_programs
 -- What is read of such tokens can be printed: references, operands, expressions and conditions.
 pub mod printable_exprs
 -- So can statements and paragraphs, over open forms of operands and conditions.

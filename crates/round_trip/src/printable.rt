@@ -3,7 +3,6 @@
 //!
 //! `specs/printable/Whole.antt` says which these are. Nothing here runs.
 
-pub mod display_programs;
 mod laws;
 pub mod printable_control;
 pub mod printable_data;

@@ -9,8 +9,8 @@ use Rattle.control_flow_theory.specs.closing.Dispatches.{Rising, labels_of}
 use Rattle.control_flow_theory.proofs.closing_lemmas.closing.Closes.{AllAbove, rising-above}
 use Rattle.branch_tree.specs.declared.tree.Tree as code
 use Rattle.branch_tree.specs.Trees.{seen_tree}
-use Rattle.branch_tree.specs.Sounds.{bare}
-use Rattle.branch_tree.proofs.NodeRows.{none_above, with_none, without_none}
+use Rattle.graph_rewriting.specs.Sounds.{bare}
+use Rattle.graph_rewriting.proofs.NodeRows.{none_above, with_none, without_none}
 use Rattle.state_dispatch.specs.Trees.{node_trees}
 use Rattle.state_dispatch.specs.Clearing.{one_node, all_taken, taken_trees, MayGo, Clears}
 

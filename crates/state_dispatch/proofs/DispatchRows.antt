@@ -13,7 +13,7 @@ use Rattle.branch_tree.specs.declared.tree.Tree as code_tree
 use Rattle.branch_tree.specs.Graphs.{seen_nodes}
 use Rattle.branch_tree.specs.declared.chooser.Picker.TheVariants as picker
 use Rattle.branch_tree.specs.declared.tree.End.TheVariants as end
-use Rattle.branch_tree.specs.Sounds.{bare, Fits}
+use Rattle.graph_rewriting.specs.Sounds.{bare, Fits}
 use Rattle.branch_tree.specs.Trees.{seen_tree, seen_trees, seen_body, seen_end, trees_of}
 use Rattle.branch_tree.proofs.TreeRows.{seen_tree_is, seen_pick}
 use Rattle.loop_rules.specs.Forms.{looped_by}

@@ -2,7 +2,7 @@
 use Rattle.std.specs.Prelude.{◌≡◌, true, if◌then◌else◌, ◌==◌, List, [], ◌∷◌}
 use Rattle.control_flow_theory.specs.semantics.Graph.{Label, Tree}
 use Rattle.control_flow_theory.specs.graph_rules.Reduced.{Node, has_node, tree_in, with_tree, without, all_leaves_to}
-use Rattle.branch_tree.specs.Sounds.{bare}
+use Rattle.graph_rewriting.specs.Sounds.{bare}
 
 -- only this node
 abbrev pub one_node : Label → Tree → List Node

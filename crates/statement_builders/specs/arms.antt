@@ -1,7 +1,5 @@
 -- where the procedures of ranges stand
 pub mod Places
--- parts without a word on an added item
-pub mod Owning
 -- what becomes of empty arms
 pub mod Empties
 -- statements with arms, by what their arms hold

@@ -7,14 +7,10 @@
 
 mod choosing;
 mod empties;
-mod owning;
 mod placing;
 
 pub use crate::arms::choosing::{
     arith_stmt, evaluate_stmt, if_stmt, loop_stmt, perform_stmt, read_stmt,
 };
 pub use crate::arms::empties::{kept, or_continue};
-pub use crate::arms::owning::{
-    is_added, is_own_arith, is_own_control, is_own_move, is_own_subject, is_own_test,
-};
 pub use crate::arms::placing::{Placed, place_of};

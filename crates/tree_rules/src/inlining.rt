@@ -4,12 +4,13 @@ ghost use Rattle.std.specs.Prelude.{◌≡◌, true, OnOk, OnErr};
 ghost use Rattle.control_flow_theory.specs.semantics.Doing.{is_above};
 ghost use Rattle.control_flow_theory.specs.graph_rules.Reduced.{has_node, inline_graph, tree_in};
 ghost use Rattle.control_flow_theory.specs.graph_rules.Shapes.{leaves_to};
-ghost use Rattle.branch_tree.specs.Helds.{seen_work};
+ghost use Rattle.graph_rewriting.specs.Helds.{seen_work};
 ghost use Rattle.tree_rules.specs.Inlines.{Inlines, InlinesInto, may_inline};
 
 use crate::putting::put;
-use branch_tree::{Label, Work};
+use branch_tree::Label;
 use cob_base::NoMemory;
+use graph_rewriting::Work;
 use std::alloc::Global;
 
 /// Whether exactly one leaf of the graph jumps to the node with the label, from another node, and it

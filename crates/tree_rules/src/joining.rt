@@ -7,12 +7,13 @@ ghost use Rattle.control_flow_theory.specs.graph_rules.Reduced.{at_most_one};
 ghost use Rattle.tree_rules.specs.Joins.{choice_then, may_join, arms_may_join, JoinsAll, JoinsAt};
 ghost use Rattle.tree_rules.specs.Rooms.{HasRoom};
 ghost use Rattle.branch_tree.specs.Choosers.{seen_picker};
-ghost use Rattle.branch_tree.specs.Helds.{seen_work};
+ghost use Rattle.graph_rewriting.specs.Helds.{seen_work};
 ghost use Rattle.branch_tree.specs.Trees.{seen_tree, seen_body, seen_end, seen_trees};
 
 use crate::targets::{Targets, arms_targets};
-use branch_tree::{End, Label, Picker, Piece, Tree, Work};
+use branch_tree::{End, Label, Picker, Piece, Tree};
 use cob_base::{Items, NoMemory};
+use graph_rewriting::Work;
 use std::alloc::Global;
 use std::mem;
 

@@ -8,9 +8,10 @@ ghost use Rattle.body_rendering.specs.own_statements.Arms.{IsWhenWritten, ArePai
 
 use cob_base::{Items, NoMemory};
 use cob_tree::{Arms, Calc, Cond, Control, Operand, Place, Stmt, Subject, Target, When};
+use program_facts::own_items::{is_own_arith, is_own_move, is_own_subject, is_own_test};
 use statement_builders::arms::{
-    Placed, arith_stmt, evaluate_stmt, if_stmt, is_own_arith, is_own_move, is_own_subject,
-    is_own_test, loop_stmt, or_continue, perform_stmt, place_of, read_stmt,
+    Placed, arith_stmt, evaluate_stmt, if_stmt, loop_stmt, or_continue, perform_stmt, place_of,
+    read_stmt,
 };
 use std::alloc::Global;
 use std::mem;

@@ -12,6 +12,10 @@ Gained bytes (Some held) now = now ≡ Some (held ++ bytes)
 abbrev pub Gains : List ℕ → SinkCall → Type 0
 Gains bytes sink = Gained bytes sink.held sink.now
 
+-- the sink holds what it held
+abbrev pub Keeps : SinkCall → Type 0
+Keeps sink = sink.now ≡ sink.held
+
 -- the sink gained a front of these bytes, and all of them unless its count rose
 pub record Takes (bytes : List ℕ) (sink : SinkCall) : Type 0 where
   pub some : ℕ

@@ -1,85 +1,14 @@
--- How long items are, worked out from the last entry to the first.
-use Rattle.std.specs.Prelude.{ℕ, ◌+◌, ◌-◌, ◌*◌, ◌^◌, min, Bool, ◌||◌, if◌then◌else◌, nat_lt, ◌==◌, List, [], ◌∷◌, Option, Some, None}
-use Rattle.cob_tree.specs.declared.picture.Picture.{Picture}
-use Rattle.cob_tree.specs.declared.picture.Picture.TheVariants as pictures
-use Rattle.cob_tree.specs.declared.picture.Sign.{Sign}
-use Rattle.cob_tree.specs.declared.picture.Sign.TheVariants.{Within, SeparateLeading, SeparateTrailing}
+-- How long items are, among entries that may be faulty.
+use Rattle.std.specs.Prelude.{Bool, true, List}
 use Rattle.cob_tree.specs.declared.entry.Entry.{Entry}
-use Rattle.cob_store.specs.declared.sizes.size.Piece.{Piece}
+use Rattle.cob_store.specs.Size as sizes
+use Rattle.cob_store.specs.Size.{Sized, sized_by_either, sized_either}
 
--- a size past the last number of 32 bits counts as that number
-abbrev pub capped : ℕ → ℕ
-capped bytes = min bytes (2 ^ 32 - 1)
-
-abbrev pub sign_size : Sign → ℕ
-sign_size Within = 0
-sign_size SeparateLeading = 1
-sign_size SeparateTrailing = 1
-
-abbrev pub picture_size : Picture → Sign → ℕ
-picture_size (pictures.Number signed whole part) sign = whole + part + sign_size sign
-picture_size (pictures.Letters size) sign = size
-picture_size (pictures.Any size) sign = size
-
--- a level 88 takes no bytes, nor does an entry whose level is none
 abbrev pub is_bare : Entry → Bool
-is_bare entry = entry.level == 88 || entry.level == 0
-
--- an item of level 77 stands in no group and has no items in it, wherever it is written
-abbrev pub is_apart : Entry → Bool
-is_apart entry = entry.level == 77
-
--- the bytes of the pieces below an item, and the pieces behind it
-abbrev pub inside : ℕ → ℕ → List Piece → ℕ
-inside depth bytes [] = bytes
-inside depth bytes (piece ∷ pieces) =
-    if nat_lt depth piece.depth then inside depth (capped (bytes + piece.bytes)) pieces else bytes
-
-abbrev pub behind : ℕ → List Piece → List Piece
-behind depth [] = []
-behind depth (piece ∷ pieces) =
-    if nat_lt depth piece.depth then behind depth pieces else piece ∷ pieces
-
-abbrev pub size_by : Option Picture → Sign → ℕ → ℕ
-size_by None sign bytes = bytes
-size_by (Some picture) sign bytes = picture_size picture sign
-
-abbrev pub times : Option ℕ → ℕ → ℕ
-times None size = size
-times (Some count) size = capped (size * count)
-
-abbrev pub added : Option ℕ → ℕ → ℕ
-added None bytes = bytes
-added (Some redefined) bytes = 0
-
--- the sizes of entries, and the outermost pieces that they are
-pub record Sized : Type 0 where
-  pub sizes : List ℕ
-  pub pieces : List Piece
-
-abbrev pub item_sized : Entry → ℕ → Sized → Sized
-item_sized entry size later = record {
-  sizes = size ∷ later.sizes;
-  pieces = record {
-    depth = entry.level;
-    bytes = added entry.redefines
-        (times entry.occurs size);
-  } ∷ behind entry.level later.pieces;
-}
-
--- an entry whose bytes are in no item before it
-abbrev pub apart_sized : ℕ → Sized → Sized
-apart_sized size later = record { sizes = size ∷ later.sizes; pieces = later.pieces }
+is_bare = sizes.is_bare true
 
 abbrev pub sized_by : Entry → Sized → Sized
-sized_by entry later =
-    if is_bare entry
-    then apart_sized 0 later
-    else if is_apart entry
-    then apart_sized (size_by entry.picture entry.sign 0) later
-    else item_sized entry (size_by entry.picture entry.sign
-    (inside entry.level 0 later.pieces)) later
+sized_by = sized_by_either true
 
 abbrev pub sized : List Entry → Sized
-sized [] = record { sizes = []; pieces = [] }
-sized (entry ∷ entries) = sized_by entry (sized entries)
+sized = sized_either true

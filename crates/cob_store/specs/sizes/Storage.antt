@@ -1,8 +1,9 @@
 -- How many bytes a program's items take: each item in no group with those that redefine it once, by
 -- the longest, and the records of a file once.
-use Rattle.std.specs.Prelude.{ℕ, ◌+◌, ◌-◌, ◌^◌, max, min, sum, Bool, false, ◌||◌, ◌==◌, nat_lt, nat_le, List, [], ◌∷◌, ◌++◌, length, Option, Some, None, slice_get, slice_index, slice_set, if◌then◌else◌}
+use Rattle.std.specs.Prelude.{ℕ, ◌+◌, ◌-◌, ◌^◌, max, min, sum, Bool, false, ◌||◌, ◌==◌, nat_lt, List, [], ◌∷◌, ◌++◌, length, Option, Some, None, slice_get, slice_index, slice_set, if◌then◌else◌}
 use Rattle.std.specs.List.{fold}
 use Rattle.std.specs.Option.{unwrap_or}
+use Rattle.cob_base.specs.Limit.{passed}
 use Rattle.cob_base.specs.declared.limit.Limit.{Limit}
 use Rattle.cob_base.specs.declared.limit.LimitKind.TheVariants.{Storage}
 use Rattle.cob_tree.specs.declared.entry.Entry.{Entry}
@@ -64,11 +65,4 @@ storage_of entries = min (sum (roots_of (sized entries).sizes entries).sizes) (2
 
 -- the limit that is passed
 abbrev pub storage_limit : (of_result : Bool) → ℕ → Option Limit
-storage_limit of_result counted =
-    if nat_le counted 16777216 then None
-    else Some (record {
-      kind = Storage;
-      of_result = of_result;
-      counted = counted;
-      limit = 16777216;
-    })
+storage_limit of_result counted = passed Storage of_result counted

@@ -5,13 +5,10 @@ ghost use Rattle.std.specs.Option.{unwrap_or};
 ghost use Rattle.cob_base.specs.Answers.{Makes};
 ghost use Rattle.cob_store.specs.sizes.Storage as storages;
 
-use crate::sizes::size::sizes_of;
-use cob_base::{Items, Limit, LimitKind, NoMemory};
+use crate::size::sizes_of;
+use cob_base::{Items, NoMemory};
 use cob_tree::Entry;
 use std::alloc::Global;
-
-/// The most bytes that items may take.
-const STORAGE_LIMIT: u64 = 16_777_216;
 
 /// What lies over one another: the number of each entry's root, where it stands in no group; the
 /// bytes of each root; and the file of the last item that stands in no group.
@@ -137,19 +134,4 @@ pub fn storage_of(alloc: Global, entries: &[Entry]) -> Result<u64, NoMemory>
     let sizes = sizes_of(alloc, entries)?;
     let roots = roots_of(alloc, sizes.as_slice(), entries)?;
     Ok(total(roots.sizes.as_slice()))
-}
-
-/// The limit that so many bytes pass, where they do.
-pub fn storage_limit(of_result: bool, counted: u64) -> Option<Limit>
-    ensures { result ≡ storages.storage_limit of_result counted }
-{
-    if counted <= STORAGE_LIMIT {
-        return None;
-    }
-    Some(Limit {
-        kind: LimitKind::Storage,
-        of_result,
-        counted,
-        limit: STORAGE_LIMIT,
-    })
 }

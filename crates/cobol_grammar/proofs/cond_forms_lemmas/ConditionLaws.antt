@@ -15,7 +15,7 @@ use Rattle.cobol_grammar.specs.declared.expr_forms.side.Side.{Side}
 use Rattle.cobol_grammar.specs.declared.expr_forms.side.What.{What}
 use Rattle.cobol_grammar.specs.declared.expr_forms.side.What.TheVariants as whats
 use Rattle.cobol_grammar.specs.expr_forms.Fault as faults
-use Rattle.cobol_grammar.specs.expr_forms.Limit as limits
+use Rattle.cob_base.specs.Limit.{max_parens}
 use Rattle.cobol_grammar.specs.expr_forms.Limit.{Inner}
 use Rattle.cobol_grammar.proofs.expr_forms_lemmas.ExpressionLaws as law
 use Rattle.cobol_grammar.proofs.expr_forms_lemmas.ExpressionLaws.{InnerLaw, tally}
@@ -380,7 +380,7 @@ content names (suc n) count = in_content names (law.inner names n) (content name
 
 pub cond : (names : Names) → Law true (conditions.cond names)
 unfolding conditions.cond
-cond names = cond_with names (law.inner names limits.max_parens) (content names limits.max_parens) 0
+cond names = cond_with names (law.inner names max_parens) (content names max_parens) 0
 
 pub whole_cond : (names : Names) → Law true (conditions.whole_cond names)
 unfolding conditions.whole_cond

@@ -17,6 +17,7 @@ use Rattle.cobol_grammar.specs.declared.expr_forms.front.Front.TheVariants as fr
 use Rattle.cobol_grammar.specs.declared.expr_forms.side.Side.{Side}
 use Rattle.cobol_grammar.specs.declared.expr_forms.reference.Suffix.{Suffix}
 use Rattle.cobol_grammar.specs.declared.expr_forms.reference.Suffix.TheVariants as suffixes
+use Rattle.cob_base.specs.Limit.{max_terms, max_parens}
 use Rattle.cobol_grammar.specs.expr_forms.Limit as limits
 use Rattle.cobol_grammar.specs.expr_forms.Limit.{Inner}
 use Rattle.cobol_grammar.specs.expr_forms.Reference as references
@@ -34,7 +35,7 @@ pub record InnerLaw (inner : Inner) : Type 0 where
   pub window : (count : ℕ) → Law true (inner.window count)
 
 pub tally : (count more : ℕ) → Law false (limits.tally count more)
-tally count more = unless Terms (nat_lt limits.max_terms (count + more)) (count + more)
+tally count more = unless Terms (nat_lt max_terms (count + more)) (count + more)
 
 pub operator : Law true expressions.operator
 operator = one (λ position kind. tokens.op_of kind)
@@ -367,9 +368,9 @@ inner names (suc n) = record {
 
 pub outer : (names : Names) → InnerLaw (knots.outer names)
 outer names = record {
-  nested = λ count. in_nested names (inner names limits.max_parens) count;
-  suffix = λ count. in_suffix names (inner names limits.max_parens) true count;
-  window = λ count. in_window names (inner names limits.max_parens) true count;
+  nested = λ count. in_nested names (inner names max_parens) count;
+  suffix = λ count. in_suffix names (inner names max_parens) true count;
+  window = λ count. in_window names (inner names max_parens) true count;
 }
 
 -- ---- as statements have them
@@ -390,4 +391,4 @@ data_operand names = operand names (outer names) 0 >>= (λ side. pure)
 
 pub whole_expr : (names : Names) → Law true (knots.whole_expr names)
 unfolding knots.whole_expr
-whole_expr names = expr names (inner names limits.max_parens) 0 >>= (λ side. pure)
+whole_expr names = expr names (inner names max_parens) 0 >>= (λ side. pure)

@@ -10,7 +10,8 @@ use Rattle.parser_combinators.specs.Part.{key, mark, is_key, is_mark, too_deep}
 use Rattle.symbol_tables.specs.data_names.Names.{Names}
 use Rattle.cobol_grammar.specs.declared.expr_forms.side.Side.{Side}
 use Rattle.cobol_grammar.specs.expr_forms.Side.{enclosed}
-use Rattle.cobol_grammar.specs.expr_forms.Limit.{Inner, max_parens}
+use Rattle.cob_base.specs.Limit.{max_parens}
+use Rattle.cobol_grammar.specs.expr_forms.Limit.{Inner}
 use Rattle.cobol_grammar.specs.expr_forms.Levels.{inner}
 use Rattle.cobol_grammar.specs.declared.cond_forms.part.Joined.{Joined}
 use Rattle.cobol_grammar.specs.declared.cond_forms.part.Part.{Part}

@@ -7,7 +7,8 @@ use Rattle.parser_combinators.specs.declared.why.Why.TheVariants.{Parens}
 use Rattle.parser_combinators.specs.Form.{Form, pure, ◌>>=◌}
 use Rattle.parser_combinators.specs.Part.{is_mark, too_deep}
 use Rattle.symbol_tables.specs.data_names.Names.{Names}
-use Rattle.cobol_grammar.specs.expr_forms.Limit.{Inner, max_parens}
+use Rattle.cob_base.specs.Limit.{max_parens}
+use Rattle.cobol_grammar.specs.expr_forms.Limit.{Inner}
 use Rattle.cobol_grammar.specs.expr_forms.Reference.{reference, reference_behind}
 use Rattle.cobol_grammar.specs.expr_forms.Operand.{operand}
 use Rattle.cobol_grammar.specs.expr_forms.Expression.{expr, in_nested}

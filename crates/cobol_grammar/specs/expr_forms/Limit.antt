@@ -1,17 +1,12 @@
 -- What is counted while an expression is read: its terms, and the levels of parentheses in it.
 use Rattle.std.specs.Prelude.{ℕ, ◌+◌, nat_lt}
+use Rattle.cob_base.specs.Limit.{max_terms}
 use Rattle.cob_tree.specs.declared.place.Window.{Window}
 use Rattle.cobol_grammar.specs.declared.expr_forms.side.Side.{Side}
 use Rattle.cobol_grammar.specs.declared.expr_forms.reference.Suffix.{Suffix}
 use Rattle.parser_combinators.specs.declared.why.Why.TheVariants.{Terms}
 use Rattle.parser_combinators.specs.Form.{Form}
 use Rattle.parser_combinators.specs.Part.{unless}
-
-abbrev pub max_terms : ℕ
-max_terms = 500
-
-abbrev pub max_parens : ℕ
-max_parens = 500
 
 -- so many more terms, unless they pass the limit at the next token
 abbrev pub tally : ℕ → ℕ → Form ℕ

@@ -16,7 +16,8 @@ use Rattle.cobol_grammar.specs.stmt_forms.Part.{Parts}
 use Rattle.cobol_grammar.specs.stmt_forms.Verb.{begins_stmt}
 use Rattle.cobol_grammar.specs.stmt_forms.Jump.{begins_procedure, exit_behind}
 use Rattle.cobol_grammar.specs.stmt_forms.Arms.{Found}
-use Rattle.cobol_grammar.specs.stmt_forms.Stmt.{max_nesting, level, stmts_with, stmts_from}
+use Rattle.cob_base.specs.Limit.{max_nesting}
+use Rattle.cobol_grammar.specs.stmt_forms.Stmt.{level, stmts_with, stmts_from}
 
 -- ---- sentence = stmt+ .
 

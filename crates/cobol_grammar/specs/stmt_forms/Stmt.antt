@@ -15,10 +15,6 @@ use Rattle.cobol_grammar.specs.stmt_forms.Arms.{Level, Found, FoundOne, arithmet
 use Rattle.cobol_grammar.specs.stmt_forms.Choice.{choice_stmt}
 use Rattle.cobol_grammar.specs.stmt_forms.Loop.{perform_stmt}
 
--- how deep statements may nest
-abbrev pub max_nesting : ℕ
-max_nesting = 500
-
 -- ---- statements that hold no others
 
 unfoldable pub moving_stmt : {Side Known : Type 0} → Parts Side Known → Form Stmt

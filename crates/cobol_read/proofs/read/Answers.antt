@@ -10,11 +10,7 @@ use Rattle.cobol_read.proofs.read.Goals as goal
 
 -- want of memory, or another refusal
 is_memory : (refusal : ReadRefusal) → (refusal ≡ refusals.NoMemory) ⊎ (refusal ≡ refusals.NoMemory → ⊥)
-is_memory (refusals.Format fault) = inr (λ e. cc)
-is_memory (refusals.Lex fault) = inr (λ e. cc)
-is_memory (refusals.LeftOut word line) = inr (λ e. cc)
-is_memory (refusals.Power line) = inr (λ e. cc)
-is_memory (refusals.Parse fault) = inr (λ e. cc)
+is_memory (refusals.Fault fault) = inr (λ e. cc)
 is_memory (refusals.Limit limit) = inr (λ e. cc)
 is_memory refusals.NoMemory = inl refl
 

@@ -2,14 +2,14 @@
 use Rattle.std.specs.Prelude.{◌≡◌, ℕ, ◌-◌, Bool, true, false, ◌⊎◌, List, Option, Some, None, Result, Ok, Err}
 use Rattle.cob_tree.specs.declared.cond.Cond.{Cond}
 use Rattle.cob_tree.specs.declared.fault.NameFault.{NameFault}
-use Rattle.cob_tree.specs.declared.fault.ParseFault.{ParseFault}
-use Rattle.cob_tree.specs.declared.fault.ParseFault.TheVariants as faults
+use Rattle.cob_tree.specs.declared.fault.ParseError.{ParseError}
+use Rattle.cob_tree.specs.declared.fault.ParseError.TheVariants as errors
 use Rattle.cobol_lex.specs.declared.token.Token.{Token}
 use Rattle.parser_combinators.specs.declared.note.Note.{Note}
 use Rattle.parser_combinators.specs.declared.why.Why.{Why}
 use Rattle.parser_combinators.specs.Form.{Form, Input}
 use Rattle.parser_combinators.specs.Reading.{Stops, start_at, fault_line}
-use Rattle.parser_combinators.specs.faults.Fault.{stop_fault, name_fault}
+use Rattle.parser_combinators.specs.faults.Fault.{stop_error, name_fault}
 use Rattle.cobol_grammar.specs.declared.expr_forms.side.Side.{Side}
 use Rattle.cobol_grammar.specs.expr_forms.Side.{expr_of}
 use Rattle.cond_parse.specs.declared.from_tokens.answer.CondPart.{CondPart}
@@ -22,11 +22,11 @@ noted_fault None = None
 noted_fault (Some note) = Some (name_fault note.kind note.position.line)
 
 -- memory ran out, or the tokens from there on stop being the form where and why the fault says
-abbrev pub IsFault : {A : Type 0} → Form A → List Token → (from : ℕ) → ParseFault → Type 0
+abbrev pub IsFault : {A : Type 0} → Form A → List Token → (from : ℕ) → ParseError → Type 0
 IsFault form tokens from fault =
-    (fault ≡ faults.NoMemory)
+    (fault ≡ errors.NoMemory)
     ⊎ ((why : Why) × (rest : List Token) × Stops form (start_at from tokens) why rest
-    × (fault ≡ stop_fault why (fault_line tokens rest)))
+    × (fault ≡ stop_error why (fault_line tokens rest)))
 
 -- ---- parts
 
@@ -53,11 +53,11 @@ Spelled {A = A} form tokens from Is found =
 
 -- what is spelled is answered, unless memory ran out
 abbrev pub Gives : {A Found : Type 0} → (Found → A → Input → Type 0) →
-    Result Found ParseFault → A → Input → Type 0
+    Result Found ParseError → A → Input → Type 0
 Gives Is (Ok found) a behind = Is found a behind
-Gives Is (Err fault) a behind = fault ≡ faults.NoMemory
+Gives Is (Err fault) a behind = fault ≡ errors.NoMemory
 
 -- the one answer where the tokens stop being the form, unless memory ran out
-abbrev pub Refuses : {Found : Type 0} → Result Found ParseFault → (cause : ParseFault) → Type 0
+abbrev pub Refuses : {Found : Type 0} → Result Found ParseError → (cause : ParseError) → Type 0
 Refuses (Ok found) cause = ⊥
-Refuses (Err fault) cause = (fault ≡ faults.NoMemory) ⊎ (fault ≡ cause)
+Refuses (Err fault) cause = (fault ≡ errors.NoMemory) ⊎ (fault ≡ cause)

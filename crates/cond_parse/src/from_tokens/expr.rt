@@ -7,15 +7,15 @@ ghost use Rattle.parser_combinators.specs.declared.why.Why.{Why};
 ghost use Rattle.parser_combinators.specs.Reading.{Stops, fault_line, start_at};
 ghost use Rattle.cobol_grammar.specs.declared.expr_forms.side.Side.{Side};
 ghost use Rattle.cobol_grammar.specs.expr_forms.Levels.{whole_expr};
-ghost use Rattle.parser_combinators.specs.faults.Fault.{stop_fault};
+ghost use Rattle.parser_combinators.specs.faults.Fault.{stop_error};
 ghost use Rattle.cond_parse.specs.from_tokens.Answer.{Gives, IsExpr, IsFault, Refuses, Spelled};
 
 use crate::from_tokens::answer::{ExprPart, noted_fault};
-use cob_tree::ParseFault;
+use cob_tree::ParseError;
 use cobol_lex::Token;
 use expr_parse::actions::expr_of;
 use expr_parse::whole_expr;
-use parser_combinators::faults::stop_fault;
+use parser_combinators::faults::stop_error;
 use parser_combinators::{Cursor, Unread};
 use std::alloc::Global;
 use symbol_tables::data_names::NameTable;
@@ -26,7 +26,7 @@ pub fn parse_expr(
     tokens: &[Token],
     from: usize,
     names: &NameTable,
-) -> Result<ExprPart, ParseFault>
+) -> Result<ExprPart, ParseError>
     requires { from ≤ length tokens.now }
     ensures found { IfOk result (Spelled (whole_expr names.now) tokens.now from IsExpr) }
     ensures only { (side : Side) (behind : Input) →
@@ -35,7 +35,7 @@ pub fn parse_expr(
     ensures fault { IfErr result (IsFault (whole_expr names.now) tokens.now from) }
     ensures stops { (why : Why) (rest : List Token) →
         Stops (whole_expr names.now) (start_at from tokens.now) why rest →
-        Refuses result (stop_fault why (fault_line tokens.now rest)) }
+        Refuses result (stop_error why (fault_line tokens.now rest)) }
 {
     let mut cursor = Cursor::from_index(tokens, from);
     match whole_expr(alloc, &mut cursor, names) {
@@ -48,7 +48,7 @@ pub fn parse_expr(
                 fault,
             })
         }
-        Err(Unread::Stop(why)) => Err(stop_fault(why, cursor.fault_line(tokens))),
-        Err(Unread::NoMemory) => Err(ParseFault::NoMemory),
+        Err(Unread::Stop(why)) => Err(stop_error(why, cursor.fault_line(tokens))),
+        Err(Unread::NoMemory) => Err(ParseError::NoMemory),
     }
 }

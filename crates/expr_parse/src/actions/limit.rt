@@ -3,14 +3,8 @@
 ghost use Rattle.parser_combinators.specs.Reading.{Reads};
 ghost use Rattle.cobol_grammar.specs.expr_forms.Limit as limits;
 
+use cob_base::limit::MAX_TERMS;
 use parser_combinators::{Cursor, Unread, Why};
-use std::alloc::Global;
-
-/// How many terms one condition or expression may have.
-const MAX_TERMS: u32 = 500;
-
-/// How deep parentheses may stand in it.
-pub const MAX_PARENS: u32 = 500;
 
 /// So many more terms, unless they pass the limit at the next token.
 pub fn tally(cursor: &Cursor<'_>, count: u32, more: u32) -> Result<u32, Unread>

@@ -1,8 +1,8 @@
 -- Chains along calls.
 use Rattle.std.proofs.Common.{◌≡◌, ◌==◌, ◌+◌, ◌<◌, ◌≤◌, ℕ, zero, suc, Bool, true, false, if◌then◌else◌, List, [], ◌∷◌, ◌++◌, length, ◌-◌, Option, Some, None, slice_get, refl, ap, sym, ◌∙◌, subst, inl, inr, arith, eq-eqb}
 use Rattle.cob_tree.specs.declared.program.Range.{Range}
-use Rattle.program_points.specs.declared.paths.trail.FlowFault.{FlowFault}
-use Rattle.program_points.specs.declared.paths.trail.FlowFault.TheVariants.{Overlap, Reentry}
+use Rattle.cob_tree.specs.declared.ending.FlowFault.{FlowFault}
+use Rattle.cob_tree.specs.declared.ending.FlowFault.TheVariants.{Overlap, Reentry}
 use Rattle.program_points.specs.paths.Step.{Ends}
 use Rattle.program_points.specs.paths.Flow.{is_exit, is_among, fault_of}
 use Rattle.program_points.specs.paths.Accepted.{with_exit, IsIn, NoneTwice}

@@ -2,7 +2,7 @@
 use Rattle.std.proofs.Common.{◌≡◌, ◌==◌, ◌<◌, ◌≤◌, ℕ, zero, suc, Bool, true, false, ◌||◌, ◌&&◌, nat_lt, ltb-true, List, [], ◌∷◌, map, length, Option, Some, None, option_map, slice_get, refl, ap, sym, ◌∙◌, subst, ◌⊎◌, inl, inr, arith}
 use Rattle.cob_tree.specs.declared.program.Range.{Range}
 use Rattle.control_flow_theory.specs.language.Language.{Chooser, Program}
-use Rattle.program_points.specs.declared.paths.trail.FlowFault.{FlowFault}
+use Rattle.cob_tree.specs.declared.ending.FlowFault.{FlowFault}
 use Rattle.program_points.specs.declared.paths.trail.Lemma.{Lemma}
 use Rattle.program_points.specs.declared.paths.trail.Hop.{Hop}
 use Rattle.program_points.specs.paths.Step.{Point, next}

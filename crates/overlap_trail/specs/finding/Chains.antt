@@ -1,8 +1,8 @@
 -- Chains of ranges, each of which performs the next.
 use Rattle.std.specs.Prelude.{ℕ, suc, ◌≡◌, ◌<◌, true, false, List, [], ◌∷◌, ◌++◌, length, Some, slice_get}
 use Rattle.cob_tree.specs.declared.program.Range.{Range}
-use Rattle.program_points.specs.declared.paths.trail.FlowFault.{FlowFault}
-use Rattle.program_points.specs.declared.paths.trail.FlowFault.TheVariants.{Overlap, Reentry}
+use Rattle.cob_tree.specs.declared.ending.FlowFault.{FlowFault}
+use Rattle.cob_tree.specs.declared.ending.FlowFault.TheVariants.{Overlap, Reentry}
 use Rattle.program_points.specs.paths.Step.{Ends}
 use Rattle.program_points.specs.paths.Flow.{is_exit, is_among, fault_of}
 use Rattle.program_points.specs.paths.Accepted.{with_exit, IsIn, NoneTwice}

@@ -1,8 +1,8 @@
 -- A trail's hops along a chain of ranges.
 use Rattle.std.specs.Prelude.{ℕ, suc, ◌≡◌, List, [], ◌∷◌, ◌++◌, length, Option, Some, None, slice_get}
 use Rattle.cob_tree.specs.declared.program.Range.{Range}
-use Rattle.program_points.specs.declared.paths.trail.FlowFault.{FlowFault}
-use Rattle.program_points.specs.declared.paths.trail.FlowFault.TheVariants.{Overlap, Reentry}
+use Rattle.cob_tree.specs.declared.ending.FlowFault.{FlowFault}
+use Rattle.cob_tree.specs.declared.ending.FlowFault.TheVariants.{Overlap, Reentry}
 use Rattle.program_points.specs.declared.paths.trail.Move.{Move}
 use Rattle.program_points.specs.declared.paths.trail.Move.TheVariants.{Into}
 use Rattle.program_points.specs.declared.paths.trail.Hop.{Hop}

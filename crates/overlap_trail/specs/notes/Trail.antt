@@ -5,8 +5,8 @@ use Rattle.cob_base.specs.Bytes.{line_feed}
 use Rattle.cob_tree.specs.declared.program.Paragraph.{Paragraph}
 use Rattle.cob_tree.specs.declared.program.Range.{Range}
 use Rattle.out_names.specs.Naming.{paragraph_label}
-use Rattle.program_points.specs.declared.paths.trail.FlowFault.{FlowFault}
-use Rattle.program_points.specs.declared.paths.trail.FlowFault.TheVariants.{Overlap, Reentry}
+use Rattle.cob_tree.specs.declared.ending.FlowFault.{FlowFault}
+use Rattle.cob_tree.specs.declared.ending.FlowFault.TheVariants.{Overlap, Reentry}
 use Rattle.program_points.specs.declared.paths.trail.Move.{Move}
 use Rattle.program_points.specs.declared.paths.trail.Move.TheVariants.{Arm, Over, Into}
 use Rattle.program_points.specs.declared.paths.trail.Lemma.{Lemma}

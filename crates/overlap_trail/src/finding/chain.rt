@@ -9,11 +9,10 @@ ghost use Rattle.overlap_trail.specs.finding.Chains.{ByCall, TracesCalls, Along,
 
 use crate::finding::route::{Came, Route};
 use cob_base::NoMemory;
-use cob_tree::Range;
+use cob_tree::{FlowFault, Range};
 use pending_returns::faults::Clash;
 use pending_returns::levels::ends_at;
 use pending_returns::{RangeFacts, number_of, visit_calls};
-use program_points::paths::FlowFault;
 use std::alloc::Global;
 
 /// The ranges of the hops, main first, with the fault that the last one's level does.

@@ -1,25 +1,22 @@
 //! A trail, where the program is faulty.
 
-ghost use Rattle.std.specs.Prelude.{◌≡◌, ◌↔◌, IfOk, IsTrue, MatchOption};
+ghost use Rattle.std.specs.Prelude.{IfOk, MatchOption};
 ghost use Rattle.control_flow_theory.specs.language.Control.{control_of};
 ghost use Rattle.program_points.specs.paths.Flow.{IsFaulty};
-ghost use Rattle.program_points.specs.paths.Accepted.{lemma_ranges, hop_ranges};
 ghost use Rattle.program_points.specs.numbering.Kinds.{never_first_of};
 ghost use Rattle.pending_returns.specs.Summary.{IsSummary};
 ghost use Rattle.pending_returns.specs.faults.Clashing.{HasClash};
 ghost use Rattle.overlap_trail.specs.finding.Finding.{IsFound};
 
-use crate::check;
 use crate::finding::chain::chain_of;
 use crate::finding::hops::hops_of;
 use crate::finding::known::{Known, known_of};
-use crate::finding::once::all_once;
 use crate::finding::short::shortened;
 use cob_base::NoMemory;
-use cob_tree::{Program, Range};
+use cob_tree::Program;
 use pending_returns::Summary;
 use pending_returns::faults::{Clash, clash_in};
-use program_points::paths::{Hop, Lemma, Trail};
+use program_points::paths::Trail;
 use program_points::perform_ranges::ranges_of;
 use program_points::table_building::table_of;
 use std::alloc::Global;
@@ -47,38 +44,6 @@ pub fn found(
         lemmas,
         hops,
     })
-}
-
-/// The ranges of lemmas.
-fn ranges_of_lemmas(alloc: Global, lemmas: &[Lemma]) -> Result<Vec<Range>, NoMemory>
-    ensures { IfOk result (λ ranges. ranges.items ≡ lemma_ranges lemmas.now) }
-{
-    let ranges: Vec<Range> = lemmas.iter().map(|lemma| lemma.range).collect(alloc)?;
-    Ok(ranges)
-}
-
-/// The ranges of hops.
-fn ranges_of_hops(alloc: Global, hops: &[Hop]) -> Result<Vec<Range>, NoMemory>
-    ensures { IfOk result (λ ranges. ranges.items ≡ hop_ranges hops.now) }
-{
-    let ranges: Vec<Range> = hops.iter().map(|hop| hop.range).collect(alloc)?;
-    Ok(ranges)
-}
-
-/// Whether a trail is accepted, with no range twice among its lemmas or among its hops.
-pub fn accepted(alloc: Global, program: &Program, trail: &Trail) -> Result<bool, NoMemory>
-    ensures { IfOk result (λ good. IsTrue good ↔
-        IsFound (never_first_of program.now.files) (control_of program.now) trail.now) }
-{
-    let lemmas = ranges_of_lemmas(alloc, trail.lemmas.as_slice())?;
-    let hops = ranges_of_hops(alloc, trail.hops.as_slice())?;
-    if !all_once(lemmas.as_slice()) {
-        return Ok(false);
-    }
-    if !all_once(hops.as_slice()) {
-        return Ok(false);
-    }
-    Ok(check(program, trail))
 }
 
 /// A trail exactly where the program is faulty. Err where memory is wanted.

@@ -11,7 +11,8 @@ ghost use Rattle.overlap_trail.specs.finding.Hopping.{aim_at, HopsCome};
 use crate::finding::aim::{Aim, Found, route_to};
 use crate::finding::chain::Chain;
 use cob_base::{Items, NoMemory};
-use program_points::paths::{FlowFault, Hop, Move};
+use cob_tree::FlowFault;
+use program_points::paths::{Hop, Move};
 use program_points::point_table::Table;
 use std::alloc::Global;
 

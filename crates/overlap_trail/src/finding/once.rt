@@ -1,21 +1,8 @@
-//! Whether no range stands twice in a list.
+//! Whether two ranges are the same.
 
-ghost use Rattle.std.specs.Prelude.{◌≡◌, ◌≤◌, ◌↔◌, length, drop, IsTrue};
-ghost use Rattle.program_points.specs.paths.Accepted.{IsIn, NoneTwice};
+ghost use Rattle.std.specs.Prelude.{◌≡◌, ◌↔◌, IsTrue};
 
 use cob_tree::Range;
-
-/// Whether the range is one of these.
-pub fn is_in(range: Range, ranges: &[Range]) -> bool
-    ensures { IsTrue result ↔ IsIn range ranges.now }
-{
-    for other in ranges {
-        if is_same(*other, range) {
-            return true;
-        }
-    }
-    false
-}
 
 /// Whether two ranges are the same.
 pub fn is_same(range: Range, other: Range) -> bool
@@ -31,25 +18,4 @@ pub fn is_same(range: Range, other: Range) -> bool
         },
         None => other.exit.is_none(),
     }
-}
-
-/// What stands from this number on.
-fn behind(ranges: &[Range], number: usize) -> &[Range]
-    requires { number ≤ length ranges.now }
-    ensures { result.now ≡ drop number ranges.now }
-{
-    &ranges[number..]
-}
-
-/// Whether no range stands twice among these.
-pub fn all_once(ranges: &[Range]) -> bool
-    ensures { IsTrue result ↔ NoneTwice ranges.now }
-{
-    for number in 0..ranges.len() {
-        let range = ranges[number];
-        if is_in(range, behind(ranges, number + 1)) {
-            return false;
-        }
-    }
-    true
 }

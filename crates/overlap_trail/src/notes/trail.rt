@@ -7,8 +7,8 @@ ghost use Rattle.overlap_trail.specs.notes.Trail.{lemma_lines, hop_lines};
 
 use crate::notes::level::{add_label, add_level, add_numbered};
 use cob_base::{NoMemory, Text};
-use cob_tree::Paragraph;
-use program_points::paths::{FlowFault, Hop, Lemma, Trail};
+use cob_tree::{FlowFault, Paragraph};
+use program_points::paths::{Hop, Lemma, Trail};
 use std::alloc::Global;
 
 /// The line that names a fault of a program with these paragraphs, without its line feed.

@@ -1,7 +1,7 @@
 -- Pairs of ranges, of which one faults on the other's end.
 use Rattle.std.specs.Prelude.{ℕ, ◌≡◌, List, Some, slice_get, ◌⊎◌}
-use Rattle.program_points.specs.declared.paths.trail.FlowFault.{FlowFault}
-use Rattle.program_points.specs.declared.paths.trail.FlowFault.TheVariants.{Overlap, Reentry}
+use Rattle.cob_tree.specs.declared.ending.FlowFault.{FlowFault}
+use Rattle.cob_tree.specs.declared.ending.FlowFault.TheVariants.{Overlap, Reentry}
 use Rattle.pending_returns.specs.levels.Reaching.{Holds}
 use Rattle.pending_returns.specs.declared.facts.RangeFacts.{RangeFacts}
 use Rattle.pending_returns.specs.declared.faults.clash.Clash.{Clash}

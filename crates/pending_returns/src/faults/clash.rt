@@ -14,8 +14,7 @@ use crate::faults::leading::led_from;
 use crate::levels::Reach;
 use crate::{RangeFacts, Summary, number_of};
 use cob_base::NoMemory;
-use cob_tree::Program;
-use program_points::paths::FlowFault;
+use cob_tree::{FlowFault, Program};
 use std::alloc::Global;
 
 /// A range, one to which calls lead from it, and what the level of that one does to its end.

@@ -7,7 +7,7 @@ ghost use Rattle.pending_returns.specs.faults.Clashing.{EndsOne, FaultsAt, IsFin
 
 use crate::RangeFacts;
 use crate::levels::ends_at;
-use program_points::paths::FlowFault;
+use cob_tree::FlowFault;
 
 /// Whether the number is one of these.
 pub fn is_among(numbers: &[u32], number: u32) -> bool

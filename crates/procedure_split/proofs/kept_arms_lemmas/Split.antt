@@ -7,7 +7,8 @@ use Rattle.control_flow_theory.specs.closing.Closes.{closed_graph}
 use Rattle.pending_returns.specs.declared.facts.Summary.{Summary}
 use Rattle.branch_tree.specs.Graphs.{seen_graph}
 use Rattle.branch_tree.specs.Trees.{seen_tree}
-use Rattle.region_rewrite.specs.Shape.{first_tree, max_nesting}
+use Rattle.cob_base.specs.Limit.{max_nesting}
+use Rattle.region_rewrite.specs.Shape.{first_tree}
 use Rattle.procedure_split.specs.shaped_ranges.Laws.{HasFlow}
 use Rattle.procedure_split.proofs.made_procedures_lemmas.Rows.{shaped-at}
 use Rattle.procedure_split.specs.Split.{IsSplit}

@@ -26,7 +26,7 @@ use Rattle.branch_tree.specs.declared.graph.Graph as coded
 use Rattle.program_facts.specs.well_scoped.Part.{Counts, is_filled}
 use Rattle.program_facts.specs.well_scoped.Named.{counts_of, stmts_named, sentence_named, sentences_named, paragraphs_named}
 use Rattle.pending_returns.specs.declared.facts.Summary.{Summary}
-use Rattle.region_rewrite.specs.Shape.{max_nesting}
+use Rattle.cob_base.specs.Limit.{max_nesting}
 use Rattle.procedure_split.specs.shaped_ranges.Graphs.{AreGraphsOf, IsGraphOf}
 use Rattle.procedure_split.specs.shaped_ranges.Laws.{HasFlow}
 use Rattle.procedure_split.specs.Split.{IsSplit}

@@ -10,7 +10,8 @@ use Rattle.control_flow_theory.specs.closing.Closes.{closed_graph}
 use Rattle.branch_tree.specs.Graphs.{seen_graph}
 use Rattle.branch_tree.specs.declared.graph.Graph.{Graph}
 use Rattle.lowering_labels.specs.points.Fall.{seen_range}
-use Rattle.region_rewrite.specs.Shape.{first_tree, max_nesting, result_nesting}
+use Rattle.cob_base.specs.Limit.{max_nesting}
+use Rattle.region_rewrite.specs.Shape.{first_tree, result_nesting}
 use Rattle.added_items.specs.item_table.Row.{CellRange}
 use Rattle.procedure_split.specs.shaped_ranges.Graphs.{HaveGraphs}
 use Rattle.procedure_split.specs.shaped_ranges.Shaped.{AllShaped, IsOneTooDeep, IsShapedTo}

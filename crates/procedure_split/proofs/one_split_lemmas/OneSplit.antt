@@ -41,7 +41,8 @@ use Rattle.branch_tree.specs.Graphs.{seen_graph}
 use Rattle.branch_tree.specs.declared.graph.Graph.{Graph}
 use Rattle.lowering_labels.specs.points.Fall.{seen_range}
 use Rattle.procedure_split.specs.shaped_ranges.Graphs.{AreGraphsOf, HaveGraphs, node_count, total_size}
-use Rattle.procedure_split.specs.shaped_ranges.Limit.{nodes_passed, node_limit}
+use Rattle.cob_base.specs.Limit.{max_nodes}
+use Rattle.procedure_split.specs.shaped_ranges.Limit.{nodes_passed}
 use Rattle.procedure_split.proofs.made_procedures_lemmas.Rows.{beside}
 use Rattle.procedure_split.specs.Rows.{rows_of}
 use Rattle.procedure_split.specs.Counted.{counts_of}
@@ -109,8 +110,8 @@ module _ (program : Program) (one other : Summary) (well : IsWellMade program)
   -- graphs that are made aren't past it
   apart : (p : Planned program one) (q : Planned program other) (graphs : List Graph)
       (others : List reduced.Graph) → AreGraphsOf (told_in one p) control p.order graphs →
-      node_count graphs ≤ node_limit → HaveGraphs (told_in other q) control q.order others →
-      node_limit < total_size others → ⊥
+      node_count graphs ≤ max_nodes → HaveGraphs (told_in other q) control q.order others →
+      max_nodes < total_size others → ⊥
   apart p q graphs others are within have past =
       let same = graphs-same p q (all_seen graphs) others
       (have-seen (told_in one p) control p.order graphs are) have in
@@ -120,8 +121,8 @@ module _ (program : Program) (one other : Summary) (well : IsWellMade program)
 
   past-apart : (p : Planned program one) (q : Planned program other)
       (graphs : List reduced.Graph) (others : List Graph) →
-      HaveGraphs (told_in one p) control p.order graphs → node_limit < total_size graphs →
-      AreGraphsOf (told_in other q) control q.order others → node_count others ≤ node_limit → ⊥
+      HaveGraphs (told_in one p) control p.order graphs → max_nodes < total_size graphs →
+      AreGraphsOf (told_in other q) control q.order others → node_count others ≤ max_nodes → ⊥
   past-apart p q graphs others have past are within =
       let same = graphs-same p q graphs (all_seen others) have
       (have-seen (told_in other q) control q.order others are) in

@@ -3,7 +3,7 @@ use Rattle.std.proofs.Common.{◌≡◌, ◌<◌, ℕ, zero, suc, Bool, List, []
 use Rattle.std.proofs.lemmas.Option.{slice_get_within}
 use Rattle.cob_tree.specs.declared.program.Range as tree
 use Rattle.control_flow_theory.specs.language.Language.{Chooser, Program}
-use Rattle.program_points.specs.declared.paths.trail.FlowFault.TheVariants.{Overlap, Reentry}
+use Rattle.cob_tree.specs.declared.ending.FlowFault.TheVariants.{Overlap, Reentry}
 use Rattle.program_points.specs.paths.Flow.{part, IsFaulty}
 use Rattle.pending_returns.specs.levels.Reaching.{Holds}
 use Rattle.pending_returns.specs.declared.facts.RangeFacts.{RangeFacts}

@@ -36,7 +36,8 @@ use Rattle.statement_lowering.specs.declared.telling.Telling.{Telling}
 use Rattle.statement_lowering.specs.continuations.Paragraphs.{AreRestsOf}
 use Rattle.statement_lowering.specs.declared.continuations.spot.Spot.{Spot}
 use Rattle.procedure_split.specs.shaped_ranges.Graphs.{AreGraphsOf, HaveGraphs, IsGraphOf, graph_by, node_count, total_size}
-use Rattle.procedure_split.specs.shaped_ranges.Limit.{AreLowered, IsLoweringFault, node_limit, nodes_passed}
+use Rattle.cob_base.specs.Limit.{max_nodes}
+use Rattle.procedure_split.specs.shaped_ranges.Limit.{AreLowered, IsLoweringFault, nodes_passed}
 use Rattle.procedure_split.specs.shaped_ranges.Shaped.{AllClosed}
 use Rattle.procedure_split.specs.shaped_ranges.Steps.{AreLoweredIn, AreRangesIn, AreRangesOf, IsCountedOn, IsGraphIn, IsLoweringFaultIn, IsPastBy}
 use Rattle.procedure_split.proofs.shaped_ranges_lemmas.NumberedSizes.{numbered-size}
@@ -122,7 +123,7 @@ pub record Counted (told : Told) (program : language.Program) (ranges : List cod
     (graphs : List Graph) (count : ℕ) : Type 0 where
   pub are : AreGraphsOf told program ranges graphs
   pub count_is : count ≡ node_count graphs
-  pub within : node_count graphs ≤ node_limit
+  pub within : node_count graphs ≤ max_nodes
 
 abbrev pub SoFar : Telling → List Spot → List code.Range → ℕ → List Graph → ℕ → Type 0
 SoFar telling spots ranges index graphs count = (program : Program) →
@@ -156,7 +157,7 @@ module _ (telling : Telling) (spots : List Spot) (ranges : List code.Range) (ind
     (graphs : List Graph) (count next : ℕ) (range : code.Range) (graph : Graph)
     (so : SoFar telling spots ranges index graphs count)
     (there : slice_get ranges index ≡ Some range) (is : IsGraphIn telling spots range graph)
-    (few : graph_size (seen_graph graph) ≤ node_limit - count)
+    (few : graph_size (seen_graph graph) ≤ max_nodes - count)
     (adds : next ≡ count + min (graph_size (seen_graph graph)) last_number) where
   abbrev more : List Graph
   more = graphs ++ graph ∷ []
@@ -185,7 +186,7 @@ module _ (telling : Telling) (spots : List Spot) (ranges : List code.Range) (ind
 
 pub few-yet : (telling : Telling) (spots : List Spot) (ranges : List code.Range) (index : ℕ)
     (graphs : List Graph) (count : ℕ) → SoFar telling spots ranges index graphs count →
-    ((program : Program) × AreRangesIn telling spots program ranges) → count ≤ node_limit
+    ((program : Program) × AreRangesIn telling spots program ranges) → count ≤ max_nodes
 few-yet telling spots ranges index graphs count so found =
     let was = (so found.0 found.1).count_is in
     let within = (so found.0 found.1).within in
@@ -235,14 +236,14 @@ module _ (telling : Telling) (spots : List Spot) (ranges : List code.Range) (ind
     (graphs : List Graph) (count : ℕ) (range : code.Range)
     (so : SoFar telling spots ranges index graphs count)
     (there : slice_get ranges index ≡ Some range)
-    (larger : IsLargerIn telling spots range (node_limit - count)) where
+    (larger : IsLargerIn telling spots range (max_nodes - count)) where
   behind-larger : (program : Program) → AreRangesIn telling spots program ranges →
       (others : List reduced.Graph) →
       HaveGraphs (told_by telling) (control_of program) (drop index ranges) others →
-      node_limit - count < total_size others
+      max_nodes - count < total_size others
   behind-larger program are others have =
       first-larger (told_by telling) (control_of program) range (drop (suc index) ranges) others
-      (node_limit - count)
+      (max_nodes - count)
       (subst (λ l. HaveGraphs (told_by telling) (control_of program) l others)
       (drop-next ranges index range there) have)
       (larger program (record { table = are.table; own = are.own index range there }))

@@ -16,7 +16,7 @@ use Rattle.lowering_labels.specs.points.Fall.{seen_range}
 use Rattle.flow_graph.specs.graph_sizes.Sizes.{graph_size, node_size, tree_size}
 use Rattle.added_items.specs.item_table.Tables.{most_arms}
 use Rattle.procedure_split.specs.shaped_ranges.Graphs.{AreGraphsOf, node_count}
-use Rattle.procedure_split.specs.shaped_ranges.Limit.{node_limit}
+use Rattle.cob_base.specs.Limit.{max_nodes}
 use Rattle.procedure_split.proofs.made_procedures_lemmas.Rows.{beside}
 
 nodes-counted : (nodes : List Node) → size nodes ≤ sum_by node_size nodes
@@ -64,7 +64,7 @@ stands-at (first ∷ order) range is = elim (range-tells (seen_range first) rang
 ]
 
 pub few-nodes : (graphs : Graphs) (order : List code.Range) (own : List Graph) →
-    length own ≡ length order → node_count own ≤ node_limit →
+    length own ≡ length order → node_count own ≤ max_nodes →
     ((at : ℕ) (range : code.Range) (graph : Graph) → slice_get order at ≡ Some range →
     slice_get own at ≡ Some graph → seen_graph graph ≡ graphs (seen_range range)) →
     (range : Range) → In range (map seen_range order) → size (graphs range).nodes < most_arms

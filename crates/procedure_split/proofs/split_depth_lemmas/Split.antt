@@ -19,7 +19,7 @@ use Rattle.procedure_split.proofs.plan_lemmas.CobolPlans.{cobol-planned}
 use Rattle.branch_tree.specs.Trees.{seen_tree}
 use Rattle.lowering_labels.specs.points.Fall.{seen_range}
 use Rattle.region_rewrite.specs.written_nesting.Nesting.{nesting}
-use Rattle.region_rewrite.specs.Shape.{max_nesting}
+use Rattle.cob_base.specs.Limit.{max_nesting}
 use Rattle.cobol_theory.specs.cell_serving.Table.{CellTable}
 use Rattle.statement_builders.specs.arms.Places.{ArePlaced}
 use Rattle.statement_builders.specs.arms.Written.{Way, naming_in}

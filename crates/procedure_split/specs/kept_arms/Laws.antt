@@ -5,7 +5,7 @@ use Rattle.cob_tree.specs.declared.program.Program.{Program}
 use Rattle.control_flow_theory.specs.graph_rules.Reduced.{Graph}
 use Rattle.control_flow_theory.specs.closing.Closes.{closed_graph}
 use Rattle.pending_returns.specs.declared.facts.Summary.{Summary}
-use Rattle.region_rewrite.specs.Shape.{max_nesting}
+use Rattle.cob_base.specs.Limit.{max_nesting}
 use Rattle.procedure_split.specs.shaped_ranges.Laws.{HasFlow}
 use Rattle.procedure_split.specs.Split.{IsSplit}
 use Rattle.procedure_split.specs.kept_arms.Trees.{NodesHaveArms, GraphsHaveArms}

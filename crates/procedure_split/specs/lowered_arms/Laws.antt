@@ -4,7 +4,7 @@ use Rattle.cob_tree.specs.Depth.{program_depth}
 use Rattle.cob_tree.specs.declared.program.Program.{Program}
 use Rattle.program_facts.specs.well_scoped.Named.{counts_of, paragraphs_named}
 use Rattle.pending_returns.specs.declared.facts.Summary.{Summary}
-use Rattle.region_rewrite.specs.Shape.{max_nesting}
+use Rattle.cob_base.specs.Limit.{max_nesting}
 use Rattle.procedure_split.specs.shaped_ranges.Laws.{HasFlow}
 use Rattle.procedure_split.specs.Split.{IsSplit}
 

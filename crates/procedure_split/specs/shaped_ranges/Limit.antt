@@ -1,5 +1,6 @@
 -- The limit on the labels and statements of all lowered ranges.
 use Rattle.std.specs.Prelude.{ℕ, ◌≡◌, ◌<◌, ◌≤◌, false, List}
+use Rattle.cob_base.specs.Limit.{max_nodes, past}
 use Rattle.cob_base.specs.declared.limit.Limit.{Limit}
 use Rattle.cob_base.specs.declared.limit.LimitKind.TheVariants.{Nodes}
 use Rattle.cob_tree.specs.declared.fault.SplitFault.{SplitFault}
@@ -11,25 +12,21 @@ use Rattle.control_flow_theory.specs.graph_rules.Reduced as reduced
 use Rattle.branch_tree.specs.declared.graph.Graph.{Graph}
 use Rattle.procedure_split.specs.shaped_ranges.Graphs.{AreGraphsOf, HaveGraphs, node_count, total_size}
 
-abbrev pub node_limit : ℕ
-node_limit = 500000
-
 abbrev pub nodes_passed : ℕ → Limit
-nodes_passed counted =
-    record { kind = Nodes; of_result = false; counted = counted; limit = node_limit }
+nodes_passed counted = past Nodes false counted
 
 -- the graphs of the ranges, where they aren't past the limit
 pub record AreLowered (told : Told) (program : Program) (ranges : List Range) (graphs : List Graph)
     : Type 0 where
   pub are : AreGraphsOf told program ranges graphs
-  pub within : node_count graphs ≤ node_limit
+  pub within : node_count graphs ≤ max_nodes
 
 -- the graphs that they have are past it
 pub record ArePast (told : Told) (program : Program) (ranges : List Range) (limit : Limit)
     : Type 0 where
   pub graphs : List reduced.Graph
   pub have : HaveGraphs told program ranges graphs
-  pub past : node_limit < total_size graphs
+  pub past : max_nodes < total_size graphs
   pub is : limit ≡ nodes_passed (total_size graphs)
 
 -- why they aren't lowered: they are past the limit; want of memory may come at any place

@@ -8,7 +8,8 @@ use Rattle.control_flow_theory.specs.closing.Closes.{IsClosed, closed_graph}
 use Rattle.branch_tree.specs.Graphs.{seen_added, seen_graph}
 use Rattle.branch_tree.specs.Trees.{seen_body, seen_end, seen_tree}
 use Rattle.branch_tree.specs.declared.graph.Graph.{Graph}
-use Rattle.region_rewrite.specs.Shape.{first_tree, max_nesting, nesting_passed, result_nesting}
+use Rattle.cob_base.specs.Limit.{max_nesting}
+use Rattle.region_rewrite.specs.Shape.{first_tree, nesting_passed, result_nesting}
 use Rattle.region_rewrite.specs.declared.shaping.Shaped.{Shaped}
 use Rattle.procedure_split.specs.declared.shaped_ranges.shaping.Closed.{Closed}
 

@@ -10,7 +10,7 @@ use Rattle.program_facts.specs.well_scoped.Part.{Counts}
 use Rattle.program_facts.specs.well_scoped.Named.{stmts_named}
 use Rattle.region_rewrite.specs.written_nesting.Nesting.{nesting}
 use Rattle.statement_builders.specs.arms.Written.{Way, all_written}
-use Rattle.region_rewrite.specs.Shape.{max_nesting}
+use Rattle.cob_base.specs.Limit.{max_nesting}
 use Rattle.procedure_split.specs.shaped_ranges.Laws.{HasFlow}
 use Rattle.procedure_split.specs.Split.{IsSplit}
 use Rattle.procedure_split.specs.written_depth.Levels.{levels}

@@ -18,6 +18,7 @@ ghost use Rattle.procedure_split.specs.shaped_ranges.Steps.{AreLoweredIn, AreRan
 use crate::plan::RangePlan;
 use added_items::counters::number_counters;
 use branch_tree::Graph;
+use cob_base::limit::{MAX_NODES, past};
 use cob_base::{Limit, LimitKind, NoMemory};
 use cob_tree::{Program, Range, SplitFault};
 use flow_graph::graph_sizes::graph_size;
@@ -29,21 +30,13 @@ use statement_lowering::Telling;
 use statement_lowering::continuations::{Spot, spots_of};
 use std::alloc::Global;
 
-/// The most labels and statements of all lowered ranges.
-const NODE_LIMIT: u64 = 500_000;
-
 /// Labels have numbers below three times this.
 const PLACES: u64 = 1 << 30;
 
 fn nodes_passed(counted: u64) -> Limit
     ensures { result ≡ nodes_passed counted }
 {
-    Limit {
-        kind: LimitKind::Nodes,
-        of_result: false,
-        counted,
-        limit: NODE_LIMIT,
-    }
+    past(LimitKind::Nodes, false, counted)
 }
 
 /// The graph of a range, its counters numbered. None where it has more than `most` labels and
@@ -150,7 +143,7 @@ fn graphs_of(
     let mut graphs = Vec::new(alloc);
     let mut count = 0u64;
     for at in 0..ranges.len() {
-        match graph_of(alloc, reach, spots, ranges[at], telling, NODE_LIMIT - count) {
+        match graph_of(alloc, reach, spots, ranges[at], telling, MAX_NODES - count) {
             Err(_) => {
                 drop(graphs);
                 return Err(SplitFault::NoMemory);

@@ -1,5 +1,6 @@
 -- How many terms the largest condition or expression of a program has, and the limit of the result.
-use Rattle.std.specs.Prelude.{ℕ, max, nat_lt, true, if◌then◌else◌, map, Option, Some, None}
+use Rattle.std.specs.Prelude.{ℕ, ◌+◌, max, nat_lt, true, if◌then◌else◌, map, Option, Some, None}
+use Rattle.cob_base.specs.Limit.{max_terms, past}
 use Rattle.cob_base.specs.declared.limit.Limit.{Limit}
 use Rattle.cob_base.specs.declared.limit.LimitKind.TheVariants.{Terms}
 use Rattle.cob_tree.specs.Depth.{largest}
@@ -9,10 +10,6 @@ use Rattle.cob_tree.specs.declared.program.Program.{Program}
 use Rattle.cob_tree.specs.declared.program.Sentence.{Sentence}
 use Rattle.program_facts.specs.term_counts.Expression.{if_any, place_most}
 use Rattle.program_facts.specs.term_counts.Statement.{stmts_most}
-
--- how many terms one condition or expression may have
-abbrev pub max_terms : ℕ
-max_terms = 500
 
 abbrev pub sentence_most : Sentence → ℕ
 sentence_most sentence = stmts_most sentence.stmts
@@ -30,7 +27,7 @@ terms_of program =
     max (largest (map paragraph_most program.paragraphs)) (largest (map file_most program.files))
 
 abbrev pub terms_passed : Limit
-terms_passed = record { kind = Terms; of_result = true; counted = 501; limit = max_terms }
+terms_passed = past Terms true (max_terms + 1)
 
 -- the limit, where the program passes it
 abbrev pub terms_limit : Program → Option Limit

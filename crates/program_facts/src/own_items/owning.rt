@@ -1,8 +1,10 @@
 //! Whether a part is one of the program's own, which has no word on an added item.
 
-ghost use Rattle.std.specs.Prelude.{◌≡◌, true, is_some, not};
+ghost use Rattle.std.specs.Prelude.{◌≡◌, true, is_some, map, not, IsTrue};
 ghost use Rattle.control_flow_theory.specs.language.Control.{cell_of, cell_in, cell_chosen, control_in, test_of};
+ghost use Rattle.control_flow_theory.specs.language.All.{all};
 ghost use Rattle.control_flow_theory.specs.language.Own.{OwnTest};
+ghost use Rattle.control_flow_theory.specs.language.OwnItems.{places_own, target_own, cond_own, control_own};
 ghost use Rattle.program_facts.specs.own_items.Owning.{OwnTurns, IsOwnMove, IsOwnArith};
 
 use cob_tree::{Cond, Control, Expr, Operand, Place, Subject, Target};
@@ -43,7 +45,8 @@ pub fn is_own_subject(subject: &Subject) -> bool
 
 /// Whether a MOVE to these places is none to an added item alone.
 pub fn is_own_move(to: &[Place]) -> bool
-    ensures { result ≡ true → IsOwnMove to.now }
+    ensures own { result ≡ true → IsOwnMove to.now }
+    ensures every { IsTrue (places_own to.now) → result ≡ true }
 {
     match to {
         [place] => !is_added(place),
@@ -53,7 +56,8 @@ pub fn is_own_move(to: &[Place]) -> bool
 
 /// Whether arithmetic into these targets is none into an added item alone.
 pub fn is_own_arith(into: &[Target]) -> bool
-    ensures { result ≡ true → IsOwnArith into.now }
+    ensures own { result ≡ true → IsOwnArith into.now }
+    ensures every { IsTrue (all (map target_own into.now)) → result ≡ true }
 {
     match into {
         [target] => !is_added(&target.place),
@@ -64,7 +68,8 @@ pub fn is_own_arith(into: &[Target]) -> bool
 /// Whether the condition is no relation of an added item, nor the negation of one.
 #[cycle(own)]
 pub fn is_own_test(cond: &Cond) -> bool
-    ensures { result ≡ true → OwnTest (test_of cond.now) }
+    ensures own { result ≡ true → OwnTest (test_of cond.now) }
+    ensures every { IsTrue (cond_own cond.now) → result ≡ true }
 {
     match cond {
         Cond::Relation(left, _, _) => !is_added_side(left),
@@ -79,7 +84,8 @@ pub fn is_own_test(cond: &Cond) -> bool
 
 /// Whether a loop of this control is none that is tested by an added item.
 pub fn is_own_control(control: &Control) -> bool
-    ensures { result ≡ true → OwnTurns (control_in control.now) }
+    ensures own { result ≡ true → OwnTurns (control_in control.now) }
+    ensures every { IsTrue (control_own control.now) → result ≡ true }
 {
     match control {
         Control::Once => true,

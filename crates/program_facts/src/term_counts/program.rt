@@ -2,14 +2,13 @@
 
 ghost use Rattle.std.specs.Prelude.{◌≡◌, ◌-◌, ◌^◌, min, nat_lt, map};
 ghost use Rattle.cob_tree.specs.Depth.{largest};
-ghost use Rattle.program_facts.specs.term_counts.Program.{max_terms, sentence_most, paragraph_most, file_most, terms_of, terms_passed, terms_limit};
+ghost use Rattle.cob_base.specs.Limit.{max_terms};
+ghost use Rattle.program_facts.specs.term_counts.Program.{sentence_most, paragraph_most, file_most, terms_of, terms_passed, terms_limit};
 
 use crate::term_counts::statement::{some_place_most, stmts_most};
+use cob_base::limit::{MAX_TERMS, past};
 use cob_base::{Limit, LimitKind};
 use cob_tree::{FileEntry, Paragraph, Program, Sentence};
-
-/// How many terms one condition or expression of the result may have.
-const MAX_TERMS: u32 = 500;
 
 fn sentence_most(sentence: &Sentence) -> u32
     ensures { result ≡ min (sentence_most sentence.now) (2 ^ 32 - 1) }
@@ -66,12 +65,7 @@ pub fn passes_terms(program: &Program) -> bool
 fn terms_passed() -> Limit
     ensures { result ≡ terms_passed }
 {
-    Limit {
-        kind: LimitKind::Terms,
-        of_result: true,
-        counted: MAX_TERMS as u64 + 1,
-        limit: MAX_TERMS as u64,
-    }
+    past(LimitKind::Terms, true, MAX_TERMS as u64 + 1)
 }
 
 /// The limit on terms of the result, where the program passes it.

@@ -14,8 +14,8 @@ use Rattle.control_flow_theory.specs.semantics.Source as machine
 use Rattle.control_flow_theory.specs.lowering.Told.{Told, IsSource}
 use Rattle.control_flow_theory.specs.lowering.flow.Paths.{Flow, free, nothing_left}
 use Rattle.control_flow_theory.specs.lowering.flow.Paths as theory
-use Rattle.program_points.specs.declared.paths.trail.FlowFault.{FlowFault}
-use Rattle.program_points.specs.declared.paths.trail.FlowFault.TheVariants.{Overlap, Reentry}
+use Rattle.cob_tree.specs.declared.ending.FlowFault.{FlowFault}
+use Rattle.cob_tree.specs.declared.ending.FlowFault.TheVariants.{Overlap, Reentry}
 use Rattle.program_points.specs.paths.Step.{Point, Next, Ways, Calls, Stops, Ends, next, way_at}
 use Rattle.program_points.specs.paths.Flow.{main_range, is_exit, Pending, top_exit, FreeStep, goes, calls, returns, falls, FlowPath, begins_flow, steps_flow, is_among, fault_of, ends_of, IsFaulty}
 use Rattle.program_points.specs.machine_paths.Uncounted.{uncounted}

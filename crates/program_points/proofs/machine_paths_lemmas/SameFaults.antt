@@ -16,7 +16,7 @@ use Rattle.control_flow_theory.specs.lowering.flow.Paths as theory
 use Rattle.control_flow_theory.proofs.lowering_lemmas.flow.Faults.{over-stays}
 use Rattle.control_flow_theory.proofs.lowering_lemmas.rests.Joints.{source_at}
 use Rattle.control_flow_theory.proofs.lowering_lemmas.rests.Wholes.{OwnItem}
-use Rattle.program_points.specs.declared.paths.trail.FlowFault.TheVariants.{Overlap, Reentry}
+use Rattle.cob_tree.specs.declared.ending.FlowFault.TheVariants.{Overlap, Reentry}
 use Rattle.program_points.specs.paths.Step.{Point, at, start, is_present, Ends, next}
 use Rattle.program_points.specs.paths.Flow.{main_range, is_exit, Pending, returning, top_exit, FreeStep, FlowPath, begins_flow, steps_flow, is_among, fault_of, ends_of, IsFaulty}
 use Rattle.program_points.specs.paths.Flow as flow

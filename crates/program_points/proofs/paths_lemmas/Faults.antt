@@ -1,7 +1,7 @@
 -- Free paths and flow paths, up to the first fault.
 use Rattle.std.proofs.Common.{◌≡◌, ℕ, Bool, true, false, if◌then◌else◌, List, [], ◌∷◌, Some, None, refl, subst, ◌⊎◌, inl, inr}
-use Rattle.program_points.specs.declared.paths.trail.FlowFault.{FlowFault}
-use Rattle.program_points.specs.declared.paths.trail.FlowFault.TheVariants.{Reentry}
+use Rattle.cob_tree.specs.declared.ending.FlowFault.{FlowFault}
+use Rattle.cob_tree.specs.declared.ending.FlowFault.TheVariants.{Reentry}
 use Rattle.control_flow_theory.specs.language.Language.{Chooser, Program}
 use Rattle.program_points.specs.paths.Step.{Point, next}
 use Rattle.program_points.specs.paths.Flow.{main_range, Pending, FreeStep, goes, calls, returns, falls, FreePath, begins, steps, is_among, fault_of, ends_of, FlowPath, begins_flow, steps_flow, IsFaulty}

@@ -1,7 +1,7 @@
 -- A fault has an accepted trail, with no range twice.
 use Rattle.std.proofs.Common.{◌≡◌, ◌==◌, ℕ, Bool, true, false, if◌then◌else◌, List, [], ◌∷◌, ◌++◌, Some, refl, ap, sym, ◌∙◌, subst, inl, inr, eq-eqb}
 use Rattle.cob_tree.specs.declared.program.Range.{Range}
-use Rattle.program_points.specs.declared.paths.trail.FlowFault.{FlowFault}
+use Rattle.cob_tree.specs.declared.ending.FlowFault.{FlowFault}
 use Rattle.program_points.specs.declared.paths.trail.Move.TheVariants.{Into}
 use Rattle.program_points.specs.declared.paths.trail.Hop.{Hop}
 use Rattle.program_points.specs.declared.paths.trail.Trail.{Trail}

@@ -1,7 +1,7 @@
 -- Trails that show a fault.
 use Rattle.std.specs.Prelude.{ℕ, zero, suc, ◌≡◌, Bool, true, false, if◌then◌else◌, ◌==◌, List, [], ◌∷◌, ◌++◌, map, Option, Some, None, slice_get, ◌⊎◌}
 use Rattle.cob_tree.specs.declared.program.Range.{Range}
-use Rattle.program_points.specs.declared.paths.trail.FlowFault.{FlowFault}
+use Rattle.cob_tree.specs.declared.ending.FlowFault.{FlowFault}
 use Rattle.program_points.specs.declared.paths.trail.Move.{Move}
 use Rattle.program_points.specs.declared.paths.trail.Move.TheVariants.{Arm, Over, Into}
 use Rattle.program_points.specs.declared.paths.trail.Lemma.{Lemma}

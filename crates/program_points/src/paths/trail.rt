@@ -1,16 +1,7 @@
 //! Trails.
 
 use cob_base::Items;
-use cob_tree::Range;
-
-/// A fault of flow, with the paragraph at whose end a range is pending.
-#[derive(Debug, Clone, Copy, PartialEq, Eq)]
-pub enum FlowFault {
-    /// The paragraph's end is come to while its range is pending below another one.
-    Overlap(u32),
-    /// A range that ends there is performed while one that ends there is pending.
-    Reentry(u32),
-}
+use cob_tree::{FlowFault, Range};
 
 /// Which way a path takes.
 #[derive(Debug, Clone, Copy, PartialEq, Eq)]

@@ -4,7 +4,7 @@ use Rattle.std.proofs.lemmas.Bool.Decides.{nat_tests}
 use Rattle.ref_format.specs.Line.{line_of}
 use Rattle.ref_format.specs.Joining.{fault_of, literal_at_end}
 use Rattle.ref_format.proofs.UnfoldLemmas.{text_behind, text_behind-all, text_behind-none, text_behind-dropped, text_behind-fault, text_behind-kept}
-use Rattle.ref_format.proofs.JoiningLemmas.{none_of_ok, some_of_err}
+use Rattle.ref_format.proofs.JoiningLemmas.{none_of_ok, some_of_err, err_told}
 use Rattle.ref_format.proofs.unfold.Goals as goal
 
 nil_of_length : (bytes : List ℕ) → length bytes ≡ 0 → bytes ≡ []
@@ -52,9 +52,9 @@ returns-in_err-add c =
     let fault = c.in_err-add.field-0.0 in
     rw (p.1, p.2) (λ other.
     let found = some_of_err (fault_of last before.joining.literal (line_of number card)) tt fault (c.in_err-add.ensures.fault other) in
-    let same = ap (λ l. fault_of last l (line_of number card)) (sym before.invariant.sound.open_at_end) ∙ found in
-    let failed = text_behind-fault _ _ _ _ _ number last text before.rest.now c.first_line.result.0.now c.first_line.result.1.now card c.first_line.ensures.first c.card_of_line-card.ensures c.drops.ensures.over c.drops.ensures.inside c.drops.ensures.answer fault c.if-drops.false same in
-    sym before.invariant.text ∙ failed)
+    let same = ap (λ l. fault_of last l (line_of number card)) (sym before.invariant.sound.open_at_end) ∙ found.1 in
+    let failed = text_behind-fault _ _ _ _ _ number last text before.rest.now c.first_line.result.0.now c.first_line.result.1.now card c.first_line.ensures.first c.card_of_line-card.ensures c.drops.ensures.over c.drops.ensures.inside c.drops.ensures.answer found.0 c.if-drops.false same in
+    sym before.invariant.text ∙ err_told _ found.0 fault failed found.2)
 
 pub loop-rest-preserved-then-drops : goal.loop-rest-preserved-then-drops
 loop-rest-preserved-then-drops c =

@@ -7,14 +7,15 @@ ghost use Rattle.control_flow_theory.specs.closing.Closes.{exits_graph, are_seve
 ghost use Rattle.control_flow_theory.specs.closing.Dispatches.{bare};
 ghost use Rattle.control_flow_theory.specs.closing.Targets.{with_exits};
 ghost use Rattle.branch_tree.specs.Graphs.{seen_nodes};
-ghost use Rattle.branch_tree.specs.Helds.{seen_work};
+ghost use Rattle.graph_rewriting.specs.Helds.{seen_work};
 ghost use Rattle.branch_tree.specs.Trees.{seen_tree, seen_trees};
 ghost use Rattle.tree_rules.specs.Targets.{seen_targets};
 ghost use Rattle.region_rewrite.specs.exit_rule.Exits.{CloseExits, leaves_by_exits, may_exit, return_trees};
 
 use crate::exit_rule::targets::targets_of;
-use branch_tree::{Added, End, Label, Leaves, Picker, Piece, Test, Tree, Work, drop_pieces};
+use branch_tree::{Added, End, Label, Leaves, Picker, Piece, Test, Tree, drop_pieces};
 use cob_base::{Items, NoMemory};
+use graph_rewriting::Work;
 use loop_rules::{Turning, looped};
 use state_dispatch::tree_returns;
 use std::alloc::Global;

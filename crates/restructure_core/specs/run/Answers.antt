@@ -1,5 +1,6 @@
 -- What comes of a source that is to run.
 use Rattle.std.specs.Prelude.{ℕ, ◌≡◌, ◌≢◌, true, List}
+use Rattle.cob_base.specs.giving.Giving.{Keeps}
 use Rattle.cob_base.specs.Sink.{SinkCall}
 use Rattle.cob_tree.specs.declared.program.Program.{Program}
 use Rattle.file_model.specs.operations.Seen.{Seen}
@@ -15,10 +16,6 @@ use Rattle.cobol_run.specs.PlainTests.{is_plain}
 use Rattle.cobol_run.specs.Running.{RunsAs}
 use Rattle.restructure_core.specs.declared.run.Came.{Came}
 use Rattle.restructure_core.specs.declared.run.Came.TheVariants as came
-
--- the sink holds what it held
-abbrev pub Keeps : SinkCall → Type 0
-Keeps sink = sink.now ≡ sink.held
 
 -- what comes of a program: its run, which over all files is this one where no statement on files
 -- stands in it, or nothing that a sink sees

@@ -21,7 +21,7 @@ use Rattle.cob_tree.specs.declared.stmt.When.{When, out-When}
 use Rattle.cobol_grammar.specs.declared.stmt_forms.scope.Scope.{Scope}
 use Rattle.cobol_grammar.specs.stmt_forms.Loop.{looped}
 use Rattle.cobol_grammar.specs.stmt_forms.Part.{Parts}
-use Rattle.cobol_grammar.specs.stmt_forms.Stmt.{max_nesting}
+use Rattle.cob_base.specs.Limit.{max_nesting}
 use Rattle.round_trip.proofs.procedures_lemmas.readable_stmts_lemmas.Lists.{each-hence}
 use Rattle.round_trip.specs.spelling.stmt_spelling.Part.{Kept}
 use Rattle.round_trip.specs.spelling.stmt_spelling.Stmt as spell

@@ -37,7 +37,7 @@ use Rattle.cobol_print.specs.units.Division.{select_tokens, status_tokens}
 use Rattle.cobol_print.specs.Given.{IsPrintable, IsGivenPicture, IsGivenFile, IsGivenEntry, file_of}
 use Rattle.cobol_print.specs.Unit.{is_ink}
 use Rattle.round_trip.specs.printable.printable_tokens.Printable.{is_printable_text}
-use Rattle.round_trip.proofs.printable_lemmas.display_programs_lemmas.Free.{text-free}
+use Rattle.round_trip.proofs.printable_lemmas.Free.{text-free}
 use Rattle.round_trip.specs.printable.Part.{is_printable_name, is_printable_place, is_printable_operand}
 use Rattle.round_trip.specs.printable.Whole.{is_printable_file, is_printable_picture, is_printable_span, is_printable_count, is_printable_entry}
 use Rattle.round_trip.proofs.printable_lemmas.Tokens.{Fits, none, word, printable-name, entry-free, entry-fine, ◌∷∷◌, ◌+++◌}

@@ -12,7 +12,7 @@ use Rattle.program_facts.specs.well_scoped.Part.{if_any}
 use Rattle.grammar_laws.specs.form_results.Giving.{Each}
 use Rattle.unparser.specs.File.{name_tokens, file_name, label_of, paragraph_label}
 use Rattle.cobol_print.specs.Given.{IsGivenFile, IsGivenEntry, IsGivenSentence, IsGivenParagraph}
-use Rattle.round_trip.proofs.printable_lemmas.display_programs_lemmas.Free.{label-free}
+use Rattle.round_trip.proofs.printable_lemmas.Free.{label-free}
 use Rattle.round_trip.specs.printable.Part.{is_printable_name, is_printable_place}
 use Rattle.round_trip.specs.printable.Statement.{is_printable_sentence}
 use Rattle.round_trip.specs.printable.Whole.{is_printable_file, is_printable_entry, IfNamed, IsPrintableParagraph, IsPrintableProgram}

@@ -22,7 +22,7 @@ use Rattle.program_facts.specs.well_scoped.Part.{number_named}
 use Rattle.unparser.specs.Token.{Tokens, joined, opened_by, closed_by, in_parentheses, enclosed}
 use Rattle.unparser.specs.Place as tok
 use Rattle.unparser.specs.Place.{of_tokens, plus_tokens, op_mark, figure_word, subs_tokens, place_tokens, operand_tokens, operands_tokens, expr_tokens, sub_tokens, window_tokens}
-use Rattle.round_trip.proofs.printable_lemmas.display_programs_lemmas.Free.{text-free}
+use Rattle.round_trip.proofs.printable_lemmas.Free.{text-free}
 use Rattle.round_trip.specs.printable.Part as part
 use Rattle.round_trip.specs.printable.Part.{is_printable_name, is_printable_place, are_printable_places, is_printable_operand, are_printable_operands, is_printable_expr, is_printable_sub, is_printable_window}
 use Rattle.round_trip.proofs.printable_lemmas.Tokens.{Fit, Fits, none, word, mark, number-digits, number-free, printable-name, ItemsNamed, ◌∷∷◌, ◌+++◌}

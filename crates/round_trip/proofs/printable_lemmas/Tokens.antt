@@ -24,7 +24,7 @@ use Rattle.unparser.specs.Place.{entry_name, item_name}
 use Rattle.parser_combinators.specs.words.Word.{is_letter, has_letter, is_free, is_data_word}
 use Rattle.cobol_print.specs.Given.{IsFree, AreFree}
 use Rattle.round_trip.specs.printable.printable_tokens.Printable.{IsPrintableWord}
-use Rattle.round_trip.proofs.printable_lemmas.display_programs_lemmas.Free.{reserved, name-free, data-free}
+use Rattle.round_trip.proofs.printable_lemmas.Free.{reserved, name-free, data-free}
 use Rattle.round_trip.specs.printable.Part.{is_printable_name, is_printable_operand}
 use Rattle.round_trip.specs.printable.Whole.{is_printable_entry, is_printable_picture, is_printable_count, is_printable_span}
 

@@ -18,7 +18,8 @@ use Rattle.cobol_grammar.specs.stmt_forms.Arms.{Found}
 use Rattle.cobol_grammar.specs.stmt_forms.Laws.{PartsAreLawful}
 use Rattle.cobol_grammar.specs.stmt_forms.Jump.{exit_behind}
 use Rattle.cobol_grammar.specs.stmt_forms.Paragraph.{sentence_closed, sentence_end, sentence, sentences_from, begins_exit_word, exit_alone, exit_sentence, exit_sentences, sentences_by_exit, sentences}
-use Rattle.cobol_grammar.specs.stmt_forms.Stmt.{max_nesting, level, stmts, stmts_from}
+use Rattle.cob_base.specs.Limit.{max_nesting}
+use Rattle.cobol_grammar.specs.stmt_forms.Stmt.{level, stmts, stmts_from}
 use Rattle.cobol_grammar.specs.stmt_forms.Verb.{begins_stmt}
 use Rattle.cobol_grammar.proofs.stmt_forms_lemmas.HoldingLaws as holding_laws
 use Rattle.cobol_grammar.proofs.stmt_forms_lemmas.ParagraphLaws as paragraph_laws

@@ -5,7 +5,7 @@ use Rattle.std.specs.List.{list_all}
 use Rattle.std.proofs.lemmas.Bool.Decides.{nat_tests}
 use Rattle.cob_base.specs.Spelling.{word_byte, folded, IsWord}
 use Rattle.cob_tree.specs.declared.program.Paragraph.{Paragraph}
-use Rattle.round_trip.proofs.printable_lemmas.display_programs_lemmas.Free.{LabelIs, A_word, A_number, label-is, word-token, number-token}
+use Rattle.round_trip.proofs.printable_lemmas.Free.{LabelIs, A_word, A_number, label-is, word-token, number-token}
 use Rattle.grammar_laws.specs.form_results.Giving.{Each}
 use Rattle.round_trip.specs.printable.Whole.{IfNamed, IsPrintableParagraph}
 use Rattle.symbol_tables.specs.procedure_names.Procedures.{header_name, is_digit, is_number}

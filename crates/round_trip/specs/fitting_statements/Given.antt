@@ -14,7 +14,7 @@ use Rattle.program_facts.specs.well_scoped.Part.{is_filled}
 use Rattle.cobol_grammar.specs.declared.stmt_forms.scope.Scope.{Scope}
 use Rattle.cobol_grammar.specs.stmt_forms.Paragraph.{sentence_of, scope_of}
 use Rattle.cobol_grammar.specs.stmt_forms.Part.{Parts}
-use Rattle.cobol_grammar.specs.stmt_forms.Stmt.{max_nesting}
+use Rattle.cob_base.specs.Limit.{max_nesting}
 use Rattle.round_trip.specs.spelling.stmt_spelling.Part.{Kept}
 use Rattle.round_trip.specs.spelling.stmt_spelling.Stmt.{Each}
 use Rattle.round_trip.specs.fitting_statements.Fits.{Fits}

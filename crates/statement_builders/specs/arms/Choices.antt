@@ -11,7 +11,7 @@ use Rattle.cob_tree.specs.declared.stmt.When.{When}
 use Rattle.control_flow_theory.specs.language.Control.{seen, seen_stmts, seen_when, control_in, loop_of, perform_of, test_of, evaluate_of, tests_of, branches_before}
 use Rattle.control_flow_theory.specs.language.Language.{Choose, If, By, Read, Arith, Stmts, done}
 use Rattle.control_flow_theory.specs.rendering.Rendering.{Continues, Goes}
-use Rattle.statement_builders.specs.arms.Owning.{OwnTurns}
+use Rattle.program_facts.specs.own_items.Owning.{OwnTurns}
 use Rattle.statement_builders.specs.arms.Empties.{if_had, put_arm, stands_so, kept_stmts}
 
 -- the statements of an arm that may be left out

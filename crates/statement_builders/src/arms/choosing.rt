@@ -6,9 +6,9 @@ ghost use Rattle.control_flow_theory.specs.language.OwnItems.{control_own};
 ghost use Rattle.statement_builders.specs.arms.Choices.{IsIf, IsEvaluate, IsRead, IsArith, IsOwnPerform, IsOwnLoop};
 
 use crate::arms::empties::{kept, or_continue};
-use crate::arms::owning::is_own_control;
 use cob_base::{Items, NoMemory};
 use cob_tree::{Arms, Calc, Cond, Control, Place, Stmt, Subject, Target, When};
+use program_facts::own_items::is_own_control;
 
 /// IF: its ELSE is left out where it is empty.
 pub fn if_stmt(cond: Cond, yes: Items<Stmt>, no: Items<Stmt>) -> Result<Stmt, NoMemory>

@@ -5,12 +5,13 @@ ghost use Rattle.control_flow_theory.specs.language.Control.{seen_stmts, test_of
 ghost use Rattle.control_flow_theory.specs.language.Own.{OwnTest};
 ghost use Rattle.statement_builders.specs.item_words.Words.{IsCellTest, IsLoop, IsTest};
 
-use crate::arms::{is_own_test, or_continue};
+use crate::arms::or_continue;
 use crate::item_words::cells::{CellItem, item_of};
 use crate::item_words::numbers::relation;
 use branch_tree::Test;
 use cob_base::{Boxed, Items, NoMemory};
 use cob_tree::{Cond, Control, Rel, Stmt};
+use program_facts::own_items::is_own_test;
 use std::alloc::Global;
 
 fn own_cond(cond: Cond) -> Result<Cond, NoMemory>

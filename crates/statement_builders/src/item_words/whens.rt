@@ -5,9 +5,10 @@ ghost use Rattle.control_flow_theory.specs.language.Control.{cell_chosen, seen_s
 ghost use Rattle.statement_builders.specs.arms.Choices.{IsEvaluate};
 ghost use Rattle.statement_builders.specs.item_words.Lists.{branch, branches_of, AreWhens, IsAmong};
 
-use crate::arms::{evaluate_stmt, is_own_subject, or_continue};
+use crate::arms::{evaluate_stmt, or_continue};
 use cob_base::{Copied, Items, NoMemory};
 use cob_tree::{Stmt, Subject, Test as WhenTest, When};
+use program_facts::own_items::is_own_subject;
 use std::alloc::Global;
 use std::mem;
 

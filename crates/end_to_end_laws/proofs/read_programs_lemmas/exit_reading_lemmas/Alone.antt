@@ -8,7 +8,7 @@ use Rattle.parser_combinators.proofs.MakerLaws as makers
 use Rattle.cobol_grammar.proofs.data_forms_lemmas.DivisionLaws.{divisions}
 use Rattle.cobol_grammar.proofs.PartLaws as part_laws
 use Rattle.cobol_read.specs.declared.program.Declarations.{Declarations}
-use Rattle.cobol_read.specs.Limit.{token_limit}
+use Rattle.cob_base.specs.Limit.{max_tokens}
 use Rattle.cobol_read.specs.Program as forms
 use Rattle.cobol_read.specs.Program.{declarations_of}
 use Rattle.cobol_read.specs.Reading.{HasSyntax, Reads}
@@ -40,9 +40,9 @@ syntax-alone : (bytes : List ℕ) (found : Program) → HasSyntax bytes found No
 syntax-alone bytes found h =
     let known = declarations_of h.tokens in
     let read = (program_laws.program known).lawful.complete (start h.tokens) h.draft h.spelled.0 h.spelled.1 in
-    let few : length h.tokens < token_limit + 1 = let n = h.has_words.has_few.few in omega (arith, n) in
+    let few : length h.tokens < max_tokens + 1 = let n = h.has_words.has_few.few in omega (arith, n) in
     subst (λ program. exits_alone program ≡ true) (sym h.is)
-    ((program (token_limit + 1) known).gives (start h.tokens) h.draft h.spelled.0 read few).1
+    ((program (max_tokens + 1) known).gives (start h.tokens) h.draft h.spelled.0 read few).1
 
 pub read-alone : (bytes : List ℕ) (program : Program) → Reads bytes program → exits_alone program ≡ true
 read-alone bytes program reads = syntax-alone bytes program reads.has_room.has_syntax

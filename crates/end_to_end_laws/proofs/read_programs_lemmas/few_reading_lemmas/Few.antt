@@ -8,7 +8,7 @@ use Rattle.parser_combinators.proofs.MakerLaws as makers
 use Rattle.cobol_grammar.proofs.data_forms_lemmas.DivisionLaws.{divisions}
 use Rattle.cobol_grammar.proofs.PartLaws as part_laws
 use Rattle.cobol_read.specs.declared.program.Declarations.{Declarations}
-use Rattle.cobol_read.specs.Limit.{token_limit}
+use Rattle.cob_base.specs.Limit.{max_tokens}
 use Rattle.cobol_read.specs.Program as forms
 use Rattle.cobol_read.specs.Program.{declarations_of}
 use Rattle.cobol_read.specs.Reading.{HasSyntax, Reads}
@@ -41,10 +41,10 @@ syntax-few : (bytes : List ℕ) (found : Program) → HasSyntax bytes found None
 syntax-few bytes found h =
     let known = declarations_of h.tokens in
     let read = (program_laws.program known).lawful.complete (start h.tokens) h.draft h.spelled.0 h.spelled.1 in
-    let small : token_limit + 1 < 10 ^ 18 = omega arith in
-    let few : length h.tokens < token_limit + 1 = let n = h.has_words.has_few.few in omega (arith, n) in
+    let small : max_tokens + 1 < 10 ^ 18 = omega arith in
+    let few : length h.tokens < max_tokens + 1 = let n = h.has_words.has_few.few in omega (arith, n) in
     subst (λ program. names_few program ≡ true) (sym h.is)
-    ((program (token_limit + 1) small known).gives (start h.tokens) h.draft h.spelled.0 read few).1
+    ((program (max_tokens + 1) small known).gives (start h.tokens) h.draft h.spelled.0 read few).1
 
 pub read-few : (bytes : List ℕ) (program : Program) → Reads bytes program → names_few program ≡ true
 read-few bytes program reads = syntax-few bytes program reads.has_room.has_syntax

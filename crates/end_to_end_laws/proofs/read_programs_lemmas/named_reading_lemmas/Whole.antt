@@ -23,7 +23,7 @@ use Rattle.cobol_grammar.specs.Use as uses
 use Rattle.cobol_grammar.proofs.PartLaws as part_laws
 use Rattle.cobol_read.specs.declared.program.Declarations.{Declarations}
 use Rattle.cobol_read.specs.declared.program.ProgramDraft.{ProgramDraft}
-use Rattle.cobol_read.specs.Limit.{token_limit}
+use Rattle.cob_base.specs.Limit.{max_tokens}
 use Rattle.cobol_read.specs.Program as forms
 use Rattle.cobol_read.specs.Program.{nameless, statements_at, declared_by, declarations_from, declarations_of, before_procedures, program_of}
 use Rattle.cobol_read.specs.Reading.{HasSyntax, Reads}
@@ -143,7 +143,7 @@ all-told tokens draft q e =
     ap (λ ts. (procedures_of ts from).count) (sym (here.rest ∙ ap (λ n. drop n tokens) here.taken))
     ∙ counted-are-read known.names known.entries known.procedures here.input draft.paragraphs q from here.reads
 
-module _ (tokens : List Token) (few_tokens : length tokens ≤ token_limit) (are : AreOf IsNumbered tokens) (draft : ProgramDraft) (q : Input) (none : q.fault ≡ None) where
+module _ (tokens : List Token) (few_tokens : length tokens ≤ max_tokens) (are : AreOf IsNumbered tokens) (draft : ProgramDraft) (q : Input) (none : q.fault ≡ None) where
   module _ (found : Divisions) (behind : Input) (from : ℕ) (read : nameless tokens ≡ Got found behind) (fine : fault_of found ≡ None) (same : SameDivisions found draft.divisions) where
     abbrev here : Declarations
     here = declarations_from tokens (declared_of found) from
@@ -207,7 +207,7 @@ named-read bytes found h =
     subst (λ program. IsNamed program) (sym h.is)
     (named-program h.tokens words.few (numbered words.has_tokens.text h.tokens words.has_tokens.lexed) h.draft q (h.spelled.3 ∙ none.1) none.0 read)
 
-few-below : (n : ℕ) → n ≤ token_limit → n ≤ 2 ^ 31
+few-below : (n : ℕ) → n ≤ max_tokens → n ≤ 2 ^ 31
 few-below n h = omega (arith, h)
 
 pub read-named : (bytes : List ℕ) (program : Program) → Reads bytes program → IsNamed program × NamesOwnItems program

@@ -12,10 +12,10 @@ use Rattle.cob_words.specs.Lists.{reserved_words, left_out_words, is_listed}
 use Rattle.cobol_lex.specs.declared.token.Token.{Token}
 use Rattle.cobol_lex.specs.declared.token.TokenKind.{TokenKind}
 use Rattle.cobol_lex.specs.declared.token.TokenKind.TheVariants as kind
-use Rattle.cobol_read.specs.declared.refusal.ReadRefusal.{ReadRefusal}
-use Rattle.cobol_read.specs.declared.refusal.ReadRefusal.TheVariants as refusals
+use Rattle.cobol_read.specs.declared.refusal.ReadFault.{ReadFault}
+use Rattle.cobol_read.specs.declared.refusal.ReadFault.TheVariants as faults
 use Rattle.cobol_read.specs.LeftOut.{kind_refusal, or_else, first_left_out}
-use Rattle.round_trip.proofs.printable_lemmas.display_programs_lemmas.Free.{LabelIs, A_word, A_number, label-is, word-token, number-token, data-free}
+use Rattle.round_trip.proofs.printable_lemmas.Free.{LabelIs, A_word, A_number, label-is, word-token, number-token, data-free}
 use Rattle.control_flow_theory.specs.language.All.{all}
 use Rattle.grammar_laws.specs.form_results.Giving.{Each}
 use Rattle.program_facts.specs.well_scoped.Part.{if_any}
@@ -108,7 +108,7 @@ listed-in (first ∷ words) word h k = go (λ k. listed-in words word e.1 k) (by
 
 in-allowed : (word : List ℕ) → is_in word ≡ true → Allowed (kind.Word word)
 in-allowed word h =
-    record { allowed = λ line. ap (λ v. if v then Some (refusals.LeftOut word line) else None) (no-not (is_listed left_out_words word) h) }
+    record { allowed = λ line. ap (λ v. if v then Some (faults.LeftOut word line) else None) (no-not (is_listed left_out_words word) h) }
 
 pub word : (text : List ℕ) → is_listed own_words text ≡ true → Allowed (kind.Word text)
 word text h = in-allowed text (listed-in own_words text own-in h)
@@ -189,7 +189,7 @@ items-named program h number = entry-at program.entries number h
 
 -- ---- tokens on their lines
 
-or-none : (early late : Option ReadRefusal) → early ≡ None → late ≡ None → or_else early late ≡ None
+or-none : (early late : Option ReadFault) → early ≡ None → late ≡ None → or_else early late ≡ None
 or-none early late e k = ap (λ refusal. or_else refusal late) e ∙ k
 
 pub none-left-out : (tokens : List Token) → Each IsAllowed (map (λ (token : Token). token.kind) tokens) → first_left_out tokens ≡ None

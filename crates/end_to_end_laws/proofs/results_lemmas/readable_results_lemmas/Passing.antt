@@ -12,7 +12,8 @@ use Rattle.program_facts.proofs.well_scoped_lemmas.Made.{both}
 use Rattle.control_flow_theory.specs.rendering.Rendering.{Naming, Procedure, rendered}
 use Rattle.control_flow_theory.specs.rendering.Procedures.{Writable}
 use Rattle.control_flow_theory.specs.headline.Chain.{EachStands}
-use Rattle.program_facts.specs.term_counts.Program.{max_terms, terms_of, paragraph_most, file_most, sentence_most}
+use Rattle.cob_base.specs.Limit.{max_terms}
+use Rattle.program_facts.specs.term_counts.Program.{terms_of, paragraph_most, file_most, sentence_most}
 use Rattle.program_facts.specs.term_counts.Statement.{stmts_most}
 use Rattle.program_points.proofs.table_building_lemmas.Sections.{seen-length}
 use Rattle.round_trip.specs.fitting_statements.Fits.{Fits}

@@ -20,7 +20,7 @@ use Rattle.flow_graph.specs.graph_sizes.Sizes.{graph_size, node_size, tree_size}
 use Rattle.pending_returns.specs.declared.facts.Summary.{Summary}
 use Rattle.cobol_theory.specs.cobol_headline.Alike.{naming_of}
 use Rattle.procedure_split.specs.shaped_ranges.Graphs.{node_count}
-use Rattle.procedure_split.specs.shaped_ranges.Limit.{node_limit}
+use Rattle.cob_base.specs.Limit.{max_nodes}
 use Rattle.procedure_split.proofs.made_procedures_lemmas.Plans.{each-closed}
 use Rattle.procedure_split.proofs.made_procedures_lemmas.Rows.{beside, in-at}
 use Rattle.procedure_split.specs.Split.{IsSplit}
@@ -92,7 +92,7 @@ module _ (program made : Program) (summary : Summary) (well : IsWellMade program
       (has-node (graphs (seen_range range.0)).nodes (graphs (seen_range range.0)).entry
       closed.entry)
 
-  few : length made.paragraphs ≤ node_limit
+  few : length made.paragraphs ≤ max_nodes
   few =
       let counted = as-many split.graphs graph-counts in
       let paragraphs = split.written.paragraphs.count in

@@ -1,15 +1,16 @@
 -- Each added item takes a byte at least.
-use Rattle.std.proofs.Common.{◌≡◌, ℕ, suc, ◌+◌, ◌-◌, ◌^◌, ◌≤◌, Bool, true, false, nat_le, if◌then◌else◌, List, [], ◌∷◌, ◌++◌, length, map, Some, None, refl, ap, sym, ◌∙◌, subst, arith}
+use Rattle.std.proofs.Common.{◌≡◌, ℕ, suc, ◌+◌, ◌-◌, ◌^◌, ◌≤◌, Bool, true, false, if◌then◌else◌, List, [], ◌∷◌, ◌++◌, length, map, Some, None, refl, ap, sym, ◌∙◌, subst, arith}
 use Rattle.std.specs.Prelude.{max, min, sum, slice_get, slice_index, slice_set}
 use Rattle.std.specs.List.{fold}
 use Rattle.std.specs.Option.{unwrap_or}
-use Rattle.std.proofs.lemmas.Bool.{le-ltb, leb-true}
+use Rattle.std.proofs.lemmas.Bool.{le-ltb}
 use Rattle.std.proofs.lemmas.List.{append_assoc, length_push}
 use Rattle.std.proofs.lemmas.List.Sums.{fold-append}
-use Rattle.cob_base.specs.declared.limit.Limit.{Limit}
 use Rattle.cob_base.specs.declared.limit.LimitKind.TheVariants.{Storage}
 use Rattle.cob_tree.specs.declared.entry.Entry.{Entry}
 use Rattle.cob_tree.specs.declared.program.Program.{Program}
+use Rattle.cob_base.specs.Limit.{max_storage}
+use Rattle.cob_base.proofs.LimitLemmas.{within}
 use Rattle.cob_store.specs.declared.sizes.storage.Roots.{Roots}
 use Rattle.cob_store.specs.sizes.Size.{sized}
 use Rattle.cob_store.specs.sizes.Storage.{is_root, no_roots, root_by, rooted, rooted_next, roots_of, storage_limit, storage_of, with_root, within_root}
@@ -138,22 +139,12 @@ items-take-bytes entries items s =
     behind : length items + sum before.sizes ≤ sum (fold (rooted_next sizes) before (whole_entries items)).sizes
     behind = items-rooted items front before s as-many
 
-within : (counted : ℕ) → storage_limit false counted ≡ None → counted ≤ 16777216
-within counted h = go (nat_le counted 16777216) refl h
-  where
-    past : Limit
-    past = record { kind = Storage; of_result = false; counted = counted; limit = 16777216 }
-
-    go : (b : Bool) → nat_le counted 16777216 ≡ b → (if b then None else Some past) ≡ None → counted ≤ 16777216
-    go true e h = leb-true counted 16777216 e
-    go false e h = absurd cc
-
 -- so there are no more of them than bytes
-pub few-items : (program made : Program) (items : List WholeItem) → HasAdded program items made → AreSized items → storage_limit false (storage_of made.entries) ≡ None → length items ≤ 16777216
+pub few-items : (program made : Program) (items : List WholeItem) → HasAdded program items made → AreSized items → storage_limit false (storage_of made.entries) ≡ None → length items ≤ max_storage
 few-items program made items has s stored =
     by (length items) (sum (roots_of (sized made.entries).sizes made.entries).sizes)
     (subst (λ entries. length items ≤ sum (roots_of (sized entries).sizes entries).sizes) (sym has.entries) (items-take-bytes program.entries items s))
-    (within (storage_of made.entries) stored)
+    (within Storage false (storage_of made.entries) stored)
   where
-    by : (count bytes : ℕ) → count ≤ bytes → min bytes (2 ^ 64 - 1) ≤ 16777216 → count ≤ 16777216
+    by : (count bytes : ℕ) → count ≤ bytes → min bytes (2 ^ 64 - 1) ≤ max_storage → count ≤ max_storage
     by count bytes h few = omega (arith, h, few)

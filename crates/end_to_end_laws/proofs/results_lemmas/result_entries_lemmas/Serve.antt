@@ -2,6 +2,7 @@
 use Rattle.std.proofs.Common.{◌≡◌, ℕ, zero, suc, ◌+◌, ◌^◌, ◌<◌, ◌≤◌, true, List, [], ◌∷◌, ◌++◌, length, Some, refl, ap, sym, ◌∙◌, subst, arith}
 use Rattle.std.specs.Prelude.{slice_get}
 use Rattle.std.proofs.lemmas.Option.{slice_get_within}
+use Rattle.cob_base.specs.Limit.{max_storage}
 use Rattle.control_flow_theory.specs.language.Language.{Range}
 use Rattle.control_flow_theory.specs.graph_rules.Families.{Added}
 use Rattle.out_names.specs.Words.{program_words, table_of}
@@ -53,7 +54,7 @@ few-kinds program made ranges declares stored =
     items : List WholeItem
     items = items_for program ranges
 
-    below : (items kinds : ℕ) → items ≤ 16777216 → items ≡ kinds → kinds < 2 ^ 30
+    below : (items kinds : ℕ) → items ≤ max_storage → items ≡ kinds → kinds < 2 ^ 30
     below items kinds few same = omega (arith, few, same)
 
 pub cell_items_serve : CellItemsServe

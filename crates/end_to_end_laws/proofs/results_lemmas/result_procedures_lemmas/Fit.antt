@@ -8,7 +8,7 @@ use Rattle.cob_tree.specs.declared.program.Sentence.{Sentence}
 use Rattle.grammar_laws.specs.form_results.Giving.{Each}
 use Rattle.cobol_grammar.specs.declared.stmt_forms.scope.Scope.{Scope}
 use Rattle.cobol_grammar.specs.stmt_forms.Paragraph.{scope_of}
-use Rattle.cobol_grammar.specs.stmt_forms.Stmt.{max_nesting}
+use Rattle.cob_base.specs.Limit.{max_nesting}
 use Rattle.struct_form.specs.Nested.{sentences_nest, paragraph_nests, paragraphs_nest}
 use Rattle.struct_form.proofs.Structured.{structured_nests}
 use Rattle.round_trip.specs.fitting_statements.Fits.{Fits}

@@ -14,7 +14,7 @@ use Rattle.unparser.specs.Place.{item_name}
 use Rattle.parser_combinators.specs.words.Word.{is_data_word}
 use Rattle.program_facts.specs.term_counts.Condition.{cond_terms}
 use Rattle.program_facts.specs.term_counts.Expression.{expr_terms}
-use Rattle.program_facts.specs.term_counts.Program.{max_terms}
+use Rattle.cob_base.specs.Limit.{max_terms}
 use Rattle.symbol_tables.specs.declared.data_names.name.Found.{Found}
 use Rattle.symbol_tables.specs.declared.data_names.name.Found.TheVariants as found
 use Rattle.symbol_tables.specs.declared.data_names.name.Kind.TheVariants as item_kinds

@@ -34,7 +34,7 @@ use Rattle.program_facts.specs.term_counts.Condition as cond_sizes
 use Rattle.program_facts.specs.term_counts.Condition.{cond_terms}
 use Rattle.program_facts.specs.term_counts.Expression as sizes
 use Rattle.program_facts.specs.term_counts.Expression.{expr_terms, place_terms}
-use Rattle.program_facts.specs.term_counts.Program.{max_terms}
+use Rattle.cob_base.specs.Limit.{max_terms}
 use Rattle.cobol_grammar.specs.declared.expr_forms.side.Make.{Make}
 use Rattle.cobol_grammar.specs.declared.expr_forms.side.Make.TheVariants as makes
 use Rattle.cobol_grammar.specs.declared.expr_forms.side.ValueKind.{ValueKind}

@@ -2,7 +2,7 @@
 use Rattle.std.specs.Prelude.{◌≡◌, ◌≤◌, true, length, map}
 use Rattle.cob_tree.specs.declared.program.Program.{Program}
 use Rattle.control_flow_theory.specs.language.All.{all}
-use Rattle.cobol_read.specs.Limit.{token_limit}
+use Rattle.cob_base.specs.Limit.{max_tokens}
 use Rattle.program_facts.specs.well_scoped.Named.{counts_of, NamesItsOwn}
 use Rattle.grammar_laws.specs.well_scoped.named_entries.Entries.{EntriesNamed, file_named}
 use Rattle.grammar_laws.specs.whole_counts.entry_bounds.Bounds.{EntriesBound}
@@ -14,4 +14,4 @@ pub record IsNamed (program : Program) : Type 0 where
   pub entries : EntriesNamed program.entries
   pub bound : EntriesBound (length program.files) program.entries
   -- no more than tokens
-  pub few : length program.entries ≤ token_limit
+  pub few : length program.entries ≤ max_tokens

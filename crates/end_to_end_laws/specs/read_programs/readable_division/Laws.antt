@@ -4,7 +4,7 @@ use Rattle.cob_tree.specs.declared.program.Program.{Program}
 use Rattle.cobol_print.specs.units.Division.{program_units}
 use Rattle.cobol_print.specs.Program.{printed}
 use Rattle.cobol_print.specs.Unit.{all_tokens}
-use Rattle.cobol_read.specs.Limit.{source_limit, token_limit}
+use Rattle.cob_base.specs.Limit.{max_source, max_tokens}
 use Rattle.cobol_read.specs.Reading.{Reads}
 use Rattle.symbol_tables.specs.declared.procedure_names.table.ProcedureTable.{ProcedureTable}
 use Rattle.cobol_grammar.specs.Whole.{parts_of}
@@ -31,6 +31,6 @@ ProgramsThatAreReadAreReadable =
 abbrev pub ProgramsThatAreReadReadBack : Type 0
 ProgramsThatAreReadReadBack =
     (bytes : List ℕ) (program : Program) → Reads bytes program →
-    length (printed program) ≤ source_limit →
-    length (all_tokens (program_units program)) ≤ token_limit →
+    length (printed program) ≤ max_source →
+    length (all_tokens (program_units program)) ≤ max_tokens →
     Reads (printed program) program

@@ -18,7 +18,7 @@ use Rattle.cobol_grammar.specs.stmt_forms.Part.{Parts}
 use Rattle.cobol_grammar.specs.declared.known.Known.{Known}
 use Rattle.cobol_grammar.specs.Whole.{parts_of}
 use Rattle.cobol_read.specs.LeftOut.{first_left_out}
-use Rattle.cobol_read.specs.Limit.{source_limit, token_limit, paragraph_limit}
+use Rattle.cob_base.specs.Limit.{max_source, max_tokens, max_paragraphs}
 use Rattle.cobol_read.specs.Status.{status}
 use Rattle.round_trip.specs.printable.Whole.{IsPrintableProgram}
 use Rattle.round_trip.specs.spelling.data_spelling.Sections.{Fd}
@@ -67,7 +67,7 @@ pub record IsFit (program : Program) : Type 0 where
   pub stated : IsStated program
   pub none_left_out : first_left_out (own_tokens program) ≡ None
   pub stored : storage_limit false (storage_of program.entries) ≡ None
-  pub few : length program.paragraphs ≤ paragraph_limit
+  pub few : length program.paragraphs ≤ max_paragraphs
 
 -- ---- its paragraphs
 
@@ -83,8 +83,8 @@ IsSpelled program =
 -- ---- within the limits of reading
 
 pub record IsShort (program : Program) : Type 0 where
-  pub bytes : length (printed program) ≤ source_limit
-  pub tokens : length (all_tokens (program_units program)) ≤ token_limit
+  pub bytes : length (printed program) ≤ max_source
+  pub tokens : length (all_tokens (program_units program)) ≤ max_tokens
 
 pub record IsReadable (program : Program) : Type 0 where
   pub fit : IsFit program

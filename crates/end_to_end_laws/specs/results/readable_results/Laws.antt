@@ -1,9 +1,9 @@
 -- What is printed of split programs.
 use Rattle.std.specs.Prelude.{ℕ, ◌≡◌, ◌≤◌, false, List, length, None}
 use Rattle.cob_tree.specs.declared.program.Program.{Program}
-use Rattle.program_facts.specs.term_counts.Program.{max_terms, terms_of}
+use Rattle.program_facts.specs.term_counts.Program.{terms_of}
 use Rattle.cob_store.specs.sizes.Storage.{storage_limit, storage_of}
-use Rattle.cobol_read.specs.Limit.{paragraph_limit}
+use Rattle.cob_base.specs.Limit.{max_paragraphs, max_terms}
 use Rattle.cobol_read.specs.Reading.{Reads}
 use Rattle.cobol_print.specs.Program.{printed}
 use Rattle.end_to_end_laws.specs.read_programs.readable_programs.Readable.{IsReadable, IsShort}
@@ -14,7 +14,7 @@ use Rattle.procedure_split.specs.split_behaviour.Alike.{FlowsSo}
 -- the limits of reading that what a program is split into may pass
 pub record IsWithinLimits (made : Program) : Type 0 where
   pub stored : storage_limit false (storage_of made.entries) ≡ None
-  pub few : length made.paragraphs ≤ paragraph_limit
+  pub few : length made.paragraphs ≤ max_paragraphs
   pub terms : terms_of made ≤ max_terms
   pub short : IsShort made
 

@@ -19,7 +19,7 @@ use Rattle.out_names.specs.Words.{program_words}
 use Rattle.round_trip.specs.printable.printable_tokens.Header.{IsHeaderName}
 use Rattle.round_trip.specs.printable.Whole.{IsPrintableProgram}
 use Rattle.procedure_split.specs.Split.{IsSplit}
-use Rattle.procedure_split.specs.shaped_ranges.Limit.{node_limit}
+use Rattle.cob_base.specs.Limit.{max_nodes}
 use Rattle.procedure_split.specs.split_behaviour.Alike.{IsWellMade, FlowsSo}
 use Rattle.end_to_end_laws.specs.results.result_bodies.Bodies.{split_rows, writing_by, TakesBoth, IsWrittenParagraph}
 
@@ -54,7 +54,7 @@ ParagraphsAreWritten =
 abbrev pub SplitProgramsHaveFewProcedures : Type 0
 SplitProgramsHaveFewProcedures =
     (program made : Program) (summary : Summary) → IsWellMade program → FlowsSo program summary →
-    IsSplit program summary made → length made.paragraphs ≤ node_limit
+    IsSplit program summary made → length made.paragraphs ≤ max_nodes
 
 -- what a program that can be printed is split into can be printed, where the names of its procedures
 -- can, and words and added items are so few that each number behind a name has ten digits

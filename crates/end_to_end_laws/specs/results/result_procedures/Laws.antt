@@ -18,7 +18,7 @@ use Rattle.procedure_split.specs.Split.{IsSplit}
 use Rattle.struct_form.specs.Nested.{stmts_nest}
 use Rattle.struct_form.specs.Structured.{IsStructured}
 use Rattle.cobol_grammar.specs.declared.stmt_forms.scope.Scope.{Scope}
-use Rattle.cobol_grammar.specs.stmt_forms.Stmt.{max_nesting}
+use Rattle.cob_base.specs.Limit.{max_nesting}
 use Rattle.cobol_grammar.specs.Whole.{parts_of}
 use Rattle.round_trip.specs.printable.printable_tokens.Header.{IsHeaderName}
 use Rattle.round_trip.specs.printable.Whole.{IsPrintableProgram}

@@ -16,7 +16,7 @@ use Rattle.cobol_lex.specs.Token.{with_token, after_lexeme, tokens_from}
 use Rattle.cobol_lex.specs.Word.{word_run, word_kind, fits_word}
 use Rattle.cobol_lex.specs.declared.awaits.Awaits.{Awaits}
 use Rattle.cobol_lex.specs.declared.awaits.Awaits.TheVariants as awaits
-use Rattle.cobol_lex.specs.declared.fault.LexFault.{LexFault}
+use Rattle.cobol_lex.specs.declared.fault.LexError.{LexError}
 use Rattle.cobol_lex.specs.declared.lexeme.Lexeme.{Lexeme}
 use Rattle.cobol_lex.specs.declared.literal.Quoted.{Quoted}
 use Rattle.cobol_lex.specs.declared.token.Token.{Token}
@@ -31,15 +31,15 @@ use Rattle.grammar_laws.specs.well_scoped.named_tokens.Laws.{TokensAreNumbered}
 
 -- ---- what is read, if anything is
 
-abbrev KindFine : Result TokenKind LexFault → Type 0
+abbrev KindFine : Result TokenKind LexError → Type 0
 KindFine (Ok kind) = IsNumbered kind
 KindFine (Err fault) = Unit {0}
 
-abbrev LexemeFine : Result Lexeme LexFault → Type 0
+abbrev LexemeFine : Result Lexeme LexError → Type 0
 LexemeFine (Ok lexeme) = IsNumbered lexeme.kind
 LexemeFine (Err fault) = Unit {0}
 
-abbrev AreFine : Result (List Token) LexFault → Type 0
+abbrev AreFine : Result (List Token) LexError → Type 0
 AreFine (Ok tokens) = AreOf IsNumbered tokens
 AreFine (Err fault) = Unit {0}
 
@@ -92,7 +92,7 @@ number_fine line run filled =
 
 -- ---- lexemes
 
-of_kind : (length : ℕ) (kind : Result TokenKind LexFault) → KindFine kind → LexemeFine (lexeme_of length kind)
+of_kind : (length : ℕ) (kind : Result TokenKind LexError) → KindFine kind → LexemeFine (lexeme_of length kind)
 of_kind length (Ok kind) h = h
 of_kind length (Err fault) h = tt
 
@@ -125,11 +125,11 @@ next_fine awaits before line bytes =
 
 -- ---- tokens
 
-token_fine : (token : Token) (tokens : Result (List Token) LexFault) → IsNumbered token.kind → AreFine tokens → AreFine (with_token token tokens)
+token_fine : (token : Token) (tokens : Result (List Token) LexError) → IsNumbered token.kind → AreFine tokens → AreFine (with_token token tokens)
 token_fine token (Ok tokens) h k = (h, k)
 token_fine token (Err fault) h k = tt
 
-lexeme_fine : (lexeme : Result Lexeme LexFault) (follows : Lexeme → Result (List Token) LexFault) → LexemeFine lexeme → ((found : Lexeme) → IsNumbered found.kind → AreFine (follows found)) → AreFine (after_lexeme lexeme follows)
+lexeme_fine : (lexeme : Result Lexeme LexError) (follows : Lexeme → Result (List Token) LexError) → LexemeFine lexeme → ((found : Lexeme) → IsNumbered found.kind → AreFine (follows found)) → AreFine (after_lexeme lexeme follows)
 lexeme_fine (Ok lexeme) follows h k = k lexeme h
 lexeme_fine (Err fault) follows h k = tt
 

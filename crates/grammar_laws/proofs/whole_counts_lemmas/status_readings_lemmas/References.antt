@@ -19,6 +19,7 @@ use Rattle.cobol_grammar.specs.declared.expr_forms.reference.Behind.{Behind}
 use Rattle.cobol_grammar.specs.declared.expr_forms.reference.Suffix.{Suffix}
 use Rattle.cobol_grammar.specs.declared.expr_forms.reference.Suffix.TheVariants as suffixes
 use Rattle.cobol_grammar.specs.declared.expr_forms.side.Side.{Side}
+use Rattle.cob_base.specs.Limit.{max_parens}
 use Rattle.cobol_grammar.specs.expr_forms.Limit as limits
 use Rattle.cobol_grammar.specs.expr_forms.Limit.{Inner}
 use Rattle.cobol_grammar.specs.expr_forms.Either.{with_number, more_leaves}
@@ -273,9 +274,9 @@ inner names others (suc n) = record {
 
 outer : (names others : Names) → InnerAlike (knots.outer names) (knots.outer others)
 outer names others = record {
-  nested = λ c d e. in_nested (inner names others limits.max_parens) names others c d e;
-  suffix = λ c d e. in_suffix (inner names others limits.max_parens) names others true c d e;
-  window = λ c d e. in_window (inner names others limits.max_parens) names others true c d e;
+  nested = λ c d e. in_nested (inner names others max_parens) names others c d e;
+  suffix = λ c d e. in_suffix (inner names others max_parens) names others true c d e;
+  window = λ c d e. in_window (inner names others max_parens) names others true c d e;
 }
 
 pub data_reference : (names others : Names) → Alike (knots.data_reference names) (knots.data_reference others) (λ a b. Unit {0})

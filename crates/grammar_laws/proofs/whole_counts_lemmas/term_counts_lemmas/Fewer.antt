@@ -11,7 +11,8 @@ use Rattle.parser_combinators.specs.Form.{Input, Outcome, Got, Stop, left, then_
 use Rattle.parser_combinators.proofs.Lawful.{IsEnd, end_all, end_then, then_got, got_is}
 use Rattle.parser_combinators.proofs.MakerLaws as laws
 use Rattle.parser_combinators.proofs.MakerLaws.{Law}
-use Rattle.cobol_grammar.specs.expr_forms.Limit.{max_terms, tally}
+use Rattle.cob_base.specs.Limit.{max_terms}
+use Rattle.cobol_grammar.specs.expr_forms.Limit.{tally}
 use Rattle.cobol_grammar.proofs.expr_forms_lemmas.ExpressionLaws as expression_laws
 
 -- `add` gives a value the terms before it, `count` is how many it comes to without them.

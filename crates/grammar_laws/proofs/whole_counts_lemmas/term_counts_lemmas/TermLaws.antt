@@ -21,7 +21,8 @@ use Rattle.cobol_grammar.specs.declared.expr_forms.reference.Behind.{Behind}
 use Rattle.cobol_grammar.specs.declared.expr_forms.reference.Suffix.{Suffix}
 use Rattle.cobol_grammar.specs.declared.expr_forms.reference.Suffix.TheVariants as suffixes
 use Rattle.cobol_grammar.specs.declared.expr_forms.side.Side.{Side}
-use Rattle.cobol_grammar.specs.expr_forms.Limit.{Inner, max_terms}
+use Rattle.cob_base.specs.Limit.{max_terms}
+use Rattle.cobol_grammar.specs.expr_forms.Limit.{Inner}
 use Rattle.cobol_grammar.specs.expr_forms.Side as sides
 use Rattle.cobol_grammar.specs.expr_forms.Chain as chains
 use Rattle.cobol_grammar.specs.expr_forms.Either as eithers

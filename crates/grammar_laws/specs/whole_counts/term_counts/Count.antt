@@ -3,7 +3,7 @@ use Rattle.std.specs.Prelude.{◌≡◌, ℕ, ◌+◌, ◌<◌, ◌≤◌, ◌�
 use Rattle.parser_combinators.specs.declared.why.Why.TheVariants.{Terms}
 use Rattle.parser_combinators.specs.Form.{Input, Outcome, Got, Stop, left, Form}
 use Rattle.symbol_tables.specs.data_names.Names.{Names}
-use Rattle.cobol_grammar.specs.expr_forms.Limit.{max_terms}
+use Rattle.cob_base.specs.Limit.{max_terms}
 use Rattle.cobol_grammar.specs.expr_forms.Reference.{reference}
 use Rattle.cobol_grammar.specs.expr_forms.Operand.{operand}
 use Rattle.cobol_grammar.specs.expr_forms.Expression.{expr}

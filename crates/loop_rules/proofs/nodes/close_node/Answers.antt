@@ -1,7 +1,7 @@
 use Rattle.std.proofs.Common.{◌≡◌, ◌≤◌, ◌∷◌, [], length, None, Some, rules, true, refl, ap, sym, ◌∙◌, subst}
 use Rattle.control_flow_theory.specs.graph_rules.Shapes.{leaves_to}
 use Rattle.control_flow_theory.specs.graph_rules.Reduced.{count, close_graph}
-use Rattle.branch_tree.specs.Helds.{seen_work}
+use Rattle.graph_rewriting.specs.Helds.{seen_work}
 use Rattle.branch_tree.specs.Trees.{seen_tree}
 use Rattle.loop_rules.specs.Closed.{Closes, closed, may_loop, with_kinds}
 use Rattle.loop_rules.proofs.LeafRows.{closes_leaves}

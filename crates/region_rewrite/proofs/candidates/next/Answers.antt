@@ -1,5 +1,5 @@
 use Rattle.std.proofs.Common.{sym, ◌∙◌, rules}
-use Rattle.branch_tree.specs.Helds.{seen_work}
+use Rattle.graph_rewriting.specs.Helds.{seen_work}
 use Rattle.region_rewrite.specs.Rules.{applies}
 use Rattle.region_rewrite.proofs.SetRows.{all_but, all_left, none_below, none_applies}
 use Rattle.region_rewrite.proofs.candidates.next.Goals as goal

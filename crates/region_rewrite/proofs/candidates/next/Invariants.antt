@@ -1,5 +1,5 @@
 use Rattle.std.specs.BTreeSet.{btree_set_len}
-use Rattle.branch_tree.specs.Helds.{seen_work}
+use Rattle.graph_rewriting.specs.Helds.{seen_work}
 use Rattle.region_rewrite.specs.Candidates.{AllIn}
 use Rattle.region_rewrite.specs.Rules.{applies}
 use Rattle.region_rewrite.proofs.candidates.next.Given as goal

@@ -1,6 +1,6 @@
 use Rattle.std.proofs.Common.{ap, ◌∙◌, sym, subst}
 use Rattle.control_flow_theory.specs.graph_rules.Reduced.{has_node}
-use Rattle.branch_tree.specs.Helds.{seen_work}
+use Rattle.graph_rewriting.specs.Helds.{seen_work}
 use Rattle.region_rewrite.specs.Candidates.{HoldsBut}
 use Rattle.region_rewrite.specs.Reducings.{graph_in}
 use Rattle.region_rewrite.proofs.ReduceRows.{exits_but, exits_has, grown_but}

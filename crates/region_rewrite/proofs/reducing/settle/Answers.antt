@@ -1,6 +1,6 @@
 use Rattle.std.proofs.Common.{ap, ◌∙◌}
 use Rattle.std.proofs.lemmas.Result.{on_ok_weaker}
-use Rattle.branch_tree.specs.Helds.{seen_work}
+use Rattle.graph_rewriting.specs.Helds.{seen_work}
 use Rattle.region_rewrite.specs.Reducings.{graph_in}
 use Rattle.region_rewrite.proofs.ReduceRows.{settled, settled_is}
 use Rattle.region_rewrite.proofs.StepRows.{all_three}

@@ -3,8 +3,9 @@ use Rattle.std.proofs.Common.{◌≡◌, ℕ, zero, suc, ◌+◌, Bool, true, fa
 use Rattle.std.specs.Prelude.{◌==◌}
 use Rattle.std.proofs.lemmas.Bool.{le-ltb}
 use Rattle.cob_tree.specs.declared.entry.Entry.{Entry}
-use Rattle.cob_store.specs.declared.sizes.size.Piece.{Piece}
-use Rattle.cob_store.specs.sizes.Size.{capped, is_bare, is_apart, inside, behind, size_by, times, added, Sized, item_sized, apart_sized, sized_by, sized}
+use Rattle.cob_store.specs.declared.size.Piece.{Piece}
+use Rattle.cob_store.specs.Size.{capped, is_apart, inside, behind, size_by, times, added, Sized, item_sized, apart_sized}
+use Rattle.cob_store.specs.sizes.Size.{is_bare, sized_by, sized}
 use Rattle.round_trip.specs.declarations.added_entries.Items.{WholeItem, whole_entries}
 
 -- none is below anything

@@ -30,7 +30,7 @@ use Rattle.program_facts.specs.well_scoped.Part.{is_filled, if_any}
 use Rattle.program_facts.specs.term_counts.Condition as sizes
 use Rattle.program_facts.specs.term_counts.Condition.{cond_terms}
 use Rattle.program_facts.specs.term_counts.Part.{control_most}
-use Rattle.program_facts.specs.term_counts.Program.{max_terms}
+use Rattle.cob_base.specs.Limit.{max_terms}
 use Rattle.program_facts.specs.term_counts.Statement as terms
 use Rattle.program_facts.specs.term_counts.Statement.{stmt_most, arms_most, when_most, stmts_most}
 use Rattle.round_trip.specs.fitting_statements.Fits.{Fits}

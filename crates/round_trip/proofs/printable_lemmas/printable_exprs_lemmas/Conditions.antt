@@ -17,7 +17,7 @@ use Rattle.cobol_grammar.specs.declared.expr_forms.side.What.TheVariants as what
 use Rattle.cobol_grammar.specs.expr_forms.Fault as faults
 use Rattle.cobol_grammar.specs.expr_forms.Side as sides
 use Rattle.cobol_grammar.specs.expr_forms.Side.{expr_of}
-use Rattle.cobol_grammar.specs.expr_forms.Limit as limits
+use Rattle.cob_base.specs.Limit.{max_parens}
 use Rattle.cobol_grammar.specs.expr_forms.Limit.{Inner}
 use Rattle.cobol_grammar.specs.declared.cond_forms.part.Joined.{Joined}
 use Rattle.cobol_grammar.specs.declared.cond_forms.part.Part.{Part}
@@ -335,7 +335,7 @@ module _ (names : Names) where
 
   cond : Gives IsPrintable (conditions.cond names) PartFine
   unfolding conditions.cond
-  cond = cond_with (exprs.inner names limits.max_parens) (content limits.max_parens) 0
+  cond = cond_with (exprs.inner names max_parens) (content max_parens) 0
 
   pub whole_cond : Gives IsPrintable (conditions.whole_cond names) (λ found. is_printable_cond found.0 ≡ true)
   unfolding conditions.whole_cond

@@ -25,6 +25,7 @@ use Rattle.cobol_grammar.specs.declared.expr_forms.reference.Suffix.TheVariants 
 use Rattle.cobol_grammar.specs.declared.expr_forms.side.Side.{Side}
 use Rattle.cobol_grammar.specs.declared.expr_forms.side.What.{What}
 use Rattle.cobol_grammar.specs.declared.expr_forms.side.What.TheVariants as whats
+use Rattle.cob_base.specs.Limit.{max_terms, max_parens}
 use Rattle.cobol_grammar.specs.expr_forms.Limit as limits
 use Rattle.cobol_grammar.specs.expr_forms.Limit.{Inner}
 use Rattle.cobol_grammar.specs.expr_forms.Fault.{item_of}
@@ -162,7 +163,7 @@ ref_either-fine found of position i = record {
 -- ---- references
 
 pub tally : (count more : ℕ) → Gives IsPrintable (limits.tally count more) (λ _. Unit {0})
-tally count more = unless Terms (nat_lt limits.max_terms (count + more)) (count + more) tt
+tally count more = unless Terms (nat_lt max_terms (count + more)) (count + more) tt
 
 more_behind : {inner : Inner} → InnerGives inner → (suffix : Suffix) (count : ℕ) → Gives IsPrintable (references.more_behind inner suffix count) (λ behind. SuffixFine suffix → BehindFine behind)
 more_behind I (suffixes.Window window) count = pure (λ w. (refl, w))
@@ -426,9 +427,9 @@ module _ (names : Names) where
 
   outer : InnerGives (knots.outer names)
   outer = record {
-    nested = λ count. in_nested (inner limits.max_parens) count;
-    suffix = λ count. in_suffix (inner limits.max_parens) true count;
-    window = λ count. in_window (inner limits.max_parens) true count;
+    nested = λ count. in_nested (inner max_parens) count;
+    suffix = λ count. in_suffix (inner max_parens) true count;
+    window = λ count. in_window (inner max_parens) true count;
   }
 
   -- ---- as statements have them
@@ -447,4 +448,4 @@ module _ (names : Names) where
 
   pub whole_expr : Gives IsPrintable (knots.whole_expr names) Fine
   unfolding knots.whole_expr
-  whole_expr = expr (inner limits.max_parens) 0 >>= (λ side. pure (λ s. s))
+  whole_expr = expr (inner max_parens) 0 >>= (λ side. pure (λ s. s))

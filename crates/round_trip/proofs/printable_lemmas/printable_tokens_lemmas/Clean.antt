@@ -7,6 +7,7 @@ use Rattle.std.proofs.lemmas.List.Elements.{All-nil, All-cons, All-head, All-tai
 use Rattle.cob_base.specs.Bytes.{space, line_feed}
 use Rattle.ref_format.specs.declared.placed.Placed.{Placed}
 use Rattle.ref_format.specs.declared.fault.FormatFault.{FormatFault}
+use Rattle.ref_format.specs.declared.fault.FormatError.{FormatError}
 use Rattle.ref_format.specs.declared.joining.Literal.{Literal}
 use Rattle.ref_format.specs.declared.joining.Literal.TheVariants.{Closed, InQuotes, InApostrophes}
 use Rattle.ref_format.specs.Column.{columns, unspaced, has_control, is_ordinary, is_continuation}
@@ -104,7 +105,7 @@ joined-clean last text (line ∷ lines) all =
         more (with_line-clean last text line all (without-control (columns 8 72 line.card)
         (faultless (not (is_ordinary line.card || is_continuation line.card)) (has_control (columns 8 72 line.card)) _ _ _ _ is)))
 
-clean_ok : (text : List Placed) (answer : Result (List Placed) FormatFault) → answer ≡ Ok text → IfOk answer Clean → Clean text
+clean_ok : (text : List Placed) (answer : Result (List Placed) FormatError) → answer ≡ Ok text → IfOk answer Clean → Clean text
 clean_ok text answer is h = subst (λ r. IfOk r Clean) is h
 
 pub text-clean : (bytes : List ℕ) (text : List Placed) → program_text bytes ≡ Ok text → Clean text

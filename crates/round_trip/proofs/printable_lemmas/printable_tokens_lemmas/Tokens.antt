@@ -22,7 +22,7 @@ use Rattle.cobol_lex.specs.Word.{word_run, word_kind, fits_word}
 use Rattle.cobol_lex.specs.Written.{AreDigits}
 use Rattle.cobol_lex.specs.declared.awaits.Awaits.{Awaits}
 use Rattle.cobol_lex.specs.declared.awaits.Awaits.TheVariants as awaits
-use Rattle.cobol_lex.specs.declared.fault.LexFault.{LexFault}
+use Rattle.cobol_lex.specs.declared.fault.LexError.{LexError}
 use Rattle.cobol_lex.specs.declared.lexeme.Lexeme.{Lexeme}
 use Rattle.cobol_lex.specs.declared.literal.Quoted.{Quoted}
 use Rattle.cobol_lex.specs.declared.token.Token.{Token}
@@ -47,15 +47,15 @@ IsSpelled (kinds.Word word) = IsPrintableWord word
 IsSpelled (kinds.Literal text) = is_printable_text text ≡ true
 IsSpelled _ = Unit {0}
 
-abbrev KindFine : Result TokenKind LexFault → Type 0
+abbrev KindFine : Result TokenKind LexError → Type 0
 KindFine (Ok kind) = IsSpelled kind
 KindFine (Err fault) = Unit {0}
 
-abbrev LexemeFine : Result Lexeme LexFault → Type 0
+abbrev LexemeFine : Result Lexeme LexError → Type 0
 LexemeFine (Ok lexeme) = IsSpelled lexeme.kind
 LexemeFine (Err fault) = Unit {0}
 
-abbrev AreFine : Result (List Token) LexFault → Type 0
+abbrev AreFine : Result (List Token) LexError → Type 0
 AreFine (Ok tokens) = AreOf IsSpelled tokens
 AreFine (Err fault) = Unit {0}
 
@@ -145,7 +145,7 @@ quote_prints b h = grind (arith, nat_tests)
 
 -- ---- lexemes
 
-of_kind : (length : ℕ) (kind : Result TokenKind LexFault) → KindFine kind → LexemeFine (lexeme_of length kind)
+of_kind : (length : ℕ) (kind : Result TokenKind LexError) → KindFine kind → LexemeFine (lexeme_of length kind)
 of_kind length (Ok kind) h = h
 of_kind length (Err fault) h = tt
 
@@ -181,11 +181,11 @@ bytes_clean (p ∷ text) h =
     All-cons (λ b. is_clean b ≡ true) p.byte (bytes_of text) (All-head (λ p. is_clean p.byte ≡ true) p text h)
     (bytes_clean text (All-tail (λ p. is_clean p.byte ≡ true) p text h))
 
-token_fine : (token : Token) (tokens : Result (List Token) LexFault) → IsSpelled token.kind → AreFine tokens → AreFine (with_token token tokens)
+token_fine : (token : Token) (tokens : Result (List Token) LexError) → IsSpelled token.kind → AreFine tokens → AreFine (with_token token tokens)
 token_fine token (Ok tokens) h k = (h, k)
 token_fine token (Err fault) h k = tt
 
-lexeme_fine : (lexeme : Result Lexeme LexFault) (follows : Lexeme → Result (List Token) LexFault) → LexemeFine lexeme → ((found : Lexeme) → IsSpelled found.kind → AreFine (follows found)) → AreFine (after_lexeme lexeme follows)
+lexeme_fine : (lexeme : Result Lexeme LexError) (follows : Lexeme → Result (List Token) LexError) → LexemeFine lexeme → ((found : Lexeme) → IsSpelled found.kind → AreFine (follows found)) → AreFine (after_lexeme lexeme follows)
 lexeme_fine (Ok lexeme) follows h k = k lexeme h
 lexeme_fine (Err fault) follows h k = tt
 

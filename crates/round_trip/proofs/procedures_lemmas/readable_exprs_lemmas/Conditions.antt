@@ -19,7 +19,7 @@ use Rattle.cobol_grammar.specs.declared.expr_forms.side.What.TheVariants as what
 use Rattle.cobol_grammar.specs.expr_forms.Fault as faults
 use Rattle.cobol_grammar.specs.expr_forms.Side as sides
 use Rattle.cobol_grammar.specs.expr_forms.Side.{expr_of}
-use Rattle.cobol_grammar.specs.expr_forms.Limit as limits
+use Rattle.cob_base.specs.Limit.{max_parens}
 use Rattle.cobol_grammar.specs.expr_forms.Limit.{Inner}
 use Rattle.cobol_grammar.specs.declared.cond_forms.part.Joined.{Joined}
 use Rattle.cobol_grammar.specs.declared.cond_forms.part.Part.{Part}
@@ -377,7 +377,7 @@ module _ (Kind : TokenKind → Type 0) (names : Names) (program : Program) (find
 
   cond : Gives Kind (conditions.cond names) (λ part. PartTold names program 0 part)
   unfolding conditions.cond
-  cond = cond_with (exprs.inner Kind names program finds limits.max_parens) (content limits.max_parens) 0
+  cond = cond_with (exprs.inner Kind names program finds max_parens) (content max_parens) 0
 
   pub whole_cond : Gives Kind (conditions.whole_cond names) (λ found. IsReadableCond names program found.0)
   unfolding conditions.whole_cond

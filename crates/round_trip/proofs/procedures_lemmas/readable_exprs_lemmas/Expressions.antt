@@ -21,7 +21,7 @@ use Rattle.cobol_grammar.specs.declared.expr_forms.front.Front.TheVariants as fr
 use Rattle.cobol_grammar.specs.declared.expr_forms.reference.Suffix.{Suffix}
 use Rattle.cobol_grammar.specs.declared.expr_forms.reference.Suffix.TheVariants as suffixes
 use Rattle.cobol_grammar.specs.declared.expr_forms.side.Side.{Side}
-use Rattle.cobol_grammar.specs.expr_forms.Limit as limits
+use Rattle.cob_base.specs.Limit.{max_parens}
 use Rattle.cobol_grammar.specs.expr_forms.Limit.{Inner}
 use Rattle.cobol_grammar.specs.expr_forms.Chain as chains
 use Rattle.cobol_grammar.specs.expr_forms.Either as eithers
@@ -361,9 +361,9 @@ module _ (Kind : TokenKind → Type 0) (names : Names) (program : Program) (find
 
   outer : InnerTold true (knots.outer names)
   outer = record {
-    nested = λ count. in_nested (inner limits.max_parens) count;
-    suffix = λ count. in_suffix (inner limits.max_parens) true count;
-    window = λ count. in_window (inner limits.max_parens) true count;
+    nested = λ count. in_nested (inner max_parens) count;
+    suffix = λ count. in_suffix (inner max_parens) true count;
+    window = λ count. in_window (inner max_parens) true count;
   }
 
   -- ---- as statements have them
@@ -383,4 +383,4 @@ module _ (Kind : TokenKind → Type 0) (names : Names) (program : Program) (find
 
   pub whole_expr : Gives Kind (knots.whole_expr names) (IsReadableExpr names program)
   unfolding knots.whole_expr
-  whole_expr = expr (inner limits.max_parens) 0 >>= (λ side. pure (λ h. ends.readable-expr names program side.0 side.1 h))
+  whole_expr = expr (inner max_parens) 0 >>= (λ side. pure (λ h. ends.readable-expr names program side.0 side.1 h))

@@ -26,6 +26,7 @@ use Rattle.program_facts.specs.term_counts.Expression.{operand_terms}
 use Rattle.cobol_grammar.specs.declared.expr_forms.side.ValueKind.{ValueKind}
 use Rattle.cobol_grammar.specs.declared.expr_forms.side.ValueKind.TheVariants as values
 use Rattle.cobol_grammar.specs.declared.expr_forms.side.What.TheVariants as whats
+use Rattle.cob_base.specs.Limit.{max_terms}
 use Rattle.cobol_grammar.specs.expr_forms.Limit as limits
 use Rattle.cobol_grammar.specs.expr_forms.Reference as references
 use Rattle.cobol_grammar.specs.expr_forms.Side.{figure_kind, literal_kind}
@@ -156,8 +157,8 @@ module _ {Kind : TokenKind → Type 0} where
   -- ---- counts
 
   pub tally : (count more : ℕ) → Gives Kind (limits.tally count more) (λ found. (found ≡ count + more) × (found ≤ 500))
-  tally count more = by (nat_lt limits.max_terms (count + more)) refl
+  tally count more = by (nat_lt max_terms (count + more)) refl
     where
-      by : (passes : Bool) → nat_lt limits.max_terms (count + more) ≡ passes → Gives Kind (part.unless Terms passes (count + more)) (λ found. (found ≡ count + more) × (found ≤ 500))
+      by : (passes : Bool) → nat_lt max_terms (count + more) ≡ passes → Gives Kind (part.unless Terms passes (count + more)) (λ found. (found ≡ count + more) × (found ≤ 500))
       by true e = refuse
       by false e = pure (refl, ltb-false 500 (count + more) e)

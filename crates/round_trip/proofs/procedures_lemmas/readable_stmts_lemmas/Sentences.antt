@@ -10,7 +10,7 @@ use Rattle.cobol_grammar.specs.declared.stmt_forms.scope.Scope.{Scope}
 use Rattle.cobol_grammar.specs.stmt_forms.Part.{Parts}
 use Rattle.cobol_grammar.specs.stmt_forms.Laws.{PartsAreLawful}
 use Rattle.cobol_grammar.specs.stmt_forms.Arms.{Found}
-use Rattle.cobol_grammar.specs.stmt_forms.Stmt.{max_nesting}
+use Rattle.cob_base.specs.Limit.{max_nesting}
 use Rattle.cobol_grammar.specs.stmt_forms.Paragraph as paragraphs
 use Rattle.cobol_grammar.specs.stmt_forms.Verb.{begins_stmt}
 use Rattle.program_facts.specs.well_scoped.Part.{is_filled}

@@ -25,7 +25,7 @@ use Rattle.cobol_grammar.specs.stmt_forms.Jump as jump
 use Rattle.cobol_grammar.specs.stmt_forms.Part.{Parts}
 use Rattle.cobol_grammar.specs.stmt_forms.Paragraph as paragraphs
 use Rattle.cobol_grammar.specs.stmt_forms.Stmt as forms
-use Rattle.cobol_grammar.specs.stmt_forms.Stmt.{max_nesting}
+use Rattle.cob_base.specs.Limit.{max_nesting}
 use Rattle.cobol_grammar.specs.stmt_forms.Verb.{begins_stmt, begins_simple, begins_moving, begins_filing, begins_jumping}
 use Rattle.round_trip.specs.spelled_forms.Spelling.{first_of, Any, Spelled}
 use Rattle.round_trip.proofs.spelled_forms_lemmas.Makers.{pure, hence, where_behind, bind, then, ending, there_next, other_next, no_turn}

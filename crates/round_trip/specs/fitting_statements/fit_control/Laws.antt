@@ -8,7 +8,7 @@ use Rattle.control_flow_theory.specs.lowering.Told.{Told}
 use Rattle.control_flow_theory.specs.rendering.Rendering.{Naming, Procedure, place_of, required, then_stmts, closing, written_stmts}
 use Rattle.control_flow_theory.specs.rendering.Procedures.{Writable, StmtsStand}
 use Rattle.control_flow_theory.specs.served_graphs.Served.{ProgramIsServed}
-use Rattle.program_facts.specs.term_counts.Program.{max_terms}
+use Rattle.cob_base.specs.Limit.{max_terms}
 use Rattle.program_facts.specs.term_counts.Statement.{stmts_most}
 use Rattle.round_trip.specs.fitting_statements.sound_bodies.Sound.{two_arms, StmtsAreSound, ParagraphsAreSound}
 use Rattle.round_trip.specs.fitting_statements.Fits.{Fits}

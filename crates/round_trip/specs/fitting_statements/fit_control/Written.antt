@@ -9,7 +9,7 @@ use Rattle.control_flow_theory.specs.language.Language.{Simple, Cond, Chooser, A
 use Rattle.control_flow_theory.specs.rendering.Rendering.{Naming}
 use Rattle.control_flow_theory.specs.rendering.Procedures.{Writable}
 use Rattle.program_facts.specs.term_counts.Condition.{cond_terms}
-use Rattle.program_facts.specs.term_counts.Program.{max_terms}
+use Rattle.cob_base.specs.Limit.{max_terms}
 use Rattle.round_trip.specs.fitting_statements.Fits.{Fits}
 use Rattle.round_trip.specs.fitting_statements.Statement.{fit_stmt}
 use Rattle.round_trip.specs.fitting_statements.fit_control.Fit.{without_jumps, fit_chooser, moves_number}

@@ -10,7 +10,7 @@ use Rattle.cob_tree.specs.declared.program.Program.{Program}
 use Rattle.unparser.specs.Place.{item_name}
 use Rattle.program_facts.specs.term_counts.Condition.{cond_terms}
 use Rattle.program_facts.specs.term_counts.Expression.{expr_terms}
-use Rattle.program_facts.specs.term_counts.Program.{max_terms}
+use Rattle.cob_base.specs.Limit.{max_terms}
 use Rattle.parser_combinators.specs.words.Word.{is_data_word}
 use Rattle.symbol_tables.specs.declared.data_names.name.Found.{Found}
 use Rattle.symbol_tables.specs.declared.data_names.name.Found.TheVariants as found

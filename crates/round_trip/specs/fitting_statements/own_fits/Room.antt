@@ -7,7 +7,7 @@ use Rattle.cob_tree.specs.declared.place.Window.{Window, out-Window}
 use Rattle.program_facts.specs.well_scoped.Part.{if_any}
 use Rattle.program_facts.specs.term_counts.Expression as sizes
 use Rattle.program_facts.specs.term_counts.Expression.{expr_terms}
-use Rattle.program_facts.specs.term_counts.Program.{max_terms}
+use Rattle.cob_base.specs.Limit.{max_terms}
 
 -- its first expression is counted behind what was counted before, its second one anew
 abbrev pub window_has_room : (before : ℕ) → Window → Bool

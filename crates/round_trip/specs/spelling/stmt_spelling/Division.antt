@@ -14,7 +14,7 @@ use Rattle.cobol_grammar.specs.declared.stmt_forms.scope.Scope.{Scope}
 use Rattle.cobol_grammar.specs.stmt_forms.Jump.{begins_procedure}
 use Rattle.cobol_grammar.specs.stmt_forms.Paragraph.{sentence_of, scope_of}
 use Rattle.cobol_grammar.specs.stmt_forms.Part.{Parts}
-use Rattle.cobol_grammar.specs.stmt_forms.Stmt.{max_nesting}
+use Rattle.cob_base.specs.Limit.{max_nesting}
 use Rattle.cobol_grammar.specs.stmt_forms.Verb.{begins_stmt}
 use Rattle.round_trip.specs.spelled_forms.Spelling.{Any, Spelled}
 use Rattle.round_trip.specs.spelling.stmt_spelling.Part.{Kept}

@@ -2,7 +2,7 @@ use Rattle.std.proofs.Common.{◌≡◌, map, ap, sym, ◌∙◌, subst}
 use Rattle.control_flow_theory.specs.graph_rules.Reduced.{with_tree}
 use Rattle.control_flow_theory.specs.closing.Dispatches.{labels_of, trees_return}
 use Rattle.branch_tree.specs.Graphs.{seen_nodes}
-use Rattle.branch_tree.specs.Sounds.{bare}
+use Rattle.graph_rewriting.specs.Sounds.{bare}
 use Rattle.branch_tree.specs.Trees.{seen_tree, seen_trees, seen_body}
 use Rattle.state_dispatch.specs.Clearing.{taken_trees, Clears, one_node}
 use Rattle.state_dispatch.proofs.ClearRows.{all_trees, clears_taken, one_with}

@@ -3,7 +3,7 @@ use Rattle.parser_combinators.specs.Reading.{start_at}
 use Rattle.parser_combinators.proofs.Reader.{spelled, the_only, stops, none}
 use Rattle.cobol_grammar.specs.cond_forms.Condition as conditions
 use Rattle.cobol_grammar.proofs.cond_forms_lemmas.ConditionLaws as laws
-use Rattle.parser_combinators.specs.faults.Fault.{stop_fault}
+use Rattle.parser_combinators.specs.faults.Fault.{stop_error}
 use Rattle.cond_parse.specs.from_tokens.Answer.{noted_fault, unread}
 use Rattle.cond_parse.proofs.from_tokens.cond.parse_cond.Goals as goal
 
@@ -17,7 +17,7 @@ returns-in-Err-Stop-clause-fault c = inr (
   c.in-Err-Stop.why,
   c.whole_cond.new.cursor.rest,
   stops (conditions.whole_cond c.args.names.now) (laws.whole_cond c.args.names.now).lawful (start_at c.args.from c.args.tokens.now) c.in-Err-Stop.field-0 c.in-Err-Stop.why c.whole_cond.new.cursor _ c.from_index-cursor.ensures c.in-Err-Stop.field-0-is c.in-Err-Stop.ensures,
-  c.stop_fault.ensures ∙ ap (λ line. stop_fault c.in-Err-Stop.why line) c.fault_line.ensures,
+  c.stop_error.ensures ∙ ap (λ line. stop_error c.in-Err-Stop.why line) c.fault_line.ensures,
 )
 
 -- what is answered, as the function that reads gives it

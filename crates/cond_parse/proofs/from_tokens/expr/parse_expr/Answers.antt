@@ -4,7 +4,7 @@ use Rattle.parser_combinators.proofs.Reader.{spelled, the_only, stops, none}
 use Rattle.cobol_grammar.specs.expr_forms.Side.{expr_of}
 use Rattle.cobol_grammar.specs.expr_forms.Levels as expressions
 use Rattle.cobol_grammar.proofs.expr_forms_lemmas.ExpressionLaws as laws
-use Rattle.parser_combinators.specs.faults.Fault.{stop_fault}
+use Rattle.parser_combinators.specs.faults.Fault.{stop_error}
 use Rattle.cond_parse.specs.from_tokens.Answer.{noted_fault}
 use Rattle.cond_parse.proofs.from_tokens.expr.parse_expr.Goals as goal
 
@@ -18,7 +18,7 @@ returns-in-Err-Stop-clause-fault c = inr (
   c.in-Err-Stop.why,
   c.whole_expr.new.cursor.rest,
   stops (expressions.whole_expr c.args.names.now) (laws.whole_expr c.args.names.now).lawful (start_at c.args.from c.args.tokens.now) c.in-Err-Stop.field-0 c.in-Err-Stop.why c.whole_expr.new.cursor _ c.from_index-cursor.ensures c.in-Err-Stop.field-0-is c.in-Err-Stop.ensures,
-  c.stop_fault.ensures ∙ ap (λ line. stop_fault c.in-Err-Stop.why line) c.fault_line.ensures,
+  c.stop_error.ensures ∙ ap (λ line. stop_error c.in-Err-Stop.why line) c.fault_line.ensures,
 )
 
 pub returns-in-Ok-clause-found : goal.returns-in-Ok-clause-found

@@ -9,7 +9,7 @@ pub is_own_stmt-returns-in-If : goal.is_own_stmt-returns-in-If
 is_own_stmt-returns-in-If t c = λ whole.
     let all = c.all_three.ensures whole in
     subst (λ (s : Stmt). OwnStmt (seen 0 s)) (sym c.in-If.is)
-    (own_if c.in-If.cond c.in-If.yes c.in-If.no (c.is_own_test.ensures all.0) (c.is_own_stmts.ensures all.1) (c.is_own_stmts-in-If.ensures all.2))
+    (own_if c.in-If.cond c.in-If.yes c.in-If.no (c.is_own_test.ensures.own all.0) (c.is_own_stmts.ensures all.1) (c.is_own_stmts-in-If.ensures all.2))
 
 pub is_own_stmt-returns-in-Evaluate : goal.is_own_stmt-returns-in-Evaluate
 is_own_stmt-returns-in-Evaluate t c = λ whole.

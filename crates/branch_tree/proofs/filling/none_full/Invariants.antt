@@ -1,5 +1,0 @@
-use Rattle.branch_tree.specs.Fillings.{NoneFull}
-use Rattle.branch_tree.proofs.filling.none_full.Given as goal
-
-abbrev pub invariant-loop-key : goal.invariant-loop-key
-invariant-loop-key l = NoneFull l.slots l.key-iterator → NoneFull l.slots l.keys.entries

@@ -1,6 +1,0 @@
-use Rattle.std.proofs.Common.{◌∙◌}
-use Rattle.branch_tree.proofs.FindRows.{size_seen}
-use Rattle.branch_tree.proofs.work.Work.len.Goals as goal
-
-pub returns : goal.returns
-returns c = c.len.ensures.len ∙ size_seen c.self.inside c.self.invariant c.args.self.now c.self.view_is

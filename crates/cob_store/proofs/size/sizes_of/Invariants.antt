@@ -1,9 +1,0 @@
-use Rattle.std.proofs.Common.{◌≡◌, ◌≤◌, drop, length}
-use Rattle.cob_store.specs.Size.{sized}
-use Rattle.cob_store.proofs.size.sizes_of.Given as goal
-
-abbrev pub invariant-loop-at : goal.invariant-loop-at
-invariant-loop-at l = record { within : l.at ≤ length l.entries; sizes : l.sizes ≡ (sized (drop l.at l.entries)).sizes; pieces : l.pieces ≡ (sized (drop l.at l.entries)).pieces }
-
-abbrev pub decreases-loop-at : goal.decreases-loop-at
-decreases-loop-at l = l.at

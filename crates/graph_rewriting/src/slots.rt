@@ -1,0 +1,43 @@
+//! Trees that come into slots and go out of them.
+
+ghost use Rattle.std.specs.Prelude.{◌≡◌};
+ghost use Rattle.branch_tree.specs.Trees.{seen_tree};
+ghost use Rattle.graph_rewriting.specs.Sounds.{bare};
+ghost use Rattle.graph_rewriting.specs.Countings.{PutsIn, TakesOut};
+
+use crate::kept::Kept;
+use branch_tree::{End, Tree, drop_tree};
+use slab::Slab;
+use std::alloc::Global;
+use std::collections::VecDeque;
+use std::mem;
+
+/// A tree without a piece, which is dead.
+pub fn bare_tree(alloc: Global) -> Tree
+    ensures { seen_tree result ≡ bare }
+{
+    Tree {
+        body: VecDeque::new(alloc),
+        end: End::Dead,
+    }
+}
+
+/// The tree in the slot, in whose place a bare one stands.
+pub fn take_out(alloc: Global, slots: &mut Slab<Kept>, key: usize) -> Option<Tree>
+    ensures { TakesOut result key slots.old slots.new }
+{
+    match slots.get_mut(key) {
+        None => None,
+        Some(kept) => Some(mem::replace(&mut kept.node.tree, bare_tree(alloc))),
+    }
+}
+
+/// Puts the tree into the slot, and drops the one that stood there.
+pub fn put_in(slots: &mut Slab<Kept>, key: usize, tree: Tree)
+    ensures { PutsIn tree key slots.old slots.new }
+{
+    match slots.get_mut(key) {
+        None => drop_tree(tree),
+        Some(kept) => drop_tree(mem::replace(&mut kept.node.tree, tree)),
+    }
+}
