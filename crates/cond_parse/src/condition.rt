@@ -13,6 +13,7 @@ use cob_base::limit::MAX_PARENS;
 use cob_tree::Cond;
 use cobol_grammar::cond_forms::{Joined, Part, Primary, Read, Setting};
 use cobol_grammar::expr_forms::Side;
+use expr_parse::ExprContext;
 use parser_combinators::{Cursor, Position, Unread, Why};
 use std::alloc::Global;
 use symbol_tables::data_names::NameTable;
@@ -21,17 +22,16 @@ use symbol_tables::data_names::NameTable;
 #[cycle(conds)]
 #[tactic(auto, unfolding(cobol_grammar::specs::cond_forms::Condition::and_part))]
 fn and_part(
-    alloc: Global,
     cursor: &mut Cursor<'_>,
-    names: &NameTable,
-    levels: u32,
+    context: ExprContext<'_>,
     before: Option<Cond>,
     left: Cond,
     setting: Option<Setting>,
     count: u32,
 ) -> Result<Joined, Unread>
-    ensures { Reads ((conditions.and_part names.now (inner names.now levels) (content names.now
-        levels) before left setting count).reads cursor.old) result cursor.new }
+    ensures { Reads ((conditions.and_part context.entry.names.now (inner context.entry.names.now
+        context.entry.levels) (content context.entry.names.now context.entry.levels) before left
+        setting count).reads cursor.old) result cursor.new }
 {
     if let Err(stop) = cursor.key(b"AND") {
         drop(before);
@@ -39,8 +39,8 @@ fn and_part(
         drop(setting);
         return Err(stop);
     }
-    match neg(alloc, cursor, names, levels, setting, count) {
-        Ok(next) => Ok(and_joined(alloc, before, left, next)?),
+    match neg(cursor, context, setting, count) {
+        Ok(next) => Ok(and_joined(context.alloc, before, left, next)?),
         Err(stop) => {
             drop(before);
             drop(left);
@@ -53,17 +53,16 @@ fn and_part(
 #[cycle(conds)]
 #[tactic(auto, unfolding(cobol_grammar::specs::cond_forms::Condition::or_part))]
 fn or_part(
-    alloc: Global,
     cursor: &mut Cursor<'_>,
-    names: &NameTable,
-    levels: u32,
+    context: ExprContext<'_>,
     before: Option<Cond>,
     left: Cond,
     setting: Option<Setting>,
     count: u32,
 ) -> Result<Joined, Unread>
-    ensures { Reads ((conditions.or_part names.now (inner names.now levels) (content names.now
-        levels) before left setting count).reads cursor.old) result cursor.new }
+    ensures { Reads ((conditions.or_part context.entry.names.now (inner context.entry.names.now
+        context.entry.levels) (content context.entry.names.now context.entry.levels) before left
+        setting count).reads cursor.old) result cursor.new }
 {
     if let Err(stop) = cursor.key(b"OR") {
         drop(before);
@@ -71,8 +70,8 @@ fn or_part(
         drop(setting);
         return Err(stop);
     }
-    match neg(alloc, cursor, names, levels, setting, count) {
-        Ok(next) => Ok(or_joined(alloc, before, left, next)?),
+    match neg(cursor, context, setting, count) {
+        Ok(next) => Ok(or_joined(context.alloc, before, left, next)?),
         Err(stop) => {
             drop(before);
             drop(left);
@@ -84,15 +83,10 @@ fn or_part(
 /// One more part behind AND or OR.
 #[cycle(conds)]
 #[tactic(auto, unfolding(cobol_grammar::specs::cond_forms::Condition::join))]
-fn join(
-    alloc: Global,
-    cursor: &mut Cursor<'_>,
-    names: &NameTable,
-    levels: u32,
-    state: Joined,
-) -> Result<Joined, Unread>
-    ensures { Reads ((conditions.join names.now (inner names.now levels) (content names.now
-        levels) state).reads cursor.old) result cursor.new }
+fn join(cursor: &mut Cursor<'_>, context: ExprContext<'_>, state: Joined) -> Result<Joined, Unread>
+    ensures { Reads ((conditions.join context.entry.names.now (inner context.entry.names.now
+        context.entry.levels) (content context.entry.names.now context.entry.levels) state).reads
+        cursor.old) result cursor.new }
 {
     let Joined { before, part } = state;
     let Part {
@@ -108,26 +102,25 @@ fn join(
         return Err(Unread::Stop(Why::Syntax));
     }
     if cursor.sees(b"AND") {
-        and_part(alloc, cursor, names, levels, before, left, setting, count)
+        and_part(cursor, context, before, left, setting, count)
     } else {
-        or_part(alloc, cursor, names, levels, before, left, setting, count)
+        or_part(cursor, context, before, left, setting, count)
     }
 }
 
 #[cycle(conds)]
 fn joins_from(
-    alloc: Global,
     cursor: &mut Cursor<'_>,
-    names: &NameTable,
-    levels: u32,
+    context: ExprContext<'_>,
     first: Joined,
 ) -> Result<Joined, Unread>
-    ensures { Reads ((conditions.joins_from names.now (inner names.now levels) (content names.now
-        levels) first).reads cursor.old) result cursor.new }
+    ensures { Reads ((conditions.joins_from context.entry.names.now (inner context.entry.names.now
+        context.entry.levels) (content context.entry.names.now context.entry.levels) first).reads
+        cursor.old) result cursor.new }
 {
     let mut state = first;
     'parts: while at_join(cursor) {
-        state = join(alloc, cursor, names, levels, state)?;
+        state = join(cursor, context, state)?;
     }
     Ok(state)
 }
@@ -136,85 +129,81 @@ fn joins_from(
 #[cycle(conds)]
 #[tactic(auto, unfolding(cobol_grammar::specs::cond_forms::Condition::conds_from))]
 fn conds_from(
-    alloc: Global,
     cursor: &mut Cursor<'_>,
-    names: &NameTable,
-    levels: u32,
+    context: ExprContext<'_>,
     first: Part,
 ) -> Result<Part, Unread>
-    ensures { Reads ((conditions.conds_from names.now (inner names.now levels) (content names.now
-        levels) first).reads cursor.old) result cursor.new }
+    ensures { Reads ((conditions.conds_from context.entry.names.now (inner context.entry.names.now
+        context.entry.levels) (content context.entry.names.now context.entry.levels) first).reads
+        cursor.old) result cursor.new }
 {
     let first = Joined {
         before: None,
         part: first,
     };
-    let state = joins_from(alloc, cursor, names, levels, first)?;
-    Ok(joined_whole(alloc, state)?)
+    let state = joins_from(cursor, context, first)?;
+    Ok(joined_whole(context.alloc, state)?)
 }
 
 #[cycle(conds)]
 #[tactic(auto, unfolding(cobol_grammar::specs::cond_forms::Condition::content_from))]
 fn content_from(
-    alloc: Global,
     cursor: &mut Cursor<'_>,
-    names: &NameTable,
-    levels: u32,
+    context: ExprContext<'_>,
     first: Part,
 ) -> Result<Read, Unread>
-    ensures { Reads ((conditions.content_from names.now (inner names.now levels) (content
-        names.now levels) first).reads cursor.old) result cursor.new }
+    ensures { Reads ((conditions.content_from context.entry.names.now (inner
+        context.entry.names.now context.entry.levels) (content context.entry.names.now
+        context.entry.levels) first).reads cursor.old) result cursor.new }
 {
-    let part = conds_from(alloc, cursor, names, levels, first)?;
+    let part = conds_from(cursor, context, first)?;
     close_cond(cursor, part)
 }
 
 #[cycle(conds)]
 #[tactic(auto, unfolding(cobol_grammar::specs::cond_forms::Condition::alone_content))]
 fn alone_content(
-    alloc: Global,
     cursor: &mut Cursor<'_>,
-    names: &NameTable,
-    levels: u32,
+    context: ExprContext<'_>,
     side: Side,
     count: u32,
     not_read: bool,
 ) -> Result<Read, Unread>
-    ensures { Reads ((conditions.alone_content names.now (inner names.now levels) (content
-        names.now levels) side count not_read).reads cursor.old) result cursor.new }
+    ensures { Reads ((conditions.alone_content context.entry.names.now (inner
+        context.entry.names.now context.entry.levels) (content context.entry.names.now
+        context.entry.levels) side count not_read).reads cursor.old) result cursor.new }
 {
-    let first = alone_part(alloc, cursor, false, None, side, count, not_read)?;
-    content_from(alloc, cursor, names, levels, first)
+    let first = alone_part(context.alloc, cursor, false, None, side, count, not_read)?;
+    content_from(cursor, context, first)
 }
 
 #[cycle(conds)]
 #[tactic(auto, unfolding(cobol_grammar::specs::cond_forms::Condition::content_by))]
 fn content_by(
-    alloc: Global,
     cursor: &mut Cursor<'_>,
-    names: &NameTable,
-    levels: u32,
+    context: ExprContext<'_>,
     position: Position,
     prim: Primary,
     count: u32,
     not_read: bool,
 ) -> Result<Read, Unread>
-    ensures { Reads ((conditions.content_by names.now (inner names.now levels) (content names.now
-        levels) position prim count not_read).reads cursor.old) result cursor.new }
+    ensures { Reads ((conditions.content_by context.entry.names.now (inner context.entry.names.now
+        context.entry.levels) (content context.entry.names.now context.entry.levels) position prim
+        count not_read).reads cursor.old) result cursor.new }
 {
     match prim {
         Primary::Test(cond, after) => {
             let first = part_of(cond, after, count, not_read);
-            content_from(alloc, cursor, names, levels, first)
+            content_from(cursor, context, first)
         }
         Primary::Alone(side) => {
             if not_read {
-                return alone_content(alloc, cursor, names, levels, side, count, true);
+                return alone_content(cursor, context, side, count, true);
             }
             if cursor.sees_mark(b')') {
                 close_side(cursor, position, side, count)
             } else {
-                alone_content(alloc, cursor, names, levels, side, count, false)
+                alone_content(cursor, context, side, count, false)
             }
         }
     }
@@ -223,94 +212,83 @@ fn content_by(
 #[cycle(conds)]
 #[tactic(auto, unfolding(cobol_grammar::specs::cond_forms::Condition::neg_content))]
 fn neg_content(
-    alloc: Global,
     cursor: &mut Cursor<'_>,
-    names: &NameTable,
-    levels: u32,
+    context: ExprContext<'_>,
     count: u32,
 ) -> Result<Read, Unread>
-    ensures { Reads ((conditions.neg_content names.now (inner names.now levels) (content
-        names.now levels) count).reads cursor.old) result cursor.new }
+    ensures { Reads ((conditions.neg_content context.entry.names.now (inner context.entry.names.now
+        context.entry.levels) (content context.entry.names.now context.entry.levels) count).reads
+        cursor.old) result cursor.new }
 {
-    let first = neg(alloc, cursor, names, levels, None, count)?;
-    content_from(alloc, cursor, names, levels, first)
+    let first = neg(cursor, context, None, count)?;
+    content_from(cursor, context, first)
 }
 
 #[cycle(conds)]
 #[tactic(auto, unfolding(cobol_grammar::specs::cond_forms::Condition::prim_content))]
 fn prim_content(
-    alloc: Global,
     cursor: &mut Cursor<'_>,
-    names: &NameTable,
-    levels: u32,
+    context: ExprContext<'_>,
     position: Position,
     count: u32,
 ) -> Result<Read, Unread>
-    ensures { Reads ((conditions.prim_content names.now (inner names.now levels) (content
-        names.now levels) position count).reads cursor.old) result cursor.new }
+    ensures { Reads ((conditions.prim_content context.entry.names.now (inner
+        context.entry.names.now context.entry.levels) (content context.entry.names.now
+        context.entry.levels) position count).reads cursor.old) result cursor.new }
 {
     let Read {
         prim,
         count,
         not_read,
-    } = prim(alloc, cursor, names, levels, count)?;
-    content_by(
-        alloc, cursor, names, levels, position, prim, count, not_read,
-    )
+    } = prim(cursor, context, count)?;
+    content_by(cursor, context, position, prim, count, not_read)
 }
 
 #[cycle(conds)]
 #[tactic(auto, unfolding(cobol_grammar::specs::cond_forms::Condition::in_content))]
-fn in_content(
-    alloc: Global,
-    cursor: &mut Cursor<'_>,
-    names: &NameTable,
-    levels: u32,
-    count: u32,
-) -> Result<Read, Unread>
-    ensures { Reads ((conditions.in_content names.now (inner names.now levels) (content names.now
-        levels) count).reads cursor.old) result cursor.new }
+fn in_content(cursor: &mut Cursor<'_>, context: ExprContext<'_>, count: u32) -> Result<Read, Unread>
+    ensures { Reads ((conditions.in_content context.entry.names.now (inner context.entry.names.now
+        context.entry.levels) (content context.entry.names.now context.entry.levels) count).reads
+        cursor.old) result cursor.new }
 {
     let position = cursor.mark(b'(')?;
     if cursor.sees(b"NOT") {
-        neg_content(alloc, cursor, names, levels, count)
+        neg_content(cursor, context, count)
     } else {
-        prim_content(alloc, cursor, names, levels, position, count)
+        prim_content(cursor, context, position, count)
     }
 }
 
 /// What stands in parentheses: an expression alone, or a condition.
 #[cycle(conds)]
 pub fn content(
-    alloc: Global,
     cursor: &mut Cursor<'_>,
-    names: &NameTable,
-    levels: u32,
+    context: ExprContext<'_>,
     count: u32,
 ) -> Result<Read, Unread>
-    ensures { Reads ((content names.now levels count).reads cursor.old) result cursor.new }
+    ensures { Reads ((content context.entry.names.now context.entry.levels count).reads cursor.old)
+        result cursor.new }
 {
-    if levels == 0 {
+    if context.levels == 0 {
         let begins = cursor.sees_mark(b'(');
         return Err(cursor.too_deep(Why::Parens, begins));
     }
-    in_content(alloc, cursor, names, levels - 1, count)
+    let within = ExprContext {
+        levels: context.levels - 1,
+        ..context
+    };
+    in_content(cursor, within, count)
 }
 
 /// Reads a condition with so many levels of parentheses.
 #[tactic(auto, unfolding(cobol_grammar::specs::cond_forms::Condition::cond_with))]
-fn cond_with(
-    alloc: Global,
-    cursor: &mut Cursor<'_>,
-    names: &NameTable,
-    levels: u32,
-    count: u32,
-) -> Result<Part, Unread>
-    ensures { Reads ((conditions.cond_with names.now (inner names.now levels) (content names.now
-        levels) count).reads cursor.old) result cursor.new }
+fn cond_with(cursor: &mut Cursor<'_>, context: ExprContext<'_>, count: u32) -> Result<Part, Unread>
+    ensures { Reads ((conditions.cond_with context.entry.names.now (inner context.entry.names.now
+        context.entry.levels) (content context.entry.names.now context.entry.levels) count).reads
+        cursor.old) result cursor.new }
 {
-    let first = neg(alloc, cursor, names, levels, None, count)?;
-    conds_from(alloc, cursor, names, levels, first)
+    let first = neg(cursor, context, None, count)?;
+    conds_from(cursor, context, first)
 }
 
 /// Reads a condition as far as it goes, with what is known of it.
@@ -318,7 +296,12 @@ fn cond_with(
 pub fn cond(alloc: Global, cursor: &mut Cursor<'_>, names: &NameTable) -> Result<Part, Unread>
     ensures { Reads ((conditions.cond names.now).reads cursor.old) result cursor.new }
 {
-    cond_with(alloc, cursor, names, MAX_PARENS, 0)
+    let context = ExprContext {
+        alloc,
+        names,
+        levels: MAX_PARENS,
+    };
+    cond_with(cursor, context, 0)
 }
 
 /// Reads a condition, and whether a NOT stood behind it that isn't its own. That NOT is then read

@@ -18,10 +18,9 @@ use cob_tree::Rel;
 use cobol_grammar::cond_forms::{Part, Read, Setting};
 use cobol_grammar::expr_forms::Side;
 use expr_parse::actions::{relation_fault, tally, value_fault};
-use expr_parse::operand;
+use expr_parse::{ExprContext, operand};
 use parser_combinators::{Cursor, Unread, Why};
 use std::alloc::Global;
-use symbol_tables::data_names::NameTable;
 
 /// The relation of the left side that was set, with another sign.
 fn abbreviated_part(
@@ -49,16 +48,14 @@ fn abbreviated_part(
 
 #[tactic(auto, unfolding(cobol_grammar::specs::cond_forms::Neg::abbreviated_by))]
 fn abbreviated_by(
-    alloc: Global,
     cursor: &mut Cursor<'_>,
-    names: &NameTable,
-    levels: u32,
+    context: ExprContext<'_>,
     negated: bool,
     setting: Setting,
     count: u32,
 ) -> Result<Part, Unread>
-    ensures { Reads ((negs.abbreviated_by names.now (inner names.now levels) negated setting
-        count).reads cursor.old) result cursor.new }
+    ensures { Reads ((negs.abbreviated_by context.entry.names.now (inner context.entry.names.now
+        context.entry.levels) negated setting count).reads cursor.old) result cursor.new }
 {
     let more = match tally(cursor, count, setting.terms) {
         Ok(more) => more,
@@ -74,7 +71,7 @@ fn abbreviated_by(
             return Err(stop);
         }
     };
-    let (right, count) = match operand(alloc, cursor, names, levels, more) {
+    let (right, count) = match operand(cursor, context, more) {
         Ok(found) => found,
         Err(stop) => {
             drop(setting);
@@ -83,91 +80,90 @@ fn abbreviated_by(
     };
     cursor.note(value_fault(&right));
     cursor.note(relation_fault(&setting.left, &right));
-    Ok(abbreviated_part(alloc, setting, sign, right, count)?)
+    Ok(abbreviated_part(context.alloc, setting, sign, right, count)?)
 }
 
 /// A relation that begins with its sign.
 #[tactic(auto, unfolding(cobol_grammar::specs::cond_forms::Neg::abbreviated))]
 pub fn abbreviated(
-    alloc: Global,
     cursor: &mut Cursor<'_>,
-    names: &NameTable,
-    levels: u32,
+    context: ExprContext<'_>,
     negated: bool,
     setting: Option<Setting>,
     count: u32,
 ) -> Result<Part, Unread>
-    ensures { Reads ((negs.abbreviated names.now (inner names.now levels) negated setting
-        count).reads cursor.old) result cursor.new }
+    ensures { Reads ((negs.abbreviated context.entry.names.now (inner context.entry.names.now
+        context.entry.levels) negated setting count).reads cursor.old) result cursor.new }
 {
     match setting {
         None => Err(Unread::Stop(Why::Syntax)),
-        Some(setting) => { abbreviated_by(alloc, cursor, names, levels, negated, setting, count) }
+        Some(setting) => { abbreviated_by(cursor, context, negated, setting, count) }
     }
 }
 
 #[cycle(conds)]
 #[tactic(auto, unfolding(cobol_grammar::specs::cond_forms::Primary::parens_prim))]
 fn parens_prim(
-    alloc: Global,
     cursor: &mut Cursor<'_>,
-    names: &NameTable,
-    levels: u32,
+    context: ExprContext<'_>,
     count: u32,
 ) -> Result<Read, Unread>
-    ensures { Reads ((primaries.parens_prim names.now (inner names.now levels) (content names.now
-        levels) count).reads cursor.old) result cursor.new }
+    ensures { Reads ((primaries.parens_prim context.entry.names.now (inner context.entry.names.now
+        context.entry.levels) (content context.entry.names.now context.entry.levels) count).reads
+        cursor.old) result cursor.new }
 {
     let Read {
         prim,
         count: now,
         ..
-    } = content(alloc, cursor, names, levels, count)?;
-    prim_behind(alloc, cursor, names, levels, count, prim, now)
+    } = content(cursor, context, count)?;
+    prim_behind(cursor, context, count, prim, now)
 }
 
 /// Reads a condition without NOT, AND and OR.
 #[cycle(conds)]
 #[tactic(auto, unfolding(cobol_grammar::specs::cond_forms::Primary::prim))]
-pub fn prim(
-    alloc: Global,
-    cursor: &mut Cursor<'_>,
-    names: &NameTable,
-    levels: u32,
-    count: u32,
-) -> Result<Read, Unread>
-    ensures { Reads ((primaries.prim names.now (inner names.now levels) (content names.now
-        levels) count).reads cursor.old) result cursor.new }
+pub fn prim(cursor: &mut Cursor<'_>, context: ExprContext<'_>, count: u32) -> Result<Read, Unread>
+    ensures { Reads ((primaries.prim context.entry.names.now (inner context.entry.names.now
+        context.entry.levels) (content context.entry.names.now context.entry.levels) count).reads
+        cursor.old) result cursor.new }
 {
     if cursor.sees_mark(b'(') {
-        parens_prim(alloc, cursor, names, levels, count)
+        parens_prim(cursor, context, count)
     } else {
-        expr_prim(alloc, cursor, names, levels, count)
+        expr_prim(cursor, context, count)
     }
 }
 
 #[cycle(conds)]
 #[tactic(auto, unfolding(cobol_grammar::specs::cond_forms::Neg::prim_part))]
 fn prim_part(
-    alloc: Global,
     cursor: &mut Cursor<'_>,
-    names: &NameTable,
-    levels: u32,
+    context: ExprContext<'_>,
     negated: bool,
     setting: Option<Setting>,
     count: u32,
 ) -> Result<Part, Unread>
-    ensures { Reads ((negs.prim_part names.now (inner names.now levels) (content names.now
-        levels) negated setting count).reads cursor.old) result cursor.new }
+    ensures { Reads ((negs.prim_part context.entry.names.now (inner context.entry.names.now
+        context.entry.levels) (content context.entry.names.now context.entry.levels) negated
+        setting count).reads cursor.old) result cursor.new }
 {
-    match prim(alloc, cursor, names, levels, count) {
+    match prim(cursor, context, count) {
         Ok(
             Read {
                 prim,
                 count,
                 not_read,
             },
-        ) => part_by(alloc, cursor, negated, setting, prim, count, not_read),
+        ) => part_by(
+            context.alloc,
+            cursor,
+            negated,
+            setting,
+            prim,
+            count,
+            not_read,
+        ),
         Err(stop) => {
             drop(setting);
             Err(stop)
@@ -178,21 +174,20 @@ fn prim_part(
 #[cycle(conds)]
 #[tactic(auto, unfolding(cobol_grammar::specs::cond_forms::Neg::behind_not))]
 fn behind_not(
-    alloc: Global,
     cursor: &mut Cursor<'_>,
-    names: &NameTable,
-    levels: u32,
+    context: ExprContext<'_>,
     setting: Option<Setting>,
     count: u32,
 ) -> Result<Part, Unread>
-    ensures { Reads ((negs.behind_not names.now (inner names.now levels) (content names.now
-        levels) setting count).reads cursor.old) result cursor.new }
+    ensures { Reads ((negs.behind_not context.entry.names.now (inner context.entry.names.now
+        context.entry.levels) (content context.entry.names.now context.entry.levels) setting
+        count).reads cursor.old) result cursor.new }
 {
     if at_plain_rel(cursor) {
-        abbreviated(alloc, cursor, names, levels, true, setting, count)
+        abbreviated(cursor, context, true, setting, count)
     } else {
         match tally(cursor, count, 1) {
-            Ok(more) => prim_part(alloc, cursor, names, levels, true, setting, more),
+            Ok(more) => prim_part(cursor, context, true, setting, more),
             Err(stop) => {
                 drop(setting);
                 Err(stop)
@@ -204,42 +199,40 @@ fn behind_not(
 #[cycle(conds)]
 #[tactic(auto, unfolding(cobol_grammar::specs::cond_forms::Neg::not_neg))]
 fn not_neg(
-    alloc: Global,
     cursor: &mut Cursor<'_>,
-    names: &NameTable,
-    levels: u32,
+    context: ExprContext<'_>,
     setting: Option<Setting>,
     count: u32,
 ) -> Result<Part, Unread>
-    ensures { Reads ((negs.not_neg names.now (inner names.now levels) (content names.now levels)
-        setting count).reads cursor.old) result cursor.new }
+    ensures { Reads ((negs.not_neg context.entry.names.now (inner context.entry.names.now
+        context.entry.levels) (content context.entry.names.now context.entry.levels) setting
+        count).reads cursor.old) result cursor.new }
 {
     if let Err(stop) = cursor.key(b"NOT") {
         drop(setting);
         return Err(stop);
     }
-    behind_not(alloc, cursor, names, levels, setting, count)
+    behind_not(cursor, context, setting, count)
 }
 
 /// Reads a condition without AND and OR.
 #[cycle(conds)]
 #[tactic(auto, unfolding(cobol_grammar::specs::cond_forms::Neg::neg))]
 pub fn neg(
-    alloc: Global,
     cursor: &mut Cursor<'_>,
-    names: &NameTable,
-    levels: u32,
+    context: ExprContext<'_>,
     setting: Option<Setting>,
     count: u32,
 ) -> Result<Part, Unread>
-    ensures { Reads ((negs.neg names.now (inner names.now levels) (content names.now levels)
-        setting count).reads cursor.old) result cursor.new }
+    ensures { Reads ((negs.neg context.entry.names.now (inner context.entry.names.now
+        context.entry.levels) (content context.entry.names.now context.entry.levels) setting
+        count).reads cursor.old) result cursor.new }
 {
     if cursor.sees(b"NOT") {
-        not_neg(alloc, cursor, names, levels, setting, count)
+        not_neg(cursor, context, setting, count)
     } else if at_rel(cursor) {
-        abbreviated(alloc, cursor, names, levels, false, setting, count)
+        abbreviated(cursor, context, false, setting, count)
     } else {
-        prim_part(alloc, cursor, names, levels, false, setting, count)
+        prim_part(cursor, context, false, setting, count)
     }
 }

@@ -12,10 +12,9 @@ use cob_tree::Rel;
 use cobol_grammar::cond_forms::{Read, Setting};
 use cobol_grammar::expr_forms::Side;
 use expr_parse::actions::{relation_fault, shape_of, value_fault};
-use expr_parse::expr;
+use expr_parse::{ExprContext, expr};
 use parser_combinators::{Cursor, Unread};
 use std::alloc::Global;
-use symbol_tables::data_names::NameTable;
 
 /// The relation of two sides, with what abbreviations behind it stand for.
 fn relation_read(
@@ -49,17 +48,15 @@ fn relation_read(
 /// The relation that begins with this left side, before which so many terms stand.
 #[tactic(auto, unfolding(cobol_grammar::specs::cond_forms::Test::relation))]
 fn relation(
-    alloc: Global,
     cursor: &mut Cursor<'_>,
-    names: &NameTable,
-    levels: u32,
+    context: ExprContext<'_>,
     negated: bool,
     left: Side,
     before: u32,
     count: u32,
 ) -> Result<Read, Unread>
-    ensures { Reads ((tests.relation names.now (inner names.now levels) negated left before
-        count).reads cursor.old) result cursor.new }
+    ensures { Reads ((tests.relation context.entry.names.now (inner context.entry.names.now
+        context.entry.levels) negated left before count).reads cursor.old) result cursor.new }
 {
     let sign = match rel(cursor, negated) {
         Ok(sign) => sign,
@@ -68,7 +65,7 @@ fn relation(
             return Err(stop);
         }
     };
-    let (right, now) = match expr(alloc, cursor, names, levels, count) {
+    let (right, now) = match expr(cursor, context, count) {
         Ok(found) => found,
         Err(stop) => {
             drop(left);
@@ -79,26 +76,24 @@ fn relation(
     cursor.note(value_fault(&right));
     cursor.note(relation_fault(&left, &right));
     let terms = count.saturating_sub(before);
-    Ok(relation_read(alloc, left, sign, right, terms, now)?)
+    Ok(relation_read(context.alloc, left, sign, right, terms, now)?)
 }
 
 #[tactic(auto, unfolding(cobol_grammar::specs::cond_forms::Test::one_test))]
 fn one_test(
-    alloc: Global,
     cursor: &mut Cursor<'_>,
-    names: &NameTable,
-    levels: u32,
+    context: ExprContext<'_>,
     negated: bool,
     end: Option<bool>,
     left: Side,
     before: u32,
     count: u32,
 ) -> Result<Read, Unread>
-    ensures { Reads ((tests.one_test names.now (inner names.now levels) negated end left before
-        count).reads cursor.old) result cursor.new }
+    ensures { Reads ((tests.one_test context.entry.names.now (inner context.entry.names.now
+        context.entry.levels) negated end left before count).reads cursor.old) result cursor.new }
 {
     if at_rel_behind(cursor, negated) {
-        return relation(alloc, cursor, names, levels, negated, left, before, count);
+        return relation(cursor, context, negated, left, before, count);
     }
     if at_sign(cursor) {
         return sign_test(cursor, negated, left, count);
@@ -108,89 +103,62 @@ fn one_test(
 
 #[tactic(auto, unfolding(cobol_grammar::specs::cond_forms::Test::not_test))]
 fn not_test(
-    alloc: Global,
     cursor: &mut Cursor<'_>,
-    names: &NameTable,
-    levels: u32,
+    context: ExprContext<'_>,
     end: Option<bool>,
     left: Side,
     before: u32,
     count: u32,
 ) -> Result<Read, Unread>
-    ensures { Reads ((tests.not_test names.now (inner names.now levels) end left before
-        count).reads cursor.old) result cursor.new }
+    ensures { Reads ((tests.not_test context.entry.names.now (inner context.entry.names.now
+        context.entry.levels) end left before count).reads cursor.old) result cursor.new }
 {
     if let Err(stop) = cursor.key(b"NOT") {
         drop(left);
         return Err(stop);
     }
-    one_test(alloc, cursor, names, levels, true, end, left, before, count)
+    one_test(cursor, context, true, end, left, before, count)
 }
 
 #[tactic(auto, unfolding(cobol_grammar::specs::cond_forms::Test::behind_is))]
 fn behind_is(
-    alloc: Global,
     cursor: &mut Cursor<'_>,
-    names: &NameTable,
-    levels: u32,
+    context: ExprContext<'_>,
     left: Side,
     before: u32,
     count: u32,
 ) -> Result<Read, Unread>
-    ensures { Reads ((tests.behind_is names.now (inner names.now levels) left before count).reads
-        cursor.old) result cursor.new }
+    ensures { Reads ((tests.behind_is context.entry.names.now (inner context.entry.names.now
+        context.entry.levels) left before count).reads cursor.old) result cursor.new }
 {
     if let Err(stop) = cursor.key(b"IS") {
         drop(left);
         return Err(stop);
     }
     if cursor.sees(b"NOT") {
-        not_test(alloc, cursor, names, levels, None, left, before, count)
+        not_test(cursor, context, None, left, before, count)
     } else {
-        one_test(
-            alloc, cursor, names, levels, false, None, left, before, count,
-        )
+        one_test(cursor, context, false, None, left, before, count)
     }
 }
 
 /// The test of this left side, where one follows.
 #[tactic(auto, unfolding(cobol_grammar::specs::cond_forms::Test::tested))]
 pub fn tested(
-    alloc: Global,
     cursor: &mut Cursor<'_>,
-    names: &NameTable,
-    levels: u32,
+    context: ExprContext<'_>,
     left: Side,
     before: u32,
     count: u32,
 ) -> Result<Read, Unread>
-    ensures { Reads ((tests.tested names.now (inner names.now levels) left before count).reads
-        cursor.old) result cursor.new }
+    ensures { Reads ((tests.tested context.entry.names.now (inner context.entry.names.now
+        context.entry.levels) left before count).reads cursor.old) result cursor.new }
 {
     if cursor.sees(b"IS") {
-        behind_is(alloc, cursor, names, levels, left, before, count)
+        behind_is(cursor, context, left, before, count)
     } else if cursor.sees(b"NOT") {
-        not_test(
-            alloc,
-            cursor,
-            names,
-            levels,
-            Some(true),
-            left,
-            before,
-            count,
-        )
+        not_test(cursor, context, Some(true), left, before, count)
     } else {
-        one_test(
-            alloc,
-            cursor,
-            names,
-            levels,
-            false,
-            Some(false),
-            left,
-            before,
-            count,
-        )
+        one_test(cursor, context, false, Some(false), left, before, count)
     }
 }

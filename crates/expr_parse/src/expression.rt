@@ -9,6 +9,7 @@ use crate::actions::{
     at_operand, at_turn, chain_of, drop_chain, drop_side, finish, joined, last_fault, literal_kind,
     literal_side, negated, number_fault, operator, sum_side, tally,
 };
+use crate::context::ExprContext;
 use crate::levels::nested;
 use crate::reference::reference;
 use cob_tree::Op;
@@ -16,7 +17,6 @@ use cobol_grammar::expr_forms::{Chain, Side};
 use parser_combinators::words::{literal, sees_name};
 use parser_combinators::{Cursor, Unread, Why};
 use std::alloc::Global;
-use symbol_tables::data_names::NameTable;
 
 /// Reads a literal.
 #[tactic(auto, unfolding(cobol_grammar::specs::expr_forms::Operand::literal_operand))]
@@ -36,23 +36,21 @@ pub fn literal_operand(
 #[cycle(exprs)]
 #[tactic(auto, unfolding(cobol_grammar::specs::expr_forms::Operand::operand))]
 pub fn operand(
-    alloc: Global,
     cursor: &mut Cursor<'_>,
-    names: &NameTable,
-    levels: u32,
+    context: ExprContext<'_>,
     count: u32,
 ) -> Result<(Side, u32), Unread>
-    ensures { Reads ((operands.operand names.now (inner names.now levels) count).reads cursor.old)
-        result cursor.new }
+    ensures { Reads ((operands.operand context.entry.names.now (inner context.entry.names.now
+        context.entry.levels) count).reads cursor.old) result cursor.new }
 {
     if !at_operand(cursor) {
         return Err(Unread::Stop(Why::Syntax));
     }
     let count = tally(cursor, count, 1)?;
     if sees_name(cursor) {
-        reference(alloc, cursor, names, levels, count)
+        reference(cursor, context, count)
     } else {
-        literal_operand(alloc, cursor, count)
+        literal_operand(context.alloc, cursor, count)
     }
 }
 
@@ -60,55 +58,49 @@ pub fn operand(
 #[cycle(exprs)]
 #[tactic(auto, unfolding(cobol_grammar::specs::expr_forms::Expression::unsigned))]
 pub fn unsigned(
-    alloc: Global,
     cursor: &mut Cursor<'_>,
-    names: &NameTable,
-    levels: u32,
+    context: ExprContext<'_>,
     count: u32,
 ) -> Result<(Side, u32), Unread>
-    ensures { Reads ((expressions.unsigned names.now
-        (inner names.now levels) count).reads cursor.old) result cursor.new }
+    ensures { Reads ((expressions.unsigned context.entry.names.now (inner context.entry.names.now
+        context.entry.levels) count).reads cursor.old) result cursor.new }
 {
     if cursor.sees_mark(b'(') {
-        nested(alloc, cursor, names, levels, count)
+        nested(cursor, context, count)
     } else {
-        operand(alloc, cursor, names, levels, count)
+        operand(cursor, context, count)
     }
 }
 
 #[cycle(exprs)]
 #[tactic(auto, unfolding(cobol_grammar::specs::expr_forms::Expression::minussed))]
 fn minussed(
-    alloc: Global,
     cursor: &mut Cursor<'_>,
-    names: &NameTable,
-    levels: u32,
+    context: ExprContext<'_>,
     count: u32,
 ) -> Result<(Side, u32), Unread>
-    ensures { Reads ((expressions.minussed names.now
-        (inner names.now levels) count).reads cursor.old) result cursor.new }
+    ensures { Reads ((expressions.minussed context.entry.names.now (inner context.entry.names.now
+        context.entry.levels) count).reads cursor.old) result cursor.new }
 {
     let count = tally(cursor, count, 1)?;
     let position = cursor.mark(b'-')?;
-    let (side, count) = unsigned(alloc, cursor, names, levels, count)?;
+    let (side, count) = unsigned(cursor, context, count)?;
     cursor.note(number_fault(&side));
-    Ok((negated(alloc, position, side)?, count))
+    Ok((negated(context.alloc, position, side)?, count))
 }
 
 #[cycle(exprs)]
 #[tactic(auto, unfolding(cobol_grammar::specs::expr_forms::Expression::plussed))]
 fn plussed(
-    alloc: Global,
     cursor: &mut Cursor<'_>,
-    names: &NameTable,
-    levels: u32,
+    context: ExprContext<'_>,
     count: u32,
 ) -> Result<(Side, u32), Unread>
-    ensures { Reads ((expressions.plussed names.now
-        (inner names.now levels) count).reads cursor.old) result cursor.new }
+    ensures { Reads ((expressions.plussed context.entry.names.now (inner context.entry.names.now
+        context.entry.levels) count).reads cursor.old) result cursor.new }
 {
     let position = cursor.mark(b'+')?;
-    let (side, count) = unsigned(alloc, cursor, names, levels, count)?;
+    let (side, count) = unsigned(cursor, context, count)?;
     Ok((sum_side(position, side), count))
 }
 
@@ -116,21 +108,19 @@ fn plussed(
 #[cycle(exprs)]
 #[tactic(auto, unfolding(cobol_grammar::specs::expr_forms::Expression::unary))]
 pub fn unary(
-    alloc: Global,
     cursor: &mut Cursor<'_>,
-    names: &NameTable,
-    levels: u32,
+    context: ExprContext<'_>,
     count: u32,
 ) -> Result<(Side, u32), Unread>
-    ensures { Reads ((expressions.unary names.now (inner names.now levels) count).reads cursor.old)
-        result cursor.new }
+    ensures { Reads ((expressions.unary context.entry.names.now (inner context.entry.names.now
+        context.entry.levels) count).reads cursor.old) result cursor.new }
 {
     if cursor.sees_mark(b'-') {
-        minussed(alloc, cursor, names, levels, count)
+        minussed(cursor, context, count)
     } else if cursor.sees_mark(b'+') {
-        plussed(alloc, cursor, names, levels, count)
+        plussed(cursor, context, count)
     } else {
-        unsigned(alloc, cursor, names, levels, count)
+        unsigned(cursor, context, count)
     }
 }
 
@@ -138,22 +128,20 @@ pub fn unary(
 #[cycle(exprs)]
 #[tactic(auto, unfolding(cobol_grammar::specs::expr_forms::Expression::operated))]
 pub fn operated(
-    alloc: Global,
     cursor: &mut Cursor<'_>,
-    names: &NameTable,
-    levels: u32,
+    context: ExprContext<'_>,
     op: Op,
     chain: Chain,
     count: u32,
 ) -> Result<(Chain, u32), Unread>
-    ensures { Reads ((expressions.operated names.now
-        (inner names.now levels) op chain count).reads cursor.old) result cursor.new }
+    ensures { Reads ((expressions.operated context.entry.names.now (inner context.entry.names.now
+        context.entry.levels) op chain count).reads cursor.old) result cursor.new }
 {
-    match unary(alloc, cursor, names, levels, count) {
+    match unary(cursor, context, count) {
         Ok((right, count)) => {
             cursor.note(last_fault(&chain));
             cursor.note(number_fault(&right));
-            Ok((joined(alloc, op, chain, right)?, count))
+            Ok((joined(context.alloc, op, chain, right)?, count))
         }
         Err(stop) => {
             drop_chain(chain);
@@ -166,18 +154,16 @@ pub fn operated(
 #[cycle(exprs)]
 #[tactic(auto, unfolding(cobol_grammar::specs::expr_forms::Expression::turn))]
 pub fn turn(
-    alloc: Global,
     cursor: &mut Cursor<'_>,
-    names: &NameTable,
-    levels: u32,
+    context: ExprContext<'_>,
     state: (Chain, u32),
 ) -> Result<(Chain, u32), Unread>
-    ensures { Reads ((expressions.turn names.now (inner names.now levels) state).reads cursor.old)
-        result cursor.new }
+    ensures { Reads ((expressions.turn context.entry.names.now (inner context.entry.names.now
+        context.entry.levels) state).reads cursor.old) result cursor.new }
 {
     let (chain, count) = state;
     match operator(cursor) {
-        Ok(op) => operated(alloc, cursor, names, levels, op, chain, count),
+        Ok(op) => operated(cursor, context, op, chain, count),
         Err(stop) => {
             drop_chain(chain);
             Err(stop)
@@ -187,18 +173,16 @@ pub fn turn(
 
 #[cycle(exprs)]
 fn turns(
-    alloc: Global,
     cursor: &mut Cursor<'_>,
-    names: &NameTable,
-    levels: u32,
+    context: ExprContext<'_>,
     first: (Chain, u32),
 ) -> Result<(Chain, u32), Unread>
-    ensures { Reads ((expressions.turns names.now (inner names.now levels) first).reads cursor.old)
-        result cursor.new }
+    ensures { Reads ((expressions.turns context.entry.names.now (inner context.entry.names.now
+        context.entry.levels) first).reads cursor.old) result cursor.new }
 {
     let mut state = first;
     'terms: while at_turn(cursor) {
-        state = turn(alloc, cursor, names, levels, state)?;
+        state = turn(cursor, context, state)?;
     }
     Ok(state)
 }
@@ -207,53 +191,47 @@ fn turns(
 #[cycle(exprs)]
 #[tactic(auto, unfolding(cobol_grammar::specs::expr_forms::Expression::sum))]
 pub fn sum(
-    alloc: Global,
     cursor: &mut Cursor<'_>,
-    names: &NameTable,
-    levels: u32,
+    context: ExprContext<'_>,
     side: Side,
     count: u32,
 ) -> Result<(Side, u32), Unread>
-    ensures { Reads ((expressions.sum names.now
-        (inner names.now levels) side count).reads cursor.old) result cursor.new }
+    ensures { Reads ((expressions.sum context.entry.names.now (inner context.entry.names.now
+        context.entry.levels) side count).reads cursor.old) result cursor.new }
 {
     let first = (chain_of(side), count);
-    let (chain, count) = turns(alloc, cursor, names, levels, first)?;
-    Ok((finish(alloc, chain)?, count))
+    let (chain, count) = turns(cursor, context, first)?;
+    Ok((finish(context.alloc, chain)?, count))
 }
 
 /// Reads an expression.
 #[cycle(exprs)]
 #[tactic(auto, unfolding(cobol_grammar::specs::expr_forms::Expression::expr))]
 pub fn expr(
-    alloc: Global,
     cursor: &mut Cursor<'_>,
-    names: &NameTable,
-    levels: u32,
+    context: ExprContext<'_>,
     count: u32,
 ) -> Result<(Side, u32), Unread>
-    ensures { Reads ((expressions.expr names.now (inner names.now levels) count).reads cursor.old)
-        result cursor.new }
+    ensures { Reads ((expressions.expr context.entry.names.now (inner context.entry.names.now
+        context.entry.levels) count).reads cursor.old) result cursor.new }
 {
-    let (first, count) = unary(alloc, cursor, names, levels, count)?;
-    sum(alloc, cursor, names, levels, first, count)
+    let (first, count) = unary(cursor, context, count)?;
+    sum(cursor, context, first, count)
 }
 
 /// Reads an expression in parentheses.
 #[cycle(exprs)]
 #[tactic(auto, unfolding(cobol_grammar::specs::expr_forms::Expression::in_nested))]
 pub fn in_nested(
-    alloc: Global,
     cursor: &mut Cursor<'_>,
-    names: &NameTable,
-    levels: u32,
+    context: ExprContext<'_>,
     count: u32,
 ) -> Result<(Side, u32), Unread>
-    ensures { Reads ((expressions.in_nested names.now
-        (inner names.now levels) count).reads cursor.old) result cursor.new }
+    ensures { Reads ((expressions.in_nested context.entry.names.now (inner context.entry.names.now
+        context.entry.levels) count).reads cursor.old) result cursor.new }
 {
     let position = cursor.mark(b'(')?;
-    let (side, count) = expr(alloc, cursor, names, levels, count)?;
+    let (side, count) = expr(cursor, context, count)?;
     match cursor.mark(b')') {
         Ok(_) => Ok((sum_side(position, side), count)),
         Err(stop) => {

@@ -14,6 +14,7 @@ use crate::actions::{
     found_fault, number_either, operator, ref_either, subs_of, sum_of, sum_side, tally,
     window_suffix, with_number,
 };
+use crate::context::ExprContext;
 use crate::expression::{operated, turn, unary, unsigned};
 use crate::reference::{qualifiers, ref_behind};
 use crate::subscript::more_subs;
@@ -37,20 +38,18 @@ fn digits_front(alloc: Global, cursor: &mut Cursor<'_>) -> Result<Front, Unread>
 #[cycle(exprs)]
 #[tactic(auto, unfolding(cobol_grammar::specs::expr_forms::Front::plus_front))]
 fn plus_front(
-    alloc: Global,
     cursor: &mut Cursor<'_>,
-    names: &NameTable,
-    levels: u32,
+    context: ExprContext<'_>,
     count: u32,
 ) -> Result<Front, Unread>
-    ensures { Reads ((fronts.plus_front names.now (inner names.now levels) count).reads cursor.old)
-        result cursor.new }
+    ensures { Reads ((fronts.plus_front context.entry.names.now (inner context.entry.names.now
+        context.entry.levels) count).reads cursor.old) result cursor.new }
 {
     let position = cursor.mark(b'+')?;
     if sees_digits(cursor) {
-        digits_front(alloc, cursor)
+        digits_front(context.alloc, cursor)
     } else {
-        let (side, count) = unsigned(alloc, cursor, names, levels, count)?;
+        let (side, count) = unsigned(cursor, context, count)?;
         Ok(Front::Sum(chain_of(sum_side(position, side)), count))
     }
 }
@@ -59,20 +58,18 @@ fn plus_front(
 #[cycle(exprs)]
 #[tactic(auto, unfolding(crate::specs::Front::enclosing_front))]
 fn enclosing_front(
-    alloc: Global,
     cursor: &mut Cursor<'_>,
-    names: &NameTable,
-    levels: u32,
+    context: ExprContext<'_>,
     found: Found,
     of: Items<Word>,
     position: Position,
     count: u32,
 ) -> Result<Front, Unread>
-    ensures { Reads ((names_in_front.enclosing_front
-        (inner names.now levels) found of position count).reads cursor.old) result cursor.new }
+    ensures { Reads ((names_in_front.enclosing_front (inner context.entry.names.now
+        context.entry.levels) found of position count).reads cursor.old) result cursor.new }
 {
     let count = tally(cursor, count, 1)?;
-    let (side, count) = ref_behind(alloc, cursor, names, levels, found, of, position, count)?;
+    let (side, count) = ref_behind(cursor, context, found, of, position, count)?;
     Ok(Front::Sum(chain_of(side), count))
 }
 
@@ -95,110 +92,98 @@ fn bare_front(
 #[cycle(exprs)]
 #[tactic(auto, unfolding(crate::specs::Front::name_behind))]
 fn name_behind(
-    alloc: Global,
     cursor: &mut Cursor<'_>,
-    names: &NameTable,
-    levels: u32,
+    context: ExprContext<'_>,
     found: Found,
     of: Items<Word>,
     position: Position,
     count: u32,
 ) -> Result<Front, Unread>
-    ensures { Reads ((names_in_front.name_behind
-        (inner names.now levels) found of position count).reads cursor.old) result cursor.new }
+    ensures { Reads ((names_in_front.name_behind (inner context.entry.names.now
+        context.entry.levels) found of position count).reads cursor.old) result cursor.new }
 {
     if cursor.sees_mark(b'(') {
-        enclosing_front(alloc, cursor, names, levels, found, of, position, count)
+        enclosing_front(cursor, context, found, of, position, count)
     } else {
-        bare_front(alloc, cursor, found, of, position)
+        bare_front(context.alloc, cursor, found, of, position)
     }
 }
 
 #[cycle(exprs)]
 #[tactic(auto, unfolding(crate::specs::Front::named_front))]
 fn named_front(
-    alloc: Global,
     cursor: &mut Cursor<'_>,
-    names: &NameTable,
-    levels: u32,
+    context: ExprContext<'_>,
     count: u32,
 ) -> Result<Front, Unread>
-    ensures { Reads ((names_in_front.named_front names.now (inner names.now levels) count).reads
-        cursor.old) result cursor.new }
+    ensures { Reads ((names_in_front.named_front context.entry.names.now (inner
+        context.entry.names.now context.entry.levels) count).reads cursor.old) result cursor.new }
 {
     let (word, position) = name(cursor)?;
-    let of = qualifiers(alloc, cursor)?;
-    let found = names.look(&word, of.as_slice());
-    name_behind(alloc, cursor, names, levels, found, of, position, count)
+    let of = qualifiers(context.alloc, cursor)?;
+    let found = context.names.look(&word, of.as_slice());
+    name_behind(cursor, context, found, of, position, count)
 }
 
 #[cycle(exprs)]
 fn name_front(
-    alloc: Global,
     cursor: &mut Cursor<'_>,
-    names: &NameTable,
-    levels: u32,
+    context: ExprContext<'_>,
     count: u32,
 ) -> Result<Front, Unread>
-    ensures { Reads ((fronts.name_front names.now (inner names.now levels) count).reads cursor.old)
-        result cursor.new }
+    ensures { Reads ((fronts.name_front context.entry.names.now (inner context.entry.names.now
+        context.entry.levels) count).reads cursor.old) result cursor.new }
 {
-    named_front(alloc, cursor, names, levels, count)
+    named_front(cursor, context, count)
 }
 
 #[cycle(exprs)]
 #[tactic(auto, unfolding(cobol_grammar::specs::expr_forms::Front::unary_front))]
 fn unary_front(
-    alloc: Global,
     cursor: &mut Cursor<'_>,
-    names: &NameTable,
-    levels: u32,
+    context: ExprContext<'_>,
     count: u32,
 ) -> Result<Front, Unread>
-    ensures { Reads ((fronts.unary_front names.now (inner names.now levels) count).reads cursor.old)
-        result cursor.new }
+    ensures { Reads ((fronts.unary_front context.entry.names.now (inner context.entry.names.now
+        context.entry.levels) count).reads cursor.old) result cursor.new }
 {
-    let (side, count) = unary(alloc, cursor, names, levels, count)?;
+    let (side, count) = unary(cursor, context, count)?;
     Ok(Front::Sum(chain_of(side), count))
 }
 
 #[cycle(exprs)]
 #[tactic(auto, unfolding(cobol_grammar::specs::expr_forms::Front::other_front))]
 fn other_front(
-    alloc: Global,
     cursor: &mut Cursor<'_>,
-    names: &NameTable,
-    levels: u32,
+    context: ExprContext<'_>,
     count: u32,
 ) -> Result<Front, Unread>
-    ensures { Reads ((fronts.other_front names.now (inner names.now levels) count).reads cursor.old)
-        result cursor.new }
+    ensures { Reads ((fronts.other_front context.entry.names.now (inner context.entry.names.now
+        context.entry.levels) count).reads cursor.old) result cursor.new }
 {
     if sees_name(cursor) {
-        name_front(alloc, cursor, names, levels, count)
+        name_front(cursor, context, count)
     } else {
-        unary_front(alloc, cursor, names, levels, count)
+        unary_front(cursor, context, count)
     }
 }
 
 #[cycle(exprs)]
 #[tactic(auto, unfolding(cobol_grammar::specs::expr_forms::Front::first_front))]
 pub fn first_front(
-    alloc: Global,
     cursor: &mut Cursor<'_>,
-    names: &NameTable,
-    levels: u32,
+    context: ExprContext<'_>,
     count: u32,
 ) -> Result<Front, Unread>
-    ensures { Reads ((fronts.first_front names.now (inner names.now levels) count).reads cursor.old)
-        result cursor.new }
+    ensures { Reads ((fronts.first_front context.entry.names.now (inner context.entry.names.now
+        context.entry.levels) count).reads cursor.old) result cursor.new }
 {
     if cursor.sees_mark(b'+') {
-        plus_front(alloc, cursor, names, levels, count)
+        plus_front(cursor, context, count)
     } else if sees_digits(cursor) {
-        digits_front(alloc, cursor)
+        digits_front(context.alloc, cursor)
     } else {
-        other_front(alloc, cursor, names, levels, count)
+        other_front(cursor, context, count)
     }
 }
 
@@ -206,21 +191,19 @@ pub fn first_front(
 #[cycle(exprs)]
 #[tactic(auto, unfolding(cobol_grammar::specs::expr_forms::Front::decided))]
 fn decided(
-    alloc: Global,
     cursor: &mut Cursor<'_>,
-    names: &NameTable,
-    levels: u32,
+    context: ExprContext<'_>,
     count: u32,
     either: Either,
     op: Op,
 ) -> Result<Front, Unread>
-    ensures { Reads ((fronts.decided names.now
-        (inner names.now levels) count either op).reads cursor.old) result cursor.new }
+    ensures { Reads ((fronts.decided context.entry.names.now (inner context.entry.names.now
+        context.entry.levels) count either op).reads cursor.old) result cursor.new }
 {
     let (chain, leaves) = sum_of(either);
     match tally(cursor, count, leaves) {
         Ok(count) => {
-            let (chain, count) = operated(alloc, cursor, names, levels, op, chain, count)?;
+            let (chain, count) = operated(cursor, context, op, chain, count)?;
             Ok(Front::Sum(chain, count))
         }
         Err(stop) => {
@@ -256,40 +239,37 @@ fn number_turn(
 #[cycle(exprs)]
 #[tactic(auto, unfolding(cobol_grammar::specs::expr_forms::Front::number_or_decided))]
 fn number_or_decided(
-    alloc: Global,
     cursor: &mut Cursor<'_>,
-    names: &NameTable,
-    levels: u32,
+    context: ExprContext<'_>,
     count: u32,
     either: Either,
     op: Op,
     negative: bool,
 ) -> Result<Front, Unread>
-    ensures { Reads ((fronts.number_or_decided names.now
-        (inner names.now levels) count either op negative).reads cursor.old) result cursor.new }
+    ensures { Reads ((fronts.number_or_decided context.entry.names.now (inner
+        context.entry.names.now context.entry.levels) count either op negative).reads cursor.old)
+        result cursor.new }
 {
     if sees_digits(cursor) {
-        number_turn(alloc, cursor, op, negative, either)
+        number_turn(context.alloc, cursor, op, negative, either)
     } else {
-        decided(alloc, cursor, names, levels, count, either, op)
+        decided(cursor, context, count, either, op)
     }
 }
 
 #[cycle(exprs)]
 #[tactic(auto, unfolding(cobol_grammar::specs::expr_forms::Front::plus_turn))]
 fn plus_turn(
-    alloc: Global,
     cursor: &mut Cursor<'_>,
-    names: &NameTable,
-    levels: u32,
+    context: ExprContext<'_>,
     count: u32,
     either: Either,
 ) -> Result<Front, Unread>
-    ensures { Reads ((fronts.plus_turn names.now
-        (inner names.now levels) count either).reads cursor.old) result cursor.new }
+    ensures { Reads ((fronts.plus_turn context.entry.names.now (inner context.entry.names.now
+        context.entry.levels) count either).reads cursor.old) result cursor.new }
 {
     match cursor.mark(b'+') {
-        Ok(_) => number_or_decided(alloc, cursor, names, levels, count, either, Op::Add, false),
+        Ok(_) => number_or_decided(cursor, context, count, either, Op::Add, false),
         Err(stop) => {
             drop_either(either);
             Err(stop)
@@ -307,38 +287,34 @@ fn takes_minus(either: &Either) -> bool
 #[cycle(exprs)]
 #[tactic(auto, unfolding(cobol_grammar::specs::expr_forms::Front::minus_behind))]
 fn minus_behind(
-    alloc: Global,
     cursor: &mut Cursor<'_>,
-    names: &NameTable,
-    levels: u32,
+    context: ExprContext<'_>,
     count: u32,
     either: Either,
 ) -> Result<Front, Unread>
-    ensures { Reads ((fronts.minus_behind names.now
-        (inner names.now levels) count either).reads cursor.old) result cursor.new }
+    ensures { Reads ((fronts.minus_behind context.entry.names.now (inner context.entry.names.now
+        context.entry.levels) count either).reads cursor.old) result cursor.new }
 {
     if takes_minus(&either) {
-        number_or_decided(alloc, cursor, names, levels, count, either, Op::Sub, true)
+        number_or_decided(cursor, context, count, either, Op::Sub, true)
     } else {
-        decided(alloc, cursor, names, levels, count, either, Op::Sub)
+        decided(cursor, context, count, either, Op::Sub)
     }
 }
 
 #[cycle(exprs)]
 #[tactic(auto, unfolding(cobol_grammar::specs::expr_forms::Front::minus_turn))]
 fn minus_turn(
-    alloc: Global,
     cursor: &mut Cursor<'_>,
-    names: &NameTable,
-    levels: u32,
+    context: ExprContext<'_>,
     count: u32,
     either: Either,
 ) -> Result<Front, Unread>
-    ensures { Reads ((fronts.minus_turn names.now
-        (inner names.now levels) count either).reads cursor.old) result cursor.new }
+    ensures { Reads ((fronts.minus_turn context.entry.names.now (inner context.entry.names.now
+        context.entry.levels) count either).reads cursor.old) result cursor.new }
 {
     match cursor.mark(b'-') {
-        Ok(_) => minus_behind(alloc, cursor, names, levels, count, either),
+        Ok(_) => minus_behind(cursor, context, count, either),
         Err(stop) => {
             drop_either(either);
             Err(stop)
@@ -349,18 +325,16 @@ fn minus_turn(
 #[cycle(exprs)]
 #[tactic(auto, unfolding(cobol_grammar::specs::expr_forms::Front::factor_turn))]
 fn factor_turn(
-    alloc: Global,
     cursor: &mut Cursor<'_>,
-    names: &NameTable,
-    levels: u32,
+    context: ExprContext<'_>,
     count: u32,
     either: Either,
 ) -> Result<Front, Unread>
-    ensures { Reads ((fronts.factor_turn names.now
-        (inner names.now levels) count either).reads cursor.old) result cursor.new }
+    ensures { Reads ((fronts.factor_turn context.entry.names.now (inner context.entry.names.now
+        context.entry.levels) count either).reads cursor.old) result cursor.new }
 {
     match operator(cursor) {
-        Ok(op) => decided(alloc, cursor, names, levels, count, either, op),
+        Ok(op) => decided(cursor, context, count, either, op),
         Err(stop) => {
             drop_either(either);
             Err(stop)
@@ -371,28 +345,26 @@ fn factor_turn(
 #[cycle(exprs)]
 #[tactic(auto, unfolding(cobol_grammar::specs::expr_forms::Front::front_turn))]
 fn front_turn(
-    alloc: Global,
     cursor: &mut Cursor<'_>,
-    names: &NameTable,
-    levels: u32,
+    context: ExprContext<'_>,
     count: u32,
     front: Front,
 ) -> Result<Front, Unread>
-    ensures { Reads ((fronts.front_turn names.now
-        (inner names.now levels) count front).reads cursor.old) result cursor.new }
+    ensures { Reads ((fronts.front_turn context.entry.names.now (inner context.entry.names.now
+        context.entry.levels) count front).reads cursor.old) result cursor.new }
 {
     match front {
         Front::Sum(chain, more) => {
-            let (chain, count) = turn(alloc, cursor, names, levels, (chain, more))?;
+            let (chain, count) = turn(cursor, context, (chain, more))?;
             Ok(Front::Sum(chain, count))
         }
         Front::Either(either) => {
             if cursor.sees_mark(b'+') {
-                plus_turn(alloc, cursor, names, levels, count, either)
+                plus_turn(cursor, context, count, either)
             } else if cursor.sees_mark(b'-') {
-                minus_turn(alloc, cursor, names, levels, count, either)
+                minus_turn(cursor, context, count, either)
             } else {
-                factor_turn(alloc, cursor, names, levels, count, either)
+                factor_turn(cursor, context, count, either)
             }
         }
     }
@@ -400,19 +372,17 @@ fn front_turn(
 
 #[cycle(exprs)]
 pub fn front_turns(
-    alloc: Global,
     cursor: &mut Cursor<'_>,
-    names: &NameTable,
-    levels: u32,
+    context: ExprContext<'_>,
     count: u32,
     first: Front,
 ) -> Result<Front, Unread>
-    ensures { Reads ((fronts.front_turns names.now
-        (inner names.now levels) count first).reads cursor.old) result cursor.new }
+    ensures { Reads ((fronts.front_turns context.entry.names.now (inner context.entry.names.now
+        context.entry.levels) count first).reads cursor.old) result cursor.new }
 {
     let mut front = first;
     'fronts: while at_turn(cursor) {
-        front = front_turn(alloc, cursor, names, levels, count, front)?;
+        front = front_turn(cursor, context, count, front)?;
     }
     Ok(front)
 }
@@ -443,39 +413,35 @@ fn subs_suffix(
 /// Goes on behind a sum that begins a window.
 #[cycle(exprs)]
 fn window_end(
-    alloc: Global,
     cursor: &mut Cursor<'_>,
-    names: &NameTable,
-    levels: u32,
+    context: ExprContext<'_>,
     alone: bool,
     chain: Chain,
     count: u32,
 ) -> Result<(Suffix, u32), Unread>
-    ensures { Reads ((fronts.window_suffix names.now
-        (inner names.now levels) alone (finished chain) count).reads cursor.old) result cursor.new }
+    ensures { Reads ((fronts.window_suffix context.entry.names.now (inner context.entry.names.now
+        context.entry.levels) alone (finished chain) count).reads cursor.old) result cursor.new }
 {
-    let first = finish(alloc, chain)?;
-    let (window, count) = window_behind(alloc, cursor, names, levels, alone, first, count)?;
-    Ok((window_suffix(alloc, window)?, count))
+    let first = finish(context.alloc, chain)?;
+    let (window, count) = window_behind(cursor, context, alone, first, count)?;
+    Ok((window_suffix(context.alloc, window)?, count))
 }
 
 /// Goes on where a colon is next; the terms are counted now.
 #[cycle(exprs)]
 fn colon_end(
-    alloc: Global,
     cursor: &mut Cursor<'_>,
-    names: &NameTable,
-    levels: u32,
+    context: ExprContext<'_>,
     alone: bool,
     count: u32,
     either: Either,
 ) -> Result<(Suffix, u32), Unread>
-    ensures { Reads ((ends.colon_end names.now
-        (inner names.now levels) alone count either).reads cursor.old) result cursor.new }
+    ensures { Reads ((ends.colon_end context.entry.names.now (inner context.entry.names.now
+        context.entry.levels) alone count either).reads cursor.old) result cursor.new }
 {
     let (chain, leaves) = sum_of(either);
     match tally(cursor, count, leaves) {
-        Ok(count) => window_end(alloc, cursor, names, levels, alone, chain, count),
+        Ok(count) => window_end(cursor, context, alone, chain, count),
         Err(stop) => {
             drop_chain(chain);
             Err(stop)
@@ -486,24 +452,22 @@ fn colon_end(
 #[cycle(exprs)]
 #[tactic(auto, unfolding(cobol_grammar::specs::expr_forms::Front::front_end))]
 pub fn front_end(
-    alloc: Global,
     cursor: &mut Cursor<'_>,
-    names: &NameTable,
-    levels: u32,
+    context: ExprContext<'_>,
     alone: bool,
     count: u32,
     front: Front,
 ) -> Result<(Suffix, u32), Unread>
-    ensures { Reads ((fronts.front_end names.now (inner names.now levels) alone count front).reads
-        cursor.old) result cursor.new }
+    ensures { Reads ((fronts.front_end context.entry.names.now (inner context.entry.names.now
+        context.entry.levels) alone count front).reads cursor.old) result cursor.new }
 {
     match front {
-        Front::Sum(chain, more) => window_end(alloc, cursor, names, levels, alone, chain, more),
+        Front::Sum(chain, more) => window_end(cursor, context, alone, chain, more),
         Front::Either(either) => {
             if at_colon(cursor) {
-                colon_end(alloc, cursor, names, levels, alone, count, either)
+                colon_end(cursor, context, alone, count, either)
             } else {
-                subs_suffix(alloc, cursor, names, count, either)
+                subs_suffix(context.alloc, cursor, context.names, count, either)
             }
         }
     }
@@ -513,18 +477,16 @@ pub fn front_end(
 #[cycle(exprs)]
 #[tactic(auto, unfolding(cobol_grammar::specs::expr_forms::Front::in_suffix))]
 pub fn in_suffix(
-    alloc: Global,
     cursor: &mut Cursor<'_>,
-    names: &NameTable,
-    levels: u32,
+    context: ExprContext<'_>,
     alone: bool,
     count: u32,
 ) -> Result<(Suffix, u32), Unread>
-    ensures { Reads ((fronts.in_suffix names.now (inner names.now levels) alone count).reads
-        cursor.old) result cursor.new }
+    ensures { Reads ((fronts.in_suffix context.entry.names.now (inner context.entry.names.now
+        context.entry.levels) alone count).reads cursor.old) result cursor.new }
 {
     cursor.mark(b'(')?;
-    let first = first_front(alloc, cursor, names, levels, count)?;
-    let front = front_turns(alloc, cursor, names, levels, count, first)?;
-    front_end(alloc, cursor, names, levels, alone, count, front)
+    let first = first_front(cursor, context, count)?;
+    let front = front_turns(cursor, context, count, first)?;
+    front_end(cursor, context, alone, count, front)
 }

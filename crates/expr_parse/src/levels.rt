@@ -7,6 +7,7 @@ ghost use Rattle.cobol_grammar.specs.expr_forms.Levels as knots;
 ghost use Rattle.cobol_grammar.specs.expr_forms.Levels.{inner};
 
 use crate::actions::{at_operand, both_behind, drop_subs, found_fault, ref_side, tally};
+use crate::context::ExprContext;
 use crate::expression::{expr, in_nested, literal_operand};
 use crate::front::in_suffix;
 use crate::reference::qualifiers;
@@ -23,55 +24,64 @@ use symbol_tables::data_names::{Found, NameTable};
 /// Reads an expression in parentheses, where a level is left.
 #[cycle(exprs)]
 pub fn nested(
-    alloc: Global,
     cursor: &mut Cursor<'_>,
-    names: &NameTable,
-    levels: u32,
+    context: ExprContext<'_>,
     count: u32,
 ) -> Result<(Side, u32), Unread>
-    ensures { Reads (((inner names.now levels).nested count).reads cursor.old) result cursor.new }
+    ensures { Reads (((inner context.entry.names.now context.entry.levels).nested count).reads
+        cursor.old) result cursor.new }
 {
-    if levels == 0 {
+    if context.levels == 0 {
         let begins = cursor.sees_mark(b'(');
         return Err(cursor.too_deep(Why::Parens, begins));
     }
-    in_nested(alloc, cursor, names, levels - 1, count)
+    let within = ExprContext {
+        levels: context.levels - 1,
+        ..context
+    };
+    in_nested(cursor, within, count)
 }
 
 /// Reads subscripts or a window, where a level is left.
 #[cycle(exprs)]
 pub fn suffix(
-    alloc: Global,
     cursor: &mut Cursor<'_>,
-    names: &NameTable,
-    levels: u32,
+    context: ExprContext<'_>,
     count: u32,
 ) -> Result<(Suffix, u32), Unread>
-    ensures { Reads (((inner names.now levels).suffix count).reads cursor.old) result cursor.new }
+    ensures { Reads (((inner context.entry.names.now context.entry.levels).suffix count).reads
+        cursor.old) result cursor.new }
 {
-    if levels == 0 {
+    if context.levels == 0 {
         let begins = cursor.sees_mark(b'(');
         return Err(cursor.too_deep(Why::Parens, begins));
     }
-    in_suffix(alloc, cursor, names, levels - 1, false, count)
+    let within = ExprContext {
+        levels: context.levels - 1,
+        ..context
+    };
+    in_suffix(cursor, within, false, count)
 }
 
 /// Reads a window, where a level is left.
 #[cycle(exprs)]
 pub fn window(
-    alloc: Global,
     cursor: &mut Cursor<'_>,
-    names: &NameTable,
-    levels: u32,
+    context: ExprContext<'_>,
     count: u32,
 ) -> Result<(Window, u32), Unread>
-    ensures { Reads (((inner names.now levels).window count).reads cursor.old) result cursor.new }
+    ensures { Reads (((inner context.entry.names.now context.entry.levels).window count).reads
+        cursor.old) result cursor.new }
 {
-    if levels == 0 {
+    if context.levels == 0 {
         let begins = cursor.sees_mark(b'(');
         return Err(cursor.too_deep(Why::Parens, begins));
     }
-    in_window(alloc, cursor, names, levels - 1, false, count)
+    let within = ExprContext {
+        levels: context.levels - 1,
+        ..context
+    };
+    in_window(cursor, within, false, count)
 }
 
 #[tactic(auto, unfolding(cobol_grammar::specs::expr_forms::Reference::behind))]
@@ -84,6 +94,11 @@ fn data_behind(
     ensures { Reads ((references.behind (knots.outer names.now) count).reads cursor.old)
         result cursor.new }
 {
+    let context = ExprContext {
+        alloc,
+        names,
+        levels: MAX_PARENS,
+    };
     if !cursor.sees_mark(b'(') {
         return Ok(Behind {
             subs: Items::new(alloc),
@@ -91,7 +106,7 @@ fn data_behind(
             count,
         });
     }
-    let (found, count) = in_suffix(alloc, cursor, names, MAX_PARENS, true, count)?;
+    let (found, count) = in_suffix(cursor, context, true, count)?;
     match found {
         Suffix::Window(window) => Ok(Behind {
             subs: Items::new(alloc),
@@ -100,7 +115,7 @@ fn data_behind(
         }),
         Suffix::Subs(subs) => {
             if cursor.sees_mark(b'(') {
-                match in_window(alloc, cursor, names, MAX_PARENS, true, count) {
+                match in_window(cursor, context, true, count) {
                     Ok((inner, count)) => Ok(both_behind(alloc, subs, inner, count)?),
                     Err(stop) => {
                         drop_subs(subs);
@@ -239,6 +254,11 @@ pub fn data_operand(
 pub fn whole_expr(alloc: Global, cursor: &mut Cursor<'_>, names: &NameTable) -> Result<Side, Unread>
     ensures { Reads ((knots.whole_expr names.now).reads cursor.old) result cursor.new }
 {
-    let (side, _) = expr(alloc, cursor, names, MAX_PARENS, 0)?;
+    let context = ExprContext {
+        alloc,
+        names,
+        levels: MAX_PARENS,
+    };
+    let (side, _) = expr(cursor, context, 0)?;
     Ok(side)
 }

@@ -7,6 +7,7 @@
 #![tactic(auto)]
 
 pub mod actions;
+mod context;
 mod expression;
 mod front;
 mod levels;
@@ -14,5 +15,6 @@ mod reference;
 mod subscript;
 mod window;
 
+pub use context::ExprContext;
 pub use expression::{expr, operand, sum, unary};
 pub use levels::{data_operand, data_reference, data_reference_behind, whole_expr};

@@ -5,13 +5,14 @@ ghost use Rattle.cobol_grammar.specs.expr_forms.Reference as references;
 ghost use Rattle.cobol_grammar.specs.expr_forms.Levels.{inner};
 
 use crate::actions::{at_of, both_behind, drop_subs, found_fault, ref_side};
+use crate::context::ExprContext;
 use crate::levels::{suffix, window};
 use cob_base::{Items, Word};
 use cobol_grammar::expr_forms::{Behind, Side, Suffix};
 use parser_combinators::words::name;
 use parser_combinators::{Cursor, Position, Unread};
 use std::alloc::Global;
-use symbol_tables::data_names::{Found, NameTable};
+use symbol_tables::data_names::Found;
 
 #[tactic(auto, unfolding(cobol_grammar::specs::expr_forms::Reference::qualifier))]
 fn qualifier(cursor: &mut Cursor<'_>) -> Result<Word, Unread>
@@ -39,34 +40,28 @@ pub fn qualifiers(alloc: Global, cursor: &mut Cursor<'_>) -> Result<Items<Word>,
 
 #[cycle(exprs)]
 #[tactic(auto, unfolding(cobol_grammar::specs::expr_forms::Reference::behind))]
-fn behind(
-    alloc: Global,
-    cursor: &mut Cursor<'_>,
-    names: &NameTable,
-    levels: u32,
-    count: u32,
-) -> Result<Behind, Unread>
-    ensures { Reads ((references.behind (inner names.now levels) count).reads cursor.old)
-        result cursor.new }
+fn behind(cursor: &mut Cursor<'_>, context: ExprContext<'_>, count: u32) -> Result<Behind, Unread>
+    ensures { Reads ((references.behind (inner context.entry.names.now context.entry.levels)
+        count).reads cursor.old) result cursor.new }
 {
     if !cursor.sees_mark(b'(') {
         return Ok(Behind {
-            subs: Items::new(alloc),
+            subs: Items::new(context.alloc),
             window: None,
             count,
         });
     }
-    let (found, count) = suffix(alloc, cursor, names, levels, count)?;
+    let (found, count) = suffix(cursor, context, count)?;
     match found {
         Suffix::Window(window) => Ok(Behind {
-            subs: Items::new(alloc),
+            subs: Items::new(context.alloc),
             window: Some(window),
             count,
         }),
         Suffix::Subs(subs) => {
             if cursor.sees_mark(b'(') {
-                match window(alloc, cursor, names, levels, count) {
-                    Ok((inner, count)) => Ok(both_behind(alloc, subs, inner, count)?),
+                match window(cursor, context, count) {
+                    Ok((inner, count)) => Ok(both_behind(context.alloc, subs, inner, count)?),
                     Err(stop) => {
                         drop_subs(subs);
                         Err(stop)
@@ -87,23 +82,21 @@ fn behind(
 #[cycle(exprs)]
 #[tactic(auto, unfolding(cobol_grammar::specs::expr_forms::Reference::ref_behind))]
 pub fn ref_behind(
-    alloc: Global,
     cursor: &mut Cursor<'_>,
-    names: &NameTable,
-    levels: u32,
+    context: ExprContext<'_>,
     found: Found,
     of: Items<Word>,
     position: Position,
     count: u32,
 ) -> Result<(Side, u32), Unread>
-    ensures { Reads ((references.ref_behind
-        (inner names.now levels) found of position count).reads cursor.old) result cursor.new }
+    ensures { Reads ((references.ref_behind (inner context.entry.names.now context.entry.levels)
+        found of position count).reads cursor.old) result cursor.new }
 {
     let Behind {
         subs,
         window,
         count,
-    } = behind(alloc, cursor, names, levels, count)?;
+    } = behind(cursor, context, count)?;
     cursor.note(found_fault(found, subs.len(), window.is_some(), position));
     Ok((ref_side(found, of, subs, window, position), count))
 }
@@ -112,35 +105,32 @@ pub fn ref_behind(
 #[cycle(exprs)]
 #[tactic(auto, unfolding(cobol_grammar::specs::expr_forms::Reference::reference_behind))]
 pub fn reference_behind(
-    alloc: Global,
     cursor: &mut Cursor<'_>,
-    names: &NameTable,
-    levels: u32,
+    context: ExprContext<'_>,
     first: Word,
     position: Position,
     count: u32,
 ) -> Result<(Side, u32), Unread>
-    ensures { Reads ((references.reference_behind names.now (inner names.now levels) first position
-        count).reads cursor.old) result cursor.new }
+    ensures { Reads ((references.reference_behind context.entry.names.now (inner
+        context.entry.names.now context.entry.levels) first position count).reads cursor.old)
+        result cursor.new }
 {
-    let of = qualifiers(alloc, cursor)?;
-    let found = names.look(&first, of.as_slice());
-    ref_behind(alloc, cursor, names, levels, found, of, position, count)
+    let of = qualifiers(context.alloc, cursor)?;
+    let found = context.names.look(&first, of.as_slice());
+    ref_behind(cursor, context, found, of, position, count)
 }
 
 /// Reads a reference.
 #[cycle(exprs)]
 #[tactic(auto, unfolding(cobol_grammar::specs::expr_forms::Reference::reference))]
 pub fn reference(
-    alloc: Global,
     cursor: &mut Cursor<'_>,
-    names: &NameTable,
-    levels: u32,
+    context: ExprContext<'_>,
     count: u32,
 ) -> Result<(Side, u32), Unread>
-    ensures { Reads ((references.reference names.now (inner names.now levels) count).reads
-        cursor.old) result cursor.new }
+    ensures { Reads ((references.reference context.entry.names.now (inner context.entry.names.now
+        context.entry.levels) count).reads cursor.old) result cursor.new }
 {
     let (first, position) = name(cursor)?;
-    reference_behind(alloc, cursor, names, levels, first, position, count)
+    reference_behind(cursor, context, first, position, count)
 }

@@ -6,12 +6,11 @@ ghost use Rattle.cobol_grammar.specs.expr_forms.Window as windows;
 ghost use Rattle.cobol_grammar.specs.expr_forms.Levels.{inner};
 
 use crate::actions::{drop_side, drop_window, expr_of, whole_fault};
+use crate::context::ExprContext;
 use crate::expression::expr;
 use cob_tree::{Expr, Window};
 use cobol_grammar::expr_forms::Side;
 use parser_combinators::{Cursor, Unread};
-use std::alloc::Global;
-use symbol_tables::data_names::NameTable;
 
 /// What is counted where a window's second expression begins.
 fn second_count(alone: bool, count: u32) -> u32
@@ -23,19 +22,17 @@ fn second_count(alone: bool, count: u32) -> u32
 #[cycle(exprs)]
 #[tactic(auto, unfolding(cobol_grammar::specs::expr_forms::Window::length_part))]
 fn length_part(
-    alloc: Global,
     cursor: &mut Cursor<'_>,
-    names: &NameTable,
-    levels: u32,
+    context: ExprContext<'_>,
     count: u32,
 ) -> Result<(Option<Expr>, u32), Unread>
-    ensures { Reads ((windows.length_part names.now
-        (inner names.now levels) count).reads cursor.old) result cursor.new }
+    ensures { Reads ((windows.length_part context.entry.names.now (inner context.entry.names.now
+        context.entry.levels) count).reads cursor.old) result cursor.new }
 {
     if cursor.sees_mark(b')') {
         Ok((None, count))
     } else {
-        let (side, count) = expr(alloc, cursor, names, levels, count)?;
+        let (side, count) = expr(cursor, context, count)?;
         cursor.note(whole_fault(&side));
         Ok((Some(expr_of(side.what)), count))
     }
@@ -45,24 +42,21 @@ fn length_part(
 #[cycle(exprs)]
 #[tactic(auto, unfolding(cobol_grammar::specs::expr_forms::Window::window_behind))]
 pub fn window_behind(
-    alloc: Global,
     cursor: &mut Cursor<'_>,
-    names: &NameTable,
-    levels: u32,
+    context: ExprContext<'_>,
     alone: bool,
     first: Side,
     count: u32,
 ) -> Result<(Window, u32), Unread>
-    ensures { Reads ((windows.window_behind names.now (inner names.now levels) alone first
-        count).reads
-        cursor.old) result cursor.new }
+    ensures { Reads ((windows.window_behind context.entry.names.now (inner context.entry.names.now
+        context.entry.levels) alone first count).reads cursor.old) result cursor.new }
 {
     if let Err(stop) = cursor.mark(b':') {
         drop_side(first);
         return Err(stop);
     }
     cursor.note(whole_fault(&first));
-    match length_part(alloc, cursor, names, levels, second_count(alone, count)) {
+    match length_part(cursor, context, second_count(alone, count)) {
         Ok((length, count)) => {
             let from = expr_of(first.what);
             let window = Window { from, length };
@@ -85,17 +79,15 @@ pub fn window_behind(
 #[cycle(exprs)]
 #[tactic(auto, unfolding(cobol_grammar::specs::expr_forms::Window::in_window))]
 pub fn in_window(
-    alloc: Global,
     cursor: &mut Cursor<'_>,
-    names: &NameTable,
-    levels: u32,
+    context: ExprContext<'_>,
     alone: bool,
     count: u32,
 ) -> Result<(Window, u32), Unread>
-    ensures { Reads ((windows.in_window names.now (inner names.now levels) alone count).reads
-        cursor.old) result cursor.new }
+    ensures { Reads ((windows.in_window context.entry.names.now (inner context.entry.names.now
+        context.entry.levels) alone count).reads cursor.old) result cursor.new }
 {
     cursor.mark(b'(')?;
-    let (first, count) = expr(alloc, cursor, names, levels, count)?;
-    window_behind(alloc, cursor, names, levels, alone, first, count)
+    let (first, count) = expr(cursor, context, count)?;
+    window_behind(cursor, context, alone, first, count)
 }

@@ -11,7 +11,7 @@ use crate::drafts::{
     drop_outline, drop_paragraphs, drop_sentences, drop_stmts, paragraph_added, sentence_added,
     stmt_added,
 };
-use crate::statements::{stmts_from, stmts_with};
+use crate::statements::{StmtContext, stmts_from, stmts_with};
 use cob_base::limit::MAX_NESTING;
 use cob_base::{Items, NoMemory, Word};
 use cob_tree::{Paragraph, Sentence, Stmt};
@@ -57,7 +57,12 @@ fn sentence<P: Parts>(
     ensures { Reads ((forms.sentence (P.parts parts.now) scope).reads cursor.old)
         result cursor.new }
 {
-    let found = stmts_with(parts, alloc, cursor, scope, MAX_NESTING)?;
+    let context = StmtContext {
+        alloc,
+        scope,
+        levels: MAX_NESTING,
+    };
+    let found = stmts_with(parts, cursor, context)?;
     sentence_end(cursor, found)
 }
 
@@ -125,7 +130,12 @@ fn exit_sentence<P: Parts>(
 {
     let first = exit_behind(cursor, scope, position)?;
     let stmts = stmt_added(Items::new(alloc), first)?;
-    let found = stmts_from(parts, alloc, cursor, scope, MAX_NESTING, (stmts, false))?;
+    let context = StmtContext {
+        alloc,
+        scope,
+        levels: MAX_NESTING,
+    };
+    let found = stmts_from(parts, cursor, context, (stmts, false))?;
     sentence_end(cursor, found)
 }
 

@@ -7,4 +7,4 @@
 
 mod held;
 
-pub use crate::statements::held::{stmts_from, stmts_with};
+pub use crate::statements::held::{StmtContext, stmts_from, stmts_with};

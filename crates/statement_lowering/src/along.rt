@@ -15,7 +15,7 @@ ghost use Rattle.statement_lowering.specs.Whole.{Escapes};
 ghost use Rattle.statement_lowering.specs.Arms.{AddsArmOf, AreArms, IsChoice, if_arms, left_by, missing_end, one_arm, phrase_arms, phrase_own, phrase_places, when_arms, when_tests};
 
 use crate::choices::{pick_always, pick_arith, pick_evaluate, pick_if, pick_read};
-use crate::telling::{Leaving, Telling, rest_at};
+use crate::telling::{Leaving, RestContext, rest_at};
 use crate::turns::end_or;
 use crate::whole::run_whole;
 use branch_tree::{End, Piece, Tree, drop_pieces, drop_trees};
@@ -34,22 +34,34 @@ pub fn run_on(
     body: &mut Vec<Piece>,
     stmts: &[Stmt],
     place: u32,
-    telling: &Telling<'_>,
-    leaving: &Leaving,
-    after: &Leaf,
+    context: RestContext<'_>,
 ) -> Result<Option<End>, NoMemory>
     requires own { IsTrue (stmts_own stmts.now) }
     requires fits { place + sum_by stmt_places stmts.now < 2 ^ 32 }
-    ensures { IfOk result (λ end. Runs telling.now leaving.now stmts.now place after.now end
-        body.old.items body.new.items) }
+    ensures { IfOk result (λ end. Runs context.entry.telling.now context.entry.leaving.now
+        stmts.now place context.entry.after.now end body.old.items body.new.items) }
 {
     let mut here = place;
     let mut at = 0usize;
     for stmt in stmts {
         at += 1;
         let next = here + stmt_size(stmt) as u32;
-        let behind = leaf_of(rest_at(stmts, at), next, telling.layout, *after);
-        match run_stmt(alloc, body, stmt, here, telling, leaving, &behind)? {
+        let behind = leaf_of(
+            rest_at(stmts, at),
+            next,
+            context.telling.layout,
+            *context.after,
+        );
+        match run_stmt(
+            alloc,
+            body,
+            stmt,
+            here,
+            RestContext {
+                after: &behind,
+                ..context
+            },
+        )? {
             Some(end) => return Ok(Some(end)),
             None => here = next,
         }
@@ -64,21 +76,19 @@ fn run_stmt(
     body: &mut Vec<Piece>,
     stmt: &Stmt,
     place: u32,
-    telling: &Telling<'_>,
-    leaving: &Leaving,
-    after: &Leaf,
+    context: RestContext<'_>,
 ) -> Result<Option<End>, NoMemory>
     requires own { IsTrue (stmt_own stmt.now) }
     requires fits { place + stmt_places stmt.now < 2 ^ 32 }
-    ensures { IfOk result (λ end. RunsBy telling.now leaving.now stmt.now place after.now end
-        body.old.items body.new.items) }
+    ensures { IfOk result (λ end. RunsBy context.entry.telling.now context.entry.leaving.now
+        stmt.now place context.entry.after.now end body.old.items body.new.items) }
 {
-    let facts = stmt_facts(stmt, telling.files, telling.returning);
+    let facts = stmt_facts(stmt, context.telling.files, context.telling.returning);
     if facts.whole {
-        let end = run_whole(alloc, body, stmt, facts.completes, telling)?;
+        let end = run_whole(alloc, body, stmt, facts.completes, context.telling)?;
         return Ok(end);
     }
-    let end = run_escape(alloc, body, stmt, place, telling, leaving, after)?;
+    let end = run_escape(alloc, body, stmt, place, context)?;
     Ok(Some(end))
 }
 
@@ -89,30 +99,34 @@ fn run_escape(
     body: &mut Vec<Piece>,
     stmt: &Stmt,
     place: u32,
-    telling: &Telling<'_>,
-    leaving: &Leaving,
-    after: &Leaf,
+    context: RestContext<'_>,
 ) -> Result<End, NoMemory>
-    requires escapes { Escapes (told_by telling.now) stmt.now true }
+    requires escapes { Escapes (told_by context.telling.now) stmt.now true }
     requires own { IsTrue (stmt_own stmt.now) }
     requires fits { place + stmt_places stmt.now < 2 ^ 32 }
-    ensures { IfOk result (λ end. RunsBy telling.now leaving.now stmt.now place after.now (Some end)
-        body.old.items body.new.items) }
+    ensures { IfOk result (λ end. RunsBy context.entry.telling.now context.entry.leaving.now
+        stmt.now place context.entry.after.now (Some end) body.old.items body.new.items) }
 {
     match stmt {
-        Stmt::Go(to) => Ok(End::Jump(point(telling.layout.place_of(*to)))),
+        Stmt::Go(to) => Ok(End::Jump(point(context.telling.layout.place_of(*to)))),
         Stmt::GoDepending { to, on } => {
-            let end = depending(alloc, to.as_slice(), on, telling.layout, *after)?;
+            let end = depending(
+                alloc,
+                to.as_slice(),
+                on,
+                context.telling.layout,
+                *context.after,
+            )?;
             Ok(end)
         }
-        Stmt::NextSentence => Ok(end_at(leaving.sentence)),
-        Stmt::ExitParagraph => Ok(end_at(leaving.paragraph)),
-        Stmt::ExitSection => Ok(end_at(leaving.section)),
-        Stmt::ExitPerform { cycle } => Ok(end_at(loop_left(*cycle, leaving))),
+        Stmt::NextSentence => Ok(end_at(context.leaving.sentence)),
+        Stmt::ExitParagraph => Ok(end_at(context.leaving.paragraph)),
+        Stmt::ExitSection => Ok(end_at(context.leaving.section)),
+        Stmt::ExitPerform { cycle } => Ok(end_at(loop_left(*cycle, context.leaving))),
         Stmt::If { cond, yes, no } => {
             let met = yes.as_slice();
             let unmet = no.as_slice();
-            let end = run_if(alloc, cond, met, unmet, place, telling, leaving, after)?;
+            let end = run_if(alloc, cond, met, unmet, place, context)?;
             Ok(end)
         }
         Stmt::Evaluate {
@@ -121,15 +135,15 @@ fn run_escape(
             other,
         } => {
             let whens = whens.as_slice();
-            let end = run_evaluate(alloc, subject, whens, other, place, telling, leaving, after)?;
+            let end = run_evaluate(alloc, subject, whens, other, place, context)?;
             Ok(end)
         }
         Stmt::Read { file, into, arms } => {
-            let end = run_read(alloc, *file, into, arms, place, telling, leaving, after)?;
+            let end = run_read(alloc, *file, into, arms, place, context)?;
             Ok(end)
         }
         Stmt::Arith { calc, into, arms } => {
-            let end = run_arith(alloc, calc, into, arms, place, telling, leaving, after)?;
+            let end = run_arith(alloc, calc, into, arms, place, context)?;
             Ok(end)
         }
         Stmt::Loop {
@@ -137,7 +151,7 @@ fn run_escape(
             body: turns,
         } => {
             let turns = turns.as_slice();
-            let end = run_loop(alloc, body, control, turns, place, telling, leaving, after)?;
+            let end = run_loop(alloc, body, control, turns, place, context)?;
             Ok(end)
         }
         Stmt::Display { .. } => Ok(End::Dead),
@@ -173,18 +187,16 @@ fn run_if(
     met: &[Stmt],
     unmet: &[Stmt],
     place: u32,
-    telling: &Telling<'_>,
-    leaving: &Leaving,
-    after: &Leaf,
+    context: RestContext<'_>,
 ) -> Result<End, NoMemory>
     requires met { IsTrue (stmts_own met.now) }
     requires unmet { IsTrue (stmts_own unmet.now) }
     requires fits { place + 1 + sum_by stmt_places met.now + sum_by stmt_places unmet.now < 2 ^ 32 }
-    ensures { IfOk result (IsChoice telling.now leaving.now (If (test_of cond.now)) false
-        (if_arms met.now unmet.now) (place + 1) after.now) }
+    ensures { IfOk result (IsChoice context.entry.telling.now context.entry.leaving.now (If
+        (test_of cond.now)) false (if_arms met.now unmet.now) (place + 1) context.entry.after.now) }
 {
     let mut arms = Items::new(alloc);
-    match push_both(alloc, &mut arms, met, unmet, place, telling, leaving, after) {
+    match push_both(alloc, &mut arms, met, unmet, place, context) {
         Ok(()) => {
             let end = pick_if(alloc, cond, arms)?;
             Ok(end)
@@ -204,20 +216,18 @@ fn push_both(
     met: &[Stmt],
     unmet: &[Stmt],
     place: u32,
-    telling: &Telling<'_>,
-    leaving: &Leaving,
-    after: &Leaf,
+    context: RestContext<'_>,
 ) -> Result<(), NoMemory>
     requires none { arms.old ≡ [] }
     requires met { IsTrue (stmts_own met.now) }
     requires unmet { IsTrue (stmts_own unmet.now) }
     requires fits { place + 1 + sum_by stmt_places met.now + sum_by stmt_places unmet.now < 2 ^ 32 }
-    ensures { OnOk result (AreArms telling.now leaving.now false (if_arms met.now unmet.now)
-        (place + 1) after.now arms.new) }
+    ensures { OnOk result (AreArms context.entry.telling.now context.entry.leaving.now false
+        (if_arms met.now unmet.now) (place + 1) context.entry.after.now arms.new) }
 {
-    push_arm(alloc, arms, met, place + 1, telling, leaving, after)?;
+    push_arm(alloc, arms, met, place + 1, context)?;
     let next = place + 1 + stmts_size(met) as u32;
-    push_arm(alloc, arms, unmet, next, telling, leaving, after)?;
+    push_arm(alloc, arms, unmet, next, context)?;
     Ok(())
 }
 
@@ -229,21 +239,17 @@ fn run_evaluate(
     whens: &[When],
     other: &Option<Items<Stmt>>,
     place: u32,
-    telling: &Telling<'_>,
-    leaving: &Leaving,
-    after: &Leaf,
+    context: RestContext<'_>,
 ) -> Result<End, NoMemory>
     requires whens { IsTrue (all (map when_own whens.now)) }
     requires other { IsTrue (phrase_own other.now) }
     requires fits { place + 1 + sum_by when_places whens.now + phrase_places other.now < 2 ^ 32 }
-    ensures { IfOk result (IsChoice telling.now leaving.now
-        (By (Evaluate subject.now (when_tests whens.now) (is_some other.now))) false
-        (when_arms whens.now other.now) (place + 1) after.now) }
+    ensures { IfOk result (IsChoice context.entry.telling.now context.entry.leaving.now (By
+        (Evaluate subject.now (when_tests whens.now) (is_some other.now))) false (when_arms
+        whens.now other.now) (place + 1) context.entry.after.now) }
 {
     let mut arms = Items::new(alloc);
-    match push_whens(
-        alloc, &mut arms, whens, other, place, telling, leaving, after,
-    ) {
+    match push_whens(alloc, &mut arms, whens, other, place, context) {
         Ok(()) => {
             let end = pick_evaluate(alloc, subject, whens, other.is_some(), arms)?;
             Ok(end)
@@ -263,30 +269,28 @@ fn push_whens(
     whens: &[When],
     other: &Option<Items<Stmt>>,
     place: u32,
-    telling: &Telling<'_>,
-    leaving: &Leaving,
-    after: &Leaf,
+    context: RestContext<'_>,
 ) -> Result<(), NoMemory>
     requires none { arms.old ≡ [] }
     requires whens { IsTrue (all (map when_own whens.now)) }
     requires other { IsTrue (phrase_own other.now) }
     requires fits { place + 1 + sum_by when_places whens.now + phrase_places other.now < 2 ^ 32 }
-    ensures { OnOk result (AreArms telling.now leaving.now false (when_arms whens.now other.now)
-        (place + 1) after.now arms.new) }
+    ensures { OnOk result (AreArms context.entry.telling.now context.entry.leaving.now false
+        (when_arms whens.now other.now) (place + 1) context.entry.after.now arms.new) }
 {
     let mut here = place + 1;
     for when in whens {
         let stmts = when.stmts.as_slice();
-        push_arm(alloc, arms, stmts, here, telling, leaving, after)?;
+        push_arm(alloc, arms, stmts, here, context)?;
         here += stmts_size(stmts) as u32;
     }
     match other {
         None => {
-            push_only(alloc, arms, end_at(*after))?;
+            push_only(alloc, arms, end_at(*context.after))?;
             Ok(())
         }
         Some(stmts) => {
-            push_arm(alloc, arms, stmts.as_slice(), here, telling, leaving, after)?;
+            push_arm(alloc, arms, stmts.as_slice(), here, context)?;
             Ok(())
         }
     }
@@ -300,22 +304,18 @@ fn run_read(
     into: &Option<Place>,
     phrases: &Arms,
     place: u32,
-    telling: &Telling<'_>,
-    leaving: &Leaving,
-    after: &Leaf,
+    context: RestContext<'_>,
 ) -> Result<End, NoMemory>
     requires own { IsTrue (arms_own phrases.now) }
     requires fits { place + 1 + arms_places phrases.now < 2 ^ 32 }
-    ensures { IfOk result (IsChoice telling.now leaving.now
-        (By (Read file into.now (is_some (out-Arms phrases.now).first)))
-        (status_missing (slice_get telling.now.files.now file)) (phrase_arms phrases.now)
-        (place + 1) after.now) }
+    ensures { IfOk result (IsChoice context.entry.telling.now context.entry.leaving.now (By (Read
+        file into.now (is_some (out-Arms phrases.now).first))) (status_missing (slice_get
+        context.entry.telling.now.files.now file)) (phrase_arms phrases.now) (place + 1)
+        context.entry.after.now) }
 {
-    let is_dead = ends_at_end(telling.files, file);
+    let is_dead = ends_at_end(context.telling.files, file);
     let mut arms = Items::new(alloc);
-    match push_phrases(
-        alloc, &mut arms, phrases, is_dead, place, telling, leaving, after,
-    ) {
+    match push_phrases(alloc, &mut arms, phrases, is_dead, place, context) {
         Ok(()) => {
             let end = pick_read(alloc, file, into, phrases.first.is_some(), arms)?;
             Ok(end)
@@ -335,19 +335,15 @@ fn run_arith(
     into: &Items<Target>,
     phrases: &Arms,
     place: u32,
-    telling: &Telling<'_>,
-    leaving: &Leaving,
-    after: &Leaf,
+    context: RestContext<'_>,
 ) -> Result<End, NoMemory>
     requires own { IsTrue (arms_own phrases.now) }
     requires fits { place + 1 + arms_places phrases.now < 2 ^ 32 }
-    ensures { IfOk result (IsChoice telling.now leaving.now (By (Arith calc.now into.now)) false
-        (phrase_arms phrases.now) (place + 1) after.now) }
+    ensures { IfOk result (IsChoice context.entry.telling.now context.entry.leaving.now (By (Arith
+        calc.now into.now)) false (phrase_arms phrases.now) (place + 1) context.entry.after.now) }
 {
     let mut arms = Items::new(alloc);
-    match push_phrases(
-        alloc, &mut arms, phrases, false, place, telling, leaving, after,
-    ) {
+    match push_phrases(alloc, &mut arms, phrases, false, place, context) {
         Ok(()) => {
             let end = pick_arith(alloc, calc, into, arms)?;
             Ok(end)
@@ -367,49 +363,39 @@ fn push_phrases(
     phrases: &Arms,
     is_dead: bool,
     place: u32,
-    telling: &Telling<'_>,
-    leaving: &Leaving,
-    after: &Leaf,
+    context: RestContext<'_>,
 ) -> Result<(), NoMemory>
     requires none { arms.old ≡ [] }
     requires own { IsTrue (arms_own phrases.now) }
     requires fits { place + 1 + arms_places phrases.now < 2 ^ 32 }
-    ensures { OnOk result (AreArms telling.now leaving.now is_dead (phrase_arms phrases.now)
-        (place + 1) after.now arms.new) }
+    ensures { OnOk result (AreArms context.entry.telling.now context.entry.leaving.now is_dead
+        (phrase_arms phrases.now) (place + 1) context.entry.after.now arms.new) }
 {
     match &phrases.first {
         None => {
-            push_only(alloc, arms, missing_end(is_dead, after))?;
+            push_only(alloc, arms, missing_end(is_dead, context.after))?;
             match &phrases.second {
                 None => {
-                    push_only(alloc, arms, end_at(*after))?;
+                    push_only(alloc, arms, end_at(*context.after))?;
                     Ok(())
                 }
                 Some(stmts) => {
-                    push_arm(
-                        alloc,
-                        arms,
-                        stmts.as_slice(),
-                        place + 1,
-                        telling,
-                        leaving,
-                        after,
-                    )?;
+                    push_arm(alloc, arms, stmts.as_slice(), place + 1, context)?;
                     Ok(())
                 }
             }
         }
         Some(stmts) => {
             let stmts = stmts.as_slice();
-            push_arm(alloc, arms, stmts, place + 1, telling, leaving, after)?;
+            push_arm(alloc, arms, stmts, place + 1, context)?;
             let next = place + 1 + stmts_size(stmts) as u32;
             match &phrases.second {
                 None => {
-                    push_only(alloc, arms, end_at(*after))?;
+                    push_only(alloc, arms, end_at(*context.after))?;
                     Ok(())
                 }
                 Some(stmts) => {
-                    push_arm(alloc, arms, stmts.as_slice(), next, telling, leaving, after)?;
+                    push_arm(alloc, arms, stmts.as_slice(), next, context)?;
                     Ok(())
                 }
             }
@@ -435,19 +421,17 @@ fn run_loop(
     control: &Control,
     turns: &[Stmt],
     place: u32,
-    telling: &Telling<'_>,
-    leaving: &Leaving,
-    after: &Leaf,
+    context: RestContext<'_>,
 ) -> Result<End, NoMemory>
     requires own { IsTrue (stmts_own turns.now) }
     requires control { IsTrue (control_own control.now) }
     requires fits { place + 1 + sum_by stmt_places turns.now < 2 ^ 32 }
-    ensures { IfOk result (EndsLoop telling.now leaving.now control.now turns.now place after.now
-        body.old.items body.new.items) }
+    ensures { IfOk result (EndsLoop context.entry.telling.now context.entry.leaving.now control.now
+        turns.now place context.entry.after.now body.old.items body.new.items) }
 {
     match control {
         Control::Once => {
-            let end = run_once(alloc, turns, place, telling, leaving, after)?;
+            let end = run_once(alloc, turns, place, context)?;
             Ok(end)
         }
         Control::Times(_) => {
@@ -485,17 +469,15 @@ fn run_once(
     alloc: Global,
     turns: &[Stmt],
     place: u32,
-    telling: &Telling<'_>,
-    leaving: &Leaving,
-    after: &Leaf,
+    context: RestContext<'_>,
 ) -> Result<End, NoMemory>
     requires own { IsTrue (stmts_own turns.now) }
     requires fits { place + 1 + sum_by stmt_places turns.now < 2 ^ 32 }
-    ensures { IfOk result (IsChoice telling.now leaving.now (If (Holds always)) false
-        (one_arm turns.now) (place + 1) after.now) }
+    ensures { IfOk result (IsChoice context.entry.telling.now context.entry.leaving.now (If (Holds
+        always)) false (one_arm turns.now) (place + 1) context.entry.after.now) }
 {
     let mut arms = Items::new(alloc);
-    match push_arm(alloc, &mut arms, turns, place + 1, telling, leaving, after) {
+    match push_arm(alloc, &mut arms, turns, place + 1, context) {
         Ok(()) => Ok(pick_always(arms)),
         Err(fault) => {
             drop_trees(arms);
@@ -511,17 +493,16 @@ pub fn run_to(
     body: Vec<Piece>,
     stmts: &[Stmt],
     place: u32,
-    telling: &Telling<'_>,
-    leaving: &Leaving,
-    after: &Leaf,
+    context: RestContext<'_>,
 ) -> Result<Tree, NoMemory>
     requires own { IsTrue (stmts_own stmts.now) }
     requires fits { place + sum_by stmt_places stmts.now < 2 ^ 32 }
-    ensures { IfOk result (RunsTo telling.now leaving.now stmts.now place after.now body.items) }
+    ensures { IfOk result (RunsTo context.entry.telling.now context.entry.leaving.now stmts.now
+        place context.entry.after.now body.items) }
 {
     let mut body = body;
-    match run_on(alloc, &mut body, stmts, place, telling, leaving, after) {
-        Ok(end) => Ok(ended(body, end_or(end, after))),
+    match run_on(alloc, &mut body, stmts, place, context) {
+        Ok(end) => Ok(ended(body, end_or(end, context.after))),
         Err(fault) => {
             drop_pieces(body);
             Err(fault)
@@ -536,24 +517,14 @@ fn push_arm(
     arms: &mut Items<Tree>,
     stmts: &[Stmt],
     place: u32,
-    telling: &Telling<'_>,
-    leaving: &Leaving,
-    after: &Leaf,
+    context: RestContext<'_>,
 ) -> Result<(), NoMemory>
     requires own { IsTrue (stmts_own stmts.now) }
     requires fits { place + sum_by stmt_places stmts.now < 2 ^ 32 }
-    ensures { OnOk result (AddsArmOf telling.now leaving.now stmts.now place after.now arms.old
-        arms.new) }
+    ensures { OnOk result (AddsArmOf context.entry.telling.now context.entry.leaving.now stmts.now
+        place context.entry.after.now arms.old arms.new) }
 {
-    let tree = run_to(
-        alloc,
-        Vec::new(alloc),
-        stmts,
-        place,
-        telling,
-        leaving,
-        after,
-    )?;
+    let tree = run_to(alloc, Vec::new(alloc), stmts, place, context)?;
     arms.push(tree)?;
     Ok(())
 }

@@ -14,5 +14,5 @@ mod turns;
 mod whole;
 
 pub use along::run_on;
-pub use telling::{Leaving, Telling, rest_at};
+pub use telling::{Leaving, RestContext, Telling, rest_at};
 pub use turns::{loop_tree, turn_leaf, within_loop};

@@ -27,6 +27,15 @@ pub struct Leaving {
     pub cycle: Leaf,
 }
 
+/// What a rest is lowered with: what is told, where what leaves the rest goes on, and the
+/// continuation behind it.
+#[derive(Clone, Copy)]
+pub struct RestContext<'a> {
+    pub telling: &'a Telling<'a>,
+    pub leaving: &'a Leaving,
+    pub after: &'a Leaf,
+}
+
 /// The statements from an index on.
 pub fn rest_at(stmts: &[Stmt], at: usize) -> &[Stmt]
     requires { at ≤ length stmts.now }

@@ -9,7 +9,7 @@ ghost use Rattle.lowering_labels.specs.points.Leaf.{seen_leaf};
 ghost use Rattle.statement_lowering.specs.Turns.{end_or, turn_end, IsLoopTree, IsTurn};
 
 use crate::along::run_to;
-use crate::telling::{Leaving, Telling};
+use crate::telling::{Leaving, RestContext};
 use branch_tree::{End, Tree, drop_pieces};
 use cob_base::NoMemory;
 use cob_tree::{Control, Stmt};
@@ -53,16 +53,15 @@ fn turn_tree(
     control: &Control,
     turns: &[Stmt],
     place: u32,
-    telling: &Telling<'_>,
-    leaving: &Leaving,
-    after: &Leaf,
+    context: RestContext<'_>,
 ) -> Result<Tree, NoMemory>
     requires own { IsTrue (stmts_own turns.now) }
     requires fits { place + 1 + sum_by stmt_places turns.now < 2 ^ 32 }
-    ensures { IfOk result (IsTurn telling.now leaving.now control.now turns.now place after.now) }
+    ensures { IfOk result (IsTurn context.entry.telling.now context.entry.leaving.now control.now
+        turns.now place context.entry.after.now) }
 {
     let turn = turn_leaf(control, place);
-    let inner = within_loop(leaving, after, &turn);
+    let inner = within_loop(context.leaving, context.after, &turn);
     let mut body = Vec::new(alloc);
     match start_turn(&mut body, control, place) {
         Ok(()) => {}
@@ -71,7 +70,17 @@ fn turn_tree(
             return Err(fault);
         }
     }
-    let tree = run_to(alloc, body, turns, place + 1, telling, &inner, &turn)?;
+    let tree = run_to(
+        alloc,
+        body,
+        turns,
+        place + 1,
+        RestContext {
+            telling: context.telling,
+            leaving: &inner,
+            after: &turn,
+        },
+    )?;
     Ok(tree)
 }
 
@@ -81,17 +90,15 @@ fn head_tree(
     control: &Control,
     turns: &[Stmt],
     place: u32,
-    telling: &Telling<'_>,
-    leaving: &Leaving,
-    after: &Leaf,
+    context: RestContext<'_>,
 ) -> Result<Tree, NoMemory>
     requires own { IsTrue (stmts_own turns.now) }
     requires fits { place + 1 + sum_by stmt_places turns.now < 2 ^ 32 }
-    ensures { IfOk result (IsLoopTree telling.now leaving.now true control.now turns.now place
-        after.now) }
+    ensures { IfOk result (IsLoopTree context.entry.telling.now context.entry.leaving.now true
+        control.now turns.now place context.entry.after.now) }
 {
-    let turn = turn_tree(alloc, control, turns, place, telling, leaving, after)?;
-    let tree = head_node(alloc, control, place, turn, *after)?;
+    let turn = turn_tree(alloc, control, turns, place, context)?;
+    let tree = head_node(alloc, control, place, turn, *context.after)?;
     Ok(tree)
 }
 
@@ -102,19 +109,17 @@ pub fn loop_tree(
     turns: &[Stmt],
     place: u32,
     is_head: bool,
-    telling: &Telling<'_>,
-    leaving: &Leaving,
-    after: &Leaf,
+    context: RestContext<'_>,
 ) -> Result<Tree, NoMemory>
     requires own { IsTrue (stmts_own turns.now) }
     requires fits { place + 1 + sum_by stmt_places turns.now < 2 ^ 32 }
-    ensures { IfOk result (IsLoopTree telling.now leaving.now is_head control.now turns.now place
-        after.now) }
+    ensures { IfOk result (IsLoopTree context.entry.telling.now context.entry.leaving.now is_head
+        control.now turns.now place context.entry.after.now) }
 {
     if is_head {
-        let tree = head_tree(alloc, control, turns, place, telling, leaving, after)?;
+        let tree = head_tree(alloc, control, turns, place, context)?;
         return Ok(tree);
     }
-    let tree = third_node(alloc, control, place, *after)?;
+    let tree = third_node(alloc, control, place, *context.after)?;
     Ok(tree)
 }

@@ -12,7 +12,7 @@ use cob_tree::{Control, Range, Stmt};
 use lowering_labels::loop_nodes::{end_at, ended, only};
 use lowering_labels::points::{Leaf, end_leaf, leaf_of, stmt_size};
 use statement_lowering::continuations::{Onward, Spot, ended_by};
-use statement_lowering::{Leaving, Telling, loop_tree, rest_at, run_on};
+use statement_lowering::{Leaving, RestContext, Telling, loop_tree, rest_at, run_on};
 use std::alloc::Global;
 
 /// Where what leaves a rest goes on in a range.
@@ -55,9 +55,12 @@ fn point_tree(
         let spot = &spots[here as usize];
         let leaving = leaving_of(&spot.onward, range, telling);
         let after = after_of(&spot.onward, range, telling);
-        match run_on(
-            alloc, &mut body, spot.stmts, here, telling, &leaving, &after,
-        )? {
+        let context = RestContext {
+            telling,
+            leaving: &leaving,
+            after: &after,
+        };
+        match run_on(alloc, &mut body, spot.stmts, here, context)? {
             Some(end) => return Ok(ended(body, end)),
             None => match spot.onward.behind {
                 None => return Ok(ended(body, end_at(after))),
@@ -121,9 +124,12 @@ fn turn_tree(
                 let next = place + stmt_size(stmt) as u32;
                 let behind = after_of(&spot.onward, range, telling);
                 let after = leaf_of(rest_at(spot.stmts, 1), next, telling.layout, behind);
-                let tree = loop_tree(
-                    alloc, control, turns, place, is_head, telling, &leaving, &after,
-                )?;
+                let context = RestContext {
+                    telling,
+                    leaving: &leaving,
+                    after: &after,
+                };
+                let tree = loop_tree(alloc, control, turns, place, is_head, context)?;
                 Ok(tree)
             }
         },

@@ -10,7 +10,7 @@ use cob_base::NoMemory;
 use cob_tree::Range;
 use lowering_labels::loop_nodes::{end_at, ended};
 use statement_lowering::continuations::Spot;
-use statement_lowering::{Telling, run_on};
+use statement_lowering::{RestContext, Telling, run_on};
 use std::alloc::Global;
 
 /// A tree up to where it goes on as the tree at another place, and that place; or the whole tree,
@@ -39,9 +39,12 @@ pub fn own_run(
     let leaving = leaving_of(&spot.onward, range, telling);
     let after = after_of(&spot.onward, range, telling);
     let mut body = Vec::new(alloc);
-    match run_on(
-        alloc, &mut body, spot.stmts, place, telling, &leaving, &after,
-    )? {
+    let context = RestContext {
+        telling,
+        leaving: &leaving,
+        after: &after,
+    };
+    match run_on(alloc, &mut body, spot.stmts, place, context)? {
         Some(end) => Ok(OwnRun {
             tree: ended(body, end),
             next: None,

@@ -21,37 +21,47 @@ use parser_combinators::{Cursor, Unread, Why};
 use std::alloc::Global;
 use stmt_head_parse::heads::{first_phrase, first_tests, not_phrase, read_head, when_head};
 
+/// Where a statement stands, for what is read in it.
+#[derive(Clone, Copy)]
+pub struct StmtContext {
+    pub alloc: Global,
+    pub scope: Scope,
+    /// How many levels of statements it may hold.
+    pub levels: u32,
+}
+
 /// The statements that a statement holds.
 #[cycle(stmt)]
 fn held<P: Parts>(
     parts: &P,
-    alloc: Global,
     cursor: &mut Cursor<'_>,
-    scope: Scope,
-    levels: u32,
+    context: StmtContext,
 ) -> Result<(Items<Stmt>, bool), Unread>
-    ensures { Reads ((all.held (P.parts parts.now) levels scope).reads cursor.old)
+    ensures { Reads ((all.held (P.parts parts.now) context.levels context.scope).reads cursor.old)
         result cursor.new }
 {
-    if levels == 0 {
+    if context.levels == 0 {
         return Err(Unread::Stop(Why::Nesting));
     }
-    stmts_with(parts, alloc, cursor, scope, levels - 1)
+    let within = StmtContext {
+        levels: context.levels - 1,
+        ..context
+    };
+    stmts_with(parts, cursor, within)
 }
 
 #[cycle(stmt)]
 #[tactic(auto, unfolding(cobol_grammar::specs::stmt_forms::Arms::held_arm))]
 fn held_arm<P: Parts>(
     parts: &P,
-    alloc: Global,
     cursor: &mut Cursor<'_>,
-    scope: Scope,
-    levels: u32,
+    context: StmtContext,
 ) -> Result<(Option<Items<Stmt>>, bool), Unread>
-    ensures { Reads ((arms.held_arm (all.level (P.parts parts.now) levels) scope).reads cursor.old)
+    ensures { Reads ((arms.held_arm
+        (all.level (P.parts parts.now) context.levels) context.scope).reads cursor.old)
         result cursor.new }
 {
-    let (found, not_read) = held(parts, alloc, cursor, scope, levels)?;
+    let (found, not_read) = held(parts, cursor, context)?;
     Ok((Some(found), not_read))
 }
 
@@ -59,18 +69,17 @@ fn held_arm<P: Parts>(
 #[tactic(auto, unfolding(cobol_grammar::specs::stmt_forms::Arms::first_arm))]
 fn first_arm<P: Parts>(
     parts: &P,
-    alloc: Global,
     cursor: &mut Cursor<'_>,
-    scope: Scope,
-    levels: u32,
+    context: StmtContext,
     present: bool,
 ) -> Result<(Option<Items<Stmt>>, bool), Unread>
     ensures { Reads
-        ((arms.first_arm (all.level (P.parts parts.now) levels) scope present).reads cursor.old)
+        ((arms.first_arm
+        (all.level (P.parts parts.now) context.levels) context.scope present).reads cursor.old)
         result cursor.new }
 {
     if present {
-        held_arm(parts, alloc, cursor, scope, levels)
+        held_arm(parts, cursor, context)
     } else {
         Ok((None, false))
     }
@@ -80,19 +89,18 @@ fn first_arm<P: Parts>(
 #[tactic(auto, unfolding(cobol_grammar::specs::stmt_forms::Arms::second_arm))]
 fn second_arm<P: Parts>(
     parts: &P,
-    alloc: Global,
     cursor: &mut Cursor<'_>,
-    scope: Scope,
-    levels: u32,
+    context: StmtContext,
     following: NotPhrase,
 ) -> Result<(Option<Items<Stmt>>, bool), Unread>
     ensures { Reads
-        ((arms.second_arm (all.level (P.parts parts.now) levels) scope following).reads cursor.old)
+        ((arms.second_arm
+        (all.level (P.parts parts.now) context.levels) context.scope following).reads cursor.old)
         result cursor.new }
 {
     match following {
         NotPhrase::Missing => Ok((None, false)),
-        NotPhrase::Own => held_arm(parts, alloc, cursor, scope, levels),
+        NotPhrase::Own => held_arm(parts, cursor, context),
         NotPhrase::Foreign => Ok((None, true)),
     }
 }
@@ -101,21 +109,19 @@ fn second_arm<P: Parts>(
 #[tactic(auto, unfolding(cobol_grammar::specs::stmt_forms::Arms::second_behind))]
 fn second_behind<P: Parts>(
     parts: &P,
-    alloc: Global,
     cursor: &mut Cursor<'_>,
-    scope: Scope,
-    levels: u32,
+    context: StmtContext,
     phrase: Phrase,
     first: (Option<Items<Stmt>>, bool),
 ) -> Result<(Arms, bool), Unread>
     ensures { Reads
         ((arms.second_behind phrase
-        (all.level (P.parts parts.now) levels) scope first).reads cursor.old)
+        (all.level (P.parts parts.now) context.levels) context.scope first).reads cursor.old)
         result cursor.new }
 {
     let (first, not_read) = first;
-    match not_phrase(cursor, phrase, levels, first.is_some(), not_read) {
-        Ok(following) => match second_arm(parts, alloc, cursor, scope, levels, following) {
+    match not_phrase(cursor, phrase, context.levels, first.is_some(), not_read) {
+        Ok(following) => match second_arm(parts, cursor, context, following) {
             Ok((second, not_read)) => Ok((Arms { first, second }, not_read)),
             Err(stop) => {
                 drop_arm(first);
@@ -133,37 +139,34 @@ fn second_behind<P: Parts>(
 #[tactic(auto, unfolding(cobol_grammar::specs::stmt_forms::Arms::arms))]
 fn arms<P: Parts>(
     parts: &P,
-    alloc: Global,
     cursor: &mut Cursor<'_>,
-    scope: Scope,
-    levels: u32,
+    context: StmtContext,
     phrase: Phrase,
 ) -> Result<(Arms, bool), Unread>
     ensures { Reads
-        ((arms.arms phrase (all.level (P.parts parts.now) levels) scope).reads cursor.old)
+        ((arms.arms phrase
+        (all.level (P.parts parts.now) context.levels) context.scope).reads cursor.old)
         result cursor.new }
 {
-    let present = first_phrase(cursor, phrase, levels)?;
-    let first = first_arm(parts, alloc, cursor, scope, levels, present)?;
-    second_behind(parts, alloc, cursor, scope, levels, phrase, first)
+    let present = first_phrase(cursor, phrase, context.levels)?;
+    let first = first_arm(parts, cursor, context, present)?;
+    second_behind(parts, cursor, context, phrase, first)
 }
 
 #[cycle(stmt)]
 #[tactic(auto, unfolding(cobol_grammar::specs::stmt_forms::Arms::arithmetic_stmt))]
 fn arithmetic_stmt<P: Parts>(
     parts: &P,
-    alloc: Global,
     cursor: &mut Cursor<'_>,
-    scope: Scope,
-    levels: u32,
+    context: StmtContext,
 ) -> Result<(Draft, bool), Unread>
     ensures { Reads
         ((arms.arithmetic_stmt (P.parts parts.now)
-        (all.level (P.parts parts.now) levels) scope).reads cursor.old)
+        (all.level (P.parts parts.now) context.levels) context.scope).reads cursor.old)
         result cursor.new }
 {
-    let (verb, (calc, into)) = begin_arithmetic(parts, alloc, cursor)?;
-    match arms(parts, alloc, cursor, scope, levels, Phrase::Size) {
+    let (verb, (calc, into)) = begin_arithmetic(parts, context.alloc, cursor)?;
+    match arms(parts, cursor, context, Phrase::Size) {
         Ok((arms, not_read)) => {
             work_ended(cursor, verb, Draft::arith(calc, into, arms), not_read)
         }
@@ -178,20 +181,19 @@ fn arithmetic_stmt<P: Parts>(
 #[tactic(auto, unfolding(cobol_grammar::specs::stmt_forms::Arms::read_arms))]
 fn read_arms<P: Parts>(
     parts: &P,
-    alloc: Global,
     cursor: &mut Cursor<'_>,
-    scope: Scope,
-    levels: u32,
+    context: StmtContext,
     found: Items<Stmt>,
     file: u32,
     into: Option<Boxed<Place>>,
 ) -> Result<(Items<Stmt>, bool), Unread>
     ensures { Reads
         ((arms.read_arms
-        (all.level (P.parts parts.now) levels) scope found file into).reads cursor.old)
+        (all.level (P.parts parts.now) context.levels)
+        context.scope found file into).reads cursor.old)
         result cursor.new }
 {
-    match arms(parts, alloc, cursor, scope, levels, Phrase::End) {
+    match arms(parts, cursor, context, Phrase::End) {
         Ok((arms, not_read)) => {
             let found = added(found, Draft::read(file, into, arms))?;
             stmts_ended(cursor, b"END-READ", found, not_read)
@@ -208,15 +210,14 @@ fn read_arms<P: Parts>(
 #[tactic(auto, unfolding(cobol_grammar::specs::stmt_forms::Arms::read_by))]
 fn read_by<P: Parts>(
     parts: &P,
-    alloc: Global,
     cursor: &mut Cursor<'_>,
-    scope: Scope,
-    levels: u32,
+    context: StmtContext,
     found: Items<Stmt>,
     head: ReadHead,
 ) -> Result<(Items<Stmt>, bool), Unread>
     ensures { Reads
-        ((arms.read_by (all.level (P.parts parts.now) levels) scope found head).reads cursor.old)
+        ((arms.read_by
+        (all.level (P.parts parts.now) context.levels) context.scope found head).reads cursor.old)
         result cursor.new }
 {
     match head {
@@ -224,8 +225,8 @@ fn read_by<P: Parts>(
             let found = read_and_next(found, file)?;
             Ok((found, false))
         }
-        ReadHead::Open { file, into } => match boxed_place(alloc, into) {
-            Ok(into) => read_arms(parts, alloc, cursor, scope, levels, found, file, into),
+        ReadHead::Open { file, into } => match boxed_place(context.alloc, into) {
+            Ok(into) => read_arms(parts, cursor, context, found, file, into),
             Err(fault) => {
                 drop_stmts(found);
                 Err(Unread::from(fault))
@@ -238,19 +239,17 @@ fn read_by<P: Parts>(
 #[tactic(auto, unfolding(cobol_grammar::specs::stmt_forms::Arms::read_stmt))]
 fn read_stmt<P: Parts>(
     parts: &P,
-    alloc: Global,
     cursor: &mut Cursor<'_>,
-    scope: Scope,
-    levels: u32,
+    context: StmtContext,
     found: Items<Stmt>,
 ) -> Result<(Items<Stmt>, bool), Unread>
     ensures { Reads
         ((arms.read_stmt (P.parts parts.now)
-        (all.level (P.parts parts.now) levels) scope found).reads cursor.old)
+        (all.level (P.parts parts.now) context.levels) context.scope found).reads cursor.old)
         result cursor.new }
 {
-    match read_head(parts, alloc, cursor) {
-        Ok(head) => read_by(parts, alloc, cursor, scope, levels, found, head),
+    match read_head(parts, context.alloc, cursor) {
+        Ok(head) => read_by(parts, cursor, context, found, head),
         Err(stop) => {
             drop_stmts(found);
             Err(stop)
@@ -262,20 +261,19 @@ fn read_stmt<P: Parts>(
 #[tactic(auto, unfolding(cobol_grammar::specs::stmt_forms::Choice::else_part))]
 fn else_part<P: Parts>(
     parts: &P,
-    alloc: Global,
     cursor: &mut Cursor<'_>,
-    scope: Scope,
-    levels: u32,
+    context: StmtContext,
 ) -> Result<(Items<Stmt>, bool), Unread>
     ensures { Reads
-        ((choice.else_part (all.level (P.parts parts.now) levels) scope).reads cursor.old)
+        ((choice.else_part
+        (all.level (P.parts parts.now) context.levels) context.scope).reads cursor.old)
         result cursor.new }
 {
     if cursor.sees(b"ELSE") {
         cursor.key(b"ELSE")?;
-        held(parts, alloc, cursor, scope, levels)
+        held(parts, cursor, context)
     } else {
-        Ok((Items::new(alloc), false))
+        Ok((Items::new(context.alloc), false))
     }
 }
 
@@ -283,18 +281,17 @@ fn else_part<P: Parts>(
 #[tactic(auto, unfolding(cobol_grammar::specs::stmt_forms::Choice::if_ended))]
 fn if_ended<P: Parts>(
     parts: &P,
-    alloc: Global,
     cursor: &mut Cursor<'_>,
-    scope: Scope,
-    levels: u32,
+    context: StmtContext,
     cond: Boxed<Cond>,
     yes: Items<Stmt>,
 ) -> Result<(Draft, bool), Unread>
     ensures { Reads
-        ((choice.if_ended (all.level (P.parts parts.now) levels) scope cond yes).reads cursor.old)
+        ((choice.if_ended
+        (all.level (P.parts parts.now) context.levels) context.scope cond yes).reads cursor.old)
         result cursor.new }
 {
-    match else_part(parts, alloc, cursor, scope, levels) {
+    match else_part(parts, cursor, context) {
         Ok((no, not_read)) => {
             let draft = Draft::choice(cond, yes, no);
             draft_ended(cursor, b"END-IF", draft, not_read)
@@ -311,24 +308,22 @@ fn if_ended<P: Parts>(
 #[tactic(auto, unfolding(cobol_grammar::specs::stmt_forms::Choice::if_behind))]
 fn if_behind<P: Parts>(
     parts: &P,
-    alloc: Global,
     cursor: &mut Cursor<'_>,
-    scope: Scope,
-    levels: u32,
+    context: StmtContext,
     cond: Boxed<Cond>,
     first: (Items<Stmt>, bool),
 ) -> Result<(Draft, bool), Unread>
     ensures { Reads
         ((choice.if_behind
-        (all.level (P.parts parts.now) levels) scope cond first).reads cursor.old)
+        (all.level (P.parts parts.now) context.levels) context.scope cond first).reads cursor.old)
         result cursor.new }
 {
     let (yes, not_read) = first;
     if not_read {
-        let no = Items::new(alloc);
+        let no = Items::new(context.alloc);
         Ok((Draft::choice(cond, yes, no), true))
     } else {
-        if_ended(parts, alloc, cursor, scope, levels, cond, yes)
+        if_ended(parts, cursor, context, cond, yes)
     }
 }
 
@@ -336,19 +331,17 @@ fn if_behind<P: Parts>(
 #[tactic(auto, unfolding(cobol_grammar::specs::stmt_forms::Choice::if_stmt))]
 fn if_stmt<P: Parts>(
     parts: &P,
-    alloc: Global,
     cursor: &mut Cursor<'_>,
-    scope: Scope,
-    levels: u32,
+    context: StmtContext,
 ) -> Result<(Draft, bool), Unread>
     ensures { Reads
         ((choice.if_stmt (P.parts parts.now)
-        (all.level (P.parts parts.now) levels) scope).reads cursor.old)
+        (all.level (P.parts parts.now) context.levels) context.scope).reads cursor.old)
         result cursor.new }
 {
-    let cond = begin_if(parts, alloc, cursor, levels)?;
-    match held(parts, alloc, cursor, scope, levels) {
-        Ok(first) => if_behind(parts, alloc, cursor, scope, levels, cond, first),
+    let cond = begin_if(parts, context.alloc, cursor, context.levels)?;
+    match held(parts, cursor, context) {
+        Ok(first) => if_behind(parts, cursor, context, cond, first),
         Err(stop) => {
             drop_cond(cond);
             Err(stop)
@@ -360,19 +353,17 @@ fn if_stmt<P: Parts>(
 #[tactic(auto, unfolding(cobol_grammar::specs::stmt_forms::Choice::when_held))]
 fn when_held<P: Parts>(
     parts: &P,
-    alloc: Global,
     cursor: &mut Cursor<'_>,
-    scope: Scope,
-    levels: u32,
+    context: StmtContext,
     whens: Items<When>,
     tests: Items<Test>,
 ) -> Result<Whens, Unread>
     ensures { Reads
         ((choice.when_held
-        (all.level (P.parts parts.now) levels) scope whens tests).reads cursor.old)
+        (all.level (P.parts parts.now) context.levels) context.scope whens tests).reads cursor.old)
         result cursor.new }
 {
-    match held(parts, alloc, cursor, scope, levels) {
+    match held(parts, cursor, context) {
         Ok((stmts, not_read)) => Ok(Whens {
             whens: when_added(whens, When { tests, stmts })?,
             other: false,
@@ -390,15 +381,14 @@ fn when_held<P: Parts>(
 #[tactic(auto, unfolding(cobol_grammar::specs::stmt_forms::Choice::whens_by))]
 fn whens_by<P: Parts>(
     parts: &P,
-    alloc: Global,
     cursor: &mut Cursor<'_>,
-    scope: Scope,
-    levels: u32,
+    context: StmtContext,
     whens: Items<When>,
     head: Option<Items<Test>>,
 ) -> Result<Whens, Unread>
     ensures { Reads
-        ((choice.whens_by (all.level (P.parts parts.now) levels) scope whens head).reads cursor.old)
+        ((choice.whens_by
+        (all.level (P.parts parts.now) context.levels) context.scope whens head).reads cursor.old)
         result cursor.new }
 {
     match head {
@@ -407,7 +397,7 @@ fn whens_by<P: Parts>(
             other: true,
             not_read: false,
         }),
-        Some(tests) => when_held(parts, alloc, cursor, scope, levels, whens, tests),
+        Some(tests) => when_held(parts, cursor, context, whens, tests),
     }
 }
 
@@ -415,20 +405,19 @@ fn whens_by<P: Parts>(
 #[tactic(auto, unfolding(cobol_grammar::specs::stmt_forms::Choice::when_next))]
 fn when_next<P: Parts>(
     parts: &P,
-    alloc: Global,
     cursor: &mut Cursor<'_>,
-    scope: Scope,
-    levels: u32,
+    context: StmtContext,
     known: &Option<P::Known>,
     whens: Items<When>,
 ) -> Result<Whens, Unread>
     ensures { Reads
         ((choice.when_next (P.parts parts.now)
-        (all.level (P.parts parts.now) levels) scope known.now whens).reads cursor.old)
+        (all.level (P.parts parts.now) context.levels)
+        context.scope known.now whens).reads cursor.old)
         result cursor.new }
 {
-    match when_head(parts, alloc, cursor, known) {
-        Ok(head) => whens_by(parts, alloc, cursor, scope, levels, whens, head),
+    match when_head(parts, context.alloc, cursor, known) {
+        Ok(head) => whens_by(parts, cursor, context, whens, head),
         Err(stop) => {
             drop_whens(whens);
             Err(stop)
@@ -440,16 +429,15 @@ fn when_next<P: Parts>(
 #[tactic(auto, unfolding(cobol_grammar::specs::stmt_forms::Choice::whens_turn))]
 fn whens_turn<P: Parts>(
     parts: &P,
-    alloc: Global,
     cursor: &mut Cursor<'_>,
-    scope: Scope,
-    levels: u32,
+    context: StmtContext,
     known: &Option<P::Known>,
     state: Whens,
 ) -> Result<Whens, Unread>
     ensures { Reads
         ((choice.whens_turn (P.parts parts.now)
-        (all.level (P.parts parts.now) levels) scope known.now state).reads cursor.old)
+        (all.level (P.parts parts.now) context.levels)
+        context.scope known.now state).reads cursor.old)
         result cursor.new }
 {
     let Whens {
@@ -461,27 +449,26 @@ fn whens_turn<P: Parts>(
         drop_whens(whens);
         Err(Unread::Stop(Why::Syntax))
     } else {
-        when_next(parts, alloc, cursor, scope, levels, known, whens)
+        when_next(parts, cursor, context, known, whens)
     }
 }
 
 #[cycle(stmt)]
 fn whens_from<P: Parts>(
     parts: &P,
-    alloc: Global,
     cursor: &mut Cursor<'_>,
-    scope: Scope,
-    levels: u32,
+    context: StmtContext,
     known: &Option<P::Known>,
     mut state: Whens,
 ) -> Result<Whens, Unread>
     ensures { Reads
         ((choice.whens_from (P.parts parts.now)
-        (all.level (P.parts parts.now) levels) scope known.now state).reads cursor.old)
+        (all.level (P.parts parts.now) context.levels)
+        context.scope known.now state).reads cursor.old)
         result cursor.new }
 {
     'whens: while cursor.sees(b"WHEN") {
-        state = whens_turn(parts, alloc, cursor, scope, levels, known, state)?;
+        state = whens_turn(parts, cursor, context, known, state)?;
     }
     Ok(state)
 }
@@ -490,47 +477,35 @@ fn whens_from<P: Parts>(
 #[tactic(auto, unfolding(cobol_grammar::specs::stmt_forms::Choice::whens))]
 fn whens<P: Parts>(
     parts: &P,
-    alloc: Global,
     cursor: &mut Cursor<'_>,
-    scope: Scope,
-    levels: u32,
+    context: StmtContext,
     known: &Option<P::Known>,
 ) -> Result<Whens, Unread>
     ensures { Reads
         ((choice.whens (P.parts parts.now)
-        (all.level (P.parts parts.now) levels) scope known.now).reads cursor.old)
+        (all.level (P.parts parts.now) context.levels) context.scope known.now).reads cursor.old)
         result cursor.new }
 {
-    let tests = first_tests(parts, alloc, cursor, known)?;
-    let first = when_held(
-        parts,
-        alloc,
-        cursor,
-        scope,
-        levels,
-        Items::new(alloc),
-        tests,
-    )?;
-    whens_from(parts, alloc, cursor, scope, levels, known, first)
+    let tests = first_tests(parts, context.alloc, cursor, known)?;
+    let first = when_held(parts, cursor, context, Items::new(context.alloc), tests)?;
+    whens_from(parts, cursor, context, known, first)
 }
 
 #[cycle(stmt)]
 #[tactic(auto, unfolding(cobol_grammar::specs::stmt_forms::Choice::other_part))]
 fn other_part<P: Parts>(
     parts: &P,
-    alloc: Global,
     cursor: &mut Cursor<'_>,
-    scope: Scope,
-    levels: u32,
+    context: StmtContext,
     state: &Whens,
 ) -> Result<(Option<Items<Stmt>>, bool), Unread>
     ensures { Reads
         ((choice.other_part
-        (all.level (P.parts parts.now) levels) scope state.now).reads cursor.old)
+        (all.level (P.parts parts.now) context.levels) context.scope state.now).reads cursor.old)
         result cursor.new }
 {
     if state.other {
-        held_arm(parts, alloc, cursor, scope, levels)
+        held_arm(parts, cursor, context)
     } else {
         Ok((None, state.not_read))
     }
@@ -540,19 +515,18 @@ fn other_part<P: Parts>(
 #[tactic(auto, unfolding(cobol_grammar::specs::stmt_forms::Choice::evaluated))]
 fn evaluated<P: Parts>(
     parts: &P,
-    alloc: Global,
     cursor: &mut Cursor<'_>,
-    scope: Scope,
-    levels: u32,
+    context: StmtContext,
     subject: Boxed<Subject>,
     state: Whens,
 ) -> Result<(Draft, bool), Unread>
     ensures { Reads
         ((choice.evaluated
-        (all.level (P.parts parts.now) levels) scope subject state).reads cursor.old)
+        (all.level (P.parts parts.now) context.levels)
+        context.scope subject state).reads cursor.old)
         result cursor.new }
 {
-    match other_part(parts, alloc, cursor, scope, levels, &state) {
+    match other_part(parts, cursor, context, &state) {
         Ok((other, not_read)) => {
             let Whens { whens, .. } = state;
             let draft = Draft::evaluate(subject, whens, other);
@@ -571,21 +545,19 @@ fn evaluated<P: Parts>(
 #[tactic(auto, unfolding(cobol_grammar::specs::stmt_forms::Choice::evaluate_stmt))]
 fn evaluate_stmt<P: Parts>(
     parts: &P,
-    alloc: Global,
     cursor: &mut Cursor<'_>,
-    scope: Scope,
-    levels: u32,
+    context: StmtContext,
 ) -> Result<(Draft, bool), Unread>
     ensures { Reads
         ((choice.evaluate_stmt (P.parts parts.now)
-        (all.level (P.parts parts.now) levels) scope).reads cursor.old)
+        (all.level (P.parts parts.now) context.levels) context.scope).reads cursor.old)
         result cursor.new }
 {
-    let (subject, known) = begin_evaluate(parts, alloc, cursor, levels)?;
-    match whens(parts, alloc, cursor, scope, levels, &known) {
+    let (subject, known) = begin_evaluate(parts, context.alloc, cursor, context.levels)?;
+    match whens(parts, cursor, context, &known) {
         Ok(state) => {
             drop(known);
-            evaluated(parts, alloc, cursor, scope, levels, subject, state)
+            evaluated(parts, cursor, context, subject, state)
         }
         Err(stop) => {
             drop_subject(subject);
@@ -599,20 +571,18 @@ fn evaluate_stmt<P: Parts>(
 #[tactic(auto, unfolding(cobol_grammar::specs::stmt_forms::Choice::choice_stmt))]
 fn choice_stmt<P: Parts>(
     parts: &P,
-    alloc: Global,
     cursor: &mut Cursor<'_>,
-    scope: Scope,
-    levels: u32,
+    context: StmtContext,
 ) -> Result<(Draft, bool), Unread>
     ensures { Reads
         ((choice.choice_stmt (P.parts parts.now)
-        (all.level (P.parts parts.now) levels) scope).reads cursor.old)
+        (all.level (P.parts parts.now) context.levels) context.scope).reads cursor.old)
         result cursor.new }
 {
     if cursor.sees(b"IF") {
-        if_stmt(parts, alloc, cursor, scope, levels)
+        if_stmt(parts, cursor, context)
     } else {
-        evaluate_stmt(parts, alloc, cursor, scope, levels)
+        evaluate_stmt(parts, cursor, context)
     }
 }
 
@@ -620,21 +590,20 @@ fn choice_stmt<P: Parts>(
 #[tactic(auto, unfolding(cobol_grammar::specs::stmt_forms::Loop::loop_body, cobol_grammar::specs::stmt_forms::Loop::loop_end))]
 fn loop_body<P: Parts>(
     parts: &P,
-    alloc: Global,
     cursor: &mut Cursor<'_>,
-    scope: Scope,
-    levels: u32,
+    context: StmtContext,
     control: Boxed<Control>,
 ) -> Result<(Draft, bool), Unread>
     ensures { Reads
-        ((loops.loop_body (all.level (P.parts parts.now) levels) scope control).reads cursor.old)
+        ((loops.loop_body
+        (all.level (P.parts parts.now) context.levels) context.scope control).reads cursor.old)
         result cursor.new }
 {
     let scope = Scope {
         in_loop: true,
-        in_section: scope.in_section,
+        in_section: context.scope.in_section,
     };
-    match held(parts, alloc, cursor, scope, levels) {
+    match held(parts, cursor, StmtContext { scope, ..context }) {
         Ok((body, not_read)) => {
             if not_read {
                 drop_control(control);
@@ -654,19 +623,18 @@ fn loop_body<P: Parts>(
 #[cycle(stmt)]
 fn perform_from<P: Parts>(
     parts: &P,
-    alloc: Global,
     cursor: &mut Cursor<'_>,
-    scope: Scope,
-    levels: u32,
+    context: StmtContext,
     head: Begun,
 ) -> Result<(Draft, bool), Unread>
     ensures { Reads
-        ((steps.perform_from (all.level (P.parts parts.now) levels) scope head).reads cursor.old)
+        ((steps.perform_from
+        (all.level (P.parts parts.now) context.levels) context.scope head).reads cursor.old)
         result cursor.new }
 {
     match head {
         Begun::Whole(draft, not_read) => Ok((draft, not_read)),
-        Begun::Inline(control) => loop_body(parts, alloc, cursor, scope, levels, control),
+        Begun::Inline(control) => loop_body(parts, cursor, context, control),
     }
 }
 
@@ -676,23 +644,21 @@ fn perform_from<P: Parts>(
 #[tactic(auto, using(crate::proofs::statements_lemmas::Begun::holding_read), unfolding(cobol_grammar::specs::stmt_forms::Stmt::holding_stmt))]
 fn holding_stmt<P: Parts>(
     parts: &P,
-    alloc: Global,
     cursor: &mut Cursor<'_>,
-    scope: Scope,
-    levels: u32,
+    context: StmtContext,
 ) -> Result<(Draft, bool), Unread>
     ensures { Reads
         ((all.holding_stmt (P.parts parts.now)
-        (all.level (P.parts parts.now) levels) scope).reads cursor.old)
+        (all.level (P.parts parts.now) context.levels) context.scope).reads cursor.old)
         result cursor.new }
 {
     if at_arithmetic(cursor) {
-        arithmetic_stmt(parts, alloc, cursor, scope, levels)
+        arithmetic_stmt(parts, cursor, context)
     } else if at_choice(cursor) {
-        choice_stmt(parts, alloc, cursor, scope, levels)
+        choice_stmt(parts, cursor, context)
     } else {
-        let head = begin_perform(parts, alloc, cursor, levels)?;
-        perform_from(parts, alloc, cursor, scope, levels, head)
+        let head = begin_perform(parts, context.alloc, cursor, context.levels)?;
+        perform_from(parts, cursor, context, head)
     }
 }
 
@@ -700,21 +666,19 @@ fn holding_stmt<P: Parts>(
 #[tactic(auto, unfolding(cobol_grammar::specs::stmt_forms::Stmt::held_stmts))]
 fn held_stmts<P: Parts>(
     parts: &P,
-    alloc: Global,
     cursor: &mut Cursor<'_>,
-    scope: Scope,
-    levels: u32,
+    context: StmtContext,
     found: Items<Stmt>,
 ) -> Result<(Items<Stmt>, bool), Unread>
     ensures { Reads
         ((all.held_stmts (P.parts parts.now)
-        (all.level (P.parts parts.now) levels) scope found).reads cursor.old)
+        (all.level (P.parts parts.now) context.levels) context.scope found).reads cursor.old)
         result cursor.new }
 {
     if cursor.sees(b"READ") {
-        read_stmt(parts, alloc, cursor, scope, levels, found)
+        read_stmt(parts, cursor, context, found)
     } else {
-        match holding_stmt(parts, alloc, cursor, scope, levels) {
+        match holding_stmt(parts, cursor, context) {
             Ok((draft, not_read)) => Ok((added(found, draft)?, not_read)),
             Err(stop) => {
                 drop_stmts(found);
@@ -728,15 +692,13 @@ fn held_stmts<P: Parts>(
 #[tactic(auto, unfolding(cobol_grammar::specs::stmt_forms::Stmt::stmt, cobol_grammar::specs::stmt_forms::Stmt::stmts_turn))]
 fn stmts_turn<P: Parts>(
     parts: &P,
-    alloc: Global,
     cursor: &mut Cursor<'_>,
-    scope: Scope,
-    levels: u32,
+    context: StmtContext,
     found: (Items<Stmt>, bool),
 ) -> Result<(Items<Stmt>, bool), Unread>
     ensures { Reads
         ((all.stmts_turn (P.parts parts.now)
-        (all.level (P.parts parts.now) levels) scope found).reads cursor.old)
+        (all.level (P.parts parts.now) context.levels) context.scope found).reads cursor.old)
         result cursor.new }
 {
     let (stmts, not_read) = found;
@@ -744,9 +706,9 @@ fn stmts_turn<P: Parts>(
         drop_stmts(stmts);
         Err(Unread::Stop(Why::Syntax))
     } else if at_simple(cursor) {
-        simple(parts, alloc, cursor, scope, stmts)
+        simple(parts, context.alloc, cursor, context.scope, stmts)
     } else {
-        held_stmts(parts, alloc, cursor, scope, levels, stmts)
+        held_stmts(parts, cursor, context, stmts)
     }
 }
 
@@ -754,19 +716,17 @@ fn stmts_turn<P: Parts>(
 #[cycle(stmt)]
 pub fn stmts_from<P: Parts>(
     parts: &P,
-    alloc: Global,
     cursor: &mut Cursor<'_>,
-    scope: Scope,
-    levels: u32,
+    context: StmtContext,
     mut found: (Items<Stmt>, bool),
 ) -> Result<(Items<Stmt>, bool), Unread>
     ensures { Reads
         ((all.stmts_from (P.parts parts.now)
-        (all.level (P.parts parts.now) levels) scope found).reads cursor.old)
+        (all.level (P.parts parts.now) context.levels) context.scope found).reads cursor.old)
         result cursor.new }
 {
     'stmts: while at_stmt(cursor) {
-        found = stmts_turn(parts, alloc, cursor, scope, levels, found)?;
+        found = stmts_turn(parts, cursor, context, found)?;
     }
     Ok(found)
 }
@@ -776,21 +736,19 @@ pub fn stmts_from<P: Parts>(
 #[tactic(auto, unfolding(cobol_grammar::specs::stmt_forms::Stmt::stmt, cobol_grammar::specs::stmt_forms::Stmt::stmts_with))]
 pub fn stmts_with<P: Parts>(
     parts: &P,
-    alloc: Global,
     cursor: &mut Cursor<'_>,
-    scope: Scope,
-    levels: u32,
+    context: StmtContext,
 ) -> Result<(Items<Stmt>, bool), Unread>
     ensures { Reads
         ((all.stmts_with (P.parts parts.now)
-        (all.level (P.parts parts.now) levels) scope).reads cursor.old)
+        (all.level (P.parts parts.now) context.levels) context.scope).reads cursor.old)
         result cursor.new }
 {
-    let none = Items::new(alloc);
+    let none = Items::new(context.alloc);
     let first = if at_simple(cursor) {
-        simple(parts, alloc, cursor, scope, none)?
+        simple(parts, context.alloc, cursor, context.scope, none)?
     } else {
-        held_stmts(parts, alloc, cursor, scope, levels, none)?
+        held_stmts(parts, cursor, context, none)?
     };
-    stmts_from(parts, alloc, cursor, scope, levels, first)
+    stmts_from(parts, cursor, context, first)
 }

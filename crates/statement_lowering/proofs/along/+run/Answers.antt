@@ -55,93 +55,93 @@ left_seen leaving last theirs false h = sym h.loop
 
 pub run_escape-returns-in-Go : goal.run_escape-returns-in-Go
 run_escape-returns-in-Go t c = λ s behind.
-    let telling = c.args.telling.now in
-    ends_at telling c.args.leaving.now s c.args.place (seen_leaf c.args.after.now) behind (seen_body c.args.body.now.items) c.args.stmt.now _ _ _ c.in-Go.is
-    (go_row telling.files.now telling.returning.now s.place_of s.last c.args.place s.theirs (seen_leaf c.args.after.now) behind c.in-Go.to)
+    let telling = c.args.context.telling.now in
+    ends_at telling c.args.context.leaving.now s c.args.place (seen_leaf c.args.context.after.now) behind (seen_body c.args.body.now.items) c.args.stmt.now _ _ _ c.in-Go.is
+    (go_row telling.files.now telling.returning.now s.place_of s.last c.args.place s.theirs (seen_leaf c.args.context.after.now) behind c.in-Go.to)
     (seen_jump c.point.result ∙ ap graph.Jump (c.point.ensures ∙ ap lower.point (c.place_of.ensures ∙ s.at c.in-Go.to)))
 
 pub run_escape-returns-in_ok-end-in-GoDepending : goal.run_escape-returns-in_ok-end-in-GoDepending
 run_escape-returns-in_ok-end-in-GoDepending t c = λ s behind.
-    let telling = c.args.telling.now in
-    ends_at telling c.args.leaving.now s c.args.place (seen_leaf c.args.after.now) behind (seen_body c.args.body.now.items) c.args.stmt.now _ _ _ c.in-GoDepending.is
-    (depending_row telling.files.now telling.returning.now s.place_of s.last c.args.place s.theirs (seen_leaf c.args.after.now) behind c.in-GoDepending.to c.in-GoDepending.on)
+    let telling = c.args.context.telling.now in
+    ends_at telling c.args.context.leaving.now s c.args.place (seen_leaf c.args.context.after.now) behind (seen_body c.args.body.now.items) c.args.stmt.now _ _ _ c.in-GoDepending.is
+    (depending_row telling.files.now telling.returning.now s.place_of s.last c.args.place s.theirs (seen_leaf c.args.context.after.now) behind c.in-GoDepending.to c.in-GoDepending.on)
     (c.in_ok-end-in-GoDepending.ensures telling.files.now telling.returning.now s.place_of s.at
-    ∙ ap (λ to. graph.Pick (language.By (language.Depending c.in-GoDepending.on (length to))) (lower.depending (told_by telling) s.place_of to (seen_leaf c.args.after.now))) c.as_slice.ensures)
+    ∙ ap (λ to. graph.Pick (language.By (language.Depending c.in-GoDepending.on (length to))) (lower.depending (told_by telling) s.place_of to (seen_leaf c.args.context.after.now))) c.as_slice.ensures)
 
 pub run_escape-returns-in-NextSentence : goal.run_escape-returns-in-NextSentence
 run_escape-returns-in-NextSentence t c = λ s behind.
-    let telling = c.args.telling.now in
-    ends_at telling c.args.leaving.now s c.args.place (seen_leaf c.args.after.now) behind (seen_body c.args.body.now.items) c.args.stmt.now _ _ _ c.in-NextSentence.is
-    (next_sentence_row telling.files.now telling.returning.now s.place_of s.last c.args.place s.theirs (seen_leaf c.args.after.now) behind)
+    let telling = c.args.context.telling.now in
+    ends_at telling c.args.context.leaving.now s c.args.place (seen_leaf c.args.context.after.now) behind (seen_body c.args.body.now.items) c.args.stmt.now _ _ _ c.in-NextSentence.is
+    (next_sentence_row telling.files.now telling.returning.now s.place_of s.last c.args.place s.theirs (seen_leaf c.args.context.after.now) behind)
     (c.end_at.ensures ∙ sym s.leaves.sentence)
 
 pub run_escape-returns-in-ExitParagraph : goal.run_escape-returns-in-ExitParagraph
 run_escape-returns-in-ExitParagraph t c = λ s behind.
-    let telling = c.args.telling.now in
-    ends_at telling c.args.leaving.now s c.args.place (seen_leaf c.args.after.now) behind (seen_body c.args.body.now.items) c.args.stmt.now _ _ _ c.in-ExitParagraph.is
-    (exit_paragraph_row telling.files.now telling.returning.now s.place_of s.last c.args.place s.theirs (seen_leaf c.args.after.now) behind)
+    let telling = c.args.context.telling.now in
+    ends_at telling c.args.context.leaving.now s c.args.place (seen_leaf c.args.context.after.now) behind (seen_body c.args.body.now.items) c.args.stmt.now _ _ _ c.in-ExitParagraph.is
+    (exit_paragraph_row telling.files.now telling.returning.now s.place_of s.last c.args.place s.theirs (seen_leaf c.args.context.after.now) behind)
     (c.end_at-in-ExitParagraph.ensures ∙ sym s.leaves.paragraph)
 
 pub run_escape-returns-in-ExitSection : goal.run_escape-returns-in-ExitSection
 run_escape-returns-in-ExitSection t c = λ s behind.
-    let telling = c.args.telling.now in
-    ends_at telling c.args.leaving.now s c.args.place (seen_leaf c.args.after.now) behind (seen_body c.args.body.now.items) c.args.stmt.now _ _ _ c.in-ExitSection.is
-    (exit_section_row telling.files.now telling.returning.now s.place_of s.last c.args.place s.theirs (seen_leaf c.args.after.now) behind)
+    let telling = c.args.context.telling.now in
+    ends_at telling c.args.context.leaving.now s c.args.place (seen_leaf c.args.context.after.now) behind (seen_body c.args.body.now.items) c.args.stmt.now _ _ _ c.in-ExitSection.is
+    (exit_section_row telling.files.now telling.returning.now s.place_of s.last c.args.place s.theirs (seen_leaf c.args.context.after.now) behind)
     (c.end_at-in-ExitSection.ensures ∙ sym s.leaves.section)
 
 pub run_escape-returns-in-ExitPerform : goal.run_escape-returns-in-ExitPerform
 run_escape-returns-in-ExitPerform t c = λ s behind.
-    let telling = c.args.telling.now in
-    ends_at telling c.args.leaving.now s c.args.place (seen_leaf c.args.after.now) behind (seen_body c.args.body.now.items) c.args.stmt.now _ _ _ c.in-ExitPerform.is
-    (exit_perform_row telling.files.now telling.returning.now s.place_of s.last c.args.place s.theirs (seen_leaf c.args.after.now) behind c.in-ExitPerform.cycle)
-    (c.end_at-in-ExitPerform.ensures ∙ ap seen_leaf c.loop_left.ensures ∙ left_seen c.args.leaving.now s.last s.theirs c.in-ExitPerform.cycle s.leaves)
+    let telling = c.args.context.telling.now in
+    ends_at telling c.args.context.leaving.now s c.args.place (seen_leaf c.args.context.after.now) behind (seen_body c.args.body.now.items) c.args.stmt.now _ _ _ c.in-ExitPerform.is
+    (exit_perform_row telling.files.now telling.returning.now s.place_of s.last c.args.place s.theirs (seen_leaf c.args.context.after.now) behind c.in-ExitPerform.cycle)
+    (c.end_at-in-ExitPerform.ensures ∙ ap seen_leaf c.loop_left.ensures ∙ left_seen c.args.context.leaving.now s.last s.theirs c.in-ExitPerform.cycle s.leaves)
 
 pub run_escape-returns-in_ok-end-in-If : goal.run_escape-returns-in_ok-end-in-If
 run_escape-returns-in_ok-end-in-If t c = λ s behind.
-    let telling = c.args.telling.now in
-    ends_at telling c.args.leaving.now s c.args.place (seen_leaf c.args.after.now) behind (seen_body c.args.body.now.items) c.args.stmt.now _ _ _ c.in-If.is
-    (if_row telling.files.now telling.returning.now s.place_of s.last c.args.place s.theirs (seen_leaf c.args.after.now) behind c.in-If.cond c.in-If.yes c.in-If.no
-    (escapes_at telling c.args.leaving.now s c.args.place (seen_leaf c.args.after.now) behind c.args.stmt.now _ c.in-If.is (c.requires.escapes s.last)))
+    let telling = c.args.context.telling.now in
+    ends_at telling c.args.context.leaving.now s c.args.place (seen_leaf c.args.context.after.now) behind (seen_body c.args.body.now.items) c.args.stmt.now _ _ _ c.in-If.is
+    (if_row telling.files.now telling.returning.now s.place_of s.last c.args.place s.theirs (seen_leaf c.args.context.after.now) behind c.in-If.cond c.in-If.yes c.in-If.no
+    (escapes_at telling c.args.context.leaving.now s c.args.place (seen_leaf c.args.context.after.now) behind c.args.stmt.now _ c.in-If.is (c.requires.escapes s.last)))
     (c.in_ok-end-in-If.ensures s
-    ∙ ap₂ (λ met unmet. graph.Pick (language.If (test_of c.in-If.cond)) (lower.build_arms (told_by telling) s.place_of false (if_arms met unmet s.last) (c.args.place + 1) s.theirs (seen_leaf c.args.after.now)))
+    ∙ ap₂ (λ met unmet. graph.Pick (language.If (test_of c.in-If.cond)) (lower.build_arms (told_by telling) s.place_of false (if_arms met unmet s.last) (c.args.place + 1) s.theirs (seen_leaf c.args.context.after.now)))
     c.as_slice-met.ensures c.as_slice-unmet.ensures)
 
 pub run_escape-returns-in_ok-end-in-Evaluate : goal.run_escape-returns-in_ok-end-in-Evaluate
 run_escape-returns-in_ok-end-in-Evaluate t c = λ s behind.
-    let telling = c.args.telling.now in
+    let telling = c.args.context.telling.now in
     let own = evaluate_own c.in-Evaluate.subject c.in-Evaluate.whens c.in-Evaluate.other (sym (ap stmt_own c.in-Evaluate.is) ∙ c.requires.own) in
-    ends_at telling c.args.leaving.now s c.args.place (seen_leaf c.args.after.now) behind (seen_body c.args.body.now.items) c.args.stmt.now _ _ _ c.in-Evaluate.is
-    (evaluate_row telling.files.now telling.returning.now s.place_of s.last c.args.place s.theirs (seen_leaf c.args.after.now) behind c.in-Evaluate.subject c.in-Evaluate.whens c.in-Evaluate.other own.0
-    (escapes_at telling c.args.leaving.now s c.args.place (seen_leaf c.args.after.now) behind c.args.stmt.now _ c.in-Evaluate.is (c.requires.escapes s.last)))
+    ends_at telling c.args.context.leaving.now s c.args.place (seen_leaf c.args.context.after.now) behind (seen_body c.args.body.now.items) c.args.stmt.now _ _ _ c.in-Evaluate.is
+    (evaluate_row telling.files.now telling.returning.now s.place_of s.last c.args.place s.theirs (seen_leaf c.args.context.after.now) behind c.in-Evaluate.subject c.in-Evaluate.whens c.in-Evaluate.other own.0
+    (escapes_at telling c.args.context.leaving.now s c.args.place (seen_leaf c.args.context.after.now) behind c.args.stmt.now _ c.in-Evaluate.is (c.requires.escapes s.last)))
     (c.in_ok-end-in-Evaluate.ensures s
     ∙ ap (λ whens. graph.Pick (language.By (language.Evaluate c.in-Evaluate.subject (when_tests whens) (is_some c.in-Evaluate.other)))
-    (lower.build_arms (told_by telling) s.place_of false (when_arms whens c.in-Evaluate.other s.last) (c.args.place + 1) s.theirs (seen_leaf c.args.after.now)))
+    (lower.build_arms (told_by telling) s.place_of false (when_arms whens c.in-Evaluate.other s.last) (c.args.place + 1) s.theirs (seen_leaf c.args.context.after.now)))
     c.as_slice-whens.ensures)
 
 pub run_escape-returns-in_ok-end-in-Read : goal.run_escape-returns-in_ok-end-in-Read
 run_escape-returns-in_ok-end-in-Read t c = λ s behind.
-    let telling = c.args.telling.now in
-    ends_at telling c.args.leaving.now s c.args.place (seen_leaf c.args.after.now) behind (seen_body c.args.body.now.items) c.args.stmt.now _ _ _ c.in-Read.is
-    (read_row telling.files.now telling.returning.now s.place_of s.last c.args.place s.theirs (seen_leaf c.args.after.now) behind c.in-Read.file c.in-Read.into c.in-Read.arms
-    (escapes_at telling c.args.leaving.now s c.args.place (seen_leaf c.args.after.now) behind c.args.stmt.now _ c.in-Read.is (c.requires.escapes s.last)))
+    let telling = c.args.context.telling.now in
+    ends_at telling c.args.context.leaving.now s c.args.place (seen_leaf c.args.context.after.now) behind (seen_body c.args.body.now.items) c.args.stmt.now _ _ _ c.in-Read.is
+    (read_row telling.files.now telling.returning.now s.place_of s.last c.args.place s.theirs (seen_leaf c.args.context.after.now) behind c.in-Read.file c.in-Read.into c.in-Read.arms
+    (escapes_at telling c.args.context.leaving.now s c.args.place (seen_leaf c.args.context.after.now) behind c.args.stmt.now _ c.in-Read.is (c.requires.escapes s.last)))
     (c.in_ok-end-in-Read.ensures s)
 
 pub run_escape-returns-in_ok-end-in-Arith : goal.run_escape-returns-in_ok-end-in-Arith
 run_escape-returns-in_ok-end-in-Arith t c = λ s behind.
-    let telling = c.args.telling.now in
-    ends_at telling c.args.leaving.now s c.args.place (seen_leaf c.args.after.now) behind (seen_body c.args.body.now.items) c.args.stmt.now _ _ _ c.in-Arith.is
-    (arith_row telling.files.now telling.returning.now s.place_of s.last c.args.place s.theirs (seen_leaf c.args.after.now) behind c.in-Arith.calc c.in-Arith.into c.in-Arith.arms
-    (escapes_at telling c.args.leaving.now s c.args.place (seen_leaf c.args.after.now) behind c.args.stmt.now _ c.in-Arith.is (c.requires.escapes s.last)))
+    let telling = c.args.context.telling.now in
+    ends_at telling c.args.context.leaving.now s c.args.place (seen_leaf c.args.context.after.now) behind (seen_body c.args.body.now.items) c.args.stmt.now _ _ _ c.in-Arith.is
+    (arith_row telling.files.now telling.returning.now s.place_of s.last c.args.place s.theirs (seen_leaf c.args.context.after.now) behind c.in-Arith.calc c.in-Arith.into c.in-Arith.arms
+    (escapes_at telling c.args.context.leaving.now s c.args.place (seen_leaf c.args.context.after.now) behind c.args.stmt.now _ c.in-Arith.is (c.requires.escapes s.last)))
     (c.in_ok-end-in-Arith.ensures s)
 
 pub run_escape-returns-in_ok-end-in-Loop : goal.run_escape-returns-in_ok-end-in-Loop
 run_escape-returns-in_ok-end-in-Loop t c = λ s behind.
-    let telling = c.args.telling.now in
-    ap (λ x. before (seen_body c.args.body.now.items) (tree_by telling c.args.leaving.now s c.args.place (seen_leaf c.args.after.now) behind x)) c.in-Loop.is
+    let telling = c.args.context.telling.now in
+    ap (λ x. before (seen_body c.args.body.now.items) (tree_by telling c.args.context.leaving.now s c.args.place (seen_leaf c.args.context.after.now) behind x)) c.in-Loop.is
     ∙ ap (before (seen_body c.args.body.now.items))
-    (loop_row telling.files.now telling.returning.now s.place_of s.last c.args.place s.theirs (seen_leaf c.args.after.now) behind c.in-Loop.control c.in-Loop.turns
-    (escapes_at telling c.args.leaving.now s c.args.place (seen_leaf c.args.after.now) behind c.args.stmt.now _ c.in-Loop.is (c.requires.escapes s.last))
-    ∙ ap (λ turns. loop_begun (told_by telling) s.place_of (control_in c.in-Loop.control) (seen_stmts s.last turns) c.args.place s.theirs (seen_leaf c.args.after.now)) (sym c.as_slice-turns.ensures))
+    (loop_row telling.files.now telling.returning.now s.place_of s.last c.args.place s.theirs (seen_leaf c.args.context.after.now) behind c.in-Loop.control c.in-Loop.turns
+    (escapes_at telling c.args.context.leaving.now s c.args.place (seen_leaf c.args.context.after.now) behind c.args.stmt.now _ c.in-Loop.is (c.requires.escapes s.last))
+    ∙ ap (λ turns. loop_begun (told_by telling) s.place_of (control_in c.in-Loop.control) (seen_stmts s.last turns) c.args.place s.theirs (seen_leaf c.args.context.after.now)) (sym c.as_slice-turns.ensures))
     ∙ c.in_ok-end-in-Loop.ensures s
 
 -- Along a list.
@@ -164,12 +164,12 @@ run_on-loop-stmt-preserved t c =
       λ s behind.
           inv.3 s behind
           ∙ ap (before (seen_body c.loop-stmt.body.items))
-          (rest_step (told_by c.args.telling.now) s.place_of s.last s.theirs (seen_leaf c.args.after.now) behind stmts i stmt c.loop-stmt.here next (seen_leaf c.leaf_of-behind.result)
+          (rest_step (told_by c.args.context.telling.now) s.place_of s.last s.theirs (seen_leaf c.args.context.after.now) behind stmts i stmt c.loop-stmt.here next (seen_leaf c.leaf_of-behind.result)
           c.loop-stmt-test.true c.stmt-item.is (ap (λ n. c.loop-stmt.here + n) size)
-          (c.leaf_of-behind.ensures c.args.telling.now.files.now c.args.telling.now.returning.now s.last s.place_of s.at
-          ∙ ap (λ rest. lower.leaf (told_by c.args.telling.now) s.place_of (seen_stmts s.last rest) next (seen_leaf c.args.after.now))
+          (c.leaf_of-behind.ensures c.args.context.telling.now.files.now c.args.context.telling.now.returning.now s.last s.place_of s.at
+          ∙ ap (λ rest. lower.leaf (told_by c.args.context.telling.now) s.place_of (seen_stmts s.last rest) next (seen_leaf c.args.context.after.now))
           (c.rest_at.ensures ∙ ap (λ n. drop (n + 1) stmts) inv.0)))
-          ∙ subst (λ e. RunsBy c.args.telling.now c.args.leaving.now stmt c.loop-stmt.here c.leaf_of-behind.result e c.loop-stmt.body.items c.run_stmt.new.body.items) c.in-None.is c.in_ok-end.ensures s (rest_built (told_by c.args.telling.now) s.place_of s.last s.theirs (seen_leaf c.args.after.now) behind (drop (i + 1) stmts) next),
+          ∙ subst (λ e. RunsBy c.args.context.telling.now c.args.context.leaving.now stmt c.loop-stmt.here c.leaf_of-behind.result e c.loop-stmt.body.items c.run_stmt.new.body.items) c.in-None.is c.in_ok-end.ensures s (rest_built (told_by c.args.context.telling.now) s.place_of s.last s.theirs (seen_leaf c.args.context.after.now) behind (drop (i + 1) stmts) next),
     )
 
 pub run_on-returns : goal.run_on-returns
@@ -177,15 +177,15 @@ run_on-returns t c = λ s behind.
     let over : length c.args.stmts.now ≤ c.loop-stmt.stmt-index = omega (arith, c.loop-stmt-test.false) in
     c.loop-stmt.invariant.3 s behind
     ∙ ap (before (seen_body c.loop-stmt.body.items))
-    (rest_over (told_by c.args.telling.now) s.place_of s.last s.theirs (seen_leaf c.args.after.now) behind c.args.stmts.now c.loop-stmt.stmt-index c.loop-stmt.here over)
+    (rest_over (told_by c.args.context.telling.now) s.place_of s.last s.theirs (seen_leaf c.args.context.after.now) behind c.args.stmts.now c.loop-stmt.stmt-index c.loop-stmt.here over)
 
 -- The arms.
 
 pub push_both-returns : goal.push_both-returns
 push_both-returns t c = λ s.
-    let told = told_by c.args.telling.now in
+    let told = told_by c.args.context.telling.now in
     two_alone c.args.arms.now c.push_arm.new.arms c.push_arm-2.new.arms _ _ c.requires.none (c.in_ok-push_arm.ensures s) (c.in_ok-push_arm-2.ensures s)
-    ∙ sym (if_at told s.place_of s.last s.theirs (seen_leaf c.args.after.now) c.args.met.now c.args.unmet.now (c.args.place + 1) (c.args.place + 1 + c.stmts_size.result)
+    ∙ sym (if_at told s.place_of s.last s.theirs (seen_leaf c.args.context.after.now) c.args.met.now c.args.unmet.now (c.args.place + 1) (c.args.place + 1 + c.stmts_size.result)
     (ap (λ n. c.args.place + 1 + n) (stmts_exact c.args.met.now c.stmts_size.result c.stmts_size.ensures (omega (arith, c.requires.fits)) ∙ sym (sizes-seen s.last c.args.met.now))))
 
 pub run_on-returns-in-Some : goal.run_on-returns-in-Some
@@ -200,13 +200,13 @@ run_on-returns-in-Some t c =
     λ s behind.
     inv.3 s behind
     ∙ ap (before (seen_body c.loop-stmt.body.items))
-    (rest_step (told_by c.args.telling.now) s.place_of s.last s.theirs (seen_leaf c.args.after.now) behind stmts i stmt c.loop-stmt.here next (seen_leaf c.leaf_of-behind.result)
+    (rest_step (told_by c.args.context.telling.now) s.place_of s.last s.theirs (seen_leaf c.args.context.after.now) behind stmts i stmt c.loop-stmt.here next (seen_leaf c.leaf_of-behind.result)
     c.loop-stmt-test.true c.stmt-item.is (ap (λ n. c.loop-stmt.here + n) size)
-    (c.leaf_of-behind.ensures c.args.telling.now.files.now c.args.telling.now.returning.now s.last s.place_of s.at
-    ∙ ap (λ rest. lower.leaf (told_by c.args.telling.now) s.place_of (seen_stmts s.last rest) next (seen_leaf c.args.after.now))
+    (c.leaf_of-behind.ensures c.args.context.telling.now.files.now c.args.context.telling.now.returning.now s.last s.place_of s.at
+    ∙ ap (λ rest. lower.leaf (told_by c.args.context.telling.now) s.place_of (seen_stmts s.last rest) next (seen_leaf c.args.context.after.now))
     (c.rest_at.ensures ∙ ap (λ n. drop (n + 1) stmts) inv.0)))
-    ∙ subst (λ e. RunsBy c.args.telling.now c.args.leaving.now stmt c.loop-stmt.here c.leaf_of-behind.result e c.loop-stmt.body.items c.run_stmt.new.body.items) c.in-Some.is c.in_ok-end.ensures s
-    (rest_built (told_by c.args.telling.now) s.place_of s.last s.theirs (seen_leaf c.args.after.now) behind (drop (i + 1) stmts) next)
+    ∙ subst (λ e. RunsBy c.args.context.telling.now c.args.context.leaving.now stmt c.loop-stmt.here c.leaf_of-behind.result e c.loop-stmt.body.items c.run_stmt.new.body.items) c.in-Some.is c.in_ok-end.ensures s
+    (rest_built (told_by c.args.context.telling.now) s.place_of s.last s.theirs (seen_leaf c.args.context.after.now) behind (drop (i + 1) stmts) next)
 
 pub run_on-run_stmt-requires : goal.run_on-run_stmt-requires
 run_on-run_stmt-requires t c =
@@ -231,37 +231,37 @@ run_stmt-run_escape-requires t c =
 -- Statements that are whole are no escapes.
 
 pub run_escape-returns-in-Display : goal.run_escape-returns-in-Display
-run_escape-returns-in-Display t c = λ s behind. absurd (never (told_by c.args.telling.now) s.last c.args.stmt.now _ _ c.in-Display.is (seen_display s.last c.in-Display.items c.in-Display.advance) refl (c.requires.escapes s.last))
+run_escape-returns-in-Display t c = λ s behind. absurd (never (told_by c.args.context.telling.now) s.last c.args.stmt.now _ _ c.in-Display.is (seen_display s.last c.in-Display.items c.in-Display.advance) refl (c.requires.escapes s.last))
 
 pub run_escape-returns-in-Move : goal.run_escape-returns-in-Move
-run_escape-returns-in-Move t c = λ s behind. absurd (never (told_by c.args.telling.now) s.last c.args.stmt.now _ _ c.in-Move.is (seen_move s.last c.in-Move.from c.in-Move.to) refl (c.requires.escapes s.last))
+run_escape-returns-in-Move t c = λ s behind. absurd (never (told_by c.args.context.telling.now) s.last c.args.stmt.now _ _ c.in-Move.is (seen_move s.last c.in-Move.from c.in-Move.to) refl (c.requires.escapes s.last))
 
 pub run_escape-returns-in-SetTrue : goal.run_escape-returns-in-SetTrue
-run_escape-returns-in-SetTrue t c = λ s behind. absurd (never (told_by c.args.telling.now) s.last c.args.stmt.now _ _ c.in-SetTrue.is (seen_set_true s.last c.in-SetTrue.field-0) refl (c.requires.escapes s.last))
+run_escape-returns-in-SetTrue t c = λ s behind. absurd (never (told_by c.args.context.telling.now) s.last c.args.stmt.now _ _ c.in-SetTrue.is (seen_set_true s.last c.in-SetTrue.field-0) refl (c.requires.escapes s.last))
 
 pub run_escape-returns-in-Opens : goal.run_escape-returns-in-Opens
-run_escape-returns-in-Opens t c = λ s behind. absurd (never (told_by c.args.telling.now) s.last c.args.stmt.now _ _ c.in-Opens.is (seen_opens s.last c.in-Opens.field-0) refl (c.requires.escapes s.last))
+run_escape-returns-in-Opens t c = λ s behind. absurd (never (told_by c.args.context.telling.now) s.last c.args.stmt.now _ _ c.in-Opens.is (seen_opens s.last c.in-Opens.field-0) refl (c.requires.escapes s.last))
 
 pub run_escape-returns-in-Closes : goal.run_escape-returns-in-Closes
-run_escape-returns-in-Closes t c = λ s behind. absurd (never (told_by c.args.telling.now) s.last c.args.stmt.now _ _ c.in-Closes.is (seen_closes s.last c.in-Closes.field-0) refl (c.requires.escapes s.last))
+run_escape-returns-in-Closes t c = λ s behind. absurd (never (told_by c.args.context.telling.now) s.last c.args.stmt.now _ _ c.in-Closes.is (seen_closes s.last c.in-Closes.field-0) refl (c.requires.escapes s.last))
 
 pub run_escape-returns-in-Write : goal.run_escape-returns-in-Write
-run_escape-returns-in-Write t c = λ s behind. absurd (never (told_by c.args.telling.now) s.last c.args.stmt.now _ _ c.in-Write.is (seen_write s.last c.in-Write.entry c.in-Write.from) refl (c.requires.escapes s.last))
+run_escape-returns-in-Write t c = λ s behind. absurd (never (told_by c.args.context.telling.now) s.last c.args.stmt.now _ _ c.in-Write.is (seen_write s.last c.in-Write.entry c.in-Write.from) refl (c.requires.escapes s.last))
 
 pub run_escape-returns-in-Rewrite : goal.run_escape-returns-in-Rewrite
-run_escape-returns-in-Rewrite t c = λ s behind. absurd (never (told_by c.args.telling.now) s.last c.args.stmt.now _ _ c.in-Rewrite.is (seen_rewrite s.last c.in-Rewrite.entry c.in-Rewrite.from) refl (c.requires.escapes s.last))
+run_escape-returns-in-Rewrite t c = λ s behind. absurd (never (told_by c.args.context.telling.now) s.last c.args.stmt.now _ _ c.in-Rewrite.is (seen_rewrite s.last c.in-Rewrite.entry c.in-Rewrite.from) refl (c.requires.escapes s.last))
 
 pub run_escape-returns-in-Perform : goal.run_escape-returns-in-Perform
-run_escape-returns-in-Perform t c = λ s behind. absurd (never (told_by c.args.telling.now) s.last c.args.stmt.now _ _ c.in-Perform.is (seen_perform s.last c.in-Perform.entry c.in-Perform.exit c.in-Perform.control) (performs_whole (told_by c.args.telling.now) (control_in c.in-Perform.control) c.in-Perform.entry c.in-Perform.exit) (c.requires.escapes s.last))
+run_escape-returns-in-Perform t c = λ s behind. absurd (never (told_by c.args.context.telling.now) s.last c.args.stmt.now _ _ c.in-Perform.is (seen_perform s.last c.in-Perform.entry c.in-Perform.exit c.in-Perform.control) (performs_whole (told_by c.args.context.telling.now) (control_in c.in-Perform.control) c.in-Perform.entry c.in-Perform.exit) (c.requires.escapes s.last))
 
 pub run_escape-returns-in-StopRun : goal.run_escape-returns-in-StopRun
-run_escape-returns-in-StopRun t c = λ s behind. absurd (never (told_by c.args.telling.now) s.last c.args.stmt.now _ _ c.in-StopRun.is (seen_stop_run s.last) refl (c.requires.escapes s.last))
+run_escape-returns-in-StopRun t c = λ s behind. absurd (never (told_by c.args.context.telling.now) s.last c.args.stmt.now _ _ c.in-StopRun.is (seen_stop_run s.last) refl (c.requires.escapes s.last))
 
 pub run_escape-returns-in-Exit : goal.run_escape-returns-in-Exit
-run_escape-returns-in-Exit t c = λ s behind. absurd (never (told_by c.args.telling.now) s.last c.args.stmt.now _ _ c.in-Exit.is (seen_exit s.last) refl (c.requires.escapes s.last))
+run_escape-returns-in-Exit t c = λ s behind. absurd (never (told_by c.args.context.telling.now) s.last c.args.stmt.now _ _ c.in-Exit.is (seen_exit s.last) refl (c.requires.escapes s.last))
 
 pub run_escape-returns-in-Continue : goal.run_escape-returns-in-Continue
-run_escape-returns-in-Continue t c = λ s behind. absurd (never (told_by c.args.telling.now) s.last c.args.stmt.now _ _ c.in-Continue.is (seen_continue s.last) refl (c.requires.escapes s.last))
+run_escape-returns-in-Continue t c = λ s behind. absurd (never (told_by c.args.context.telling.now) s.last c.args.stmt.now _ _ c.in-Continue.is (seen_continue s.last) refl (c.requires.escapes s.last))
 
 pub run_escape-run_if-requires : goal.run_escape-run_if-requires
 run_escape-run_if-requires t c =
@@ -305,7 +305,7 @@ run_read-returns-in_ok-end-in-Ok t c = λ s.
     c.in_ok-end-in-Ok.ensures
     ∙ ap₂ (λ has trees. graph.Pick (language.By (language.Read c.args.file c.args.into.now has)) trees) c.is_some.ensures
     (c.in-Ok.ensures s
-    ∙ ap (λ d. lower.build_arms (told_by c.args.telling.now) s.place_of d (phrase_arms c.args.phrases.now s.last) (c.args.place + 1) s.theirs (seen_leaf c.args.after.now)) c.ends_at_end-is_dead.ensures)
+    ∙ ap (λ d. lower.build_arms (told_by c.args.context.telling.now) s.place_of d (phrase_arms c.args.phrases.now s.last) (c.args.place + 1) s.theirs (seen_leaf c.args.context.after.now)) c.ends_at_end-is_dead.ensures)
 
 pub run_evaluate-returns-in_ok-end-in-Ok : goal.run_evaluate-returns-in_ok-end-in-Ok
 run_evaluate-returns-in_ok-end-in-Ok t c = λ s.
@@ -329,7 +329,7 @@ push_arm-run_to-requires t c =
 
 pub push_arm-returns : goal.push_arm-returns
 push_arm-returns t c = λ s.
-    let made = arm_tree c.args.telling.now c.args.leaving.now s c.args.stmts.now c.args.place c.args.after.now in
+    let made = arm_tree c.args.context.telling.now c.args.context.leaving.now s c.args.stmts.now c.args.place c.args.context.after.now in
     ap (map seen_tree) c.in_ok-push.ensures.ok ∙ map-append seen_tree c.args.arms.now (c.in_ok-tree.tree ∷ [])
     ∙ ap (λ t. map seen_tree c.args.arms.now ++ t ∷ [])
     (c.in_ok-tree.ensures s ∙ ap (λ l. before (seen_body l) made) c.new.ensures.items ∙ before_nothing made)
@@ -338,7 +338,7 @@ pub run_to-returns-in-Ok : goal.run_to-returns-in-Ok
 run_to-returns-in-Ok t c = λ s.
     c.ended.ensures ∙ ap (graph.tree (seen_body c.run_on.new.body.items)) c.end_or.ensures
     ∙ along_to c.in-Ok.end (seen_body c.args.body.items) (seen_body c.run_on.new.body.items)
-    (λ behind. lower.build (told_by c.args.telling.now) s.place_of (seen_stmts s.last c.args.stmts.now) c.args.place s.theirs (seen_leaf c.args.after.now) behind) c.args.after.now (c.in-Ok.ensures s)
+    (λ behind. lower.build (told_by c.args.context.telling.now) s.place_of (seen_stmts s.last c.args.stmts.now) c.args.place s.theirs (seen_leaf c.args.context.after.now) behind) c.args.context.after.now (c.in-Ok.ensures s)
 
 pub push_whens-push_arm-requires : goal.push_whens-push_arm-requires
 push_whens-push_arm-requires t c =
@@ -372,10 +372,10 @@ push_whens-loop-when-preserved t c =
       omega (arith, sums, inv.0, size),
       (when_in_own whens i when c.loop-when-test.true c.when-item.is inv.1).1,
       λ s.
-          when_step (told_by c.args.telling.now) s.place_of s.last s.theirs (seen_leaf c.args.after.now) whens c.args.other.now i when c.loop-when.here (c.loop-when.here + c.stmts_size.result)
+          when_step (told_by c.args.context.telling.now) s.place_of s.last s.theirs (seen_leaf c.args.context.after.now) whens c.args.other.now i when c.loop-when.here (c.loop-when.here + c.stmts_size.result)
           c.loop-when.arms c.push_arm.new.arms c.loop-when-test.true c.when-item.is
           (ap (λ n. c.loop-when.here + n) (size ∙ sym (sizes-seen s.last (out-When when).stmts)))
-          (subst (λ l. AddsArm (arm_tree c.args.telling.now c.args.leaving.now s l c.loop-when.here c.args.after.now) c.loop-when.arms c.push_arm.new.arms) c.as_slice-stmts.ensures (c.in_ok-push_arm.ensures s))
+          (subst (λ l. AddsArm (arm_tree c.args.context.telling.now c.args.context.leaving.now s l c.loop-when.here c.args.context.after.now) c.loop-when.arms c.push_arm.new.arms) c.as_slice-stmts.ensures (c.in_ok-push_arm.ensures s))
           ∙ inv.2 s,
     )
 
@@ -390,17 +390,17 @@ push_whens-push_arm-requires-in-Some t c =
 pub push_whens-returns-in_ok-push_only-in-None : goal.push_whens-returns-in_ok-push_only-in-None
 push_whens-returns-in_ok-push_only-in-None t c = λ s.
     let over : length c.args.whens.now ≤ c.loop-when.when-index = omega (arith, c.loop-when-test.false) in
-    whens_over (told_by c.args.telling.now) s.place_of s.last s.theirs (seen_leaf c.args.after.now) c.args.whens.now c.args.other.now c.loop-when.when-index c.loop-when.here c.loop-when.arms c.push_only.new.arms over
-    (subst (λ p. AddsArm (phrase_at (told_by c.args.telling.now) s.place_of s.last s.theirs (seen_leaf c.args.after.now) p c.loop-when.here) c.loop-when.arms c.push_only.new.arms) (sym c.in-None.is)
+    whens_over (told_by c.args.context.telling.now) s.place_of s.last s.theirs (seen_leaf c.args.context.after.now) c.args.whens.now c.args.other.now c.loop-when.when-index c.loop-when.here c.loop-when.arms c.push_only.new.arms over
+    (subst (λ p. AddsArm (phrase_at (told_by c.args.context.telling.now) s.place_of s.last s.theirs (seen_leaf c.args.context.after.now) p c.loop-when.here) c.loop-when.arms c.push_only.new.arms) (sym c.in-None.is)
     (subst (λ e. AddsArm (lower.only e) c.loop-when.arms c.push_only.new.arms) c.end_at.ensures c.in_ok-push_only-in-None.ensures))
     ∙ c.loop-when.invariant.2 s
 
 pub push_whens-returns-in_ok-push_arm-in-Some : goal.push_whens-returns-in_ok-push_arm-in-Some
 push_whens-returns-in_ok-push_arm-in-Some t c = λ s.
     let over : length c.args.whens.now ≤ c.loop-when.when-index = omega (arith, c.loop-when-test.false) in
-    whens_over (told_by c.args.telling.now) s.place_of s.last s.theirs (seen_leaf c.args.after.now) c.args.whens.now c.args.other.now c.loop-when.when-index c.loop-when.here c.loop-when.arms c.push_arm-in-Some.new.arms over
-    (subst (λ p. AddsArm (phrase_at (told_by c.args.telling.now) s.place_of s.last s.theirs (seen_leaf c.args.after.now) p c.loop-when.here) c.loop-when.arms c.push_arm-in-Some.new.arms) (sym c.in-Some.is)
-    (subst (λ l. AddsArm (arm_tree c.args.telling.now c.args.leaving.now s l c.loop-when.here c.args.after.now) c.loop-when.arms c.push_arm-in-Some.new.arms) c.as_slice.ensures (c.in_ok-push_arm-in-Some.ensures s)))
+    whens_over (told_by c.args.context.telling.now) s.place_of s.last s.theirs (seen_leaf c.args.context.after.now) c.args.whens.now c.args.other.now c.loop-when.when-index c.loop-when.here c.loop-when.arms c.push_arm-in-Some.new.arms over
+    (subst (λ p. AddsArm (phrase_at (told_by c.args.context.telling.now) s.place_of s.last s.theirs (seen_leaf c.args.context.after.now) p c.loop-when.here) c.loop-when.arms c.push_arm-in-Some.new.arms) (sym c.in-Some.is)
+    (subst (λ l. AddsArm (arm_tree c.args.context.telling.now c.args.context.leaving.now s l c.loop-when.here c.args.context.after.now) c.loop-when.arms c.push_arm-in-Some.new.arms) c.as_slice.ensures (c.in_ok-push_arm-in-Some.ensures s)))
     ∙ c.loop-when.invariant.2 s
 
 -- Phrases.
@@ -434,27 +434,27 @@ push_phrases-push_arm-requires-in-Some-second-2 t c =
 
 pub push_phrases-returns-in_ok-push_arm-in-Some-second : goal.push_phrases-returns-in_ok-push_arm-in-Some-second
 push_phrases-returns-in_ok-push_arm-in-Some-second t c = λ s.
-    second_alone (told_by c.args.telling.now) s.place_of s.last s.theirs (seen_leaf c.args.after.now) c.args.is_dead c.args.phrases.now (c.args.place + 1) c.in-Some-second.stmts _ _
+    second_alone (told_by c.args.context.telling.now) s.place_of s.last s.theirs (seen_leaf c.args.context.after.now) c.args.is_dead c.args.phrases.now (c.args.place + 1) c.in-Some-second.stmts _ _
     c.args.arms.now c.push_only.new.arms c.push_arm.new.arms c.requires.none c.in-None.is c.in-Some-second.is c.as_slice.ensures c.missing_end.ensures c.in_ok-push_only-in-None.ensures
     (c.in_ok-push_arm-in-Some-second.ensures s)
 
 pub push_phrases-returns-in_ok-push_only-in-None-second-2 : goal.push_phrases-returns-in_ok-push_only-in-None-second-2
 push_phrases-returns-in_ok-push_only-in-None-second-2 t c = λ s.
     let exact = first_exact c.args.phrases.now (c.args.place + 1) c.stmts_size.result c.in-Some.stmts _ c.in-Some.is c.as_slice-stmts.ensures c.requires.fits c.stmts_size.ensures in
-    first_before (told_by c.args.telling.now) s.place_of s.last s.theirs (seen_leaf c.args.after.now) c.args.is_dead c.args.phrases.now (c.args.place + 1) (c.args.place + 1 + c.stmts_size.result) c.in-Some.stmts _
+    first_before (told_by c.args.context.telling.now) s.place_of s.last s.theirs (seen_leaf c.args.context.after.now) c.args.is_dead c.args.phrases.now (c.args.place + 1) (c.args.place + 1 + c.stmts_size.result) c.in-Some.stmts _
     c.args.arms.now c.push_arm-in-Some.new.arms c.push_only-in-None-second-2.new.arms c.requires.none c.in-Some.is c.as_slice-stmts.ensures
     (ap (λ n. c.args.place + 1 + n) (exact.0 ∙ sym (sizes-seen s.last _))) (c.in_ok-push_arm-in-Some.ensures s)
-    (subst (λ p. AddsArm (phrase_at (told_by c.args.telling.now) s.place_of s.last s.theirs (seen_leaf c.args.after.now) p (c.args.place + 1 + c.stmts_size.result)) c.push_arm-in-Some.new.arms c.push_only-in-None-second-2.new.arms) (sym c.in-None-second-2.is)
+    (subst (λ p. AddsArm (phrase_at (told_by c.args.context.telling.now) s.place_of s.last s.theirs (seen_leaf c.args.context.after.now) p (c.args.place + 1 + c.stmts_size.result)) c.push_arm-in-Some.new.arms c.push_only-in-None-second-2.new.arms) (sym c.in-None-second-2.is)
     (subst (λ e. AddsArm (lower.only e) c.push_arm-in-Some.new.arms c.push_only-in-None-second-2.new.arms) c.end_at-in-None-second-2.ensures c.in_ok-push_only-in-None-second-2.ensures))
 
 pub push_phrases-returns-in_ok-push_arm-in-Some-second-2 : goal.push_phrases-returns-in_ok-push_arm-in-Some-second-2
 push_phrases-returns-in_ok-push_arm-in-Some-second-2 t c = λ s.
     let exact = first_exact c.args.phrases.now (c.args.place + 1) c.stmts_size.result c.in-Some.stmts _ c.in-Some.is c.as_slice-stmts.ensures c.requires.fits c.stmts_size.ensures in
-    first_before (told_by c.args.telling.now) s.place_of s.last s.theirs (seen_leaf c.args.after.now) c.args.is_dead c.args.phrases.now (c.args.place + 1) (c.args.place + 1 + c.stmts_size.result) c.in-Some.stmts _
+    first_before (told_by c.args.context.telling.now) s.place_of s.last s.theirs (seen_leaf c.args.context.after.now) c.args.is_dead c.args.phrases.now (c.args.place + 1) (c.args.place + 1 + c.stmts_size.result) c.in-Some.stmts _
     c.args.arms.now c.push_arm-in-Some.new.arms c.push_arm-in-Some-second-2.new.arms c.requires.none c.in-Some.is c.as_slice-stmts.ensures
     (ap (λ n. c.args.place + 1 + n) (exact.0 ∙ sym (sizes-seen s.last _))) (c.in_ok-push_arm-in-Some.ensures s)
-    (subst (λ p. AddsArm (phrase_at (told_by c.args.telling.now) s.place_of s.last s.theirs (seen_leaf c.args.after.now) p (c.args.place + 1 + c.stmts_size.result)) c.push_arm-in-Some.new.arms c.push_arm-in-Some-second-2.new.arms) (sym c.in-Some-second-2.is)
-    (subst (λ l. AddsArm (arm_tree c.args.telling.now c.args.leaving.now s l (c.args.place + 1 + c.stmts_size.result) c.args.after.now) c.push_arm-in-Some.new.arms c.push_arm-in-Some-second-2.new.arms) c.as_slice-in-Some-second-2.ensures (c.in_ok-push_arm-in-Some-second-2.ensures s)))
+    (subst (λ p. AddsArm (phrase_at (told_by c.args.context.telling.now) s.place_of s.last s.theirs (seen_leaf c.args.context.after.now) p (c.args.place + 1 + c.stmts_size.result)) c.push_arm-in-Some.new.arms c.push_arm-in-Some-second-2.new.arms) (sym c.in-Some-second-2.is)
+    (subst (λ l. AddsArm (arm_tree c.args.context.telling.now c.args.context.leaving.now s l (c.args.place + 1 + c.stmts_size.result) c.args.context.after.now) c.push_arm-in-Some.new.arms c.push_arm-in-Some-second-2.new.arms) c.as_slice-in-Some-second-2.ensures (c.in_ok-push_arm-in-Some-second-2.ensures s)))
 
 -- Loops.
 
@@ -464,7 +464,7 @@ run_loop-run_once-requires t c =
 
 pub run_loop-returns-in_ok-end-in-Once : goal.run_loop-returns-in_ok-end-in-Once
 run_loop-returns-in_ok-end-in-Once t c = λ s.
-    ap (λ x. before (seen_body c.args.body.now.items) (loop_begun (told_by c.args.telling.now) s.place_of (control_in x) (seen_stmts s.last c.args.turns.now) c.args.place s.theirs (seen_leaf c.args.after.now))) c.in-Once.is
+    ap (λ x. before (seen_body c.args.body.now.items) (loop_begun (told_by c.args.context.telling.now) s.place_of (control_in x) (seen_stmts s.last c.args.turns.now) c.args.place s.theirs (seen_leaf c.args.context.after.now))) c.in-Once.is
     ∙ ends_by (seen_body c.args.body.now.items) _ _ _ refl (c.in_ok-end-in-Once.ensures s)
 
 pub run_once-push_arm-requires : goal.run_once-push_arm-requires

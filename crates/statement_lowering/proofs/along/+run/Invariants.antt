@@ -18,17 +18,17 @@ invariant-run_on-loop-stmt l =
     (l.at ≡ l.stmt-index)
     × (l.here + sum_by stmt_places (drop l.stmt-index l.stmts) ≡ l.place + sum_by stmt_places l.stmts)
     × (stmts_own (drop l.stmt-index l.stmts) ≡ true)
-    × ((s : Setting l.telling l.leaving) (behind : graph.Tree) →
-    before (seen_body l.fn.body.items) (rest_built (told_by l.telling) s.place_of s.last s.theirs (seen_leaf l.after) behind l.stmts l.place)
-    ≡ before (seen_body l.body.items) (rest_built (told_by l.telling) s.place_of s.last s.theirs (seen_leaf l.after) behind (drop l.stmt-index l.stmts) l.here))
+    × ((s : Setting l.context.telling.now l.context.leaving.now) (behind : graph.Tree) →
+    before (seen_body l.fn.body.items) (rest_built (told_by l.context.telling.now) s.place_of s.last s.theirs (seen_leaf l.context.after.now) behind l.stmts l.place)
+    ≡ before (seen_body l.body.items) (rest_built (told_by l.context.telling.now) s.place_of s.last s.theirs (seen_leaf l.context.after.now) behind (drop l.stmt-index l.stmts) l.here))
 
 abbrev pub invariant-push_whens-loop-when : goal.invariant-push_whens-loop-when
 invariant-push_whens-loop-when l =
     (l.here + sum_by when_places (drop l.when-index l.whens) ≡ l.place + 1 + sum_by when_places l.whens)
     × (all (map when_own (drop l.when-index l.whens)) ≡ true)
-    × ((s : Setting l.telling l.leaving) →
-    trees_before (map seen_tree l.arms) (lower.build_arms (told_by l.telling) s.place_of false (when_arms (drop l.when-index l.whens) l.other s.last) l.here s.theirs (seen_leaf l.after))
-    ≡ lower.build_arms (told_by l.telling) s.place_of false (when_arms l.whens l.other s.last) (l.place + 1) s.theirs (seen_leaf l.after))
+    × ((s : Setting l.context.telling.now l.context.leaving.now) →
+    trees_before (map seen_tree l.arms) (lower.build_arms (told_by l.context.telling.now) s.place_of false (when_arms (drop l.when-index l.whens) l.other s.last) l.here s.theirs (seen_leaf l.context.after.now))
+    ≡ lower.build_arms (told_by l.context.telling.now) s.place_of false (when_arms l.whens l.other s.last) (l.place + 1) s.theirs (seen_leaf l.context.after.now))
 
 -- Places fall, and among calls on the same statements these numbers.
 

@@ -6,4 +6,4 @@ use Rattle.statement_lowering.proofs.turns.head_tree.Goals as goal
 
 pub returns : goal.returns
 returns c = λ s.
-    c.in_ok-tree.ensures ∙ ap (λ turn. chosen_by (control_in c.args.control.now) c.args.place turn (seen_leaf c.args.after.now)) (c.in_ok-turn.ensures s)
+    c.in_ok-tree.ensures ∙ ap (λ turn. chosen_by (control_in c.args.control.now) c.args.place turn (seen_leaf c.args.context.after.now)) (c.in_ok-turn.ensures s)
