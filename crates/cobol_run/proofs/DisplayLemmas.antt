@@ -1,5 +1,5 @@
 -- What a trace displays.
-use Rattle.std.proofs.Common.{◌≡◌, ℕ, Bool, true, false, List, [], ◌∷◌, ◌++◌, ◌&&◌, Ok, Err, refl, ap, sym, ◌∙◌, append_assoc, append-nil, Option}
+use Rattle.std.proofs.Common.{◌≡◌, ℕ, zero, suc, take, Bool, true, false, List, [], ◌∷◌, ◌++◌, ◌&&◌, Ok, Err, refl, ap, sym, ◌∙◌, append_assoc, append-nil, Option}
 use Rattle.std.specs.Prelude.{if◌then◌else◌, ◌==◌}
 use Rattle.cob_store.specs.declared.spot.Spot.{Spot}
 use Rattle.cob_store.specs.Answer.{Answer}
@@ -109,3 +109,16 @@ module _ (declared : Declared) where
   pub rewritten_silent : (store : Roots) (world : World) (entry : ℕ) (from : Option Operand) → IsSilent (rewritten declared store world entry from)
   rewritten_silent store world entry from =
       put-silent verbs.Rewrite (rewritten_at world) entry (file_of declared entry) (from_by declared entry store from).store (from_by declared entry store from).answer
+
+-- nor do some of their operations
+none-both : (xs ys : List ℕ) → (xs ++ ys) ≡ [] → (xs ≡ []) × (ys ≡ [])
+none-both [] ys e = (refl, e)
+none-both (x ∷ xs) ys e = absurd (let never : ⊥ = cc in never)
+
+pub front_silent : (some : ℕ) (operations : List Operation) → displayed (events_of operations) ≡ [] → displayed (events_of (take some operations)) ≡ []
+front_silent zero [] none = refl
+front_silent zero (operation ∷ operations) none = refl
+front_silent (suc some) [] none = refl
+front_silent (suc some) (operation ∷ operations) none =
+    let b = none-both (shown_by (event_seen operation.event)) (displayed (events_of operations)) none in
+    ap (λ bytes. bytes ++ displayed (events_of (take some operations))) b.0 ∙ front_silent some operations b.1

@@ -1,5 +1,5 @@
 -- What a statement on files does is what control says of it.
-use Rattle.std.proofs.Common.{◌≡◌, ℕ, List, Option, Result, Ok, Err, refl, ap, sym, ◌∙◌, subst, append-nil}
+use Rattle.std.proofs.Common.{◌≡◌, ℕ, List, [], take, Option, Result, Ok, Err, refl, ap, sym, ◌∙◌, subst, append-nil}
 use Rattle.cob_act.specs.declared.acting.Done.{Done}
 use Rattle.cob_act.specs.declared.acting.Done.TheVariants as done
 use Rattle.cob_store.specs.Store.{Roots}
@@ -14,9 +14,9 @@ use Rattle.file_model.specs.World.{World}
 use Rattle.file_model.specs.operations.Seen.{Seen}
 use Rattle.cob_act.specs.declared.files.fault.Fault.{Fault}
 use Rattle.cob_act.specs.files.Ends.{ended_as}
-use Rattle.cob_act.specs.files.Over.{Did}
+use Rattle.cob_act.specs.files.Over.{BreaksIn, BrokeIn, Did, world_behind}
 use Rattle.meanings.specs.statements.Does.{does}
-use Rattle.meanings.specs.statements.Filing.{Declared, Effect, each_file, last_world, opened, rewritten, shut, written}
+use Rattle.meanings.specs.statements.Filing.{Declared, Effect, Operation, each_file, last_world, opened, rewritten, shut, written}
 use Rattle.control_flow_theory.specs.semantics.Doing.{Doing}
 use Rattle.control_flow_theory.specs.semantics.Items.{item_way, tried}
 use Rattle.control_flow_theory.specs.semantics.Items as ways
@@ -30,10 +30,12 @@ use Rattle.cobol_theory.specs.cobol_meaning.Acting.{Memory, acted, acted_by, eve
 use Rattle.cobol_theory.specs.cobol_meaning.Runs.{doing_in}
 use Rattle.cobol_run.specs.declared.frame.Frame.{Frame}
 use Rattle.cobol_run.specs.Frames.{rest_of}
-use Rattle.cobol_run.specs.Over.{FiledOver, filed_way}
+use Rattle.cobol_run.specs.Over.{FiledBreaks, FiledOver, filed_way}
 use Rattle.cobol_run.specs.Plan.{memory_in}
+use Rattle.cobol_run.specs.Points.{stmt_operations}
+use Rattle.cobol_run.specs.Running.{displayed}
 use Rattle.cobol_run.specs.Ways.{on}
-use Rattle.cobol_run.proofs.DisplayLemmas.{IsSilent, closes_silent, opens_silent, rewritten_silent, written_silent}
+use Rattle.cobol_run.proofs.DisplayLemmas.{IsSilent, closes_silent, front_silent, opens_silent, rewritten_silent, written_silent}
 
 -- ---- statements that act
 
@@ -52,7 +54,7 @@ module _ (declared : Declared) where
   acts-over : (stmt : Stmt) → ((last : ℕ) → seen last stmt ≡ language.Do (language.Own stmt)) → (store : Roots) (world : World) (effect : Effect) → does declared stmt store world ≡ effect → IsSilent effect →
       (files : List FileEntry) (result : Result Done Fault) (now : Roots) (devices : List Seen) (table : List FileRow) (frames : List Frame) → Did files result world effect now devices table →
       FiledOver result files devices table now frames (λ last. item_way doing (items.Do (seen last stmt)) (rest_of last frames) (memory_in store world))
-  acts-over stmt there store world effect is silent files (Err fault) now devices table frames did = did
+  acts-over stmt there store world effect is silent files (Err fault) now devices table frames did = tt
   acts-over stmt there store world effect is silent files (Ok made) now devices table frames did =
       let later : World = last_world world effect.operations in
       let events : Trace = events_of effect.operations in (
@@ -94,3 +96,44 @@ module _ (declared : Declared) where
         subst Over (sym is) (acts-over (stmts.Rewrite entry from) (λ last. seen_rewrite last entry from) store world _
         (rw (ap out-Stmt (sym (stmts.rolls-Rewrite entry from)) ∙ out-roll-Stmt (Stmt-F.Rewrite entry from), does) refl) (rewritten_silent declared store world entry from) files result now devices table frames
         (subst (λ o. Did files result world (rewritten declared store world entry o) now devices table) same did))
+
+  -- ---- a statement that broke off
+
+  acts_break : (stmt : Stmt) → ((last : ℕ) → seen last stmt ≡ language.Do (language.Own stmt)) → (store : Roots) (world : World) (effect : Effect) → does declared stmt store world ≡ effect → IsSilent effect →
+      (files : List FileEntry) (result : Result Done Fault) (left : ℕ) (devices : List Seen) (table : List FileRow) → BreaksIn result files world effect left devices table →
+      FiledBreaks result files world (λ last. stmt_operations declared (seen last stmt) (memory_in store world)) left devices table
+  acts_break stmt there store world effect is silent files (Ok made) left devices table broke = tt
+  acts_break stmt there store world effect is silent files (Err fault) left devices table broke = λ last.
+      let same : stmt_operations declared (seen last stmt) (memory_in store world) ≡ effect.operations = ap (λ s. stmt_operations declared s (memory_in store world)) (there last) ∙ ap (λ (e : Effect). e.operations) is in (
+        broke.0,
+        subst (λ (ops : List Operation). BrokeIn fault files (world_behind broke.0 world ops) left devices table) (sym same) broke.1,
+        subst (λ (ops : List Operation). displayed (events_of (take broke.0 ops)) ≡ []) (sym same) (front_silent broke.0 effect.operations silent),
+      )
+
+  module _ (stmt : Stmt) (store : Roots) (world : World) (files : List FileEntry) (result : Result Done Fault) (left : ℕ) (devices : List Seen) (table : List FileRow) where
+    abbrev Broke : Stmt → Type 0
+    Broke s = FiledBreaks result files world (λ last. stmt_operations declared (seen last s) (memory_in store world)) left devices table
+
+    pub opens_break : (openings given : List Opening) → given ≡ openings → stmt ≡ stmts.Opens openings → BreaksIn result files world (each_file (opened declared) store world given) left devices table → Broke stmt
+    opens_break openings given same is broke =
+        subst Broke (sym is) (acts_break (stmts.Opens openings) (λ last. seen_opens last openings) store world _
+        (rw (ap out-Stmt (sym (stmts.rolls-Opens openings)) ∙ out-roll-Stmt (Stmt-F.Opens openings), does) refl) (opens_silent declared store world openings) files result left devices table
+        (subst (λ list. BreaksIn result files world (each_file (opened declared) store world list) left devices table) same broke))
+
+    pub closes_break : (numbers given : List ℕ) → given ≡ numbers → stmt ≡ stmts.Closes numbers → BreaksIn result files world (each_file (shut declared) store world given) left devices table → Broke stmt
+    closes_break numbers given same is broke =
+        subst Broke (sym is) (acts_break (stmts.Closes numbers) (λ last. seen_closes last numbers) store world _
+        (rw (ap out-Stmt (sym (stmts.rolls-Closes numbers)) ∙ out-roll-Stmt (Stmt-F.Closes numbers), does) refl) (closes_silent declared store world numbers) files result left devices table
+        (subst (λ list. BreaksIn result files world (each_file (shut declared) store world list) left devices table) same broke))
+
+    pub written_break : (entry : ℕ) (from given : Option Operand) → given ≡ from → stmt ≡ stmts.Write entry from → BreaksIn result files world (written declared store world entry given) left devices table → Broke stmt
+    written_break entry from given same is broke =
+        subst Broke (sym is) (acts_break (stmts.Write entry from) (λ last. seen_write last entry from) store world _
+        (rw (ap out-Stmt (sym (stmts.rolls-Write entry from)) ∙ out-roll-Stmt (Stmt-F.Write entry from), does) refl) (written_silent declared store world entry from) files result left devices table
+        (subst (λ o. BreaksIn result files world (written declared store world entry o) left devices table) same broke))
+
+    pub rewritten_break : (entry : ℕ) (from given : Option Operand) → given ≡ from → stmt ≡ stmts.Rewrite entry from → BreaksIn result files world (rewritten declared store world entry given) left devices table → Broke stmt
+    rewritten_break entry from given same is broke =
+        subst Broke (sym is) (acts_break (stmts.Rewrite entry from) (λ last. seen_rewrite last entry from) store world _
+        (rw (ap out-Stmt (sym (stmts.rolls-Rewrite entry from)) ∙ out-roll-Stmt (Stmt-F.Rewrite entry from), does) refl) (rewritten_silent declared store world entry from) files result left devices table
+        (subst (λ o. BreaksIn result files world (rewritten declared store world entry o) left devices table) same broke))

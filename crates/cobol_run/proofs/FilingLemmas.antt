@@ -65,3 +65,6 @@ pub steps_none : (old new : Machine) (stmt : Stmt) (rest : List Item) (result : 
     IfOk result (λ step. (world : World) (trace : Trace) → PlainState (state_in old world trace) → Follows step new world trace (steps_by old.plan (state_in old world trace)))
 steps_none old new stmt rest (Err e) there none = tt
 steps_none old new stmt rest (Ok step) there none = λ world trace plain. absurd (next_none old stmt rest world trace there none plain)
+
+-- lemmas that are named together
+pub ruleset filing_none = (opens_none, closes_none, read_none, write_none, rewrite_none)

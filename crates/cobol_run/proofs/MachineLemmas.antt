@@ -27,13 +27,16 @@ use Rattle.control_flow_theory.specs.semantics.Items.{item_way}
 use Rattle.cobol_run.specs.declared.held.Held.{Held}
 use Rattle.cobol_run.specs.declared.way.Way as ways
 use Rattle.cobol_run.specs.Machine.{Follows, ends_by, falls_by, goes_by, rest_in, rests_by, state_in, state_with, steps_by}
-use Rattle.cobol_run.specs.Over.{FollowsOver, StandsOver, stmt_meant}
+use Rattle.cobol_run.specs.Over.{FollowsOver, StandsOver, StepBreaks, stmt_meant}
 use Rattle.cobol_run.specs.Own.{NoFiling, OwnState, StandsAlone}
 use Rattle.cobol_run.specs.Plain.{PlainAct, PlainPicker, PlainState}
 use Rattle.file_model.specs.operations.Seen.{Seen}
 use Rattle.control_flow_theory.specs.language.Own.{OwnAct, OwnPicker, OwnTest}
 use Rattle.cobol_run.specs.Standing as standing
 use Rattle.cobol_run.specs.Plan.{declared_by, memory_in}
+use Rattle.cobol_run.specs.Points.{next_operations, operations_in, stmt_operations}
+use Rattle.control_flow_theory.specs.runs.Run.{Going}
+use Rattle.meanings.specs.statements.Filing.{Operation}
 use Rattle.cobol_run.specs.Ways.{KeepsPending, way_seen}
 use Rattle.cobol_run.proofs.FrameLemmas.{sentences_items}
 use Rattle.cobol_run.proofs.OverLemmas.{follows_over}
@@ -199,10 +202,10 @@ module _ (old : Machine) (frames : List Frame) (shown : List ℕ) (new : Machine
 
   -- over devices, which it leaves alone
   pub own_step : (devices : List Seen) (result : Result Step NoMemory) → NoFiling next → Heads here new result next → new.plan ≡ old.plan → new.table ≡ old.table →
-      IfOk result (λ step. (world : World) (trace : Trace) → OwnState (state_in old world trace) → StandsOver old devices world → FollowsOver step new devices trace (steps_by old.plan (state_in old world trace)))
+      IfOk result (λ step. (world : World) (trace : Trace) → OwnState (state_in old world trace) → StandsOver old devices world → FollowsOver step new devices world trace (steps_by old.plan (state_in old world trace)))
   own_step devices (Err e) free h plan table = tt
   own_step devices (Ok step) free h plan table = λ world trace own stands.
-      step_headed old frames shown next (λ state. FollowsOver step new devices trace state) there same world trace
+      step_headed old frames shown next (λ state. FollowsOver step new devices world trace state) there same world trace
       (follows_over step new devices world trace _
       (h world trace (rest_in old) (own_alone (last-in old) next (rest_of (last-in old) frames) free (subst (standing.ItemsHave OwnAct OwnTest OwnPicker) there own.0)))
       (rw (plan, table) stands))
@@ -210,10 +213,17 @@ module _ (old : Machine) (frames : List Frame) (shown : List ℕ) (new : Machine
   -- a statement on files
   pub files_step : (stmt : Stmt) (devices left : List Seen) (result : Result Step NoMemory) → ((rest : List Item) → heads (last-in old) next rest ≡ items.Do (seen (last-in old) stmt) ∷ rest) → is_inner stmt ≡ false →
       IfOk result (λ step. (world : World) (trace : Trace) (rest : List Item) → is_inner stmt ≡ false → StandsOver here devices world →
-      FollowsOver step new left trace (goes_by here.plan (stmt_meant here stmt world) (state_with here rest (memory_in here.held.store world) trace))) →
-      IfOk result (λ step. (world : World) (trace : Trace) → OwnState (state_in old world trace) → StandsOver old devices world → FollowsOver step new left trace (steps_by old.plan (state_in old world trace)))
+      FollowsOver step new left world trace (goes_by here.plan (stmt_meant here stmt world) (state_with here rest (memory_in here.held.store world) trace))) →
+      IfOk result (λ step. (world : World) (trace : Trace) → OwnState (state_in old world trace) → StandsOver old devices world → FollowsOver step new left world trace (steps_by old.plan (state_in old world trace)))
   files_step stmt devices left (Err e) is outer h = tt
   files_step stmt devices left (Ok step) is outer h = λ world trace own stands.
-      step_headed old frames shown next (λ state. FollowsOver step new left trace state) there same world trace
-      (subst (λ list. FollowsOver step new left trace (rests_by old.plan list (state_with here (rest_in old) (memory_in old.held.store world) trace))) (sym (is (rest_in here)))
+      step_headed old frames shown next (λ state. FollowsOver step new left world trace state) there same world trace
+      (subst (λ list. FollowsOver step new left world trace (rests_by old.plan list (state_with here (rest_in old) (memory_in old.held.store world) trace))) (sym (is (rest_in here)))
       (h world trace (rest_in old) outer stands))
+
+  -- what it breaks off behind are operations of the step
+  pub files_breaks : (stmt : Stmt) (rest : List Item) (left : ℕ) (devices : List Seen) (result : Result Step NoMemory) → rest_in old ≡ items.Do (seen (last-in old) stmt) ∷ rest → (world : World) (trace : Trace) →
+      StepBreaks result new world (stmt_operations (declared_by old.plan) (seen (last-in old) stmt) (memory_in old.held.store world)) left devices → StepBreaks result new world (operations_in (declared_by old.plan) (state_in old world trace)) left devices
+  files_breaks stmt rest left devices result is world trace breaks =
+      subst (λ (operations : List Operation). StepBreaks result new world operations left devices)
+      (sym (ap (λ (list : List Item). next_operations (declared_by old.plan) Going list (memory_in old.held.store world)) is)) breaks

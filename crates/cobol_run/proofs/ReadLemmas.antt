@@ -1,6 +1,6 @@
 -- READ chooses an arm in control, also where it has none.
-use Rattle.std.proofs.Common.{◌≡◌, ℕ, zero, suc, ◌-◌, Bool, true, false, ◌&&◌, ◌||◌, ◌==◌, List, [], ◌++◌, Option, Some, None, is_some, Result, Ok, Err, refl, ap, sym, ◌∙◌, subst, append-nil, ◌⊎◌, inl, inr}
-use Rattle.std.specs.Prelude.{IfOk, if◌then◌else◌}
+use Rattle.std.proofs.Common.{◌≡◌, ℕ, zero, suc, ◌-◌, Bool, true, false, ◌&&◌, ◌||◌, ◌==◌, List, [], ◌∷◌, ◌++◌, length, take, Option, Some, None, is_some, Result, Ok, Err, refl, ap, sym, ◌∙◌, subst, append-nil, ◌⊎◌, inl, inr}
+use Rattle.std.specs.Prelude.{IfErr, IfOk, if◌then◌else◌}
 use Rattle.cob_act.specs.declared.acting.Done.{Done}
 use Rattle.cob_act.specs.declared.acting.Done.TheVariants as done
 use Rattle.cob_store.specs.Answer.{Answer}
@@ -18,7 +18,9 @@ use Rattle.file_model.specs.World as verbs
 use Rattle.file_model.specs.operations.Seen.{Seen}
 use Rattle.cob_act.specs.declared.files.fault.Fault.{Fault}
 use Rattle.cob_act.specs.files.Ends.{ended_as}
-use Rattle.cob_act.specs.files.Over.{Did, IsOver}
+use Rattle.cob_act.specs.declared.files.fault.Fault.TheVariants as faults
+use Rattle.cob_act.specs.files.Over.{BreaksIn, BrokeIn, Did, IsOver, world_behind}
+use Rattle.cob_act.proofs.files_lemmas.DeskLemmas.{over_left}
 use Rattle.meanings.specs.statements.Does.{has_arms}
 use Rattle.meanings.specs.statements.Filing.{Abended, Chose, Declared, Effect, Ended, Operation, Went, address_at, after, into_by, last_world, no_effect, of_outcome, operated_to, read, record_put, record_spot, then_by}
 use Rattle.control_flow_theory.specs.semantics.Items.{Way, item_way, tried}
@@ -33,10 +35,12 @@ use Rattle.cobol_theory.specs.cobol_meaning.Acting.{Memory, chosen, chosen_by, e
 use Rattle.cobol_theory.specs.cobol_meaning.Runs.{doing_in}
 use Rattle.cobol_run.specs.declared.frame.Frame.{Frame}
 use Rattle.cobol_run.specs.Frames.{rest_of}
-use Rattle.cobol_run.specs.Over.{FiledOver, armed_rest, filed_way}
+use Rattle.cobol_run.specs.Over.{FiledBreaks, FiledOver, armed_rest, filed_way}
 use Rattle.cobol_run.specs.Plan.{memory_in}
+use Rattle.cobol_run.specs.Points.{stmt_operations}
+use Rattle.cobol_run.specs.Running.{displayed}
 use Rattle.cobol_run.specs.Ways.{on}
-use Rattle.cobol_run.proofs.DisplayLemmas.{read_silent}
+use Rattle.cobol_run.proofs.DisplayLemmas.{front_silent, read_silent}
 use Rattle.cobol_run.proofs.StatementLemmas.{either-arm, second-arm}
 
 -- it chose one of two arms, or ended the run
@@ -226,8 +230,49 @@ module _ (declared : Declared) (file : ℕ) (place : Option Place) (arms : Arms)
       Did files (Ok made) world (read declared store world file given at_end has) now devices table → IfOk result (λ other. other ≡ made) →
       IfOk result (λ other. (last : ℕ) → rest_of last frames ≡ armed_rest last made arms (rest_of last before_frames)) →
       Over result now files devices table before_frames frames stmt
-  read_over stmt is made (Err fault) now files devices table before_frames frames given at_end has p a h did same rests = (last_world world (read declared store world file given at_end has).operations, did.2)
+  read_over stmt is made (Err fault) now files devices table before_frames frames given at_end has p a h did same rests = tt
   read_over stmt is made (Ok other) now files devices table before_frames frames given at_end has p a h did same rests =
       subst (λ d. Over (Ok d) now files devices table before_frames frames stmt) (sym same)
       (subst (λ s. Over (Ok made) now files devices table before_frames frames s) (sym is)
       (read-goes (has_arms arms) refl made now files devices table before_frames frames rests (did-so given at_end has p a h made now files devices table did)))
+
+  -- ---- a READ that broke off
+
+  -- the operations are those that are meant, with and without arms
+  read_operations : (last : ℕ) (given : Option Place) (at_end has : Bool) → given ≡ place → at_end ≡ is_some (out-Arms arms).first → (read declared store world file given at_end has).operations ≡ stmt_operations declared (seen last (stmts.Read file place arms)) (memory_in store world)
+  read_operations last given at_end has p a =
+      go has
+      ∙ ap (λ (place : Option Place). (read declared store world file place at_end true).operations) p
+      ∙ ap (λ (at_end : Bool). (read declared store world file place at_end true).operations) (a ∙ sym (is-there last (out-Arms arms).first))
+      ∙ ap (λ (both : Both). stmt_operations declared (language.Choose (language.By (language.Read file place (is_some both.first))) (both_arms both)) (memory_in store world)) (sym (seen_both_is last arms))
+      ∙ ap (λ s. stmt_operations declared s (memory_in store world)) (sym (seen_read last file place arms))
+    where
+      go : (has : Bool) → (read declared store world file given at_end has).operations ≡ (read declared store world file given at_end true).operations
+      go true = refl
+      go false = (read-alike declared file given store world at_end).operations
+
+  pub read_break : (stmt : Stmt) → stmt ≡ stmts.Read file place arms → (fault : Fault) (files : List FileEntry) (left : ℕ) (devices : List Seen) (table : List FileRow) (given : Option Place) (at_end has : Bool) → given ≡ place → at_end ≡ is_some (out-Arms arms).first →
+      BreaksIn {A = Done} (Err fault) files world (read declared store world file given at_end has) left devices table →
+      FiledBreaks (Err fault) files world (λ last. stmt_operations declared (seen last stmt) (memory_in store world)) left devices table
+  read_break stmt is fault files left devices table given at_end has p a broke = λ last.
+      let same : (read declared store world file given at_end has).operations ≡ stmt_operations declared (seen last stmt) (memory_in store world) =
+      read_operations last given at_end has p a ∙ ap (λ s. stmt_operations declared (seen last s) (memory_in store world)) (sym is) in (
+        broke.0,
+        subst (λ (ops : List Operation). BrokeIn fault files (world_behind broke.0 world ops) left devices table) same broke.1,
+        subst (λ (ops : List Operation). displayed (events_of (take broke.0 ops)) ≡ []) same (front_silent broke.0 (read declared store world file given at_end has).operations (read_silent declared store world file given at_end has)),
+      )
+
+  whole : (ops : List Operation) → take (length ops) ops ≡ ops
+  whole [] = refl
+  whole (op ∷ ops) = ap (λ l. op ∷ l) (whole ops)
+
+  -- the arm that it chose wanted memory
+  pub arm_break : (stmt : Stmt) → stmt ≡ stmts.Read file place arms → (made : Done) (result : Result Done Fault) (now : Roots) (files : List FileEntry) (left : ℕ) (devices : List Seen) (table : List FileRow) (given : Option Place) (at_end has : Bool) → given ≡ place → at_end ≡ is_some (out-Arms arms).first →
+      Did files (Ok made) world (read declared store world file given at_end has) now (take left devices) table → IfErr result (λ fault. fault ≡ faults.NoMemory) →
+      FiledBreaks result files world (λ last. stmt_operations declared (seen last stmt) (memory_in store world)) left devices table
+  arm_break stmt is made (Ok other) now files left devices table given at_end has p a did only = tt
+  arm_break stmt is made (Err fault) now files left devices table given at_end has p a did only =
+      let ops : List Operation = (read declared store world file given at_end has).operations in
+      subst (λ (f : Fault). FiledBreaks (Err f) files world (λ last. stmt_operations declared (seen last stmt) (memory_in store world)) left devices table) (sym only)
+      (read_break stmt is faults.NoMemory files left devices table given at_end has p a
+      (length ops, subst (λ (w : World). BrokeIn faults.NoMemory files w left devices table) (sym (ap (last_world world) (whole ops))) (over_left files left devices table (last_world world ops) did.2)))

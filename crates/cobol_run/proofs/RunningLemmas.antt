@@ -65,6 +65,14 @@ gained-more (Some held) mid now first second h g = subst (λ m. Gained second m 
 
 -- ---- so far
 
+-- a run that is over after a step stays so
+pub over-then : (program : Program) (files : Files) (done steps : ℕ) (ending : outcome.Ending Files) → (after program files (suc done)).run.standing ≡ Over ending → done < steps → after program files steps ≡ after program files (suc done)
+over-then program files done steps ending there within =
+    let rest : suc done + (steps - suc done) ≡ steps = omega (arith, within) in
+    ap (after program files) (sym rest)
+    ∙ iterate-plus (next_state program) (suc done) (steps - suc done) (begun_in program (declared_in program) files)
+    ∙ over-stays program (steps - suc done) (after program files (suc done)) ending there
+
 -- a run that is over after a step ends so
 pub stays-over : (program : Program) (files : Files) (done steps : ℕ) (trace : Trace) (ending : outcome.Ending Files) → (after program files (suc done)).run ≡ record { trace = trace; standing = Over ending } → done < steps →
     (held now : Option (List ℕ)) (count count_now : ℕ) → Gained (displayed trace) held now → Stands program files steps (Over ending) (record { held = held; now = now; count = count; count_now = count_now })
@@ -169,7 +177,7 @@ module _ (program : Program) (machine : Machine) (done steps : ℕ) (held now : 
     pub ended : (ending : Ending) → made ≡ step.Over ending → done < steps → (files : Files) → IsPlain program → RunsAs program files steps (record { held = held; now = now; count = count; count_now = count_now }) (ran.Ended ending)
     ended ending is within files plain =
         let r = so_far.reached files plain in
-        stays-over program files done steps r.0 (ending_seen ending files) (subst (λ s. Follows s new (world_with (declared_in program) files) r.0 (after program files (suc done))) is (next-follows files plain)) within held now count count_now r.2
+        stays-over program files done steps r.0 (ending_seen ending files) (subst (λ s. Follows s new (world_with (declared_in program) files) r.0 (after program files (suc done))) is (next-follows files plain)).0 within held now count count_now r.2
 
     -- no device fails
     pub never_failed : made ≡ step.Failed → (files : Files) → IsPlain program → ⊥

@@ -1,11 +1,14 @@
 -- What a run leaves of the devices of its bench, whatever files they tell.
-use Rattle.std.specs.Prelude.{ℕ, ◌≡◌, Bool, true, false, List, Option, IfSome}
+use Rattle.std.specs.Prelude.{ℕ, ◌≡◌, ◌<◌, ◌-◌, Bool, true, false, List, [], ◌∷◌, ◌++◌, take, Option, Some, IfSome, Result, Ok, Err, slice_get}
+use Rattle.cob_base.specs.declared.memory.NoMemory.{NoMemory}
+use Rattle.cob_tree.specs.declared.file.FileEntry.{FileEntry}
 use Rattle.file_model.specs.declared.table.FileRow.{FileRow}
-use Rattle.file_model.specs.Attempts.{Address}
-use Rattle.file_model.specs.World.{World}
-use Rattle.file_model.specs.operations.Seen.{Seen}
-use Rattle.file_model.specs.operations.Shutting.{ShutsAll}
-use Rattle.file_model.specs.operations.Falling.{FellOff, SameBench}
+use Rattle.file_model.specs.Told.{Counts}
+use Rattle.file_model.specs.operations.Calls.{addresses_of}
+use Rattle.file_model.specs.operations.Seen.{Seen, device_found}
+use Rattle.file_model.specs.operations.Falling.{LeftOf, is_used}
+use Rattle.cob_act.specs.declared.files.fault.Fault.TheVariants as faults
+use Rattle.cob_act.specs.files.Ends.{BrokeOver}
 use Rattle.cobol_run.specs.declared.machine.Step.{Step}
 use Rattle.cobol_run.specs.declared.machine.Step.TheVariants as step
 use Rattle.cobol_run.specs.declared.running.Turned.{Turned}
@@ -13,34 +16,56 @@ use Rattle.cobol_run.specs.declared.running.Turned.TheVariants as turned
 use Rattle.cobol_run.specs.declared.running.Ran.{Ran}
 use Rattle.cobol_run.specs.declared.running.Ran.TheVariants as ran
 
-abbrev pub StepFalls : Step → (left left_now : ℕ) → (old new : List Seen) → Type 0
-StepFalls step.On left left_now old new = SameBench left left_now old new
-StepFalls step.Shown left left_now old new = SameBench left left_now old new
-StepFalls (step.Over ending) left left_now old new = SameBench left left_now old new
-StepFalls step.Failed left left_now old new = FellOff left left_now old new
+-- no device failed
+abbrev pub SameBench : List FileEntry → (left left_now : ℕ) → (old new : List Seen) → Type 0
+SameBench files left left_now old new =
+    LeftOf (is_used (addresses_of files)) [] left left_now old new
 
--- where memory was wanted nothing is said
-abbrev pub TurnFalls : Turned → (left left_now : ℕ) → (old new : List Seen) → Type 0
-TurnFalls turned.On left left_now old new = SameBench left left_now old new
-TurnFalls (turned.Over ending) left left_now old new = SameBench left left_now old new
-TurnFalls turned.Failed left left_now old new = FellOff left left_now old new
-TurnFalls turned.WriteFault left left_now old new = SameBench left left_now old new
-TurnFalls turned.NoMemory left left_now old new = Unit {0}
+-- a step: where memory was wanted no device failed
+abbrev pub StepFalls : Result Step NoMemory → List FileEntry → (left left_now : ℕ) →
+    (old new : List Seen) → List FileRow → Type 0
+StepFalls (Ok step.On) files left left_now old new table = SameBench files left left_now old new
+StepFalls (Ok step.Shown) files left left_now old new table = SameBench files left left_now old new
+StepFalls (Ok (step.Over ending)) files left left_now old new table =
+    SameBench files left left_now old new
+StepFalls (Ok step.Failed) files left left_now old new table =
+    BrokeOver faults.Device files left left_now old new table
+StepFalls (Err e) files left left_now old new table = SameBench files left left_now old new
 
--- a device of that name failed and is gone from the bench
+abbrev pub TurnFalls : Turned → List FileEntry → (left left_now : ℕ) → (old new : List Seen) →
+    List FileRow → Type 0
+TurnFalls turned.On files left left_now old new table = SameBench files left left_now old new
+TurnFalls (turned.Over ending) files left left_now old new table =
+    SameBench files left left_now old new
+TurnFalls turned.Failed files left left_now old new table =
+    BrokeOver faults.Device files left left_now old new table
+TurnFalls turned.WriteFault files left left_now old new table =
+    SameBench files left left_now old new
+TurnFalls turned.NoMemory files left left_now old new table = SameBench files left left_now old new
+
+-- ---- a device fault
+
+-- a device of that name failed, which was the first of its name on the bench: it was the first that
+-- failed, and stands where the bench ended
 pub record FellNamed (name : List ℕ) (left left_now : ℕ) (old new : List Seen) : Type 0 where
-  pub fell : FellOff left left_now old new
-  pub named : fell.after.name ≡ name
+  pub before : Seen
+  pub after : Seen
+  pub less : left_now < left
+  pub first : device_found name (take left old) ≡ Some before
+  pub there : slice_get new (left - 1) ≡ Some after
+  pub named : after.name ≡ name
+  pub counted : Counts true before.faults after.faults
 
--- the steps of a run
-abbrev pub StepsFall : Ran → (left left_now : ℕ) → (old new : List Seen) → Type 0
-StepsFall (ran.Ended ending) left left_now old new = SameBench left left_now old new
-StepsFall ran.Budget left left_now old new = SameBench left left_now old new
-StepsFall (ran.DeviceFault name) left left_now old new = FellNamed name left left_now old new
-StepsFall ran.WriteFault left left_now old new = SameBench left left_now old new
-StepsFall ran.NoMemory left left_now old new = Unit {0}
+-- the devices that failed, the first of them last, by what a run comes to: none, or first the one
+-- that is named; where the sink failed or memory was wanted some may have failed
+abbrev pub Names : Ran → List (List ℕ) → Type 0
+Names (ran.Ended ending) gone = gone ≡ []
+Names ran.Budget gone = gone ≡ []
+Names (ran.DeviceFault name) gone = (later : List (List ℕ)) × (gone ≡ later ++ name ∷ [])
+Names ran.WriteFault gone = Unit {0}
+Names ran.NoMemory gone = Unit {0}
 
--- a whole run: what it says of a device is so
+-- what a run says of a device is so
 abbrev pub RunFalls : Ran → (left left_now : ℕ) → (old new : List Seen) → Type 0
 RunFalls (ran.DeviceFault name) left left_now old new = FellNamed name left left_now old new
 RunFalls (ran.Ended ending) left left_now old new = Unit {0}
@@ -63,8 +88,3 @@ breaks_off ran.Budget = false
 breaks_off (ran.DeviceFault name) = true
 breaks_off ran.WriteFault = true
 breaks_off ran.NoMemory = true
-
--- every file that was open is closed, or its device is gone
-abbrev pub ClosesAll : List Address → List Seen → List FileRow → ℕ → World → Type 0
-ClosesAll addresses devices table files world =
-    (failed : Bool) × ShutsAll addresses devices table files failed world

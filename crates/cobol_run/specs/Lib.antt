@@ -18,9 +18,11 @@ pub mod Ways
 pub mod Machine
 -- what a run comes to
 pub mod Running
--- steps and runs over devices that tell their files
-pub mod Over
+-- how far a run comes
+pub mod Points
 -- what a run leaves of the devices of its bench
 pub mod Falling
+-- steps and runs over devices that tell their files
+pub mod Over
 -- What a run of a structured program shows is what its nested statements show.
 pub mod structured_runs

@@ -56,7 +56,8 @@ Follows step.On machine world trace state = state ≡ state_in machine world tra
 Follows step.Shown machine world trace state =
     state ≡ state_in machine world (trace ++ (0 ∷ machine.held.shown) ∷ [])
 Follows (step.Over ending) machine world trace state =
-    state.run ≡ record { trace = trace; standing = Over (ending_seen ending world.shelves) }
+    (state.run ≡ record { trace = trace; standing = Over (ending_seen ending world.shelves) })
+    × (state.memory.world ≡ world)
 Follows step.Failed machine world trace state = ⊥
 
 -- ---- steps of the source machine, by what the machine plans

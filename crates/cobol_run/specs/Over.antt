@@ -1,5 +1,5 @@
 -- Steps and runs over devices that tell their files, exact.
-use Rattle.std.specs.Prelude.{ℕ, suc, ◌≡◌, ◌<◌, ◌≤◌, ◌==◌, List, [], ◌∷◌, ◌++◌, Result, Ok, Err}
+use Rattle.std.specs.Prelude.{ℕ, suc, ◌≡◌, ◌<◌, ◌≤◌, ◌==◌, List, [], ◌∷◌, ◌++◌, take, Result, Ok, Err}
 use Rattle.cob_base.specs.Sink.{SinkCall}
 use Rattle.cob_act.specs.declared.acting.Done.{Done}
 use Rattle.cob_act.specs.declared.acting.Done.TheVariants as done
@@ -10,10 +10,17 @@ use Rattle.cob_tree.specs.declared.stmt.Arms.{Arms}
 use Rattle.cob_tree.specs.declared.stmt.Stmt.{Stmt}
 use Rattle.file_model.specs.declared.table.FileRow.{FileRow}
 use Rattle.file_model.specs.World.{World, shelf_found}
+use Rattle.file_model.specs.operations.Calls.{addresses_of}
 use Rattle.file_model.specs.operations.Seen.{Seen, device_found}
-use Rattle.file_model.specs.operations.Standing.{SameShelf, TellAll}
+use Rattle.file_model.specs.operations.Standing.{SameShelf, TellUsed}
 use Rattle.cob_act.specs.declared.files.fault.Fault.{Fault}
-use Rattle.cob_act.specs.files.Over.{BrokeIn, IsOver}
+use Rattle.cob_act.specs.files.Over.{BrokeIn, IsOver, world_behind}
+use Rattle.cob_act.specs.declared.files.fault.Fault.TheVariants as faults
+use Rattle.cob_act.specs.files.Ends.{gone_by}
+use Rattle.cob_base.specs.declared.memory.NoMemory.{NoMemory}
+use Rattle.meanings.specs.statements.Filing.{Operation}
+use Rattle.file_model.specs.operations.Falling.{AreShut, LeftOf, is_used}
+use Rattle.file_model.specs.operations.Shutting.{LeavesFiles, StandsLeft}
 use Rattle.control_flow_theory.specs.runs.Run.{Going, Over}
 use Rattle.control_flow_theory.specs.semantics.Items as control
 use Rattle.control_flow_theory.specs.semantics.Items.{item_way}
@@ -21,9 +28,9 @@ use Rattle.control_flow_theory.specs.semantics.Outcome.{Abend, Trace}
 use Rattle.control_flow_theory.specs.language.Control.{seen, seen_stmts}
 use Rattle.control_flow_theory.specs.language.Items.{Do, Item, before}
 use Rattle.meanings.specs.statements.Does.{declared_in}
-use Rattle.cobol_theory.specs.cobol_meaning.Acting.{Memory, abend_number}
-use Rattle.cobol_theory.specs.cobol_meaning.Runs.{Files, State, doing_in}
-use Rattle.cob_base.specs.giving.Giving.{Gained}
+use Rattle.cobol_theory.specs.cobol_meaning.Acting.{Memory, abend_number, events_of}
+use Rattle.cobol_theory.specs.cobol_meaning.Runs.{Files, State, doing_in, source_run}
+use Rattle.cob_base.specs.giving.Giving.{Gained, Gains}
 use Rattle.cobol_run.specs.declared.frame.Frame.{Frame}
 use Rattle.cobol_run.specs.declared.machine.Ending.{Ending}
 use Rattle.cobol_run.specs.declared.machine.Ending.TheVariants as ending
@@ -37,7 +44,10 @@ use Rattle.cobol_run.specs.declared.running.Turned.TheVariants as turned
 use Rattle.cobol_run.specs.Frames.{last_of, rest_of}
 use Rattle.cobol_run.specs.Machine.{ending_seen, rest_in, state_in}
 use Rattle.cobol_run.specs.Plan.{declared_by, memory_in}
-use Rattle.cobol_run.specs.Running.{BreaksOff, BreaksWithin, Stands, after, displayed}
+use Rattle.cobol_run.specs.Falling.{Names}
+use Rattle.cobol_run.specs.Own.{IsOwn}
+use Rattle.cobol_run.specs.Points.{events_at, world_after, world_at}
+use Rattle.cobol_run.specs.Running.{Stands, after, begun_sink, displayed}
 use Rattle.cobol_run.specs.Ways.{either}
 
 -- ---- statements on files
@@ -60,7 +70,20 @@ FiledOver (Ok done) files devices table store frames meant =
     (now : World) × (events : Trace) × (displayed events ≡ [])
     × ((last : ℕ) → filed_way done events (memory_in store now) (rest_of last frames) ≡ meant last)
     × IsOver files devices table now
-FiledOver (Err fault) files devices table store frames meant = BrokeIn files devices table
+FiledOver (Err fault) files devices table store frames meant = Unit {0}
+
+-- it broke off behind some of these operations, which display nothing
+abbrev pub BrokeBehind : Fault → List FileEntry → World → List Operation → (left : ℕ) →
+    List Seen → List FileRow → Type 0
+BrokeBehind fault files world operations left devices table = (some : ℕ)
+    × BrokeIn fault files (world_behind some world operations) left devices table
+    × (displayed (events_of (take some operations)) ≡ [])
+
+abbrev pub FiledBreaks : Result Done Fault → List FileEntry → World → (ℕ → List Operation) →
+    (left : ℕ) → List Seen → List FileRow → Type 0
+FiledBreaks (Ok done) files world operations left devices table = Unit {0}
+FiledBreaks (Err fault) files world operations left devices table =
+    (last : ℕ) → BrokeBehind fault files world (operations last) left devices table
 
 abbrev pub step_done : Done → Step
 step_done (done.Abended abend) = step.Over (ending.Abended abend)
@@ -68,7 +91,7 @@ step_done _ = step.On
 
 -- ---- a step
 
--- the machine's files stand over the devices in a world
+-- the files of the machine's program stand over the devices in a world
 abbrev pub StandsOver : Machine → List Seen → World → Type 0
 StandsOver machine devices world =
     IsOver machine.plan.program.now.files devices machine.table.rows world
@@ -81,20 +104,35 @@ stmt_meant machine stmt world =
     (memory_in machine.held.store world)
 
 -- the state is that of the machine, which stands over the devices, and goes on; or its run came to
--- this end. It displayed what the step showed.
-abbrev pub FollowsOver : Step → Machine → List Seen → Trace → State → Type 0
-FollowsOver step.On machine devices trace state =
+-- this end. It displayed what the step showed, from this world, which a display leaves as it is.
+abbrev pub FollowsOver : Step → Machine → List Seen → World → Trace → State → Type 0
+FollowsOver step.On machine devices before trace state =
     (world : World) × (now : Trace) × (state ≡ state_in machine world now)
     × (displayed now ≡ displayed trace) × StandsOver machine devices world
-FollowsOver step.Shown machine devices trace state =
-    (world : World) × (state ≡ state_in machine world (trace ++ (0 ∷ machine.held.shown) ∷ []))
-    × StandsOver machine devices world
-FollowsOver (step.Over ending) machine devices trace state =
-    (world : World) × (now : Trace)
-    × (state.run ≡ record { trace = now; standing = Over (ending_seen ending world.shelves) })
-    × (displayed now ≡ displayed trace) × StandsOver machine devices world
-FollowsOver step.Failed machine devices trace state =
-    (world : World) × StandsOver machine devices world
+FollowsOver step.Shown machine devices before trace state =
+    (state ≡ state_in machine before (trace ++ (0 ∷ machine.held.shown) ∷ []))
+    × StandsOver machine devices before
+FollowsOver (step.Over ending) machine devices before trace state =
+    (now : Trace)
+    × (state.run ≡ record {
+      trace = now;
+      standing = Over (ending_seen ending state.memory.world.shelves);
+    })
+    × (displayed now ≡ displayed trace) × StandsOver machine devices state.memory.world
+FollowsOver step.Failed machine devices before trace state = Unit {0}
+
+-- a step that breaks off leaves the world behind some of its operations
+abbrev pub StepBreaks : Result Step NoMemory → Machine → World → List Operation → (left : ℕ) →
+    List Seen → Type 0
+StepBreaks (Ok step.On) machine world operations left devices = Unit {0}
+StepBreaks (Ok step.Shown) machine world operations left devices = Unit {0}
+StepBreaks (Ok (step.Over ending)) machine world operations left devices = Unit {0}
+StepBreaks (Ok step.Failed) machine world operations left devices =
+    BrokeBehind faults.Device machine.plan.program.now.files world operations left devices
+    machine.table.rows
+StepBreaks (Err e) machine world operations left devices =
+    BrokeBehind faults.NoMemory machine.plan.program.now.files world operations left devices
+    machine.table.rows
 
 -- ---- steps
 
@@ -111,55 +149,107 @@ pub record SoFarOver (program : Program) (files : Files) (machine : Machine) (de
   pub gained : Gained (displayed trace) sink.held sink.now
   pub stands : StandsOver machine devices world
 
--- the run ended so in a world, over which the machine stands
-abbrev pub EndsOver : Program → Files → ℕ → Machine → List Seen → SinkCall → Ending → Type 0
-EndsOver program files steps machine devices sink ending =
-    (world : World) × Stands program files steps (Over (ending_seen ending world.shelves)) sink
-    × StandsOver machine devices world
+-- ---- what a run comes to, by what it leaves of the world
+
+-- it ended so within so many steps, and the sink gained what they displayed
+abbrev pub EndsAt : Program → Files → ℕ → SinkCall → (World → Type 0) → Ending → Type 0
+EndsAt program files steps sink Left ending =
+    Stands program files steps
+    (Over (ending_seen ending (world_after program files steps).shelves)) sink
+    × Left (world_after program files steps)
+
+-- it broke off behind so many steps and so many operations of the next, which display nothing, and
+-- the sink gained what was displayed up to there
+abbrev pub BreaksAt : Program → Files → ℕ → SinkCall → (World → Type 0) → Type 0
+BreaksAt program files steps sink Left =
+    (done : ℕ) × (some : ℕ) × (done ≤ steps)
+    × Gains (displayed (source_run program files done).trace) sink
+    × (displayed (events_at program files done some) ≡ [])
+    × Left (world_at program files done some)
+
+-- the sink failed in the display of the step behind so many, and gained a front of it
+abbrev pub CutAt : Program → Files → ℕ → SinkCall → (World → Type 0) → Type 0
+CutAt program files steps sink Left =
+    (done : ℕ) × (done < steps) × (shown : List ℕ) × (front : ℕ)
+    × ((source_run program files (suc done)).trace
+    ≡ (source_run program files done).trace ++ (0 ∷ shown) ∷ [])
+    × Gains (displayed (source_run program files done).trace ++ take front shown) sink
+    × Left (world_after program files done)
+
+abbrev pub ComesTo : Program → Files → ℕ → SinkCall → (World → Type 0) → Ran → Type 0
+ComesTo program files steps sink Left (ran.Ended ending) =
+    EndsAt program files steps sink Left ending
+ComesTo program files steps sink Left ran.Budget =
+    Stands program files steps Going sink × Left (world_after program files steps)
+ComesTo program files steps sink Left (ran.DeviceFault name) =
+    BreaksAt program files steps sink Left
+ComesTo program files steps sink Left ran.WriteFault = CutAt program files steps sink Left
+ComesTo program files steps sink Left ran.NoMemory = BreaksAt program files steps sink Left
+
+-- the files of the machine's program, which are open yet, stand so over what devices of these names
+-- left
+abbrev pub OpenYet : List (List ℕ) → Machine → List Seen → World → Type 0
+OpenYet gone machine devices world =
+    StandsLeft (addresses_of machine.plan.program.now.files) gone devices machine.table.rows world
 
 -- what one more step comes to
-abbrev pub TurnsOver : Program → Files → Machine → List Seen → ℕ → SinkCall → Turned → Type 0
-TurnsOver program files machine devices done sink turned.On =
-    SoFarOver program files machine devices (suc done) sink
-TurnsOver program files machine devices done sink (turned.Over ending) =
-    (steps : ℕ) → done < steps → EndsOver program files steps machine devices sink ending
-TurnsOver program files machine devices done sink turned.Failed =
-    (steps : ℕ) → done < steps → BreaksOff program files steps sink
-TurnsOver program files machine devices done sink turned.WriteFault =
-    (steps : ℕ) → done < steps → BreaksWithin program files steps sink
-TurnsOver program files machine devices done sink turned.NoMemory =
-    (steps : ℕ) → done < steps → BreaksOff program files steps sink
-
--- what the steps of a run come to, its files being open yet
-abbrev pub StepsOver : Program → Files → ℕ → Machine → List Seen → SinkCall → Ran → Type 0
-StepsOver program files steps machine devices sink (ran.Ended ending) =
-    EndsOver program files steps machine devices sink ending
-StepsOver program files steps machine devices sink ran.Budget =
-    (world : World) × ((after program files steps).memory.world ≡ world)
-    × Stands program files steps Going sink × StandsOver machine devices world
-StepsOver program files steps machine devices sink (ran.DeviceFault name) =
-    BreaksOff program files steps sink
-StepsOver program files steps machine devices sink ran.WriteFault =
-    BreaksWithin program files steps sink
-StepsOver program files steps machine devices sink ran.NoMemory =
-    BreaksOff program files steps sink
+abbrev pub TurnsOver : Program → Files → Machine → (left : ℕ) → List Seen → ℕ → SinkCall → Turned →
+    Type 0
+TurnsOver program files machine left devices done sink turned.On =
+    SoFarOver program files machine (take left devices) (suc done) sink
+TurnsOver program files machine left devices done sink (turned.Over ending) =
+    (steps : ℕ) → done < steps →
+    EndsAt program files steps sink (OpenYet [] machine (take left devices)) ending
+TurnsOver program files machine left devices done sink turned.Failed =
+    (steps : ℕ) → done < steps → BreaksAt program files steps sink
+    (OpenYet (gone_by faults.Device left devices) machine (take left devices))
+TurnsOver program files machine left devices done sink turned.WriteFault =
+    (steps : ℕ) → done < steps →
+    CutAt program files steps sink (OpenYet [] machine (take left devices))
+TurnsOver program files machine left devices done sink turned.NoMemory =
+    (steps : ℕ) → done < steps →
+    BreaksAt program files steps sink (OpenYet [] machine (take left devices))
 
 -- ---- a run
 
--- the devices tell their files, which by the devices' names are these and no others
-pub record TellFiles (devices : List Seen) (files : Files) : Type 0 where
-  pub told : TellAll devices
+-- the devices that a program uses tell their files; those that are told are these by the devices'
+-- names, and no files are on a device that isn't there
+pub record TellFiles (program : Program) (devices : List Seen) (files : Files) : Type 0 where
+  pub told : TellUsed (addresses_of program.files) devices
   pub same : (name : List ℕ) → SameShelf (device_found name devices) (shelf_found name files)
 
--- a run over these files, and what it leaves on the devices
-abbrev pub RunsOver : Program → Files → ℕ → SinkCall → List Seen → Ran → Type 0
-RunsOver program files steps sink devices (ran.Ended ending) =
-    (left : Files) × Stands program files steps (Over (ending_seen ending left)) sink
-    × TellFiles devices left
-RunsOver program files steps sink devices ran.Budget =
-    Stands program files steps Going sink
-    × TellFiles devices (after program files steps).memory.world.shelves
-RunsOver program files steps sink devices (ran.DeviceFault name) =
-    BreaksOff program files steps sink
-RunsOver program files steps sink devices ran.WriteFault = BreaksWithin program files steps sink
-RunsOver program files steps sink devices ran.NoMemory = BreaksOff program files steps sink
+-- what the steps of a run come to, its files being open yet: what is left of the bench, and where
+-- the devices told their files what is left of the world
+pub record StepsEnd (machine machine_now : Machine) (steps : ℕ) (sink : SinkCall)
+    (left left_now : ℕ) (old new : List Seen) (came : Ran) : Type 0 where
+  pub gone : List (List ℕ)
+  pub bench : LeftOf (is_used (addresses_of machine.plan.program.now.files)) gone
+      left left_now old new
+  pub apart : AreShut gone (addresses_of machine.plan.program.now.files) machine_now.table.rows
+  pub names : Names came gone
+  pub files : (program : Program) (files : Files) → IsOwn program →
+      SoFarOver program files machine (take left old) 0 (begun_sink sink) →
+      ComesTo program files steps sink (OpenYet gone machine_now (take left_now new)) came
+
+-- the same where the files that were open are closed
+pub record FilesEnd (machine : Machine) (steps : ℕ) (sink : SinkCall) (left left_now : ℕ)
+    (old new : List Seen) (came : Ran) : Type 0 where
+  pub gone : List (List ℕ)
+  pub bench : LeftOf (is_used (addresses_of machine.plan.program.now.files)) gone
+      left left_now old new
+  pub names : Names came gone
+  pub files : (program : Program) (files : Files) → IsOwn program →
+      SoFarOver program files machine (take left old) 0 (begun_sink sink) →
+      ComesTo program files steps sink
+      (LeavesFiles (addresses_of machine.plan.program.now.files) gone (take left_now new)) came
+
+-- what a run comes to: what is left of the bench, and where the devices that the program uses told
+-- their files what is left of the world; its files that were open are closed
+pub record RunEnds (program : Program) (steps : ℕ) (sink : SinkCall) (left left_now : ℕ)
+    (old new : List Seen) (came : Ran) : Type 0 where
+  pub gone : List (List ℕ)
+  pub bench : LeftOf (is_used (addresses_of program.files)) gone left left_now old new
+  pub names : Names came gone
+  pub files : (files : Files) → IsOwn program → TellFiles program (take left old) files →
+      ComesTo program files steps sink
+      (LeavesFiles (addresses_of program.files) gone (take left_now new)) came

@@ -92,3 +92,7 @@ TurnsTo program machine done sink turned.NoMemory =
 abbrev pub since : Option (List ℕ) → ℕ → Option (List ℕ) → ℕ → SinkCall
 since held count now count_now =
     record { held = held; now = now; count = count; count_now = count_now }
+
+-- the sink at the start of a call
+abbrev pub begun_sink : SinkCall → SinkCall
+begun_sink sink = since sink.held sink.count sink.held sink.count

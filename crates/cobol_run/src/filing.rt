@@ -11,8 +11,9 @@ ghost use Rattle.control_flow_theory.specs.language.Control.{seen};
 ghost use Rattle.control_flow_theory.specs.language.Items.{Do};
 ghost use Rattle.cobol_run.specs.Filing.{StandsInNone};
 ghost use Rattle.cobol_run.specs.Frames.{rest_of};
-ghost use Rattle.cobol_run.specs.Over.{FiledOver, armed_rest};
+ghost use Rattle.cobol_run.specs.Over.{FiledBreaks, FiledOver, armed_rest};
 ghost use Rattle.cobol_run.specs.Plan.{declared_by, memory_in};
+ghost use Rattle.cobol_run.specs.Points.{stmt_operations};
 ghost use Rattle.cobol_run.specs.Ways.{KeepsPending};
 
 use crate::frame::Frame;
@@ -27,7 +28,7 @@ use file_model::operations::Watched;
 use file_model::{Bench, Device, FileTable};
 
 /// Whether a statement is one on files.
-#[tactic(auto, using(crate::proofs::FilingLemmas::opens_none, crate::proofs::FilingLemmas::closes_none, crate::proofs::FilingLemmas::read_none, crate::proofs::FilingLemmas::write_none, crate::proofs::FilingLemmas::rewrite_none))]
+#[tactic(auto, using(crate::proofs::FilingLemmas::filing_none))]
 pub fn is_filing(stmt: &Stmt) -> bool
     ensures of { result ≡ not (is_inner stmt.now) }
     ensures none { IsTrue result → StandsInNone stmt.now }
@@ -68,7 +69,7 @@ fn push_arm<'a>(frames: &mut Stack<Frame<'a>>, arms: &'a Arms, done: Done) -> Re
 }
 
 /// Does a statement on files; any other does nothing.
-#[tactic(auto, using(crate::proofs::FallLemmas::arm_asks_none))]
+#[tactic(auto, using(crate::proofs::FallLemmas::arm_asks_none, crate::proofs::FallLemmas::none_fell))]
 pub fn filed<'a>(
     plan: &Plan,
     frames: &mut Stack<Frame<'a>>,
@@ -77,9 +78,9 @@ pub fn filed<'a>(
     bench: &mut Bench,
     stmt: &'a Stmt,
 ) -> Result<Done, Fault>
-    ensures bench { DoneOver result bench.old.left bench.new.left
+    ensures bench { DoneOver result plan.now.program.now.files bench.old.left bench.new.left
         (map ⟦<Box<dyn Device> as Watched>⟧.seen bench.old.devices.items)
-        (map ⟦<Box<dyn Device> as Watched>⟧.seen bench.new.devices.items) }
+        (map ⟦<Box<dyn Device> as Watched>⟧.seen bench.new.devices.items) table.new.rows }
 
     // over devices that tell their files it does what is meant
     ensures over { (world : World) → is_inner stmt.now ≡ false → IsOver plan.now.program.now.files
@@ -89,6 +90,13 @@ pub fn filed<'a>(
         table.new.rows held.new.store frames.new
         (λ last. item_way (doing_in (declared_by plan.now)) (Do (seen last stmt.now))
         (rest_of last frames.old) (memory_in held.old.store world)) }
+    ensures breaks { (world : World) → is_inner stmt.now ≡ false →
+        IsOver plan.now.program.now.files
+        (take bench.old.left (map ⟦<Box<dyn Device> as Watched>⟧.seen bench.old.devices.items))
+        table.old.rows world → FiledBreaks result plan.now.program.now.files world
+        (λ last. stmt_operations (declared_by plan.now) (seen last stmt.now)
+        (memory_in held.old.store world)) bench.new.left
+        (map ⟦<Box<dyn Device> as Watched>⟧.seen bench.new.devices.items) table.new.rows }
     ensures pending { IfOk result (λ done. KeepsPending frames.old frames.new) }
 {
     let Held { store, scratch, .. } = held;

@@ -1,21 +1,22 @@
 //! A program as it runs, step by step.
 
-ghost use Rattle.std.specs.Prelude.{◌≡◌, ◌≢◌, ◌<◌, ◌^◌, [], List, IfOk, IfSome, None, false, length, map, take};
+ghost use Rattle.std.specs.Prelude.{◌≡◌, ◌≢◌, ◌<◌, ◌^◌, [], List, IfOk, IfSome, IsErr, Ok, None, false, length, map, take};
 ghost use Rattle.file_model.specs.World.{World};
 ghost use Rattle.cob_act.specs.Acting.{is_inner};
 ghost use Rattle.control_flow_theory.specs.semantics.Outcome.{Trace};
 ghost use Rattle.control_flow_theory.specs.semantics.Source as source;
 ghost use Rattle.cobol_theory.specs.cobol_meaning.Acting.{Memory};
-ghost use Rattle.control_flow_theory.specs.language.Control.{control_of};
+ghost use Rattle.control_flow_theory.specs.language.Control.{control_of, seen};
 ghost use Rattle.control_flow_theory.specs.language.Items.{Item};
 ghost use Rattle.cobol_run.specs.Falling.{StepFalls};
 ghost use Rattle.cobol_run.specs.Filing.{StandsInNone};
 ghost use Rattle.cobol_run.specs.Frames.{heads, last_in, last_of, pending_of, rest_of};
 ghost use Rattle.cobol_run.specs.Machine.{Follows, IsNumbered, ends_by, falls_by, goes_by, performs_by, rest_in, rests_by, state_in, state_with, steps_by};
 ghost use Rattle.cobol_run.specs.Own.{NoFiling, OwnState, StandsAlone};
-ghost use Rattle.cobol_run.specs.Over.{FollowsOver, StandsOver, step_done, stmt_meant};
+ghost use Rattle.cobol_run.specs.Over.{FollowsOver, StandsOver, StepBreaks, step_done, stmt_meant};
 ghost use Rattle.cobol_run.specs.Plain.{PlainState};
-ghost use Rattle.cobol_run.specs.Plan.{memory_in};
+ghost use Rattle.cobol_run.specs.Plan.{declared_by, memory_in};
+ghost use Rattle.cobol_run.specs.Points.{operations_in, stmt_operations};
 ghost use Rattle.cobol_run.specs.Ways.{KeepsPending, way_seen};
 
 use crate::filing::{filed, is_filing};
@@ -72,6 +73,17 @@ fn step_after(done: Done) -> Step
         Done::Went => Step::On,
         Done::Shown => Step::On,
         Done::Chose(_) => Step::On,
+    }
+}
+
+// What a statement on files that broke off comes to.
+fn step_broken(fault: Fault) -> Result<Step, NoMemory>
+    ensures device { fault ≡ Fault.Device → result ≡ Ok Step.Failed }
+    ensures memory { fault ≡ Fault.NoMemory → IsErr result }
+{
+    match fault {
+        Fault::Device => Ok(Step::Failed),
+        Fault::NoMemory => Err(NoMemory),
     }
 }
 
@@ -238,12 +250,20 @@ impl<'a> Machine<'a> {
             is_inner stmt.now ≡ false → StandsOver self.old (take bench.old.left
             (map ⟦<Box<dyn Device> as Watched>⟧.seen bench.old.devices.items)) world →
             FollowsOver step self.new (take bench.new.left
-            (map ⟦<Box<dyn Device> as Watched>⟧.seen bench.new.devices.items)) trace
+            (map ⟦<Box<dyn Device> as Watched>⟧.seen bench.new.devices.items)) world trace
             (goes_by self.old.plan (stmt_meant self.old stmt.now world)
             (state_with self.old rest (memory_in self.old.held.store world) trace))) }
-        ensures falls { IfOk result (λ step. StepFalls step bench.old.left bench.new.left
+        ensures falls { StepFalls result self.old.plan.program.now.files
+            bench.old.left bench.new.left
             (map ⟦<Box<dyn Device> as Watched>⟧.seen bench.old.devices.items)
-            (map ⟦<Box<dyn Device> as Watched>⟧.seen bench.new.devices.items)) }
+            (map ⟦<Box<dyn Device> as Watched>⟧.seen bench.new.devices.items)
+            self.new.table.rows }
+        ensures breaks { (world : World) → is_inner stmt.now ≡ false → StandsOver self.old
+            (take bench.old.left (map ⟦<Box<dyn Device> as Watched>⟧.seen bench.old.devices.items))
+            world → StepBreaks result self.new world (stmt_operations (declared_by self.old.plan)
+            (seen (last_of self.old.plan.program.now self.old.paragraph) stmt.now)
+            (memory_in self.old.held.store world)) bench.new.left
+            (map ⟦<Box<dyn Device> as Watched>⟧.seen bench.new.devices.items) }
         ensures plan { self.new.plan ≡ self.old.plan }
     {
         let done = filed(
@@ -256,8 +276,7 @@ impl<'a> Machine<'a> {
         );
         match done {
             Ok(done) => Ok(step_after(done)),
-            Err(Fault::Device) => Ok(Step::Failed),
-            Err(Fault::NoMemory) => Err(NoMemory),
+            Err(fault) => step_broken(fault),
         }
     }
 
@@ -305,11 +324,19 @@ impl<'a> Machine<'a> {
             OwnState (state_in self.old world trace) → StandsOver self.old (take bench.old.left
             (map ⟦<Box<dyn Device> as Watched>⟧.seen bench.old.devices.items)) world →
             FollowsOver step self.new (take bench.new.left
-            (map ⟦<Box<dyn Device> as Watched>⟧.seen bench.new.devices.items)) trace
+            (map ⟦<Box<dyn Device> as Watched>⟧.seen bench.new.devices.items)) world trace
             (steps_by self.old.plan (state_in self.old world trace))) }
-        ensures falls { IfOk result (λ step. StepFalls step bench.old.left bench.new.left
+        ensures falls { StepFalls result self.old.plan.program.now.files
+            bench.old.left bench.new.left
             (map ⟦<Box<dyn Device> as Watched>⟧.seen bench.old.devices.items)
-            (map ⟦<Box<dyn Device> as Watched>⟧.seen bench.new.devices.items)) }
+            (map ⟦<Box<dyn Device> as Watched>⟧.seen bench.new.devices.items)
+            self.new.table.rows }
+        ensures breaks { (world : World) (trace : Trace) →
+            OwnState (state_in self.old world trace) → StandsOver self.old
+            (take bench.old.left (map ⟦<Box<dyn Device> as Watched>⟧.seen bench.old.devices.items))
+            world → StepBreaks result self.new world (operations_in (declared_by self.old.plan)
+            (state_in self.old world trace)) bench.new.left
+            (map ⟦<Box<dyn Device> as Watched>⟧.seen bench.new.devices.items) }
         ensures plan { self.new.plan ≡ self.old.plan }
 
         // without statements on files the devices are left alone

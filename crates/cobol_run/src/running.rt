@@ -8,14 +8,12 @@ ghost use Rattle.cob_base.specs.Sink.{SinkCall, sink_call};
 ghost use Rattle.meanings.specs.statements.Does.{declared_in};
 ghost use Rattle.cobol_theory.specs.cobol_meaning.Runs.{Files, begun_in, world_with};
 ghost use Rattle.file_model.specs.Status.{closed_row};
-ghost use Rattle.file_model.specs.World.{World};
-ghost use Rattle.file_model.specs.operations.Calls.{addresses_of};
 ghost use Rattle.file_model.specs.operations.Seen.{Seen};
-ghost use Rattle.file_model.specs.operations.Standing.{Stands};
-ghost use Rattle.cobol_run.specs.Falling.{ClosesAll, NamesDevice, RunFalls, StepsFall, TurnFalls, breaks_off};
+ghost use Rattle.cobol_run.specs.declared.machine.Machine.{Machine};
+ghost use Rattle.cobol_run.specs.Falling.{NamesDevice, RunFalls, TurnFalls, breaks_off};
 ghost use Rattle.cobol_run.specs.Filing.{some_open};
 ghost use Rattle.cobol_run.specs.Machine.{state_in};
-ghost use Rattle.cobol_run.specs.Over.{RunsOver, SoFarOver, StepsOver, TellFiles, TurnsOver};
+ghost use Rattle.cobol_run.specs.Over.{FilesEnd, RunEnds, SoFarOver, StepsEnd, TurnsOver};
 ghost use Rattle.cobol_run.specs.Own.{IsOwn};
 ghost use Rattle.cobol_run.specs.Plain.{IsPlain};
 ghost use Rattle.cobol_run.specs.Plan.{declared_by};
@@ -116,15 +114,17 @@ fn make_turn<K: Sink>(machine: &mut Machine, bench: &mut Bench, out: &mut K) -> 
         (count : ℕ) → IsOwn program → SoFarOver program files machine.old (take bench.old.left
         (map ⟦<Box<dyn Device> as Watched>⟧.seen bench.old.devices.items)) done
         (since held count (K.held out.old) (K.faults out.old)) →
-        TurnsOver program files machine.new (take bench.new.left
-        (map ⟦<Box<dyn Device> as Watched>⟧.seen bench.new.devices.items)) done
+        TurnsOver program files machine.new bench.new.left
+        (map ⟦<Box<dyn Device> as Watched>⟧.seen bench.new.devices.items) done
         (since held count (K.held out.new) (K.faults out.new)) result }
     ensures cause { result ≡ Turned.WriteFault → Rose (K.faults out.old) (K.faults out.new) }
     ensures later { K.faults out.old ≤ K.faults out.new }
     ensures plan { machine.new.plan ≡ machine.old.plan }
-    ensures falls { TurnFalls result bench.old.left bench.new.left
+    ensures falls { TurnFalls result machine.old.plan.program.now.files
+        bench.old.left bench.new.left
         (map ⟦<Box<dyn Device> as Watched>⟧.seen bench.old.devices.items)
-        (map ⟦<Box<dyn Device> as Watched>⟧.seen bench.new.devices.items) }
+        (map ⟦<Box<dyn Device> as Watched>⟧.seen bench.new.devices.items)
+        machine.new.table.rows }
 
     // without statements on files the devices are left alone
     ensures kept { (program : Program) (done : ℕ) (sink : SinkCall) →
@@ -183,20 +183,15 @@ fn run_on<K: Sink>(
         SoFar program machine.old 0 (since (K.held out.old) (K.faults out.old)
         (K.held out.old) (K.faults out.old)) → IsPlain program → RunsAs program files steps
         (sink_call K.held K.faults out.old out.new) result }
-    ensures over { (program : Program) (files : Files) → IsOwn program →
-        SoFarOver program files machine.old (take bench.old.left
-        (map ⟦<Box<dyn Device> as Watched>⟧.seen bench.old.devices.items)) 0
-        (since (K.held out.old) (K.faults out.old) (K.held out.old) (K.faults out.old)) →
-        StepsOver program files steps machine.new (take bench.new.left
-        (map ⟦<Box<dyn Device> as Watched>⟧.seen bench.new.devices.items))
-        (sink_call K.held K.faults out.old out.new) result }
     ensures cause { result ≡ Ran.WriteFault → Rose (K.faults out.old) (K.faults out.new) }
+    ensures plan { machine.new.plan ≡ machine.old.plan }
     ensures kept { (program : Program) → SoFar program machine.old 0 (since (K.held out.old)
         (K.faults out.old) (K.held out.old) (K.faults out.old)) → IsPlain program →
         (bench.new ≡ bench.old) × (machine.new.table ≡ machine.old.table) }
-    ensures falls { StepsFall result bench.old.left bench.new.left
+    ensures ends { StepsEnd machine.old machine.new steps
+        (sink_call K.held K.faults out.old out.new) bench.old.left bench.new.left
         (map ⟦<Box<dyn Device> as Watched>⟧.seen bench.old.devices.items)
-        (map ⟦<Box<dyn Device> as Watched>⟧.seen bench.new.devices.items) }
+        (map ⟦<Box<dyn Device> as Watched>⟧.seen bench.new.devices.items) result }
 {
     let left = bench.left;
     for turn in 0..steps {
@@ -235,25 +230,12 @@ fn close_files(alloc: Global, machine: &mut Machine, bench: &mut Bench, ran: Ran
     ensures shut { some_open machine.old.table.rows ≡ false →
         (result ≡ ran) × (bench.new ≡ bench.old) }
     ensures cause { result ≡ Ran.WriteFault → ran ≡ Ran.WriteFault }
-    ensures falls { (left : ℕ) (old : List Seen) → StepsFall ran left bench.old.left old
-        (map ⟦<Box<dyn Device> as Watched>⟧.seen bench.old.devices.items) →
-        RunFalls result left bench.new.left old
-        (map ⟦<Box<dyn Device> as Watched>⟧.seen bench.new.devices.items) }
-    ensures world { let files = machine.old.plan.program.now.files in
-        length machine.old.table.rows ≡ length files → length files < 2 ^ 32 → (world : World) →
-        Stands (addresses_of files)
-        (take bench.old.left (map ⟦<Box<dyn Device> as Watched>⟧.seen bench.old.devices.items))
-        machine.old.table.rows world →
-        ClosesAll (addresses_of files)
-        (take bench.new.left (map ⟦<Box<dyn Device> as Watched>⟧.seen bench.new.devices.items))
-        machine.new.table.rows (length files) world }
-
-    // over devices that tell their files
-    ensures over { (program : Program) (files : Files) (steps : ℕ) (sink : SinkCall) →
-        StepsOver program files steps machine.old (take bench.old.left
-        (map ⟦<Box<dyn Device> as Watched>⟧.seen bench.old.devices.items)) sink ran →
-        RunsOver program files steps sink (take bench.new.left
-        (map ⟦<Box<dyn Device> as Watched>⟧.seen bench.new.devices.items)) result }
+    ensures ends { (start : Machine) (steps : ℕ) (sink : SinkCall) (left : ℕ) (old : List Seen) →
+        machine.old.plan ≡ start.plan → length start.plan.program.now.files < 2 ^ 32 →
+        StepsEnd start machine.old steps sink left bench.old.left old
+        (map ⟦<Box<dyn Device> as Watched>⟧.seen bench.old.devices.items) ran →
+        FilesEnd start steps sink left bench.new.left old
+        (map ⟦<Box<dyn Device> as Watched>⟧.seen bench.new.devices.items) result }
 {
     if !some_open(&machine.table) {
         return ran;
@@ -281,12 +263,12 @@ pub fn run<K: Sink>(
     ensures run { (files : Files) → IsPlain program.now → RunsAs program.now files steps
         (sink_call K.held K.faults out.old out.new) result }
 
-    // over devices that tell their files, which hold these
-    ensures over { (files : Files) → IsOwn program.now → TellFiles (take bench.old.left
-        (map ⟦<Box<dyn Device> as Watched>⟧.seen bench.old.devices.items)) files →
-        RunsOver program.now files steps (sink_call K.held K.faults out.old out.new)
-        (take bench.new.left
-        (map ⟦<Box<dyn Device> as Watched>⟧.seen bench.new.devices.items)) result }
+    // what is left of the bench; where the devices that the program uses tell their files, these are
+    // those of its run, and none that it opened is open
+    ensures ends { RunEnds program.now steps (sink_call K.held K.faults out.old out.new)
+        bench.old.left bench.new.left
+        (map ⟦<Box<dyn Device> as Watched>⟧.seen bench.old.devices.items)
+        (map ⟦<Box<dyn Device> as Watched>⟧.seen bench.new.devices.items) result }
     ensures cause { result ≡ Ran.WriteFault → Rose (K.faults out.old) (K.faults out.new) }
     ensures falls { RunFalls result bench.old.left bench.new.left
         (map ⟦<Box<dyn Device> as Watched>⟧.seen bench.old.devices.items)

@@ -89,7 +89,7 @@ kept_first files at file new there is = ap (slice_set files at) is ∙ set_same 
 
 gives_next : (name : List ℕ) (files : List MemFile) (at : ℕ) (file new : MemFile) (answer : Got) (old now : List ℕ) → IsFirst name files at → slice_get files at ≡ Some file →
     GivesNext file answer old now new → ReadsFrom name (Some file) files answer old now (Some (slice_set files at new))
-gives_next name files at file new (got.Bytes n) old now first there given = (given.0, given.1, ap Some (put_first name files at (read_on n) file new first there given.2))
+gives_next name files at file new (got.Bytes n) old now first there given = (given.0, given.1, ap Some (put_first name files at (read_on n) file new first there given.2), given.3)
 gives_next name files at file new got.End old now first there given = (given.0, ap Some (kept_first files at file new there given.1))
 gives_next name files at file new got.Failed old now first there given = ap Some (kept_first files at file new there given)
 

@@ -21,7 +21,7 @@ pub record IsFirst (name : List ℕ) (files : List MemFile) (at : ℕ) : Type 0 
 -- what a read makes of the file
 abbrev pub GivesNext : MemFile → Got → (old new : List ℕ) → MemFile → Type 0
 GivesNext file (got.Bytes n) old new now =
-    (n ≡ length (next_of (length old) file)) × (new ≡ next_of (length old) file ++ drop n old) ×
-    (now ≡ read_on n file)
+    (n ≡ length (next_of (length old) file)) × (new ≡ next_of (length old) file ++ drop n old)
+    × (now ≡ read_on n file) × (n ≡ 0 → length old ≡ 0)
 GivesNext file got.End old new now = (drop file.at file.bytes ≡ []) × (now ≡ file)
 GivesNext file got.Failed old new now = now ≡ file

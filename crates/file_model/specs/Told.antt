@@ -103,12 +103,12 @@ abbrev pub next_of : ℕ → MemFile → List ℕ
 next_of size file = take size (drop file.at file.bytes)
 
 -- the answer of READ on that file: as many bytes as there are and fit, or the end where none are
--- left
+-- left; no bytes come into an empty buffer alone
 abbrev pub Gives : List ℕ → MemFile → List MemFile → Got → (old new : List ℕ) →
     Option (List MemFile) → Type 0
 Gives name file files (got.Bytes n) old new now =
-    (n ≡ length (next_of (length old) file)) × (new ≡ next_of (length old) file ++ drop n old) ×
-    (now ≡ Some (changed name (read_on n) files))
+    (n ≡ length (next_of (length old) file)) × (new ≡ next_of (length old) file ++ drop n old)
+    × (now ≡ Some (changed name (read_on n) files)) × (n ≡ 0 → length old ≡ 0)
 Gives name file files got.End old new now = (drop file.at file.bytes ≡ []) × (now ≡ Some files)
 Gives name file files got.Failed old new now = now ≡ Some files
 

@@ -52,7 +52,7 @@ pub trait Device: Drop {
         ensures cause { Counts (open_fails result) (faults self.old) (faults self.new) };
 
     /// Puts what comes next of a file into the front of `into`, which stays as it was where nothing
-    /// comes.
+    /// comes. For an `into` that isn't empty the end comes exactly where nothing is left.
     fn read_next(&mut self, file: &[u8], into: &mut [u8]) -> Got
         ensures name { named self.new ≡ named self.old }
         ensures bound { GivesAtMost (length into.old) result }

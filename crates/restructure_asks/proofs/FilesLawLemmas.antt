@@ -1,5 +1,5 @@
 -- At most one end of a run over files is due, and what is due comes.
-use Rattle.std.proofs.Common.{◌≡◌, ℕ, List, Option, Some, None, refl, ap, sym, ◌∙◌, subst, inl, inr}
+use Rattle.std.proofs.Common.{◌≡◌, ℕ, List, take, Option, Some, None, refl, ap, sym, ◌∙◌, subst, inl, inr}
 use Rattle.cob_base.specs.Sink.{SinkCall}
 use Rattle.cob_tree.specs.declared.program.Program.{Program}
 use Rattle.file_model.specs.operations.Seen as desk
@@ -9,6 +9,7 @@ use Rattle.cobol_read.specs.Reading.{Reads}
 use Rattle.cobol_read.proofs.OneWay.{one_way}
 use Rattle.cobol_run.specs.Machine.{ending_seen}
 use Rattle.cobol_run.specs.Over.{TellFiles}
+use Rattle.cobol_run.specs.Points.{world_after}
 use Rattle.cobol_run.specs.declared.machine.Ending.{Ending}
 use Rattle.cobol_run.specs.declared.machine.Ending.TheVariants as ending
 use Rattle.cobol_run.specs.declared.running.Ran.TheVariants as ran
@@ -113,13 +114,13 @@ module _ (steps : ℕ) (bytes : List ℕ) (files : Files) (due : Option Refusal)
   refused-told rd.NoMemory notes answer h g = noted-over refusal.NoMemory due notes answer (no-memory-over due) g
   refused-told (rd.Fault fault) notes answer h g = due-noted (refusal.Refused (refused.NotSubset fault)) notes answer h (inr (inl refl)) g
 
-  module _ (old new : List desk.Seen) (tells : TellFiles old files) where
-    ends-in : (program : Program) (end : Ending) (out : SinkCall) → ComesOver bytes steps out old new (came.Ran program (ran.Ended end)) → EndsOnFiles bytes steps files program end
+  module _ (left left_now : ℕ) (old new : List desk.Seen) (tells : (program : Program) → Reads bytes program → TellFiles program (take left old) files) where
+    ends-in : (program : Program) (end : Ending) (out : SinkCall) → ComesOver bytes steps out left left_now old new (came.Ran program (ran.Ended end)) → EndsOnFiles bytes steps files program end
     ends-in program end out h =
-        let run = h.1 files tells in
-        (run.0, record { reads = h.0; stands = run.1.0 })
+        let run = h.2.files files h.1 (tells program h.0) in
+        ((world_after program files steps).shelves, record { reads = h.0; stands = run.0.0 })
 
-    came-told : (c : Came) (out notes : SinkCall) (answer : Status) → Comes bytes steps out c → ComesOver bytes steps out old new c → TellsCame (refusal_of steps c) notes answer → IsOneOf (statuses_over due) answer
+    came-told : (c : Came) (out notes : SinkCall) (answer : Status) → Comes bytes steps out c → ComesOver bytes steps out left left_now old new c → TellsCame (refusal_of steps c) notes answer → IsOneOf (statuses_over due) answer
     came-told (came.Ran program (ran.Ended ending.Stopped)) out notes answer h o g =
         subst (IsOneOf (statuses_over due)) (sym g.0) (done-comes program (ends-in program ending.Stopped out o))
     came-told (came.Ran program (ran.Ended (ending.Abended abend))) out notes answer h o g =
@@ -127,7 +128,7 @@ module _ (steps : ℕ) (bytes : List ℕ) (files : Files) (due : Option Refusal)
     came-told (came.Ran program (ran.Ended (ending.Faulted fault))) out notes answer h o g =
         due-noted (refusal.Fault program fault) notes answer (ends-in program (ending.Faulted fault) out o) (inr (inl refl)) g
     came-told (came.Ran program ran.Budget) out notes answer h o g =
-        due-noted (refusal.Budget steps) notes answer (refl, (program, record { reads = o.0; stands = (o.1 files tells).0.0 })) (inr (inl refl)) g
+        due-noted (refusal.Budget steps) notes answer (refl, (program, record { reads = o.0; stands = (o.2.files files o.1 (tells program o.0)).0.0 })) (inr (inl refl)) g
     came-told (came.Ran program (ran.DeviceFault name)) out notes answer h o g = noted-over (refusal.Device name) due notes answer (inl refl) g
     came-told (came.Ran program ran.WriteFault) out notes answer h o g =
         subst (IsOneOf (statuses_over due)) (sym g.0) (cut-comes steps bytes files program due h.0 is_due)
@@ -137,9 +138,9 @@ module _ (steps : ℕ) (bytes : List ℕ) (files : Files) (due : Option Refusal)
     came-told came.NoMemory out notes answer h o g = noted-over refusal.NoMemory due notes answer (no-memory-over due) g
 
 pub due-run-on-files : DueRunComesOnFiles
-due-run-on-files steps source out notes old new answer (inl h) bytes files due told tells is_due =
+due-run-on-files steps source out notes left left_now old new answer (inl h) bytes files due told tells is_due =
     let same : h.told.run.bytes ≡ bytes = sym (subst (λ t. Tells t h.told.run.bytes) told h.told.run.told) in
-    came-told steps bytes files due is_due old new tells h.told.came out notes answer
+    came-told steps bytes files due is_due left left_now old new tells h.told.came out notes answer
     (subst (λ b. Comes b steps out h.told.came) same h.told.run.comes)
-    (subst (λ b. ComesOver b steps out old new h.told.came) same h.over) h.told.told
-due-run-on-files steps source out notes old new answer (inr h) bytes files due told tells is_due = inr (unrun-comes due source out notes answer h)
+    (subst (λ b. ComesOver b steps out left left_now old new h.told.came) same h.over) h.told.told
+due-run-on-files steps source out notes left left_now old new answer (inr h) bytes files due told tells is_due = inr (unrun-comes due source out notes answer h)

@@ -21,7 +21,7 @@ use Rattle.restructure_asks.specs.declared.status.Status.TheVariants as status
 use Rattle.restructure_asks.specs.Reading.{IsRead, IsReadWithin, IsReadFault}
 use Rattle.restructure_asks.specs.Running.{IsRun, EndsOfRun, EndsOfRunWithFiles, TellsCame, refusal_of}
 use Rattle.cob_base.specs.giving.Giving.{Keeps}
-use Rattle.restructure_asks.specs.Writing.{Notes}
+use Rattle.restructure_asks.specs.Writing.{Notes, NotesOrNot}
 
 -- What came of the text that was read came of the bytes of the source.
 module _ (steps : ℕ) (source : SourceCall) (out : SinkCall) (text : List ℕ) (read : IsRead source text) where
@@ -45,19 +45,19 @@ module _ (steps : ℕ) (source : SourceCall) (out : SinkCall) (text : List ℕ) 
   pub told-run : (c : Came) (notes : SinkCall) (answer : Status) → Comes text steps out c → TellsCame (refusal_of steps c) notes answer → (IsWriteFault c → Rose out.count out.count_now) → EndsOfRun steps source out notes answer
   told-run c notes answer h told fault = inl (record { came = c; run = was-run c h; told = told; fault = fault })
 
-  pub over-run : (c : Came) (notes : SinkCall) (answer : Status) (old new : List Seen) → Comes text steps out c → ComesOver text steps out old new c → TellsCame (refusal_of steps c) notes answer → (IsWriteFault c → Rose out.count out.count_now) → EndsOfRunWithFiles steps source out notes old new answer
+  pub over-run : (c : Came) (notes : SinkCall) (answer : Status) (left left_now : ℕ) (old new : List Seen) → Comes text steps out c → ComesOver text steps out left left_now old new c → TellsCame (refusal_of steps c) notes answer → (IsWriteFault c → Rose out.count out.count_now) → EndsOfRunWithFiles steps source out notes left left_now old new answer
   unfolding run-of
-  over-run (came.Ran program ran) notes answer old new h over told fault =
+  over-run (came.Ran program ran) notes answer left left_now old new h over told fault =
       let c : Came = came.Ran program ran in
       let whole = whole-read read.bytes text read.front (short-read text program h.0) in
       inl (record {
         told = record { came = c; run = run-of c (subst (λ b. Comes b steps out c) whole h); told = told; fault = fault };
-        over = subst (λ b. ComesOver b steps out old new c) whole over;
+        over = subst (λ b. ComesOver b steps out left left_now old new c) whole over;
       })
-  over-run (came.Refused why) notes answer old new h over told fault =
-      inl (record { told = record { came = came.Refused why; run = was-run (came.Refused why) h; told = told; fault = fault }; over = tt })
-  over-run came.NoMemory notes answer old new h over told fault =
-      inl (record { told = record { came = came.NoMemory; run = was-run came.NoMemory h; told = told; fault = fault }; over = tt })
+  over-run (came.Refused why) notes answer left left_now old new h over told fault =
+      inl (record { told = record { came = came.Refused why; run = was-run (came.Refused why) h; told = told; fault = fault }; over = over })
+  over-run came.NoMemory notes answer left left_now old new h over told fault =
+      inl (record { told = record { came = came.NoMemory; run = was-run came.NoMemory h; told = told; fault = fault }; over = over })
 
 -- a source that failed, or for which memory was wanted, wasn't run
 pub unrun : (steps : ℕ) (source : SourceCall) (out notes : SinkCall) (r : Refusal) (answer : Status) → (r ≡ refusal.ReadFault) ⊎ (r ≡ refusal.NoMemory) → (r ≡ refusal.ReadFault → Rose source.count source.count_now) → IsReadWithin (max_source + 1) source → Keeps out → Notes r notes answer → EndsOfRun steps source out notes answer
@@ -79,6 +79,5 @@ told-refusal refusal.ReadFault notes answer other g = g
 told-refusal refusal.WriteFault notes answer other g = absurd (other refl)
 told-refusal refusal.NoMemory notes answer other g = g
 
-pub told-fault : (notes : SinkCall) (noted : Status) → Notes refusal.WriteFault notes noted → TellsCame (Some refusal.WriteFault) notes status.WriteFault
-told-fault notes noted (inl g) = (refl, inl g.1)
-told-fault notes noted (inr g) = (refl, inr g.1)
+pub told-fault : (notes : SinkCall) → NotesOrNot refusal.WriteFault notes → TellsCame (Some refusal.WriteFault) notes status.WriteFault
+told-fault notes noted = (refl, noted)

@@ -3,7 +3,7 @@ use Rattle.std.proofs.Common.{◌≡◌, ℕ, ◌-◌, List, Option, Some, None,
 use Rattle.cob_base.specs.Sink.{SinkCall}
 use Rattle.cob_base.specs.giving.Giving.{Takes, Keeps}
 use Rattle.cob_base.proofs.giving_lemmas.GivingLemmas.{call}
-use Rattle.restructure_asks.specs.Writing.{NotesLine, Notes, Writes}
+use Rattle.restructure_asks.specs.Writing.{NotesLine, NotesOrNot, Notes, Writes}
 use Rattle.restructure_asks.specs.declared.texts.Texts.{Texts}
 use Rattle.restructure_asks.specs.declared.refusal.Refusal.{Refusal}
 use Rattle.restructure_asks.specs.declared.refusal.Refusal.TheVariants as refusal
@@ -22,6 +22,10 @@ front-from bytes line held mid now count count_mid count_now h is same counts =
 pub line-noted : (r : Refusal) (line : List ℕ) (wanted : Status) (notes : SinkCall) (answer : Status) → line ≡ line_of r → wanted ≡ status_of r → NotesLine line wanted notes answer → Notes r notes answer
 line-noted r line wanted notes answer is same (inl h) = inl (h.0 ∙ same, subst (λ l. Takes l notes) is h.1)
 line-noted r line wanted notes answer is same (inr h) = inr (h.0, inr h.1)
+
+pub line-or-not : (r : Refusal) (line : List ℕ) (wanted : Status) (notes : SinkCall) (answer : Status) → line ≡ line_of r → NotesLine line wanted notes answer → NotesOrNot r notes
+line-or-not r line wanted notes answer is (inl h) = inl (subst (λ l. Takes l notes) is h.1)
+line-or-not r line wanted notes answer is (inr h) = inr h.1
 
 pub no-memory-noted : (r : Refusal) (notes : SinkCall) (answer : Status) → NotesLine (line_of refusal.NoMemory) status.NoMemory notes answer → Notes r notes answer
 no-memory-noted r notes answer (inl h) = inr (h.0, inl h.1)

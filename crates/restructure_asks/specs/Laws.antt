@@ -1,5 +1,5 @@
 -- What follows of how a call ends.
-use Rattle.std.specs.Prelude.{ℕ, ◌≡◌, ◌≤◌, ◌↔◌, ◌⊎◌, List, [], ◌∷◌, length, Option, Some, None, Ok, Err, codes}
+use Rattle.std.specs.Prelude.{ℕ, ◌≡◌, ◌≤◌, ◌↔◌, ◌⊎◌, List, [], ◌∷◌, length, take, Option, Some, None, Ok, Err, codes}
 use Rattle.cob_base.specs.Source.{SourceCall}
 use Rattle.cob_base.specs.Sink.{SinkCall}
 use Rattle.cob_tree.specs.declared.program.Program.{Program}
@@ -8,6 +8,7 @@ use Rattle.file_model.specs.operations.Seen.{Seen}
 use Rattle.cobol_theory.specs.cobol_meaning.Runs.{Files}
 use Rattle.cobol_run.specs.Over.{TellFiles}
 use Rattle.cob_base.specs.Limit.{max_source}
+use Rattle.cobol_read.specs.Reading.{Reads}
 use Rattle.restructure_core.specs.declared.fault.Refused.TheVariants as refused
 use Rattle.restructure_core.specs.Answers.{IsAccepted, IsFaultySource, IsResultText}
 use Rattle.restructure_asks.specs.declared.ask.Ask.{Ask}
@@ -136,14 +137,16 @@ OneRunIsDueOnFiles =
 abbrev pub statuses_over : Option Refusal → List Status
 statuses_over due = status.DeviceFault ∷ statuses_of_run due
 
--- where a source tells its bytes and the devices their files, a call to run ends as the run over
--- these files does, or with a fault of the outside or out of memory
+-- where a source tells its bytes, and the devices that its program uses their files, a call to run
+-- ends as the run over these files does, or with a fault of the outside or out of memory
 abbrev pub DueRunComesOnFiles : Type 0
 DueRunComesOnFiles =
-    (steps : ℕ) (source : SourceCall) (out notes : SinkCall) (old new : List Seen)
-    (answer : Status) → EndsWithFiles (Some (Run steps)) source out notes old new answer →
+    (steps : ℕ) (source : SourceCall) (out notes : SinkCall) (left left_now : ℕ)
+    (old new : List Seen) (answer : Status) →
+    EndsWithFiles (Some (Run steps)) source out notes left left_now old new answer →
     (bytes : List ℕ) (files : Files) (due : Option Refusal) → source.told ≡ Some bytes →
-    TellFiles old files → IsRunDueOnFiles steps bytes files due → IsOneOf (statuses_over due) answer
+    ((program : Program) → Reads bytes program → TellFiles program (take left old) files) →
+    IsRunDueOnFiles steps bytes files due → IsOneOf (statuses_over due) answer
 
 -- without an ask a call ends with USAGE or out of memory
 abbrev pub UsageComes : Type 0

@@ -30,7 +30,7 @@ use Rattle.restructure_asks.specs.declared.status.Status.TheVariants as status
 use Rattle.restructure_asks.specs.Reading.{Tells, left_after, IsReadWithin, IsReadFault}
 use Rattle.restructure_asks.specs.Refusal.{line_of, of_refused}
 use Rattle.cob_base.specs.giving.Giving.{Takes, Keeps}
-use Rattle.restructure_asks.specs.Writing.{Notes, NotesNoMemory}
+use Rattle.restructure_asks.specs.Writing.{Notes, NotesOrNot}
 
 -- the refusal of a source that isn't read
 abbrev pub unread : ReadRefusal → Refusal
@@ -107,10 +107,10 @@ IsRunDueOnFiles steps bytes files (Some (refusals.Budget most)) = (most ≡ step
     × ((program : Program) × StandsOnFiles bytes steps files program Going)
 IsRunDueOnFiles steps bytes files (Some _) = ⊥
 
--- the notes tell that the sink of a run failed, where there is room for it; the status does
+-- the notes tell that the sink of a run failed, or gain nothing; the status tells it
 abbrev pub TellsWriteFault : SinkCall → Status → Type 0
 TellsWriteFault notes answer =
-    (answer ≡ status.WriteFault) × (Takes (line_of refusals.WriteFault) notes ⊎ NotesNoMemory notes)
+    (answer ≡ status.WriteFault) × NotesOrNot refusals.WriteFault notes
 
 -- the status and the notes tell why the run didn't stop normally, or that it did
 abbrev pub TellsCame : Option Refusal → SinkCall → Status → Type 0
@@ -147,18 +147,19 @@ abbrev pub EndsOfRun : ℕ → SourceCall → SinkCall → SinkCall → Status �
 EndsOfRun steps source out notes answer =
     IsRunTold steps source out notes answer ⊎ IsUnrun source out notes answer
 
--- the same, and over whatever files the devices of the bench tell, the run does what its program
--- does there and leaves the files that it leaves; first the devices before, then those after
+-- the same, and what the run leaves of the bench, and of the files where the devices tell them that
+-- its program uses; first how many devices are on the bench before and after, then the devices
 pub record IsRunWithFiles (steps : ℕ) (source : SourceCall) (out notes : SinkCall)
-    (old new : List Seen) (answer : Status) : Type 0 where
+    (left left_now : ℕ) (old new : List Seen) (answer : Status) : Type 0 where
   pub told : IsRunTold steps source out notes answer
-  pub over : ComesOver told.run.bytes steps out old new told.came
+  pub over : ComesOver told.run.bytes steps out left left_now old new told.came
 
--- how such a call ends over devices that tell their files
-abbrev pub EndsOfRunWithFiles : ℕ → SourceCall → SinkCall → SinkCall → (old new : List Seen) → Status →
-    Type 0
-EndsOfRunWithFiles steps source out notes old new answer =
-    IsRunWithFiles steps source out notes old new answer ⊎ IsUnrun source out notes answer
+-- how such a call ends over the devices of a bench
+abbrev pub EndsOfRunWithFiles : ℕ → SourceCall → SinkCall → SinkCall → (left left_now : ℕ) →
+    (old new : List Seen) → Status → Type 0
+EndsOfRunWithFiles steps source out notes left left_now old new answer =
+    IsRunWithFiles steps source out notes left left_now old new answer
+    ⊎ IsUnrun source out notes answer
 
 -- a device failed and is gone from the bench, and its name was noted
 pub record IsDeviceTold (notes : SinkCall) (left left_now : ℕ) (old new : List Seen) : Type 0 where

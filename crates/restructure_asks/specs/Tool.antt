@@ -1,5 +1,5 @@
 -- How a call of the top call ends: the answer that is due was given, or why it wasn't.
-use Rattle.std.specs.Prelude.{◌≡◌, List, Option, Some, None, Ok, Err}
+use Rattle.std.specs.Prelude.{ℕ, ◌≡◌, List, Option, Some, None, Ok, Err}
 use Rattle.cob_base.specs.Source.{SourceCall}
 use Rattle.cob_base.specs.Sink.{SinkCall}
 use Rattle.file_model.specs.operations.Seen.{Seen}
@@ -80,12 +80,12 @@ Ends (Some (Generate n)) source out notes answer =
 Ends (Some (Trial n)) source out notes answer =
     EndsOfText (Some (Trial n)) source out notes answer
 
--- how a call ends over the devices of a bench, before and after, by its ask: only a run asks them
-abbrev pub EndsWithFiles : Option Ask → SourceCall → SinkCall → SinkCall → (old new : List Seen) →
-    Status → Type 0
-EndsWithFiles (Some (Run steps)) source out notes old new answer =
-    EndsOfRunWithFiles steps source out notes old new answer
-EndsWithFiles _ source out notes old new answer = Unit {0}
+-- how a call ends over the devices of a bench, by its ask: only a run asks them
+abbrev pub EndsWithFiles : Option Ask → SourceCall → SinkCall → SinkCall → (left left_now : ℕ) →
+    (old new : List Seen) → Status → Type 0
+EndsWithFiles (Some (Run steps)) source out notes left left_now old new answer =
+    EndsOfRunWithFiles steps source out notes left left_now old new answer
+EndsWithFiles _ source out notes left left_now old new answer = Unit {0}
 
 -- how a call ends that leaves the source as it was, whatever the source
 abbrev pub EndsUnread : Option Ask → SinkCall → SinkCall → Status → Type 0

@@ -25,6 +25,10 @@ Notes refusal notes answer =
     ((answer ≡ status_of refusal) × Takes (line_of refusal) notes)
     ⊎ ((answer ≡ status.NoMemory) × NotesNoMemory notes)
 
+-- the line of the refusal went to the notes, or nothing did
+abbrev pub NotesOrNot : Refusal → SinkCall → Type 0
+NotesOrNot refusal notes = Takes (line_of refusal) notes ⊎ Keeps notes
+
 -- the notes gained the report, where there is one, and nothing else
 abbrev pub GainsReport : Option (List ℕ) → SinkCall → Type 0
 GainsReport None notes = Keeps notes

@@ -8,7 +8,7 @@
 //! `restructure_tool`: that calls succeed where memory is ample.
 #![tactic(auto)]
 
-ghost use Rattle.std.specs.Prelude.{◌≡◌, false, map, string_bytes, take};
+ghost use Rattle.std.specs.Prelude.{◌≡◌, false, map, string_bytes};
 ghost use Rattle.cob_base.specs.Source.{source_call};
 ghost use Rattle.cob_base.specs.Sink.{sink_call};
 ghost use Rattle.restructure_asks.specs.Ask.{ask_of as asked, is_run, reads};
@@ -65,15 +65,15 @@ pub fn tool<S: Source, K: Sink, N: Sink>(
         (sink_call K.held K.faults out.old out.new)
         (sink_call N.held N.faults notes.old notes.new) result }
 
-    // over devices that tell their files, a run does there what its program does
+    // what a run leaves of the bench, and of the files where the devices tell them that its program
+    // uses; those that it opened are closed
     ensures over { EndsWithFiles (asked (map string_bytes words.now))
         (source_call S.left S.faults source.old source.new)
         (sink_call K.held K.faults out.old out.new)
         (sink_call N.held N.faults notes.old notes.new)
-        (take bench.old.left
-        (map ⟦<Box<dyn Device> as Watched>⟧.seen bench.old.devices.items))
-        (take bench.new.left
-        (map ⟦<Box<dyn Device> as Watched>⟧.seen bench.new.devices.items)) result }
+        bench.old.left bench.new.left
+        (map ⟦<Box<dyn Device> as Watched>⟧.seen bench.old.devices.items)
+        (map ⟦<Box<dyn Device> as Watched>⟧.seen bench.new.devices.items) result }
 
     // a device that is told as failed did fail, and is gone from the bench
     ensures devices { result ≡ Status.DeviceFault → IsDeviceTold

@@ -1,6 +1,6 @@
 //! The ask to run a source.
 
-ghost use Rattle.std.specs.Prelude.{◌≡◌, map, take};
+ghost use Rattle.std.specs.Prelude.{◌≡◌, map};
 ghost use Rattle.cob_base.specs.Source.{source_call};
 ghost use Rattle.cob_base.specs.Sink.{sink_call};
 ghost use Rattle.restructure_asks.specs.Running.{EndsOfRun, EndsOfRunWithFiles, IsDeviceTold, TellsCame, refusal_of};
@@ -9,7 +9,7 @@ ghost use Rattle.restructure_asks.specs.Running as runs;
 use crate::reading::read_source;
 use crate::refusal::Refusal;
 use crate::status::Status;
-use crate::writing::note;
+use crate::writing::{note, note_if_room};
 use cob_base::{Sink, Source};
 use cob_tree::Program;
 use cobol_read::ReadRefusal;
@@ -38,10 +38,9 @@ pub fn answer_run<S: Source, K: Sink, N: Sink>(
         (source_call S.left S.faults source.old source.new)
         (sink_call K.held K.faults out.old out.new)
         (sink_call N.held N.faults notes.old notes.new)
-        (take bench.old.left
-        (map ⟦<Box<dyn Device> as Watched>⟧.seen bench.old.devices.items))
-        (take bench.new.left
-        (map ⟦<Box<dyn Device> as Watched>⟧.seen bench.new.devices.items)) result }
+        bench.old.left bench.new.left
+        (map ⟦<Box<dyn Device> as Watched>⟧.seen bench.old.devices.items)
+        (map ⟦<Box<dyn Device> as Watched>⟧.seen bench.new.devices.items) result }
     ensures devices { result ≡ Status.DeviceFault → IsDeviceTold
         (sink_call N.held N.faults notes.old notes.new) bench.old.left bench.new.left
         (map ⟦<Box<dyn Device> as Watched>⟧.seen bench.old.devices.items)
@@ -67,15 +66,15 @@ fn tell<N: Sink>(alloc: Global, steps: u64, came: Came, notes: &mut N) -> Status
     }
 }
 
-// Notes why a run didn't stop by itself. At a write fault of the sink the status says so, whatever
-// becomes of the notes.
+// Notes why a run didn't stop by itself. At a write fault of the sink the status says so, and the
+// notes say that or nothing.
 fn tell_why<N: Sink>(alloc: Global, refusal: &Refusal, notes: &mut N) -> Status
     ensures { TellsCame (Some refusal.now)
         (sink_call N.held N.faults notes.old notes.new) result }
 {
     match refusal {
         Refusal::WriteFault => {
-            let _ = note(alloc, refusal, notes);
+            note_if_room(alloc, refusal, notes);
             Status::WriteFault
         }
         _ => note(alloc, refusal, notes),

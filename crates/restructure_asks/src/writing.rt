@@ -2,7 +2,7 @@
 
 ghost use Rattle.cob_base.specs.Sink.{sink_call};
 ghost use Rattle.restructure_asks.specs.Texts.{text_alone, with_report};
-ghost use Rattle.restructure_asks.specs.Writing.{Writes, IsGiven, Notes, NotesLine};
+ghost use Rattle.restructure_asks.specs.Writing.{Writes, IsGiven, Notes, NotesLine, NotesOrNot};
 
 use crate::refusal::Refusal;
 use crate::status::Status;
@@ -104,6 +104,15 @@ pub fn note<N: Sink>(alloc: Global, refusal: &Refusal, notes: &mut N) -> Status
     match refusal.line(alloc) {
         Ok(line) => note_line(line.as_slice(), refusal.status(), notes),
         Err(NoMemory) => note_line(b"NO MEMORY\n", Status::NoMemory, notes),
+    }
+}
+
+/// Writes the line of a refusal, or nothing where there is no room for it.
+pub fn note_if_room<N: Sink>(alloc: Global, refusal: &Refusal, notes: &mut N)
+    ensures { NotesOrNot refusal.now (sink_call N.held N.faults notes.old notes.new) }
+{
+    if let Ok(line) = refusal.line(alloc) {
+        let _ = note_line(line.as_slice(), refusal.status(), notes);
     }
 }
 

@@ -125,3 +125,7 @@ pub refused_unread : (bytes : List ℕ) (why : ReadRefusal) (refusal : Refused) 
     refusal ≡ of_read_refusal why → reading.HasCause bytes why → HasCause bytes refusal
 refused_unread bytes why refusal is h =
     subst (HasCause bytes) (sym is) (of-unread bytes why h)
+
+-- lemmas that are named together
+pub ruleset refusals_answer = (refused_unread, refused_flow, refused_by_trail, refused_later)
+pub ruleset splits_answer = (split_answer, past_answer, unsplit_answer)

@@ -77,7 +77,7 @@ pub fn check(alloc: Global, bytes: &[u8]) -> Result<Report, Refused>
 }
 
 // The same, by what each answer tells.
-#[tactic(auto, using(crate::proofs::ReadSome::read_some, crate::proofs::Answering::refused_unread, crate::proofs::Answering::refused_flow, crate::proofs::Answering::refused_by_trail, crate::proofs::Answering::refused_later))]
+#[tactic(auto, using(crate::proofs::ReadSome::read_some, crate::proofs::Answering::refusals_answer))]
 fn restructured(alloc: Global, bytes: &[u8]) -> Result<Done, Refused>
     ensures done { IfOk result (IsRestructured bytes.now) }
     ensures refused { IfErr result (HasCause bytes.now) }
@@ -96,7 +96,7 @@ fn restructured(alloc: Global, bytes: &[u8]) -> Result<Done, Refused>
 }
 
 /// The text of what a program without a fault of flow is split into, and its report.
-#[tactic(auto, using(crate::proofs::Answering::split_answer, crate::proofs::Answering::past_answer, crate::proofs::Answering::unsplit_answer))]
+#[tactic(auto, using(crate::proofs::Answering::splits_answer))]
 fn restructure_program(alloc: Global, program: &Program, summary: &Summary) -> Result<Done, Refused>
     requires flow { HasFlow program.now summary.now }
     requires clear { IsClear program.now summary.now }

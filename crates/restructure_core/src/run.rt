@@ -7,7 +7,7 @@
 //! to (ISO 1989:1985). Over devices that tell their files `ComesOver` says what the run of each
 //! program comes to.
 
-ghost use Rattle.std.specs.Prelude.{◌≤◌, map, take, vec_len};
+ghost use Rattle.std.specs.Prelude.{◌≤◌, map, vec_len};
 ghost use Rattle.cob_base.specs.Faults.{Rose};
 ghost use Rattle.cob_base.specs.Sink.{sink_call};
 ghost use Rattle.restructure_core.specs.run.Answers.{CameFalls, CameOf, CameOver, Comes, ComesOver, IsWriteFault};
@@ -33,7 +33,11 @@ pub enum Came {
 
 /// Reads a source and runs its program over a bench for at most so many steps. What it displays
 /// goes to `out`, which is made ready before each display. Both stay as they are where nothing ran.
-#[tactic(auto, using(crate::proofs::run_lemmas::AnswerLemmas::comes_of, crate::proofs::run_lemmas::AnswerLemmas::comes_over, file_model::proofs::operations_lemmas::FallLemmas::same_bench))]
+<<<<<<< ours
+#[tactic(auto, using(crate::proofs::run_lemmas::AnswerLemmas::comes_of, crate::proofs::run_lemmas::AnswerLemmas::comes_over))]
+=======
+#[tactic(auto, using(crate::proofs::run_lemmas::AnswerLemmas::runs_answer, file_model::proofs::operations_lemmas::FallLemmas::same_bench))]
+>>>>>>> theirs
 pub fn run_source<K: Sink>(
     alloc: Global,
     bytes: &[u8],
@@ -44,10 +48,9 @@ pub fn run_source<K: Sink>(
     requires within { bench.old.left ≤ vec_len bench.old.devices }
     ensures came { Comes bytes.now steps (sink_call K.held K.faults out.old out.new) result }
     ensures over { ComesOver bytes.now steps (sink_call K.held K.faults out.old out.new)
-        (take bench.old.left
-        (map ⟦<Box<dyn Device> as Watched>⟧.seen bench.old.devices.items))
-        (take bench.new.left
-        (map ⟦<Box<dyn Device> as Watched>⟧.seen bench.new.devices.items)) result }
+        bench.old.left bench.new.left
+        (map ⟦<Box<dyn Device> as Watched>⟧.seen bench.old.devices.items)
+        (map ⟦<Box<dyn Device> as Watched>⟧.seen bench.new.devices.items) result }
     ensures cause { IsWriteFault result → Rose (K.faults out.old) (K.faults out.new) }
     ensures falls { CameFalls result bench.old.left bench.new.left
         (map ⟦<Box<dyn Device> as Watched>⟧.seen bench.old.devices.items)
@@ -69,10 +72,9 @@ fn run_program<K: Sink>(
 ) -> Came
     ensures came { CameOf program steps (sink_call K.held K.faults out.old out.new) result }
     ensures over { CameOver program steps (sink_call K.held K.faults out.old out.new)
-        (take bench.old.left
-        (map ⟦<Box<dyn Device> as Watched>⟧.seen bench.old.devices.items))
-        (take bench.new.left
-        (map ⟦<Box<dyn Device> as Watched>⟧.seen bench.new.devices.items)) result }
+        bench.old.left bench.new.left
+        (map ⟦<Box<dyn Device> as Watched>⟧.seen bench.old.devices.items)
+        (map ⟦<Box<dyn Device> as Watched>⟧.seen bench.new.devices.items) result }
     ensures cause { IsWriteFault result → Rose (K.faults out.old) (K.faults out.new) }
     ensures falls { CameFalls result bench.old.left bench.new.left
         (map ⟦<Box<dyn Device> as Watched>⟧.seen bench.old.devices.items)

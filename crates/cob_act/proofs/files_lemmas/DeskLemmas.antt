@@ -13,12 +13,16 @@ use Rattle.meanings.specs.statements.Filing.{address_by}
 use Rattle.file_model.specs.declared.operations.tried.Tried.{Tried}
 use Rattle.file_model.specs.declared.operations.tried.Tried.TheVariants as tried
 use Rattle.file_model.specs.operations.Seen.{Seen, device_found}
-use Rattle.file_model.specs.operations.Standing.{IsTold, Stands, row_of, without}
-use Rattle.file_model.specs.operations.Calls.{Comes, Leaves, addresses_of}
-use Rattle.file_model.proofs.operations_lemmas.TellLemmas.{found_told, leaves_told}
+use Rattle.file_model.specs.operations.Standing.{IsTold, Stands, row_of}
+use Rattle.file_model.specs.operations.Calls.{Comes, Leaves, Notes, addresses_of}
+use Rattle.file_model.specs.operations.Shutting.{StandsLeft}
+use Rattle.file_model.proofs.operations_lemmas.FallLemmas.{off_named}
+use Rattle.file_model.proofs.operations_lemmas.ShutLemmas.{left_standing, left_without}
+use Rattle.file_model.proofs.operations_lemmas.TellLemmas.{kept_told}
 use Rattle.cob_act.specs.declared.files.fault.Fault.{Fault}
+use Rattle.cob_act.specs.declared.files.fault.Fault.TheVariants as faults
 use Rattle.cob_act.specs.files.Ends.{answered}
-use Rattle.cob_act.specs.files.Over.{IsOver, Tries}
+use Rattle.cob_act.specs.files.Over.{BrokeIn, IsOver, Stays, Tries}
 
 -- ---- a file of the program
 
@@ -29,15 +33,17 @@ file_address (entry ∷ files) (suc file) within = file_address files file (omeg
 
 comes_tries : (files : List FileEntry) (answer : Tried) (name : List ℕ) (left left_now : ℕ) (old new : List Seen) (table now : List FileRow) (world : World) (attempt : Attempt) → length now ≡ length table → IsOver files (take left old) table world →
     Leaves answer name left left_now old new → Comes answer (addresses_of files) name (take left_now new) now world attempt → Tries files (answered answer) attempt (take left_now new) now
-comes_tries files answer name left left_now old new table now world attempt many over leaves comes = go answer leaves comes
-  where
-    here : (answer : Tried) (later : World) → Leaves answer name left left_now old new → Stands (addresses_of files) (take left_now new) now later → IsOver files (take left_now new) now later
-    here answer later leaves stands = record { rows = many ∙ over.rows; few = over.few; told = leaves_told answer name left left_now old new leaves over.told; stands = stands }
-
-    go : (answer : Tried) → Leaves answer name left left_now old new → Comes answer (addresses_of files) name (take left_now new) now world attempt → Tries files (answered answer) attempt (take left_now new) now
-    go (tried.Status status) leaves comes = (comes.0, here (tried.Status status) attempt.world leaves comes.1)
-    go tried.Failed leaves comes = let later : World = without name (device_found name (take left_now new)) (addresses_of files) world in (later, here tried.Failed later leaves comes)
-    go tried.NoMemory leaves comes = (world, here tried.NoMemory world leaves comes)
+comes_tries files (tried.Status status) name left left_now old new table now world attempt many over leaves comes = (
+  comes.0,
+  record {
+    rows = many ∙ over.rows;
+    few = over.few;
+    told = λ file address here. kept_told name address.device left left_now old new leaves (over.told file address here);
+    stands = comes.1;
+  },
+)
+comes_tries files tried.Failed name left left_now old new table now world attempt many over leaves comes = tt
+comes_tries files tried.NoMemory name left left_now old new table now world attempt many over leaves comes = tt
 
 -- what such an operation comes to, by what the devices say of it
 pub tried_over : (files : List FileEntry) (file : ℕ) (result : Result ℕ Fault) (answer : Tried) (left left_now : ℕ) (old new : List Seen) (table now : List FileRow) (world : World) (attempt : Address → Attempt) → file < length files → result ≡ answered answer → length now ≡ length table →
@@ -48,7 +54,7 @@ tried_over files file result answer left left_now old new table now world attemp
     let address : Address = address_by (slice_get files file) in
     let here : slice_get (addresses_of files) file ≡ Some address = file_address files file within in
     subst (λ (r : Result ℕ Fault). Tries files r (attempt address) (take left_now new) now) (sym is)
-    (comes_tries files answer address.device left left_now old new table now world (attempt address) many over (leaves address here) (comes address here over.stands (found_told address.device (take left old) over.told)))
+    (comes_tries files answer address.device left left_now old new table now world (attempt address) many over (leaves address here) (comes address here over.stands (over.told file address here)))
 
 status_came : (answer : Tried) → Ok 0 ≡ answered answer → answer ≡ tried.Status 0
 status_came tried.Failed e = cc
@@ -61,7 +67,8 @@ pub record_came : (files : List FileEntry) (file : ℕ) (result : Result ℕ Fau
     IsOver files (take left old) table world → result ≡ Ok 0 → into ≡ (attempt (address_by (slice_get files file))).bytes
 record_came files file result answer left old table world into attempt within is given over came =
     let address : Address = address_by (slice_get files file) in
-    given address (file_address files file within) over.stands (found_told address.device (take left old) over.told) (status_came answer (sym came ∙ is))
+    let here : slice_get (addresses_of files) file ≡ Some address = file_address files file within in
+    given address here over.stands (over.told file address here) (status_came answer (sym came ∙ is))
 
 -- ---- a file that the program hasn't
 
@@ -120,3 +127,38 @@ pub past_opened : (files : List FileEntry) (devices : List Seen) (table : List F
 past_opened files devices table world file mode past over =
     past_tries files devices table world file 30 (opened_at world (addresses_of files) file (address_by (slice_get files file)) mode) past over
     (opened_past files world file mode past (states_end files devices table world file over past))
+
+-- ---- an operation that breaks off
+
+many_addresses : (files : List FileEntry) → length (addresses_of files) ≡ length files
+many_addresses files = simp length-map
+
+-- the devices stand as they did
+pub over_left : (files : List FileEntry) (left : ℕ) (devices : List Seen) (table : List FileRow) (world : World) → IsOver files (take left devices) table world → BrokeIn faults.NoMemory files world left devices table
+over_left files left devices table world over = left_standing (addresses_of files) (take left devices) table world (over.rows ∙ sym (many_addresses files)) over.stands
+
+comes_stays : (files : List FileEntry) (address : Address) (answer : Tried) (file left left_now : ℕ) (old new : List Seen) (table now : List FileRow) (world : World) (attempt : Attempt) → IsOver files (take left old) table world →
+    Leaves answer address.device left left_now old new → Notes answer file address.device (addresses_of files) table now → Comes answer (addresses_of files) address.device (take left_now new) now world attempt → Stays (answered answer) files world left_now new now
+comes_stays files address (tried.Status status) file left left_now old new table now world attempt over leaves notes comes = tt
+comes_stays files address tried.Failed file left left_now old new table now world attempt over leaves notes comes =
+    subst (λ (name : List ℕ). StandsLeft (addresses_of files) (name ∷ []) (take left_now new) now world) (sym (off_named address.device left left_now old new leaves))
+    (left_without address.device (addresses_of files) (take left old) (take left_now new) table now world (over.rows ∙ sym (many_addresses files)) over.stands notes comes)
+comes_stays files address tried.NoMemory file left left_now old new table now world attempt over leaves notes comes =
+    left_standing (addresses_of files) (take left_now new) now world (ap length notes ∙ over.rows ∙ sym (many_addresses files)) comes
+
+pub stays_over : (files : List FileEntry) (file : ℕ) (result : Result ℕ Fault) (answer : Tried) (left left_now : ℕ) (old new : List Seen) (table now : List FileRow) (world : World) (attempt : Address → Attempt) → file < length files → result ≡ answered answer →
+    ((address : Address) → slice_get (addresses_of files) file ≡ Some address → Leaves answer address.device left left_now old new) →
+    ((address : Address) → slice_get (addresses_of files) file ≡ Some address → Notes answer file address.device (addresses_of files) table now) →
+    ((address : Address) → slice_get (addresses_of files) file ≡ Some address → Stands (addresses_of files) (take left old) table world → IsTold (device_found address.device (take left old)) → Comes answer (addresses_of files) address.device (take left_now new) now world (attempt address)) →
+    IsOver files (take left old) table world → Stays result files world left_now new now
+stays_over files file result answer left left_now old new table now world attempt within is leaves notes comes over =
+    let address : Address = address_by (slice_get files file) in
+    let here : slice_get (addresses_of files) file ≡ Some address = file_address files file within in
+    subst (λ (r : Result ℕ Fault). Stays r files world left_now new now) (sym is)
+    (comes_stays files address answer file left left_now old new table now world (attempt address) over (leaves address here) (notes address here) (comes address here over.stands (over.told file address here)))
+
+-- as it was asked for
+pub stays_listed : {A : Type 0} (result : Result A Fault) (listed program : List FileEntry) (devices : List Seen) (table : List FileRow) (world : World) (left : ℕ) (new : List Seen) (now : List FileRow) → listed ≡ program →
+    (IsOver listed devices table world → Stays result listed world left new now) → IsOver program devices table world → Stays result program world left new now
+stays_listed result listed program devices table world left new now is stays over =
+    subst (λ (l : List FileEntry). IsOver l devices table world → Stays result l world left new now) is stays over

@@ -1,5 +1,5 @@
 -- A statement that does the same for each of some files, one after the other.
-use Rattle.std.proofs.Common.{◌≡◌, ◌∙◌, ◌<◌, ◌+◌, sym, subst, suc, ℕ, arith, drop, drop-cons, get_or, length, List, [], ◌∷◌, ◌++◌, Ok, refl, ap, append_assoc}
+use Rattle.std.proofs.Common.{◌≡◌, ◌∙◌, ◌<◌, ◌+◌, sym, subst, suc, ℕ, arith, drop, drop-cons, get_or, length, List, [], ◌∷◌, ◌++◌, take, Ok, Err, refl, ap, append_assoc}
 use Rattle.std.proofs.lemmas.List.{append-nil}
 use Rattle.cob_tree.specs.declared.ending.Abend.{Abend}
 use Rattle.cob_tree.specs.declared.file.FileEntry.{FileEntry}
@@ -10,7 +10,8 @@ use Rattle.meanings.specs.statements.Filing.{Effect, Operation, after, each_file
 use Rattle.cob_act.specs.declared.acting.Done.{Done}
 use Rattle.cob_act.specs.declared.acting.Done.TheVariants.{Went, Abended}
 use Rattle.file_model.specs.operations.Seen.{Seen}
-use Rattle.cob_act.specs.files.Over.{Did, IsOver}
+use Rattle.cob_act.specs.declared.files.fault.Fault.{Fault}
+use Rattle.cob_act.specs.files.Over.{BreaksIn, BrokeIn, Did, IsOver, world_behind}
 use Rattle.cob_act.proofs.files_lemmas.EffectLemmas.{WentOn, goes_on, last_after, stops}
 
 -- some operations were done, and these files are left
@@ -84,3 +85,20 @@ pub each_stops : {A : Type 0} (does : Roots → World → A → Effect) (program
 each_stops does program whole world items at item store devices table done abend store_now devices_now table_now within so is did =
     begun_stops does program whole world (drop at items) (get_or items at item) (drop (suc at) items) store devices table abend store_now devices_now table_now so (drop-cons items at item within)
     (subst (λ (d : Done). Did program (Ok d) (last_world world so.operations) (does store (last_world world so.operations) (get_or items at item)) store_now devices_now table_now) is did)
+
+-- ---- one that broke off
+
+front : {A : Type 0} (xs ys : List A) → take (length xs) (xs ++ ys) ≡ xs
+front [] [] = refl
+front [] (y ∷ ys) = refl
+front (x ∷ xs) ys = ap (λ l. x ∷ l) (front xs ys)
+
+-- behind those that were done
+pub each_breaks : {A : Type 0} (does : Roots → World → A → Effect) (program : List FileEntry) (whole : Effect) (world : World) (items : List A) (store : Roots) (devices : List Seen) (table : List FileRow) (fault : Fault) (left_now : ℕ) (devices_now : List Seen) (table_now : List FileRow) →
+    (so : Begun does program whole world items store devices table) → BrokeIn fault program (last_world world so.operations) left_now devices_now table_now → BreaksIn {A = Done} (Err fault) program world whole left_now devices_now table_now
+each_breaks does program whole world items store devices table fault left_now devices_now table_now so broke = (
+  length so.operations,
+  subst (λ (w : World). BrokeIn fault program w left_now devices_now table_now)
+      (sym (ap (λ (e : Effect). world_behind (length so.operations) world e.operations) so.same ∙ ap (last_world world) (front so.operations (each_file does store (last_world world so.operations) items).operations)))
+      broke,
+)

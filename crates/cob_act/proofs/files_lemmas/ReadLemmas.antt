@@ -1,5 +1,5 @@
 -- READ, from its operation, its record and what follows its status.
-use Rattle.std.proofs.Common.{◌≡◌, ◌∙◌, sym, subst, ℕ, ◌==◌, ◌-◌, Bool, true, false, ◌&&◌, List, ◌++◌, length, take, replicate, Option, Result, slice_get, Ok, Err, refl, ap, if◌then◌else◌, arith, eqb-true, ◌≤◌}
+use Rattle.std.proofs.Common.{◌≡◌, ◌∙◌, sym, subst, ℕ, ◌==◌, ◌-◌, Bool, true, false, ◌&&◌, List, [], ◌∷◌, ◌++◌, length, take, replicate, Option, Result, slice_get, Ok, Err, refl, ap, if◌then◌else◌, arith, eqb-true, ◌≤◌}
 use Rattle.std.proofs.lemmas.List.{append-nil, take_all}
 use Rattle.cob_tree.specs.declared.ending.Abend.{Abend}
 use Rattle.cob_tree.specs.declared.file.FileEntry.{FileEntry}
@@ -15,8 +15,10 @@ use Rattle.cob_act.specs.declared.acting.Done.{Done}
 use Rattle.cob_act.specs.declared.acting.Done.TheVariants.{Abended}
 use Rattle.file_model.specs.operations.Seen.{Seen}
 use Rattle.cob_act.specs.declared.files.fault.Fault.{Fault}
+use Rattle.cob_act.specs.declared.files.fault.Fault.TheVariants as faults
 use Rattle.cob_act.specs.files.Ends.{ended_as}
-use Rattle.cob_act.specs.files.Over.{Did, EndsAs, IsOver, Tries, read_then}
+use Rattle.cob_act.specs.files.Over.{BreaksIn, BrokeIn, Did, EndsAs, IsOver, Tries, read_then, world_behind}
+use Rattle.cob_act.proofs.files_lemmas.DeskLemmas.{over_left}
 use Rattle.cob_act.proofs.files_lemmas.EffectLemmas.{WentOn, ended_by, goes_on, missed_to, reached_to, settled_did, stops, tried_at}
 
 -- ---- the record
@@ -119,3 +121,29 @@ read_went declared program file place at_end arms before mid between store attem
     subst (λ (e : Effect). Did program (Ok done) world e store devices table)
     (sym (read_is declared file place at_end arms before attempt item is ∙ both_go (attempt.status == 0) first attempt.world effect (came declared file place arms) (none_came arms) other did.0))
     (last_now.end, last_now.same, subst (λ (ops : List Operation). IsOver program devices table (last_world world (effect.operations ++ ops))) (sym last_now.none) tries.1)
+
+-- ---- what breaks off
+
+behind_none : (world : World) (operations : List Operation) → world_behind 0 world operations ≡ world
+behind_none world [] = refl
+behind_none world (operation ∷ operations) = refl
+
+-- nothing was done
+pub nothing_done : (fault : Fault) (program : List FileEntry) (world : World) (effect : Effect) (left : ℕ) (devices : List Seen) (table : List FileRow) → BrokeIn fault program world left devices table → BreaksIn {A = Done} (Err fault) program world effect left devices table
+nothing_done fault program world effect left devices table broke =
+    (0, subst (λ (w : World). BrokeIn fault program w left devices table) (sym (behind_none world effect.operations)) broke)
+
+-- the record came, and what follows the status wanted memory
+pub record_came_first : (declared : Declared) (program : List FileEntry) (file : ℕ) (place : Option Place) (at_end arms : Bool) (before mid between : Roots) (attempt : Attempt) (item : Option Spot) (status : ℕ) (first : Done) (world : World) (left : ℕ) (devices : List Seen) (table : List FileRow) →
+    Ok item ≡ status_spot declared before (status_place declared file) → Tries program (Ok status) attempt (take left devices) table → mid ≡ record_put declared file before attempt → ended_as first ≡ ended_by (at_end && status == 10) item status → between ≡ with_status mid item status →
+    WentOn first → BreaksIn {A = Done} (Err faults.NoMemory) program world (read_by declared before file place at_end arms attempt) left devices table
+record_came_first declared program file place at_end arms before mid between attempt item status first world left devices table is tries put ends same other =
+    let effect : Effect = settled_with declared file at_end before attempt item in
+    let did : Did program (Ok first) world effect between (take left devices) table = first_did declared program file at_end before mid between attempt item status first world (take left devices) table tries put ends same in
+    let behind : Effect = if attempt.status == 0 then came declared file place arms effect.store else none_came arms effect.store in (
+      1,
+      subst (λ (w : World). BrokeIn faults.NoMemory program w left devices table)
+          (sym (ap (λ (e : Effect). world_behind 1 world e.operations) (read_is declared file place at_end arms before attempt item is ∙ both_go (attempt.status == 0) first attempt.world effect (came declared file place arms) (none_came arms) other did.0)
+          ∙ behind_none attempt.world behind.operations))
+          (over_left program left devices table attempt.world tries.1),
+    )

@@ -1,5 +1,8 @@
 -- How a statement on files ended, as the code answers it.
-use Rattle.std.specs.Prelude.{ℕ, List, Result, Ok, Err}
+use Rattle.std.specs.Prelude.{ℕ, List, [], ◌∷◌, Result, Ok, Err}
+use Rattle.cob_tree.specs.declared.file.FileEntry.{FileEntry}
+use Rattle.file_model.specs.declared.table.FileRow.{FileRow}
+use Rattle.file_model.specs.operations.Calls.{addresses_of}
 use Rattle.meanings.specs.statements.Filing.{Ended}
 use Rattle.meanings.specs.statements.Filing as files
 use Rattle.cob_act.specs.declared.acting.Done.{Done}
@@ -7,7 +10,7 @@ use Rattle.cob_act.specs.declared.acting.Done.TheVariants.{Went, Shown, Chose, A
 use Rattle.file_model.specs.declared.operations.tried.Tried.{Tried}
 use Rattle.file_model.specs.declared.operations.tried.Tried.TheVariants as tried
 use Rattle.file_model.specs.operations.Seen.{Seen}
-use Rattle.file_model.specs.operations.Falling.{FellOff, SameBench}
+use Rattle.file_model.specs.operations.Falling.{AreShut, LeftOf, is_used, name_behind}
 use Rattle.cob_act.specs.declared.files.fault.Fault.{Fault}
 use Rattle.cob_act.specs.declared.files.fault.Fault.TheVariants as faults
 
@@ -26,13 +29,22 @@ answered tried.NoMemory = Err faults.NoMemory
 
 -- ---- the bench then
 
--- it broke off: a device failed and is gone, or none did
-abbrev pub BrokeOver : Fault → (left left_now : ℕ) → (old new : List Seen) → Type 0
-BrokeOver faults.Device left left_now old new = FellOff left left_now old new
-BrokeOver faults.NoMemory left left_now old new = SameBench left left_now old new
+-- the names of the devices that failed: the one that stands right behind the bench, or none
+abbrev pub gone_by : Fault → ℕ → List Seen → List (List ℕ)
+gone_by faults.Device left devices = name_behind left devices ∷ []
+gone_by faults.NoMemory left devices = []
+
+-- it broke off: a device failed, on which no file is open now, or none did
+abbrev pub BrokeOver : Fault → List FileEntry → (left left_now : ℕ) → (old new : List Seen) →
+    List FileRow → Type 0
+BrokeOver fault files left left_now old new table =
+    LeftOf (is_used (addresses_of files)) (gone_by fault left_now new) left left_now old new
+    × AreShut (gone_by fault left_now new) (addresses_of files) table
 
 -- where it was done no device failed
-abbrev pub DoneOver : {A : Type 0} → Result A Fault → (left left_now : ℕ) → (old new : List Seen) →
-    Type 0
-DoneOver (Ok a) left left_now old new = SameBench left left_now old new
-DoneOver (Err fault) left left_now old new = BrokeOver fault left left_now old new
+abbrev pub DoneOver : {A : Type 0} → Result A Fault → List FileEntry → (left left_now : ℕ) →
+    (old new : List Seen) → List FileRow → Type 0
+DoneOver (Ok a) files left left_now old new table =
+    LeftOf (is_used (addresses_of files)) [] left left_now old new
+DoneOver (Err fault) files left left_now old new table =
+    BrokeOver fault files left left_now old new table

@@ -1,5 +1,6 @@
--- What a statement on files makes of a world that stands over devices which tell their files.
-use Rattle.std.specs.Prelude.{ℕ, ◌≡◌, ◌<◌, ◌^◌, ◌==◌, Bool, if◌then◌else◌, List, [], length, Option, Result, Ok, Err, IfOk, slice_get}
+-- What a statement on files makes of a world that stands over devices, where those that it may use
+-- tell their files.
+use Rattle.std.specs.Prelude.{ℕ, ◌≡◌, ◌<◌, ◌^◌, ◌==◌, Bool, if◌then◌else◌, List, [], length, take, Option, Result, Ok, Err, IfOk, slice_get}
 use Rattle.cob_tree.specs.declared.place.Place.{Place}
 use Rattle.cob_tree.specs.declared.file.FileEntry.{FileEntry}
 use Rattle.cob_store.specs.declared.spot.Spot.{Spot}
@@ -8,40 +9,62 @@ use Rattle.cob_store.specs.Store.{Roots}
 use Rattle.file_model.specs.declared.table.FileRow.{FileRow}
 use Rattle.file_model.specs.Attempts.{Attempt}
 use Rattle.file_model.specs.World.{World}
-use Rattle.meanings.specs.statements.Filing.{Chose, Declared, Effect, Went, entry_bytes, file_of, into, last_world, no_effect, status_place, status_spot}
+use Rattle.meanings.specs.statements.Filing.{Chose, Declared, Effect, Operation, Went, entry_bytes, file_of, into, last_world, no_effect, status_place, status_spot}
 use Rattle.meanings.specs.statements.Outcome.{Outcome}
 use Rattle.cob_act.specs.declared.acting.Done.{Done}
 use Rattle.file_model.specs.operations.Calls.{addresses_of}
 use Rattle.file_model.specs.operations.Seen.{Seen}
-use Rattle.file_model.specs.operations.Standing.{Stands, TellAll}
-use Rattle.cob_act.specs.files.Ends.{ended_as}
+use Rattle.file_model.specs.operations.Standing.{Stands, TellUsed}
+use Rattle.file_model.specs.operations.Shutting.{StandsLeft}
+use Rattle.cob_act.specs.files.Ends.{ended_as, gone_by}
 use Rattle.cob_act.specs.declared.files.fault.Fault.{Fault}
 
--- the devices tell their files, and the files of a program stand over them in a world
+-- the devices that the files of a program use tell their files, and the files of the program stand
+-- over them in a world
 pub record IsOver (files : List FileEntry) (devices : List Seen) (table : List FileRow)
     (world : World) : Type 0 where
   pub rows : length table ≡ length files
   pub few : length files < 2 ^ 32
-  pub told : TellAll devices
+  pub told : TellUsed (addresses_of files) devices
   pub stands : Stands (addresses_of files) devices table world
 
--- it broke off over some world
-abbrev pub BrokeIn : List FileEntry → List Seen → List FileRow → Type 0
-BrokeIn files devices table = (now : World) × IsOver files devices table now
-
--- an operation has the status of the attempt, in its world, or broke off
+-- an operation has the status of the attempt, in its world
 abbrev pub Tries : List FileEntry → Result ℕ Fault → Attempt → List Seen → List FileRow → Type 0
 Tries files (Ok status) attempt devices table =
     (status ≡ attempt.status) × IsOver files devices table attempt.world
-Tries files (Err fault) attempt devices table = BrokeIn files devices table
+Tries files (Err fault) attempt devices table = Unit {0}
 
--- a statement had that effect in a world, or broke off
+-- a statement had that effect in a world
 abbrev pub Did : List FileEntry → Result Done Fault → World → Effect → Roots → List Seen →
     List FileRow → Type 0
 Did files (Ok done) world effect store devices table =
     (ended_as done ≡ effect.end) × (store ≡ effect.store)
     × IsOver files devices table (last_world world effect.operations)
-Did files (Err fault) world effect store devices table = BrokeIn files devices table
+Did files (Err fault) world effect store devices table = Unit {0}
+
+-- ---- what breaks off
+
+-- the devices that are left have the files of the world, and what is open in it still is
+abbrev pub BrokeIn : Fault → List FileEntry → World → (left : ℕ) → List Seen → List FileRow → Type 0
+BrokeIn fault files world left devices table =
+    StandsLeft (addresses_of files) (gone_by fault left devices) (take left devices) table world
+
+-- an operation that breaks off leaves the world as it was
+abbrev pub Stays : {A : Type 0} → Result A Fault → List FileEntry → World → (left : ℕ) →
+    List Seen → List FileRow → Type 0
+Stays (Ok a) files world left devices table = Unit {0}
+Stays (Err fault) files world left devices table = BrokeIn fault files world left devices table
+
+-- the world after so many of these operations
+abbrev pub world_behind : ℕ → World → List Operation → World
+world_behind some world operations = last_world world (take some operations)
+
+-- a statement that breaks off leaves the world after its first operations, so many
+abbrev pub BreaksIn : {A : Type 0} → Result A Fault → List FileEntry → World → Effect →
+    (left : ℕ) → List Seen → List FileRow → Type 0
+BreaksIn (Ok a) files world effect left devices table = Unit {0}
+BreaksIn (Err fault) files world effect left devices table = (some : ℕ)
+    × BrokeIn fault files (world_behind some world effect.operations) left devices table
 
 -- ---- parts that ask no device
 

@@ -7,7 +7,7 @@ ghost use Rattle.file_model.specs.World.{World};
 ghost use Rattle.meanings.specs.statements.Does.{declared_with};
 ghost use Rattle.meanings.specs.statements.Filing.{Chose, Went, address_by, each_file, from_by, opened, read, rewritten, shut, written};
 ghost use Rattle.cob_act.specs.files.Ends.{DoneOver, ended_as};
-ghost use Rattle.cob_act.specs.files.Over.{Did, EndsAs, IsOver, PutsOut, Tries, read_then};
+ghost use Rattle.cob_act.specs.files.Over.{BreaksIn, Did, EndsAs, IsOver, PutsOut, Stays, Tries, read_then};
 
 use crate::Done;
 use crate::files::desk::{close, open, read, rewrite, write};
@@ -21,6 +21,7 @@ use file_model::operations::Watched;
 use file_model::{Bench, Device, FileTable};
 
 // OPEN of one file.
+#[tactic(auto, using(crate::proofs::files_lemmas::BenchLemmas::done_listed, crate::proofs::files_lemmas::BenchLemmas::none_asked, crate::proofs::files_lemmas::DeskLemmas::stays_listed))]
 fn opened(
     program: &Program,
     areas: &Areas,
@@ -29,9 +30,9 @@ fn opened(
     table: &mut FileTable,
     opening: Opening,
 ) -> Result<Done, Fault>
-    ensures bench { DoneOver result bench.old.left bench.new.left
+    ensures bench { DoneOver result program.now.files bench.old.left bench.new.left
         (map ⟦<Box<dyn Device> as Watched>⟧.seen bench.old.devices.items)
-        (map ⟦<Box<dyn Device> as Watched>⟧.seen bench.new.devices.items) }
+        (map ⟦<Box<dyn Device> as Watched>⟧.seen bench.new.devices.items) table.new.rows }
     ensures does { (world : World) → IsOver program.now.files
         (take bench.old.left (map ⟦<Box<dyn Device> as Watched>⟧.seen bench.old.devices.items))
         table.old.rows world →
@@ -40,6 +41,11 @@ fn opened(
         store.new
         (take bench.new.left (map ⟦<Box<dyn Device> as Watched>⟧.seen bench.new.devices.items))
         table.new.rows }
+    ensures breaks { (world : World) → IsOver program.now.files
+        (take bench.old.left (map ⟦<Box<dyn Device> as Watched>⟧.seen bench.old.devices.items))
+        table.old.rows world →
+        Stays result program.now.files world bench.new.left
+        (map ⟦<Box<dyn Device> as Watched>⟧.seen bench.new.devices.items) table.new.rows }
 {
     match status_spot(program, areas, store, opening.file) {
         Err(abend) => Ok(Done::Abended(abend)),
@@ -51,7 +57,6 @@ fn opened(
 }
 
 /// OPEN: each file in turn, up to one that ends the run.
-#[tactic(auto, using(crate::proofs::files_lemmas::BenchLemmas::broke_after))]
 pub fn all_opened(
     program: &Program,
     areas: &Areas,
@@ -61,9 +66,9 @@ pub fn all_opened(
     openings: &[Opening],
 ) -> Result<Done, Fault>
     requires within { bench.old.left ≤ vec_len bench.old.devices }
-    ensures bench { DoneOver result bench.old.left bench.new.left
+    ensures bench { DoneOver result program.now.files bench.old.left bench.new.left
         (map ⟦<Box<dyn Device> as Watched>⟧.seen bench.old.devices.items)
-        (map ⟦<Box<dyn Device> as Watched>⟧.seen bench.new.devices.items) }
+        (map ⟦<Box<dyn Device> as Watched>⟧.seen bench.new.devices.items) table.new.rows }
     ensures does { (world : World) → IsOver program.now.files
         (take bench.old.left (map ⟦<Box<dyn Device> as Watched>⟧.seen bench.old.devices.items))
         table.old.rows world →
@@ -72,6 +77,13 @@ pub fn all_opened(
         store.new
         (take bench.new.left (map ⟦<Box<dyn Device> as Watched>⟧.seen bench.new.devices.items))
         table.new.rows }
+    ensures breaks { (world : World) → IsOver program.now.files
+        (take bench.old.left (map ⟦<Box<dyn Device> as Watched>⟧.seen bench.old.devices.items))
+        table.old.rows world →
+        BreaksIn result program.now.files world
+        (each_file (opened (declared_with program.now areas.now)) store.old world openings.now)
+        bench.new.left
+        (map ⟦<Box<dyn Device> as Watched>⟧.seen bench.new.devices.items) table.new.rows }
 {
     for opening in openings {
         if let Done::Abended(abend) = opened(program, areas, store, bench, table, *opening)? {
@@ -82,6 +94,7 @@ pub fn all_opened(
 }
 
 // CLOSE of one file.
+#[tactic(auto, using(crate::proofs::files_lemmas::BenchLemmas::done_listed, crate::proofs::files_lemmas::BenchLemmas::none_asked, crate::proofs::files_lemmas::DeskLemmas::stays_listed))]
 fn shut(
     program: &Program,
     areas: &Areas,
@@ -90,9 +103,9 @@ fn shut(
     table: &mut FileTable,
     file: u32,
 ) -> Result<Done, Fault>
-    ensures bench { DoneOver result bench.old.left bench.new.left
+    ensures bench { DoneOver result program.now.files bench.old.left bench.new.left
         (map ⟦<Box<dyn Device> as Watched>⟧.seen bench.old.devices.items)
-        (map ⟦<Box<dyn Device> as Watched>⟧.seen bench.new.devices.items) }
+        (map ⟦<Box<dyn Device> as Watched>⟧.seen bench.new.devices.items) table.new.rows }
     ensures does { (world : World) → IsOver program.now.files
         (take bench.old.left (map ⟦<Box<dyn Device> as Watched>⟧.seen bench.old.devices.items))
         table.old.rows world →
@@ -101,6 +114,11 @@ fn shut(
         store.new
         (take bench.new.left (map ⟦<Box<dyn Device> as Watched>⟧.seen bench.new.devices.items))
         table.new.rows }
+    ensures breaks { (world : World) → IsOver program.now.files
+        (take bench.old.left (map ⟦<Box<dyn Device> as Watched>⟧.seen bench.old.devices.items))
+        table.old.rows world →
+        Stays result program.now.files world bench.new.left
+        (map ⟦<Box<dyn Device> as Watched>⟧.seen bench.new.devices.items) table.new.rows }
 {
     match status_spot(program, areas, store, file) {
         Err(abend) => Ok(Done::Abended(abend)),
@@ -112,7 +130,6 @@ fn shut(
 }
 
 /// CLOSE: each file in turn, up to one that ends the run.
-#[tactic(auto, using(crate::proofs::files_lemmas::BenchLemmas::broke_after))]
 pub fn all_shut(
     program: &Program,
     areas: &Areas,
@@ -122,9 +139,9 @@ pub fn all_shut(
     files: &[u32],
 ) -> Result<Done, Fault>
     requires within { bench.old.left ≤ vec_len bench.old.devices }
-    ensures bench { DoneOver result bench.old.left bench.new.left
+    ensures bench { DoneOver result program.now.files bench.old.left bench.new.left
         (map ⟦<Box<dyn Device> as Watched>⟧.seen bench.old.devices.items)
-        (map ⟦<Box<dyn Device> as Watched>⟧.seen bench.new.devices.items) }
+        (map ⟦<Box<dyn Device> as Watched>⟧.seen bench.new.devices.items) table.new.rows }
     ensures does { (world : World) → IsOver program.now.files
         (take bench.old.left (map ⟦<Box<dyn Device> as Watched>⟧.seen bench.old.devices.items))
         table.old.rows world →
@@ -133,6 +150,13 @@ pub fn all_shut(
         store.new
         (take bench.new.left (map ⟦<Box<dyn Device> as Watched>⟧.seen bench.new.devices.items))
         table.new.rows }
+    ensures breaks { (world : World) → IsOver program.now.files
+        (take bench.old.left (map ⟦<Box<dyn Device> as Watched>⟧.seen bench.old.devices.items))
+        table.old.rows world →
+        BreaksIn result program.now.files world
+        (each_file (shut (declared_with program.now areas.now)) store.old world files.now)
+        bench.new.left
+        (map ⟦<Box<dyn Device> as Watched>⟧.seen bench.new.devices.items) table.new.rows }
 {
     for file in files {
         if let Done::Abended(abend) = shut(program, areas, store, bench, table, *file)? {
@@ -208,9 +232,9 @@ fn next_record(
     scratch: &mut Vec<u8>,
     size: usize,
 ) -> Result<u8, Fault>
-    ensures bench { DoneOver result bench.old.left bench.new.left
+    ensures bench { DoneOver result files.now bench.old.left bench.new.left
         (map ⟦<Box<dyn Device> as Watched>⟧.seen bench.old.devices.items)
-        (map ⟦<Box<dyn Device> as Watched>⟧.seen bench.new.devices.items) }
+        (map ⟦<Box<dyn Device> as Watched>⟧.seen bench.new.devices.items) table.new.rows }
     ensures does { (world : World) → IsOver files.now
         (take bench.old.left (map ⟦<Box<dyn Device> as Watched>⟧.seen bench.old.devices.items))
         table.old.rows world →
@@ -223,6 +247,11 @@ fn next_record(
         table.old.rows world → result ≡ Ok 0 → scratch.new.items
         ≡ (read_at world file (address_by (slice_get files.now file)) size).bytes }
     ensures room { IfOk result (λ status. length scratch.new.items ≡ size) }
+    ensures breaks { (world : World) → IsOver files.now
+        (take bench.old.left (map ⟦<Box<dyn Device> as Watched>⟧.seen bench.old.devices.items))
+        table.old.rows world →
+        Stays result files.now world bench.new.left
+        (map ⟦<Box<dyn Device> as Watched>⟧.seen bench.new.devices.items) table.new.rows }
 {
     make_room(scratch, size)?;
     let status = read(bench, table, files, file, scratch.as_mut_slice())?;
@@ -237,6 +266,7 @@ fn is_cared(at_end: bool, status: u8) -> bool
 }
 
 /// READ. It chooses arm 1 at the end, and 2 where a record came.
+#[tactic(auto, using(crate::proofs::files_lemmas::BenchLemmas::done_listed, crate::proofs::files_lemmas::BenchLemmas::none_asked))]
 pub fn read_one(
     program: &Program,
     areas: &Areas,
@@ -247,9 +277,9 @@ pub fn read_one(
     reading: Reading,
 ) -> Result<Done, Fault>
     requires within { bench.old.left ≤ vec_len bench.old.devices }
-    ensures bench { DoneOver result bench.old.left bench.new.left
+    ensures bench { DoneOver result program.now.files bench.old.left bench.new.left
         (map ⟦<Box<dyn Device> as Watched>⟧.seen bench.old.devices.items)
-        (map ⟦<Box<dyn Device> as Watched>⟧.seen bench.new.devices.items) }
+        (map ⟦<Box<dyn Device> as Watched>⟧.seen bench.new.devices.items) table.new.rows }
     ensures does { (world : World) → IsOver program.now.files
         (take bench.old.left (map ⟦<Box<dyn Device> as Watched>⟧.seen bench.old.devices.items))
         table.old.rows world →
@@ -259,6 +289,14 @@ pub fn read_one(
         store.new
         (take bench.new.left (map ⟦<Box<dyn Device> as Watched>⟧.seen bench.new.devices.items))
         table.new.rows }
+    ensures breaks { (world : World) → IsOver program.now.files
+        (take bench.old.left (map ⟦<Box<dyn Device> as Watched>⟧.seen bench.old.devices.items))
+        table.old.rows world →
+        BreaksIn result program.now.files world
+        (read (declared_with program.now areas.now) store.old world reading.entry.file
+        (option_copied reading.entry.into) reading.entry.at_end reading.entry.arms)
+        bench.new.left
+        (map ⟦<Box<dyn Device> as Watched>⟧.seen bench.new.devices.items) table.new.rows }
 {
     let item = match status_spot(program, areas, store, reading.file) {
         Err(abend) => return Ok(Done::Abended(abend)),
@@ -305,6 +343,7 @@ fn put_out(
 }
 
 /// WRITE.
+#[tactic(auto, using(crate::proofs::files_lemmas::BenchLemmas::done_listed, crate::proofs::files_lemmas::BenchLemmas::none_asked))]
 pub fn written(
     program: &Program,
     areas: &Areas,
@@ -316,9 +355,9 @@ pub fn written(
     from: Option<&Operand>,
 ) -> Result<Done, Fault>
     requires within { bench.old.left ≤ vec_len bench.old.devices }
-    ensures bench { DoneOver result bench.old.left bench.new.left
+    ensures bench { DoneOver result program.now.files bench.old.left bench.new.left
         (map ⟦<Box<dyn Device> as Watched>⟧.seen bench.old.devices.items)
-        (map ⟦<Box<dyn Device> as Watched>⟧.seen bench.new.devices.items) }
+        (map ⟦<Box<dyn Device> as Watched>⟧.seen bench.new.devices.items) table.new.rows }
     ensures does { (world : World) → IsOver program.now.files
         (take bench.old.left (map ⟦<Box<dyn Device> as Watched>⟧.seen bench.old.devices.items))
         table.old.rows world →
@@ -328,6 +367,14 @@ pub fn written(
         store.new
         (take bench.new.left (map ⟦<Box<dyn Device> as Watched>⟧.seen bench.new.devices.items))
         table.new.rows }
+    ensures breaks { (world : World) → IsOver program.now.files
+        (take bench.old.left (map ⟦<Box<dyn Device> as Watched>⟧.seen bench.old.devices.items))
+        table.old.rows world →
+        BreaksIn result program.now.files world
+        (written (declared_with program.now areas.now) store.old world entry
+        (option_copied from.entry))
+        bench.new.left
+        (map ⟦<Box<dyn Device> as Watched>⟧.seen bench.new.devices.items) table.new.rows }
 {
     match put_out(program, areas, store, scratch, entry, from)? {
         Err(abend) => Ok(Done::Abended(abend)),
@@ -341,6 +388,7 @@ pub fn written(
 }
 
 /// REWRITE.
+#[tactic(auto, using(crate::proofs::files_lemmas::BenchLemmas::done_listed, crate::proofs::files_lemmas::BenchLemmas::none_asked))]
 pub fn rewritten(
     program: &Program,
     areas: &Areas,
@@ -352,9 +400,9 @@ pub fn rewritten(
     from: Option<&Operand>,
 ) -> Result<Done, Fault>
     requires within { bench.old.left ≤ vec_len bench.old.devices }
-    ensures bench { DoneOver result bench.old.left bench.new.left
+    ensures bench { DoneOver result program.now.files bench.old.left bench.new.left
         (map ⟦<Box<dyn Device> as Watched>⟧.seen bench.old.devices.items)
-        (map ⟦<Box<dyn Device> as Watched>⟧.seen bench.new.devices.items) }
+        (map ⟦<Box<dyn Device> as Watched>⟧.seen bench.new.devices.items) table.new.rows }
     ensures does { (world : World) → IsOver program.now.files
         (take bench.old.left (map ⟦<Box<dyn Device> as Watched>⟧.seen bench.old.devices.items))
         table.old.rows world →
@@ -364,6 +412,14 @@ pub fn rewritten(
         store.new
         (take bench.new.left (map ⟦<Box<dyn Device> as Watched>⟧.seen bench.new.devices.items))
         table.new.rows }
+    ensures breaks { (world : World) → IsOver program.now.files
+        (take bench.old.left (map ⟦<Box<dyn Device> as Watched>⟧.seen bench.old.devices.items))
+        table.old.rows world →
+        BreaksIn result program.now.files world
+        (rewritten (declared_with program.now areas.now) store.old world entry
+        (option_copied from.entry))
+        bench.new.left
+        (map ⟦<Box<dyn Device> as Watched>⟧.seen bench.new.devices.items) table.new.rows }
 {
     match put_out(program, areas, store, scratch, entry, from)? {
         Err(abend) => Ok(Done::Abended(abend)),

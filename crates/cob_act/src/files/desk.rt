@@ -1,16 +1,15 @@
 //! What devices are asked. A file that the program hasn't is never open, and has no name.
 
-ghost use Rattle.std.specs.Prelude.{ℕ, List, ◌≡◌, ◌<◌, ◌≤◌, ◌^◌, IsTrue, Ok, false, length, map, slice_get, take, vec_len};
+ghost use Rattle.std.specs.Prelude.{ℕ, List, ◌≡◌, ◌<◌, ◌≤◌, ◌^◌, IsTrue, Ok, length, map, slice_get, take, vec_len};
 ghost use Rattle.file_model.specs.Attempts.{closed_at, opened_at, read_at, rewritten_at, written_at};
 ghost use Rattle.file_model.specs.World.{World};
 ghost use Rattle.file_model.specs.operations.Calls.{addresses_of};
-ghost use Rattle.file_model.specs.operations.Falling.{Falls, FallsIf};
+ghost use Rattle.file_model.specs.operations.Falling.{AreShut, LeftOf, is_used};
 ghost use Rattle.file_model.specs.operations.Seen.{Seen};
-ghost use Rattle.file_model.specs.operations.Shutting.{ShutsAll, ShutsOnShelves};
-ghost use Rattle.file_model.specs.operations.Standing.{Stands, TellAll};
+ghost use Rattle.file_model.specs.operations.Shutting.{Closes};
 ghost use Rattle.meanings.specs.statements.Filing.{address_by};
 ghost use Rattle.cob_act.specs.files.Ends.{DoneOver, answered};
-ghost use Rattle.cob_act.specs.files.Over.{IsOver, Tries};
+ghost use Rattle.cob_act.specs.files.Over.{IsOver, Stays, Tries};
 
 use crate::files::fault::Fault;
 use cob_tree::{FileEntry, Opening};
@@ -18,9 +17,7 @@ use file_model::operations::{Tried, Watched};
 use file_model::{Bench, Device, FileTable};
 
 fn status_of(tried: Tried) -> Result<u8, Fault>
-    ensures answer { result ≡ answered tried }
-    ensures bench { (left left_now : ℕ) (old new : List Seen) →
-        Falls tried left left_now old new → DoneOver result left left_now old new }
+    ensures { result ≡ answered tried }
 {
     match tried {
         Tried::Status(status) => Ok(status),
@@ -56,9 +53,9 @@ pub fn open(
     files: &[FileEntry],
     opening: Opening,
 ) -> Result<u8, Fault>
-    ensures bench { DoneOver result bench.old.left bench.new.left
+    ensures bench { DoneOver result files.now bench.old.left bench.new.left
         (map ⟦<Box<dyn Device> as Watched>⟧.seen bench.old.devices.items)
-        (map ⟦<Box<dyn Device> as Watched>⟧.seen bench.new.devices.items) }
+        (map ⟦<Box<dyn Device> as Watched>⟧.seen bench.new.devices.items) table.new.rows }
     ensures does { (world : World) → IsOver files.now
         (take bench.old.left (map ⟦<Box<dyn Device> as Watched>⟧.seen bench.old.devices.items))
         table.old.rows world →
@@ -66,6 +63,11 @@ pub fn open(
         (address_by (slice_get files.now opening.file)) opening.how)
         (take bench.new.left (map ⟦<Box<dyn Device> as Watched>⟧.seen bench.new.devices.items))
         table.new.rows }
+    ensures breaks { (world : World) → IsOver files.now
+        (take bench.old.left (map ⟦<Box<dyn Device> as Watched>⟧.seen bench.old.devices.items))
+        table.old.rows world →
+        Stays result files.now world bench.new.left
+        (map ⟦<Box<dyn Device> as Watched>⟧.seen bench.new.devices.items) table.new.rows }
 {
     if !has_row(table, files, opening.file) {
         return Ok(30);
@@ -80,15 +82,20 @@ pub fn close(
     files: &[FileEntry],
     file: u32,
 ) -> Result<u8, Fault>
-    ensures bench { DoneOver result bench.old.left bench.new.left
+    ensures bench { DoneOver result files.now bench.old.left bench.new.left
         (map ⟦<Box<dyn Device> as Watched>⟧.seen bench.old.devices.items)
-        (map ⟦<Box<dyn Device> as Watched>⟧.seen bench.new.devices.items) }
+        (map ⟦<Box<dyn Device> as Watched>⟧.seen bench.new.devices.items) table.new.rows }
     ensures does { (world : World) → IsOver files.now
         (take bench.old.left (map ⟦<Box<dyn Device> as Watched>⟧.seen bench.old.devices.items))
         table.old.rows world →
         Tries files.now result (closed_at world file)
         (take bench.new.left (map ⟦<Box<dyn Device> as Watched>⟧.seen bench.new.devices.items))
         table.new.rows }
+    ensures breaks { (world : World) → IsOver files.now
+        (take bench.old.left (map ⟦<Box<dyn Device> as Watched>⟧.seen bench.old.devices.items))
+        table.old.rows world →
+        Stays result files.now world bench.new.left
+        (map ⟦<Box<dyn Device> as Watched>⟧.seen bench.new.devices.items) table.new.rows }
 {
     if !has_row(table, files, file) {
         return Ok(42);
@@ -104,9 +111,9 @@ pub fn read(
     file: u32,
     into: &mut [u8],
 ) -> Result<u8, Fault>
-    ensures bench { DoneOver result bench.old.left bench.new.left
+    ensures bench { DoneOver result files.now bench.old.left bench.new.left
         (map ⟦<Box<dyn Device> as Watched>⟧.seen bench.old.devices.items)
-        (map ⟦<Box<dyn Device> as Watched>⟧.seen bench.new.devices.items) }
+        (map ⟦<Box<dyn Device> as Watched>⟧.seen bench.new.devices.items) table.new.rows }
     ensures does { (world : World) → IsOver files.now
         (take bench.old.left (map ⟦<Box<dyn Device> as Watched>⟧.seen bench.old.devices.items))
         table.old.rows world →
@@ -119,6 +126,11 @@ pub fn read(
         table.old.rows world → result ≡ Ok 0 →
         into.new ≡ (read_at world file (address_by (slice_get files.now file))
         (length into.old)).bytes }
+    ensures breaks { (world : World) → IsOver files.now
+        (take bench.old.left (map ⟦<Box<dyn Device> as Watched>⟧.seen bench.old.devices.items))
+        table.old.rows world →
+        Stays result files.now world bench.new.left
+        (map ⟦<Box<dyn Device> as Watched>⟧.seen bench.new.devices.items) table.new.rows }
 {
     if !has_row(table, files, file) {
         return Ok(47);
@@ -134,9 +146,9 @@ pub fn write(
     file: u32,
     bytes: &[u8],
 ) -> Result<u8, Fault>
-    ensures bench { DoneOver result bench.old.left bench.new.left
+    ensures bench { DoneOver result files.now bench.old.left bench.new.left
         (map ⟦<Box<dyn Device> as Watched>⟧.seen bench.old.devices.items)
-        (map ⟦<Box<dyn Device> as Watched>⟧.seen bench.new.devices.items) }
+        (map ⟦<Box<dyn Device> as Watched>⟧.seen bench.new.devices.items) table.new.rows }
     ensures does { (world : World) → IsOver files.now
         (take bench.old.left (map ⟦<Box<dyn Device> as Watched>⟧.seen bench.old.devices.items))
         table.old.rows world →
@@ -144,6 +156,11 @@ pub fn write(
         (written_at world file (address_by (slice_get files.now file)) bytes.now)
         (take bench.new.left (map ⟦<Box<dyn Device> as Watched>⟧.seen bench.new.devices.items))
         table.new.rows }
+    ensures breaks { (world : World) → IsOver files.now
+        (take bench.old.left (map ⟦<Box<dyn Device> as Watched>⟧.seen bench.old.devices.items))
+        table.old.rows world →
+        Stays result files.now world bench.new.left
+        (map ⟦<Box<dyn Device> as Watched>⟧.seen bench.new.devices.items) table.new.rows }
 {
     if !has_row(table, files, file) {
         return Ok(48);
@@ -159,9 +176,9 @@ pub fn rewrite(
     file: u32,
     bytes: &[u8],
 ) -> Result<u8, Fault>
-    ensures bench { DoneOver result bench.old.left bench.new.left
+    ensures bench { DoneOver result files.now bench.old.left bench.new.left
         (map ⟦<Box<dyn Device> as Watched>⟧.seen bench.old.devices.items)
-        (map ⟦<Box<dyn Device> as Watched>⟧.seen bench.new.devices.items) }
+        (map ⟦<Box<dyn Device> as Watched>⟧.seen bench.new.devices.items) table.new.rows }
     ensures does { (world : World) → IsOver files.now
         (take bench.old.left (map ⟦<Box<dyn Device> as Watched>⟧.seen bench.old.devices.items))
         table.old.rows world →
@@ -169,6 +186,11 @@ pub fn rewrite(
         (rewritten_at world file (address_by (slice_get files.now file)) bytes.now)
         (take bench.new.left (map ⟦<Box<dyn Device> as Watched>⟧.seen bench.new.devices.items))
         table.new.rows }
+    ensures breaks { (world : World) → IsOver files.now
+        (take bench.old.left (map ⟦<Box<dyn Device> as Watched>⟧.seen bench.old.devices.items))
+        table.old.rows world →
+        Stays result files.now world bench.new.left
+        (map ⟦<Box<dyn Device> as Watched>⟧.seen bench.new.devices.items) table.new.rows }
 {
     if !has_row(table, files, file) {
         return Ok(49);
@@ -180,26 +202,14 @@ pub fn rewrite(
 /// Closes the files that are open, on the devices that are left, and says whether one failed.
 pub fn close_left(bench: &mut Bench, table: &mut FileTable, files: &[FileEntry]) -> bool
     requires within { bench.old.left ≤ vec_len bench.old.devices }
-    ensures bench { FallsIf result bench.old.left bench.new.left
+    ensures closes { length files.now < 2 ^ 32 →
+        (gone : List (List ℕ)) (left : ℕ) (old : List Seen) →
+        AreShut gone (addresses_of files.now) table.old.rows →
+        LeftOf (is_used (addresses_of files.now)) gone left bench.old.left old
+        (map ⟦<Box<dyn Device> as Watched>⟧.seen bench.old.devices.items) →
+        Closes result (addresses_of files.now) gone left bench.old.left bench.new.left old
         (map ⟦<Box<dyn Device> as Watched>⟧.seen bench.old.devices.items)
-        (map ⟦<Box<dyn Device> as Watched>⟧.seen bench.new.devices.items) }
-    ensures world { length table.old.rows ≡ length files.now → length files.now < 2 ^ 32 →
-        (world : World) → Stands (addresses_of files.now)
-        (take bench.old.left (map ⟦<Box<dyn Device> as Watched>⟧.seen bench.old.devices.items))
-        table.old.rows world →
-        ShutsAll (addresses_of files.now)
-        (take bench.new.left (map ⟦<Box<dyn Device> as Watched>⟧.seen bench.new.devices.items))
-        table.new.rows (length files.now) result world }
-    ensures shelves { result ≡ false → (world : World) → IsOver files.now
-        (take bench.old.left (map ⟦<Box<dyn Device> as Watched>⟧.seen bench.old.devices.items))
-        table.old.rows world →
-        ShutsOnShelves (addresses_of files.now)
-        (take bench.new.left (map ⟦<Box<dyn Device> as Watched>⟧.seen bench.new.devices.items))
-        table.new.rows world }
-    ensures telling { TellAll (take bench.old.left
-        (map ⟦<Box<dyn Device> as Watched>⟧.seen bench.old.devices.items))
-        → TellAll (take bench.new.left
-        (map ⟦<Box<dyn Device> as Watched>⟧.seen bench.new.devices.items)) }
+        (map ⟦<Box<dyn Device> as Watched>⟧.seen bench.new.devices.items) table.old.rows }
 {
     has_rows(table, files) && file_model::operations::close_open(bench, table, files)
 }

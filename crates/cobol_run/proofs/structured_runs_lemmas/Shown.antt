@@ -1,10 +1,15 @@
 -- What runs of structured programs show is what their nested statements show.
-use Rattle.std.proofs.Common.{◌≡◌, ◌+◌, ◌*◌, ℕ, zero, suc, List, [], ◌∷◌, ◌++◌, take, drop, refl, ap, sym, ◌∙◌, subst}
+use Rattle.std.proofs.Common.{◌≡◌, ◌+◌, ◌*◌, ℕ, zero, suc, false, List, [], ◌∷◌, ◌++◌, take, drop, refl, ap, sym, ◌∙◌, subst}
 use Rattle.cob_base.specs.Sink.{SinkCall}
 use Rattle.cob_tree.specs.declared.program.Program.{Program}
 use Rattle.control_flow_theory.specs.language.Control.{control_of}
 use Rattle.control_flow_theory.specs.language.Structured.{IsStructured}
-use Rattle.file_model.specs.operations.Seen.{Seen}
+use Rattle.file_model.specs.World.{shelf_found}
+use Rattle.file_model.specs.operations.Calls.{addresses_of}
+use Rattle.file_model.specs.operations.Falling.{is_among}
+use Rattle.file_model.specs.operations.Seen.{Seen, device_found}
+use Rattle.file_model.specs.operations.Shutting.{LeavesFiles}
+use Rattle.file_model.specs.operations.Standing.{SameShelf}
 use Rattle.control_flow_theory.specs.runs.Run.{Over}
 use Rattle.control_flow_theory.specs.semantics.Outcome.{How, Stopped, Normally, Trace}
 use Rattle.control_flow_theory.specs.semantics.Outcome as outcome
@@ -17,7 +22,8 @@ use Rattle.cobol_run.specs.declared.machine.Ending.TheVariants as ending
 use Rattle.cobol_run.specs.declared.running.Ran.{Ran}
 use Rattle.cobol_run.specs.declared.running.Ran.TheVariants as ran
 use Rattle.cobol_run.specs.Machine.{fault_seen}
-use Rattle.cobol_run.specs.Over.{RunsOver, TellFiles}
+use Rattle.cobol_run.specs.Over.{ComesTo}
+use Rattle.cobol_run.specs.Points.{world_after}
 use Rattle.cobol_run.specs.Running.{shown_by, displayed, RunsAs, Stands}
 use Rattle.cobol_run.specs.structured_runs.Shown.{BeginsNested, ShowsNested, ShowsNestedOver, RunsOverFilesShowNestedStatements, RunsShowNestedStatements}
 
@@ -113,32 +119,36 @@ module _ (same : StructuredBehavesAsItself) (faultless : StructuredMeetsNoFault)
   shows steps ran.NoMemory h = all-shown h.0 h.2
 
   -- over devices
-  ends-over : (steps : ℕ) (how : How) (devices : List Seen) (left : Files) →
-      Stands program files steps (Over (Stopped how left)) sink → TellFiles devices left →
-      (units : ℕ) × (there : Files)
-      × ((structural_run program files units).standing ≡ Over (Stopped how there))
-      × Gains (displayed (structural_run program files units).trace) sink × TellFiles devices there
-  ends-over steps how devices left stands tells =
-      let there = stopped steps how left stands.0 stands.1 in
-      (there.0, left, there.1, there.2, tells)
+  module _ (gone : List (List ℕ)) (devices : List Seen) where
+    abbrev Tells : Files → Type 0
+    Tells left = (name : List ℕ) → is_among gone name ≡ false → SameShelf (device_found name devices) (shelf_found name left)
 
-  shows-over : (steps : ℕ) (devices : List Seen) (came : Ran) →
-      RunsOver program files steps sink devices came →
-      ShowsNestedOver program files sink devices came
-  shows-over steps devices (ran.Ended ending.Stopped) h = ends-over steps Normally devices h.0 h.1 h.2
-  shows-over steps devices (ran.Ended (ending.Abended abend)) h =
-      ends-over steps (outcome.Abend (abend_number abend)) devices h.0 h.1 h.2
-  shows-over steps devices (ran.Ended (ending.Faulted fault)) h =
-      faultless program structured files steps (fault_seen fault) h.1.0
-  shows-over steps devices ran.Budget h = all-shown steps h.0.1
-  shows-over steps devices (ran.DeviceFault name) h = all-shown h.0 h.2
-  shows-over steps devices ran.WriteFault h = within-shown h.0 h.2 h.3 h.4 h.5
-  shows-over steps devices ran.NoMemory h = all-shown h.0 h.2
+    ends-over : (steps : ℕ) (how : How) (left : Files) →
+        Stands program files steps (Over (Stopped how left)) sink → Tells left →
+        (units : ℕ) × (there : Files)
+        × ((structural_run program files units).standing ≡ Over (Stopped how there))
+        × Gains (displayed (structural_run program files units).trace) sink × Tells there
+    ends-over steps how left stands tells =
+        let there = stopped steps how left stands.0 stands.1 in
+        (there.0, left, there.1, there.2, tells)
+
+    shows-over : (steps : ℕ) (came : Ran) →
+        ComesTo program files steps sink (LeavesFiles (addresses_of program.files) gone devices) came →
+        ShowsNestedOver program files sink gone devices came
+    shows-over steps (ran.Ended ending.Stopped) h = ends-over steps Normally (world_after program files steps).shelves h.0 h.1.same
+    shows-over steps (ran.Ended (ending.Abended abend)) h =
+        ends-over steps (outcome.Abend (abend_number abend)) (world_after program files steps).shelves h.0 h.1.same
+    shows-over steps (ran.Ended (ending.Faulted fault)) h =
+        faultless program structured files steps (fault_seen fault) h.0.0
+    shows-over steps ran.Budget h = all-shown steps h.0.1
+    shows-over steps (ran.DeviceFault name) h = all-shown h.0 h.3
+    shows-over steps ran.WriteFault h = within-shown h.0 h.2 h.3 h.4 h.5
+    shows-over steps ran.NoMemory h = all-shown h.0 h.3
 
 pub nested-shown-over :
     StructuredBehavesAsItself → StructuredMeetsNoFault → RunsOverFilesShowNestedStatements
-nested-shown-over same faultless program structured files steps sink devices came h =
-    shows-over same faultless program structured files sink steps devices came h
+nested-shown-over same faultless program structured files steps sink gone devices came h =
+    shows-over same faultless program structured files sink gone devices steps came h
 
 pub nested-shown : StructuredBehavesAsItself → StructuredMeetsNoFault → RunsShowNestedStatements
 nested-shown same faultless program structured files steps sink came h =

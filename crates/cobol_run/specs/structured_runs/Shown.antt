@@ -1,10 +1,15 @@
 -- What runs of structured programs show.
-use Rattle.std.specs.Prelude.{ℕ, ◌≡◌, List, ◌++◌}
+use Rattle.std.specs.Prelude.{ℕ, ◌≡◌, false, List, ◌++◌}
 use Rattle.cob_base.specs.Sink.{SinkCall}
 use Rattle.cob_tree.specs.declared.program.Program.{Program}
 use Rattle.control_flow_theory.specs.language.Control.{control_of}
 use Rattle.control_flow_theory.specs.language.Structured.{IsStructured}
-use Rattle.file_model.specs.operations.Seen.{Seen}
+use Rattle.file_model.specs.World.{shelf_found}
+use Rattle.file_model.specs.operations.Calls.{addresses_of}
+use Rattle.file_model.specs.operations.Falling.{is_among}
+use Rattle.file_model.specs.operations.Seen.{Seen, device_found}
+use Rattle.file_model.specs.operations.Shutting.{LeavesFiles}
+use Rattle.file_model.specs.operations.Standing.{SameShelf}
 use Rattle.control_flow_theory.specs.runs.Run.{Over}
 use Rattle.cobol_theory.specs.cobol_meaning.Runs.{Files, structural_run}
 use Rattle.cob_base.specs.giving.Giving.{Gains}
@@ -13,7 +18,7 @@ use Rattle.cobol_run.specs.declared.machine.Ending.TheVariants as ending
 use Rattle.cobol_run.specs.declared.running.Ran.{Ran}
 use Rattle.cobol_run.specs.declared.running.Ran.TheVariants as ran
 use Rattle.cobol_run.specs.Machine.{ending_seen}
-use Rattle.cobol_run.specs.Over.{RunsOver, TellFiles}
+use Rattle.cobol_run.specs.Over.{ComesTo}
 use Rattle.cobol_run.specs.Running.{displayed, RunsAs}
 
 -- its nested statements end so within some units, and the sink gained what they display
@@ -43,22 +48,25 @@ RunsShowNestedStatements =
 
 -- ---- over devices that tell their files
 
--- its nested statements end so and leave the files that the devices tell
-abbrev pub EndsNestedOver : Program → Files → SinkCall → List Seen → Ending → Type 0
-EndsNestedOver program files sink devices (ending.Faulted fault) = ⊥
-EndsNestedOver program files sink devices how =
+-- its nested statements end so and leave the files that the devices tell, but for those of these
+-- names, which failed
+abbrev pub EndsNestedOver : Program → Files → SinkCall → List (List ℕ) → List Seen → Ending → Type 0
+EndsNestedOver program files sink gone devices (ending.Faulted fault) = ⊥
+EndsNestedOver program files sink gone devices how =
     (units : ℕ) × (left : Files)
     × ((structural_run program files units).standing ≡ Over (ending_seen how left))
-    × Gains (displayed (structural_run program files units).trace) sink × TellFiles devices left
+    × Gains (displayed (structural_run program files units).trace) sink
+    × ((name : List ℕ) → is_among gone name ≡ false →
+    SameShelf (device_found name devices) (shelf_found name left))
 
-abbrev pub ShowsNestedOver : Program → Files → SinkCall → List Seen → Ran → Type 0
-ShowsNestedOver program files sink devices (ran.Ended how) =
-    EndsNestedOver program files sink devices how
-ShowsNestedOver program files sink devices _ = BeginsNested program files sink
+abbrev pub ShowsNestedOver : Program → Files → SinkCall → List (List ℕ) → List Seen → Ran → Type 0
+ShowsNestedOver program files sink gone devices (ran.Ended how) =
+    EndsNestedOver program files sink gone devices how
+ShowsNestedOver program files sink gone devices _ = BeginsNested program files sink
 
 abbrev pub RunsOverFilesShowNestedStatements : Type 0
 RunsOverFilesShowNestedStatements =
     (program : Program) → IsStructured (control_of program) → (files : Files) (steps : ℕ)
-    (sink : SinkCall) (devices : List Seen) (came : Ran) →
-    RunsOver program files steps sink devices came →
-    ShowsNestedOver program files sink devices came
+    (sink : SinkCall) (gone : List (List ℕ)) (devices : List Seen) (came : Ran) →
+    ComesTo program files steps sink (LeavesFiles (addresses_of program.files) gone devices) came →
+    ShowsNestedOver program files sink gone devices came

@@ -14,7 +14,9 @@ use Rattle.file_model.specs.declared.operations.tried.Tried.{Tried}
 use Rattle.file_model.specs.declared.operations.tried.Tried.TheVariants as tried
 use Rattle.file_model.specs.operations.Seen.{IsFirstAt, Nowhere, Seen, device_put}
 use Rattle.file_model.specs.operations.Standing.{Stands, rows_closed_on}
-use Rattle.file_model.specs.operations.Calls.{Breaks, Called, Comes, Kept, Leaves, TakenOff, addresses_of}
+use Rattle.file_model.specs.operations.Calls.{Breaks, Called, Comes, Kept, Leaves, Notes, TakenOff, addresses_of}
+use Rattle.file_model.proofs.operations_lemmas.DeviceLemmas.{found_named}
+use Rattle.file_model.proofs.operations_lemmas.FileLemmas.{get_set_same, name_same}
 use Rattle.file_model.proofs.operations_lemmas.StandLemmas.{some_same}
 use Rattle.file_model.proofs.operations_lemmas.BenchLemmas.{at_some, bench_called, failed_stands, found_before, kept_called, kept_same, put_itself, took_off}
 use Rattle.file_model.proofs.operations_lemmas.OpLemmas.{RowAt, device_there, refused_comes, row_at}
@@ -147,3 +149,23 @@ pub done_world : (result : Tried) (addresses : List Address) (name : List ℕ) (
     Comes (tried.Status 0) addresses name (take left new) now world attempt → Comes result addresses name (take left_now new) now world attempt
 done_world result addresses name new left left_now now world attempt is same comes =
     subst (λ (r : Tried). Comes r addresses name (take left_now new) now world attempt) (sym is) (subst (λ (l : ℕ). Comes (tried.Status 0) addresses name (take l new) now world attempt) (sym same) comes)
+
+-- ---- the table
+
+pub noted_notes : (result : Tried) (status file : ℕ) (name : List ℕ) (addresses : List Address) (f : FileRow → FileRow) (before now : List FileRow) → result ≡ tried.Status status → file < length before →
+    IfSome (slice_get before file) (λ row. now ≡ slice_set before file (f row)) → Notes result file name addresses before now
+noted_notes result status file name addresses f before now is within after =
+    let r : RowAt before file = row_at before file within in
+    subst (λ (t : Tried). Notes t file name addresses before now) (sym is) (f r.row, at_some (slice_get before file) (λ row. now ≡ slice_set before file (f row)) r.row r.is after)
+
+pub set_notes : (result : Tried) (status file : ℕ) (name : List ℕ) (addresses : List Address) (row : FileRow) (before now : List FileRow) → result ≡ tried.Status status → now ≡ slice_set before file row → Notes result file name addresses before now
+set_notes result status file name addresses row before now is set = subst (λ (t : Tried). Notes t file name addresses before now) (sym is) (row, set)
+
+pub failed_notes : (result : Tried) (file : ℕ) (name : List ℕ) (addresses : List Address) (old mid : List Seen) (left at : ℕ) (Tells : Option (List MemFile) → Option (List MemFile) → Type 0) (before now : List FileRow) → result ≡ tried.Failed →
+    IsFirstAt name (take left old) at → Called at Tells true old mid → IfSome (slice_get mid at) (λ device. now ≡ rows_closed_on device.name addresses before) → Notes result file name addresses before now
+failed_notes result file name addresses old mid left at Tells before now is first called rows =
+    let here : slice_get mid at ≡ Some called.after = ap (λ l. slice_get l at) called.there ∙ get_set_same old at called.after called.before called.here in
+    let named : called.after.name ≡ name = called.named ∙ name_same called.before.name name (found_named name (take left old) called.before (found_before name old left at called.before first called.here)) in
+    subst (λ (t : Tried). Notes t file name addresses before now) (sym is)
+    (at_some (slice_get mid at) (λ device. now ≡ rows_closed_on device.name addresses before) called.after here rows
+    ∙ ap (λ (n : List ℕ). rows_closed_on n addresses before) named)

@@ -236,7 +236,7 @@ shelf_behind name (Some device) shelves e = told device.files
     told None = tt
     told (Some files) = subst (λ (b : Bool). SameFiles (Some files) (if b then Some (record { name = name; files = map as_file files }) else shelf_found name shelves)) (sym (name_refl name)) refl
 
-shelf_behind_other : (name other : List ℕ) (next : Option Seen) (shelves : List Shelf) → bytes_eq name other ≡ false → shelf_found other (next_shelf name next ++ shelves) ≡ shelf_found other shelves
+pub shelf_behind_other : (name other : List ℕ) (next : Option Seen) (shelves : List Shelf) → bytes_eq name other ≡ false → shelf_found other (next_shelf name next ++ shelves) ≡ shelf_found other shelves
 shelf_behind_other name other None shelves differ = refl
 shelf_behind_other name other (Some device) shelves differ = told device.files
   where

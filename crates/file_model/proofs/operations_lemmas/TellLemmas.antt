@@ -1,5 +1,5 @@
 -- Devices that tell their files still do after a call, and after one of them is taken off.
-use Rattle.std.proofs.Common.{◌≡◌, sym, subst, ℕ, zero, suc, Bool, true, false, List, [], ◌∷◌, take, Option, Some, None, IfSome, refl, slice_get, if◌then◌else◌}
+use Rattle.std.proofs.Common.{◌≡◌, sym, subst, ℕ, Bool, true, false, List, [], ◌∷◌, take, Option, Some, None, refl, if◌then◌else◌}
 use Rattle.std.specs.Prelude.{IsSome}
 use Rattle.std.specs.Str.{bytes_eq}
 use Rattle.cob_tree.specs.declared.file.How.{How}
@@ -11,11 +11,9 @@ use Rattle.file_model.specs.declared.device.Put.{Put}
 use Rattle.file_model.specs.declared.device.Put.TheVariants as put
 use Rattle.file_model.specs.declared.mem_file.MemFile.{MemFile}
 use Rattle.file_model.specs.Told.{Changes, Opens, Reads, ReadsFrom, found}
-use Rattle.file_model.specs.declared.operations.tried.Tried.{Tried}
-use Rattle.file_model.specs.declared.operations.tried.Tried.TheVariants as tried
-use Rattle.file_model.specs.operations.Seen.{Seen, device_found, device_put, device_taken}
-use Rattle.file_model.specs.operations.Standing.{IsTold, TellAll}
-use Rattle.file_model.specs.operations.Calls.{Leaves, SameBut}
+use Rattle.file_model.specs.operations.Seen.{Seen, device_found, device_put}
+use Rattle.file_model.specs.operations.Standing.{IsTold}
+use Rattle.file_model.specs.operations.Calls.{Kept, SameBut}
 
 -- ---- a call
 
@@ -47,39 +45,24 @@ reads_tell (Some files) now name into after answer reads told = gives_tell files
 
 -- ---- the devices of a bench
 
-first_told : (first : Seen) (devices : List Seen) → IsSome first.files → TellAll devices → (place : ℕ) → IfSome (slice_get (first ∷ devices) place) (λ device. IsSome device.files)
-first_told first devices here more zero = here
-first_told first devices here more (suc place) = more place
-
-put_told : (name : List ℕ) (new : Seen) (devices : List Seen) → SameBut (device_found name devices) new → TellAll devices → TellAll (device_put name new devices)
-put_told name new [] same all = all
-put_told name new (first ∷ devices) same all = go (bytes_eq first.name name) (put_told name new devices) same
+put_told : (name other : List ℕ) (new : Seen) (devices : List Seen) → SameBut (device_found name devices) new → IsTold (device_found other devices) → IsTold (device_found other (device_put name new devices))
+put_told name other new [] same told = told
+put_told name other new (first ∷ devices) same told = go (bytes_eq first.name name) (put_told name other new devices) same
   where
-    go : (b : Bool) → (SameBut (device_found name devices) new → TellAll devices → TellAll (device_put name new devices)) → SameBut (if b then Some first else device_found name devices) new → TellAll (if b then new ∷ devices else first ∷ device_put name new devices)
-    go true more is = first_told new devices (is.2 (all 0)) (λ place. all (suc place))
-    go false more is = first_told first (device_put name new devices) (all 0) (more is (λ place. all (suc place)))
+    here : SameBut (Some first) new → (b : Bool) → IsTold (if b then Some first else device_found other devices) → IsTold (if b then Some new else device_found other devices)
+    here is true told = is.2 told
+    here is false told = told
 
-taken_told : (name : List ℕ) (devices : List Seen) → TellAll devices → TellAll (device_taken name devices)
-taken_told name [] all = all
-taken_told name (first ∷ devices) all = go (bytes_eq first.name name) (taken_told name devices)
-  where
-    go : (b : Bool) → (TellAll devices → TellAll (device_taken name devices)) → TellAll (if b then devices else first ∷ device_taken name devices)
-    go true more = λ place. all (suc place)
-    go false more = first_told first (device_taken name devices) (all 0) (more (λ place. all (suc place)))
+    later : (b : Bool) → (IsTold (device_found other devices) → IsTold (device_found other (device_put name new devices))) → IsTold (if b then Some first else device_found other devices) → IsTold (if b then Some first else device_found other (device_put name new devices))
+    later true more told = told
+    later false more told = more told
 
--- so it is of one that is found
-pub found_told : (name : List ℕ) (devices : List Seen) → TellAll devices → IsTold (device_found name devices)
-found_told name [] all = tt
-found_told name (first ∷ devices) all = go (bytes_eq first.name name) (found_told name devices)
-  where
-    go : (b : Bool) → (TellAll devices → IsTold (device_found name devices)) → IsTold (if b then Some first else device_found name devices)
-    go true more = all 0
-    go false more = more (λ place. all (suc place))
+    go : (b : Bool) → (SameBut (device_found name devices) new → IsTold (device_found other devices) → IsTold (device_found other (device_put name new devices))) → SameBut (if b then Some first else device_found name devices) new → IsTold (device_found other (if b then new ∷ devices else first ∷ device_put name new devices))
+    go true more is =
+        subst (λ (n : List ℕ). IsTold (if bytes_eq n other then Some new else device_found other devices)) (sym is.0) (here is (bytes_eq first.name other) told)
+    go false more is = later (bytes_eq first.name other) (more is) told
 
--- after an operation
-pub leaves_told : (result : Tried) (name : List ℕ) (left left_now : ℕ) (old new : List Seen) → Leaves result name left left_now old new → TellAll (take left old) → TellAll (take left_now new)
-leaves_told tried.Failed name left left_now old new off all = subst TellAll (sym off.bench) (taken_told name (take left old) all)
-leaves_told (tried.Status status) name left left_now old new kept all =
-    subst (λ (n : ℕ). TellAll (take n new)) (sym kept.count) (subst TellAll (sym kept.bench) (put_told name kept.device (take left old) kept.same all))
-leaves_told tried.NoMemory name left left_now old new kept all =
-    subst (λ (n : ℕ). TellAll (take n new)) (sym kept.count) (subst TellAll (sym kept.bench) (put_told name kept.device (take left old) kept.same all))
+-- after an operation that no device failed in
+pub kept_told : (name other : List ℕ) (left left_now : ℕ) (old new : List Seen) → Kept name left left_now old new → IsTold (device_found other (take left old)) → IsTold (device_found other (take left_now new))
+kept_told name other left left_now old new kept told =
+    subst (λ (n : ℕ). IsTold (device_found other (take n new))) (sym kept.count) (subst (λ (ds : List Seen). IsTold (device_found other ds)) (sym kept.bench) (put_told name other kept.device (take left old) kept.same told))

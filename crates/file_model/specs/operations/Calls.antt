@@ -9,7 +9,7 @@ use Rattle.file_model.specs.World.{World}
 use Rattle.file_model.specs.declared.operations.tried.Tried.{Tried}
 use Rattle.file_model.specs.declared.operations.tried.Tried.TheVariants as tried
 use Rattle.file_model.specs.operations.Seen.{Seen, device_found, device_put, device_taken}
-use Rattle.file_model.specs.operations.Standing.{Stands, without}
+use Rattle.file_model.specs.operations.Standing.{Stands, rows_closed_on, without}
 
 -- where each file of a program is
 abbrev pub addresses_of : List FileEntry → List Address
@@ -39,11 +39,14 @@ pub record TakenOff (at left left_now : ℕ) (old new : List Seen) : Type 0 wher
 -- ---- the devices after an operation
 
 -- a device's name and its count stay, and where it told its files it still does
-abbrev pub SameBut : Option Seen → Seen → Type 0
-SameBut None now = Unit {0}
-SameBut (Some device) now =
+abbrev pub SameDevice : Seen → Seen → Type 0
+SameDevice device now =
     (now.name ≡ device.name) × (now.faults ≡ device.faults)
     × (IsSome device.files → IsSome now.files)
+
+abbrev pub SameBut : Option Seen → Seen → Type 0
+SameBut None now = Unit {0}
+SameBut (Some device) now = SameDevice device now
 
 -- at most the files of the first device of that name changed
 pub record Kept (name : List ℕ) (left left_now : ℕ) (old new : List Seen) : Type 0 where
@@ -68,6 +71,15 @@ abbrev pub Leaves : Tried → List ℕ → (left left_now : ℕ) → (old new : 
 Leaves tried.Failed name left left_now old new = TookOff name left left_now old new
 Leaves (tried.Status status) name left left_now old new = Kept name left left_now old new
 Leaves tried.NoMemory name left left_now old new = Kept name left left_now old new
+
+-- ---- the table after an operation
+
+-- the file's row alone is another, or the device failed and the files on it are closed
+abbrev pub Notes : Tried → ℕ → List ℕ → List Address → (before now : List FileRow) → Type 0
+Notes tried.Failed file name addresses before now = now ≡ rows_closed_on name addresses before
+Notes (tried.Status status) file name addresses before now =
+    (row : FileRow) × (now ≡ slice_set before file row)
+Notes tried.NoMemory file name addresses before now = now ≡ before
 
 -- ---- what an operation comes to in a world
 

@@ -30,9 +30,11 @@ abbrev pub IsTold : Option Seen → Type 0
 IsTold None = Unit {0}
 IsTold (Some device) = IsSome device.files
 
--- each of the devices tells its files
-abbrev pub TellAll : List Seen → Type 0
-TellAll devices = (place : ℕ) → IfSome (slice_get devices place) (λ device. IsSome device.files)
+-- the devices on which files of a program are, the first of each name, tell their files
+abbrev pub TellUsed : List Address → List Seen → Type 0
+TellUsed addresses devices =
+    (file : ℕ) (address : Address) → slice_get addresses file ≡ Some address →
+    IsTold (device_found address.device devices)
 
 -- ---- open files
 

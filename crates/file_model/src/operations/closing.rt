@@ -1,13 +1,14 @@
 //! CLOSE, and the end of a run.
 
-ghost use Rattle.std.specs.Prelude.{◌≡◌, ◌≢◌, ◌<◌, ◌^◌, Some, false, length, map, slice_get, slice_set, take};
+ghost use Rattle.std.specs.Prelude.{ℕ, suc, List, ◌≡◌, ◌≢◌, ◌<◌, ◌^◌, Some, length, map, slice_get, slice_set, take};
 ghost use Rattle.file_model.specs.Status.{closed_row};
 ghost use Rattle.file_model.specs.Attempts.{Address, closed_at};
 ghost use Rattle.file_model.specs.World.{World};
-ghost use Rattle.file_model.specs.operations.Calls.{Comes, Leaves, addresses_of};
-ghost use Rattle.file_model.specs.operations.Falling.{FallsIf};
-ghost use Rattle.file_model.specs.operations.Shutting.{ShutsAll, ShutsOnShelves, ShutsOne};
-ghost use Rattle.file_model.specs.operations.Standing.{Stands, TellAll};
+ghost use Rattle.file_model.specs.operations.Calls.{Comes, Leaves, Notes, addresses_of};
+ghost use Rattle.file_model.specs.operations.Falling.{AreShut, LeftOf, is_used};
+ghost use Rattle.file_model.specs.operations.Seen.{Seen, device_found};
+ghost use Rattle.file_model.specs.operations.Shutting.{Closes, IsShutOn, Shuts};
+ghost use Rattle.file_model.specs.operations.Standing.{Stands};
 
 use crate::operations::address::{device_of, name_of};
 use crate::operations::calls::close_at;
@@ -39,6 +40,8 @@ pub fn close(bench: &mut Bench, table: &mut FileTable, files: &[FileEntry], file
         Leaves result address.device bench.old.left bench.new.left
         (map ⟦<Box<dyn Device> as Watched>⟧.seen bench.old.devices.items)
         (map ⟦<Box<dyn Device> as Watched>⟧.seen bench.new.devices.items) }
+    ensures notes { (address : Address) → slice_get (addresses_of files.now) file ≡ Some address →
+        Notes result file address.device (addresses_of files.now) table.old.rows table.new.rows }
     ensures world { (world : World) (address : Address) →
         slice_get (addresses_of files.now) file ≡ Some address →
         Stands (addresses_of files.now)
@@ -47,6 +50,15 @@ pub fn close(bench: &mut Bench, table: &mut FileTable, files: &[FileEntry], file
         Comes result (addresses_of files.now) address.device
         (take bench.new.left (map ⟦<Box<dyn Device> as Watched>⟧.seen bench.new.devices.items))
         table.new.rows world (closed_at world file) }
+    ensures shut { (address : Address) → slice_get (addresses_of files.now) file ≡ Some address →
+        result ≡ Tried.Status 0 → IsShutOn (device_found address.device
+        (take bench.new.left (map ⟦<Box<dyn Device> as Watched>⟧.seen bench.new.devices.items)))
+        address.name }
+    ensures others { (device name : List ℕ) → result ≢ Tried.Failed → IsShutOn (device_found device
+        (take bench.old.left (map ⟦<Box<dyn Device> as Watched>⟧.seen bench.old.devices.items)))
+        name → IsShutOn (device_found device
+        (take bench.new.left (map ⟦<Box<dyn Device> as Watched>⟧.seen bench.new.devices.items)))
+        name }
 {
     let status = table.may_close(file);
     if status != 0 {
@@ -69,20 +81,15 @@ fn close_if_open(bench: &mut Bench, table: &mut FileTable, files: &[FileEntry], 
     requires few { length files.now < 2 ^ 32 }
     requires file { file < length files.now }
     ensures rows { length table.new.rows ≡ length table.old.rows }
-    ensures bench { FallsIf result bench.old.left bench.new.left
+    ensures shuts { (gone : List (List ℕ)) (left : ℕ) (old : List Seen) →
+        AreShut gone (addresses_of files.now) table.old.rows →
+        LeftOf (is_used (addresses_of files.now)) gone left bench.old.left old
+        (map ⟦<Box<dyn Device> as Watched>⟧.seen bench.old.devices.items) →
+        Shuts file (suc file) result (addresses_of files.now) gone left
+        bench.old.left bench.new.left old
         (map ⟦<Box<dyn Device> as Watched>⟧.seen bench.old.devices.items)
-        (map ⟦<Box<dyn Device> as Watched>⟧.seen bench.new.devices.items) }
-    ensures world { (world : World) →
-        Stands (addresses_of files.now)
-        (take bench.old.left (map ⟦<Box<dyn Device> as Watched>⟧.seen bench.old.devices.items))
-        table.old.rows world →
-        ShutsOne (addresses_of files.now)
-        (take bench.new.left (map ⟦<Box<dyn Device> as Watched>⟧.seen bench.new.devices.items))
-        table.new.rows file result world }
-    ensures telling { TellAll (take bench.old.left
-        (map ⟦<Box<dyn Device> as Watched>⟧.seen bench.old.devices.items))
-        → TellAll (take bench.new.left
-        (map ⟦<Box<dyn Device> as Watched>⟧.seen bench.new.devices.items)) }
+        (map ⟦<Box<dyn Device> as Watched>⟧.seen bench.new.devices.items)
+        table.old.rows table.new.rows }
 {
     if table.may_close(file) != 0 {
         return false;
@@ -100,27 +107,15 @@ pub fn close_open(bench: &mut Bench, table: &mut FileTable, files: &[FileEntry])
     requires rows { length table.old.rows ≡ length files.now }
     requires few { length files.now < 2 ^ 32 }
     ensures rows { length table.new.rows ≡ length table.old.rows }
-    ensures bench { FallsIf result bench.old.left bench.new.left
+
+    // where devices may have failed before, none of which has an open file
+    ensures closes { (gone : List (List ℕ)) (left : ℕ) (old : List Seen) →
+        AreShut gone (addresses_of files.now) table.old.rows →
+        LeftOf (is_used (addresses_of files.now)) gone left bench.old.left old
+        (map ⟦<Box<dyn Device> as Watched>⟧.seen bench.old.devices.items) →
+        Closes result (addresses_of files.now) gone left bench.old.left bench.new.left old
         (map ⟦<Box<dyn Device> as Watched>⟧.seen bench.old.devices.items)
-        (map ⟦<Box<dyn Device> as Watched>⟧.seen bench.new.devices.items) }
-    ensures world { (world : World) →
-        Stands (addresses_of files.now)
-        (take bench.old.left (map ⟦<Box<dyn Device> as Watched>⟧.seen bench.old.devices.items))
-        table.old.rows world →
-        ShutsAll (addresses_of files.now)
-        (take bench.new.left (map ⟦<Box<dyn Device> as Watched>⟧.seen bench.new.devices.items))
-        table.new.rows (length files.now) result world }
-    ensures shelves { result ≡ false → (world : World) →
-        Stands (addresses_of files.now)
-        (take bench.old.left (map ⟦<Box<dyn Device> as Watched>⟧.seen bench.old.devices.items))
-        table.old.rows world →
-        ShutsOnShelves (addresses_of files.now)
-        (take bench.new.left (map ⟦<Box<dyn Device> as Watched>⟧.seen bench.new.devices.items))
-        table.new.rows world }
-    ensures telling { TellAll (take bench.old.left
-        (map ⟦<Box<dyn Device> as Watched>⟧.seen bench.old.devices.items))
-        → TellAll (take bench.new.left
-        (map ⟦<Box<dyn Device> as Watched>⟧.seen bench.new.devices.items)) }
+        (map ⟦<Box<dyn Device> as Watched>⟧.seen bench.new.devices.items) table.old.rows }
 {
     let mut failed = false;
     for file in 0..files.len() {

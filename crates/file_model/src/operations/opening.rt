@@ -4,7 +4,7 @@ ghost use Rattle.std.specs.Prelude.{◌≡◌, ◌<◌, ◌^◌, Some, length, m
 ghost use Rattle.file_model.specs.Attempts.{Address, opened_at};
 ghost use Rattle.file_model.specs.Status.{opened_row};
 ghost use Rattle.file_model.specs.World.{World};
-ghost use Rattle.file_model.specs.operations.Calls.{Breaks, Comes, Leaves, addresses_of};
+ghost use Rattle.file_model.specs.operations.Calls.{Breaks, Comes, Leaves, Notes, addresses_of};
 ghost use Rattle.file_model.specs.operations.Standing.{IsTold, Stands};
 ghost use Rattle.file_model.specs.operations.Seen.{device_found};
 
@@ -44,6 +44,8 @@ pub fn open(
         Leaves result address.device bench.old.left bench.new.left
         (map ⟦<Box<dyn Device> as Watched>⟧.seen bench.old.devices.items)
         (map ⟦<Box<dyn Device> as Watched>⟧.seen bench.new.devices.items) }
+    ensures notes { (address : Address) → slice_get (addresses_of files.now) file ≡ Some address →
+        Notes result file address.device (addresses_of files.now) table.old.rows table.new.rows }
     ensures world { (world : World) (address : Address) →
         slice_get (addresses_of files.now) file ≡ Some address →
         Stands (addresses_of files.now)

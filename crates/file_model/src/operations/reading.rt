@@ -4,7 +4,7 @@ ghost use Rattle.std.specs.Prelude.{◌≡◌, ◌==◌, if◌then◌else◌, tr
 ghost use Rattle.file_model.specs.Attempts.{Address, padded_to, read_at};
 ghost use Rattle.file_model.specs.Status.{read_row};
 ghost use Rattle.file_model.specs.World.{World};
-ghost use Rattle.file_model.specs.operations.Calls.{Breaks, Comes, Leaves, addresses_of};
+ghost use Rattle.file_model.specs.operations.Calls.{Breaks, Comes, Leaves, Notes, addresses_of};
 ghost use Rattle.file_model.specs.operations.Seen.{device_found};
 ghost use Rattle.file_model.specs.operations.Standing.{IsTold, Stands};
 
@@ -72,6 +72,8 @@ pub fn read(
         Leaves result address.device bench.old.left bench.new.left
         (map ⟦<Box<dyn Device> as Watched>⟧.seen bench.old.devices.items)
         (map ⟦<Box<dyn Device> as Watched>⟧.seen bench.new.devices.items) }
+    ensures notes { (address : Address) → slice_get (addresses_of files.now) file ≡ Some address →
+        Notes result file address.device (addresses_of files.now) table.old.rows table.new.rows }
     ensures world { (world : World) (address : Address) →
         slice_get (addresses_of files.now) file ≡ Some address →
         Stands (addresses_of files.now)

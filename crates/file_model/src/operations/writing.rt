@@ -3,7 +3,7 @@
 ghost use Rattle.std.specs.Prelude.{◌≡◌, ◌<◌, ◌^◌, Some, length, map, slice_get, take};
 ghost use Rattle.file_model.specs.Attempts.{Address, rewritten_at, written_at};
 ghost use Rattle.file_model.specs.World.{World};
-ghost use Rattle.file_model.specs.operations.Calls.{Comes, Leaves, addresses_of};
+ghost use Rattle.file_model.specs.operations.Calls.{Comes, Leaves, Notes, addresses_of};
 ghost use Rattle.file_model.specs.operations.Standing.{Stands};
 
 use crate::operations::address::{device_of, name_of};
@@ -31,6 +31,8 @@ pub fn write(
         Leaves result address.device bench.old.left bench.new.left
         (map ⟦<Box<dyn Device> as Watched>⟧.seen bench.old.devices.items)
         (map ⟦<Box<dyn Device> as Watched>⟧.seen bench.new.devices.items) }
+    ensures notes { (address : Address) → slice_get (addresses_of files.now) file ≡ Some address →
+        Notes result file address.device (addresses_of files.now) table.old.rows table.new.rows }
     ensures world { (world : World) (address : Address) →
         slice_get (addresses_of files.now) file ≡ Some address →
         Stands (addresses_of files.now)
@@ -72,6 +74,8 @@ pub fn rewrite(
         Leaves result address.device bench.old.left bench.new.left
         (map ⟦<Box<dyn Device> as Watched>⟧.seen bench.old.devices.items)
         (map ⟦<Box<dyn Device> as Watched>⟧.seen bench.new.devices.items) }
+    ensures notes { (address : Address) → slice_get (addresses_of files.now) file ≡ Some address →
+        Notes result file address.device (addresses_of files.now) table.old.rows table.new.rows }
     ensures world { (world : World) (address : Address) →
         slice_get (addresses_of files.now) file ≡ Some address →
         Stands (addresses_of files.now)

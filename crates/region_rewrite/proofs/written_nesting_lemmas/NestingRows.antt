@@ -146,3 +146,11 @@ module _ (picker : Picker) where
   within_next leaves k first (arm ∷ arms) zero d within = refl
   within_next leaves k first (arm ∷ arms) (suc at) d within =
       let less : at < length arms = omega (arith, within) in within_next leaves k first arms at d less
+
+-- lemmas that are named together
+pub ruleset leaf_is_nothing = (flag_is_nothing, exit_is_nothing)
+pub ruleset choice_is_capped = (chosen_next, capped_max)
+pub ruleset arm_is_capped = (level_capped, arm_nesting_is)
+pub ruleset tree_is_capped = (capped_max, tree_nesting_is)
+pub ruleset leaf_nesting = (jump_nesting, return_nesting)
+pub ruleset arms_are_capped = (within_next, capped_max)

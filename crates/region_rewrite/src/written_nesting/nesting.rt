@@ -46,7 +46,7 @@ fn level(out: bool, nothing: bool, deep: u32) -> u32
 }
 
 /// Whether a jump is nothing within the loop.
-#[tactic(auto, using(crate::proofs::written_nesting_lemmas::NestingRows::flag_is_nothing, crate::proofs::written_nesting_lemmas::NestingRows::exit_is_nothing))]
+#[tactic(auto, using(crate::proofs::written_nesting_lemmas::NestingRows::leaf_is_nothing))]
 fn jump_is_nothing(leaves: &Leaves, to: Label) -> bool
     ensures { result ≡ is_nothing (jump_within leaves.now to) }
 {
@@ -151,7 +151,7 @@ fn piece_nesting(piece: &Piece) -> u32
 }
 
 #[cycle(nesting)]
-#[tactic(auto, using(crate::proofs::written_nesting_lemmas::NestingRows::chosen_next, crate::proofs::written_nesting_lemmas::NestingRows::capped_max))]
+#[tactic(auto, using(crate::proofs::written_nesting_lemmas::NestingRows::choice_is_capped))]
 fn chosen_nesting(by: &Picker, arms: &[Tree]) -> u32
     ensures { result ≡ min (arms_nesting (seen_picker by.now) true
         (arms_stmts (seen_trees arms.now))) (2 ^ 32 - 1) }
@@ -167,7 +167,7 @@ fn chosen_nesting(by: &Picker, arms: &[Tree]) -> u32
 }
 
 #[cycle(nesting)]
-#[tactic(auto, using(crate::proofs::written_nesting_lemmas::NestingRows::level_capped, crate::proofs::written_nesting_lemmas::NestingRows::arm_nesting_is))]
+#[tactic(auto, using(crate::proofs::written_nesting_lemmas::NestingRows::arm_is_capped))]
 fn arm_nesting(out: bool, tree: &Tree) -> u32
     ensures { result ≡ min (arm_level out (is_nothing (arm_stmts (seen_tree tree.now)))
         (nesting (arm_stmts (seen_tree tree.now)))) (2 ^ 32 - 1) }
@@ -177,7 +177,7 @@ fn arm_nesting(out: bool, tree: &Tree) -> u32
 
 /// How deep the statements of a tree nest within a loop.
 #[cycle(nesting)]
-#[tactic(auto, using(crate::proofs::written_nesting_lemmas::NestingRows::capped_max, crate::proofs::written_nesting_lemmas::NestingRows::tree_nesting_is))]
+#[tactic(auto, using(crate::proofs::written_nesting_lemmas::NestingRows::tree_is_capped))]
 fn tree_nesting(leaves: &Leaves, tree: &Tree) -> u32
     ensures { result ≡ min (nesting (stated leaves.now (seen_tree tree.now))) (2 ^ 32 - 1) }
 {
@@ -185,7 +185,7 @@ fn tree_nesting(leaves: &Leaves, tree: &Tree) -> u32
 }
 
 #[cycle(nesting)]
-#[tactic(auto, using(crate::proofs::written_nesting_lemmas::NestingRows::jump_nesting, crate::proofs::written_nesting_lemmas::NestingRows::return_nesting))]
+#[tactic(auto, using(crate::proofs::written_nesting_lemmas::NestingRows::leaf_nesting))]
 fn end_nesting(leaves: &Leaves, end: &End) -> u32
     ensures { result ≡ min (nesting (end_within leaves.now (seen_end end.now))) (2 ^ 32 - 1) }
 {
@@ -199,7 +199,7 @@ fn end_nesting(leaves: &Leaves, end: &End) -> u32
 }
 
 #[cycle(nesting)]
-#[tactic(auto, using(crate::proofs::written_nesting_lemmas::NestingRows::within_next, crate::proofs::written_nesting_lemmas::NestingRows::capped_max))]
+#[tactic(auto, using(crate::proofs::written_nesting_lemmas::NestingRows::arms_are_capped))]
 fn arms_nesting(leaves: &Leaves, by: &Picker, arms: &[Tree]) -> u32
     ensures { result ≡ min (arms_nesting (seen_picker by.now) true
         (arms_within leaves.now (seen_picker by.now) 0 (seen_trees arms.now))) (2 ^ 32 - 1) }

@@ -4,13 +4,12 @@ use Rattle.cob_base.specs.giving.Giving.{Keeps}
 use Rattle.cob_base.specs.Sink.{SinkCall}
 use Rattle.cob_tree.specs.declared.program.Program.{Program}
 use Rattle.file_model.specs.operations.Seen.{Seen}
-use Rattle.file_model.specs.operations.Falling.{SameBench}
 use Rattle.cobol_theory.specs.cobol_meaning.Runs.{Files}
 use Rattle.cobol_read.specs.declared.refusal.ReadRefusal.TheVariants as refusals
 use Rattle.cobol_read.specs.Reading.{HasCause, Reads}
 use Rattle.cobol_run.specs.declared.running.Ran.TheVariants as ran
 use Rattle.cobol_run.specs.Falling.{RunFalls}
-use Rattle.cobol_run.specs.Over.{RunsOver, TellFiles}
+use Rattle.cobol_run.specs.Over.{RunEnds}
 use Rattle.cobol_run.specs.Own.{IsOwn}
 use Rattle.cobol_run.specs.PlainTests.{is_plain}
 use Rattle.cobol_run.specs.Running.{RunsAs}
@@ -35,30 +34,31 @@ Comes bytes steps sink (came.Refused refusal) =
     HasCause bytes refusal × (refusal ≢ refusals.NoMemory) × Keeps sink
 Comes bytes steps sink came.NoMemory = Keeps sink
 
--- the same over devices that tell their files, where no word on an added item stands in the
--- program; first the devices before, then those after
-abbrev pub CameOver : Program → ℕ → SinkCall → (old new : List Seen) → Came → Type 0
-CameOver program steps sink old new (came.Ran other ran) =
-    (other ≡ program)
-    × (IsOwn program → (files : Files) → TellFiles old files →
-    RunsOver program files steps sink new ran)
-CameOver program steps sink old new _ = Unit {0}
+-- the bench is as it was
+abbrev pub StaysAsWas : (left left_now : ℕ) → (old new : List Seen) → Type 0
+StaysAsWas left left_now old new = (left_now ≡ left) × (new ≡ old)
 
--- the program that the bytes are ran so, over whatever files the devices tell
-abbrev pub ComesOver : List ℕ → ℕ → SinkCall → (old new : List Seen) → Came → Type 0
-ComesOver bytes steps sink old new (came.Ran program ran) =
-    Reads bytes program
-    × ((files : Files) → TellFiles old files → RunsOver program files steps sink new ran)
-ComesOver bytes steps sink old new _ = Unit {0}
+-- what is left of the bench, and of the world where the devices that the program uses tell their
+-- files
+abbrev pub CameOver : Program → ℕ → SinkCall → (left left_now : ℕ) → (old new : List Seen) → Came →
+    Type 0
+CameOver program steps sink left left_now old new (came.Ran other ran) =
+    (other ≡ program) × RunEnds program steps sink left left_now old new ran
+CameOver program steps sink left left_now old new _ = StaysAsWas left left_now old new
+
+-- the same of the program that the bytes are, in which no word on an added item stands
+abbrev pub ComesOver : List ℕ → ℕ → SinkCall → (left left_now : ℕ) → (old new : List Seen) → Came →
+    Type 0
+ComesOver bytes steps sink left left_now old new (came.Ran program ran) =
+    Reads bytes program × IsOwn program × RunEnds program steps sink left left_now old new ran
+ComesOver bytes steps sink left left_now old new _ = StaysAsWas left left_now old new
 
 -- the sink failed while the program displayed
 abbrev pub IsWriteFault : Came → Type 0
 IsWriteFault (came.Ran program ran.WriteFault) = Unit {0}
 IsWriteFault _ = ⊥
 
--- what is left of the devices of the bench: where a run says that a device failed, it is gone; what
--- isn't run leaves them
+-- where a run says that a device failed, it is gone
 abbrev pub CameFalls : Came → (left left_now : ℕ) → (old new : List Seen) → Type 0
 CameFalls (came.Ran program ran) left left_now old new = RunFalls ran left left_now old new
-CameFalls (came.Refused refusal) left left_now old new = SameBench left left_now old new
-CameFalls came.NoMemory left left_now old new = SameBench left left_now old new
+CameFalls _ left left_now old new = StaysAsWas left left_now old new

@@ -3,7 +3,7 @@
 use super::calls::{Wanted, expect_of_tool, text, words};
 use cob_base::StdSource;
 use cob_tree::How;
-use file_model::{Bench, Device, Got, MemDevice, MemFile, Opened};
+use file_model::{Bench, Device, Got, MemDevice, MemFile, NullDevice, Opened};
 use restructure_asks::Status;
 use std::alloc::{AllocError, Global};
 use std::process::Abort;
@@ -336,6 +336,40 @@ fn a_listing_goes_to_its_device(rt: HostRuntime) -> Result<(), Fail> {
             assert!(rt; held.open_file(b"LIST.DAT", How::Input) == Opened::Failed);
         }
         expect_list(&rt, held);
+    }
+    Ok(())
+}
+
+// The listing goes to a device of which that call fails: OPEN, WRITE or CLOSE.
+#[test]
+fn a_failed_call_leaves_what_was_done(rt: HostRuntime) -> Result<(), Fail> {
+    let alloc = rt.alloc();
+    let cases = [
+        (1, "", Opened::Missing, Got::End),
+        (2, "", Opened::Ready, Got::End),
+        (3, TOTAL, Opened::Ready, Got::Bytes(13)),
+    ];
+    for (failing, shown, opened, got) in cases {
+        let mut devices: Vec<Box<dyn Device>> = Vec::new(alloc);
+        let name = text(alloc, "NULL")?;
+        devices.push(Box::new(alloc, NullDevice { name })?)?;
+        devices.push(Box::new(alloc, device(alloc, "DISK", ("PAY.DAT", PAY), 0)?)?)?;
+        devices.push(Box::new(alloc, device(alloc, "OUT", ("OTHER", ""), failing)?)?)?;
+        let mut bench = Bench::new(devices);
+        let (head, tail) = LISTING;
+        let source = format!(in alloc; "{head}OUT:LIST.DAT{tail}")?;
+        let source = Text {
+            bytes: source.into_bytes(),
+        };
+        let wanted = (Status::DeviceFault, shown, "DEVICE FAULT OUT\n");
+        check(&rt, alloc, source, &mut bench, wanted)?;
+        assert_eq!(rt; bench.left, 2);
+        assert!(rt; bench.devices.len() > 2);
+        let held = &mut bench.devices[2];
+        let name = b"LIST.DAT";
+        let mut listed = [0u8; 20];
+        assert!(rt; held.open_file(name, How::Input) == opened);
+        assert!(rt; held.read_next(name, &mut listed) == got);
     }
     Ok(())
 }

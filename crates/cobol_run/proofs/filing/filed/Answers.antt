@@ -1,6 +1,7 @@
+use Rattle.std.proofs.lemmas.Result.{err_from_is_err_and}
 use Rattle.cobol_run.specs.Plan.{declared_by}
-use Rattle.cobol_run.proofs.FiledLemmas.{closes_over, opens_over, rewritten_over, written_over}
-use Rattle.cobol_run.proofs.ReadLemmas.{read_over}
+use Rattle.cobol_run.proofs.FiledLemmas.{closes_break, closes_over, opens_break, opens_over, rewritten_break, rewritten_over, written_break, written_over}
+use Rattle.cobol_run.proofs.ReadLemmas.{arm_break, read_break, read_over}
 use Rattle.cobol_run.proofs.filing.filed.Goals as goal
 
 pub returns-in-Opens-clause-over : goal.returns-in-Opens-clause-over
@@ -22,3 +23,29 @@ returns-in-Rewrite-clause-over g c = λ world outer over.
 pub returns-in_ok-done-in-Read-clause-over : goal.returns-in_ok-done-in-Read-clause-over
 returns-in_ok-done-in-Read-clause-over g c = λ world outer over.
     read_over (declared_by c.args.plan.now) _ _ _ c.args.held.now.store world c.args.stmt.now c.in-Read.is c.in_ok-done-in-Read.done c.push_arm.result c.read_one.new.store _ _ _ c.args.frames.now c.push_arm.new.frames _ _ _ c.place_of.ensures c.is_some.ensures c.has_arms.ensures (c.in_ok-done-in-Read.ensures.does world over) c.push_arm.ensures.same c.push_arm.ensures.rest
+
+pub returns-in-Opens-clause-breaks : goal.returns-in-Opens-clause-breaks
+returns-in-Opens-clause-breaks g c = λ world outer over.
+    opens_break (declared_by c.args.plan.now) c.args.stmt.now c.args.held.now.store world _ c.all_opened.result _ _ _ _ _ c.as_slice.ensures c.in-Opens.is (c.all_opened.ensures.breaks world over)
+
+pub returns-in-Closes-clause-breaks : goal.returns-in-Closes-clause-breaks
+returns-in-Closes-clause-breaks g c = λ world outer over.
+    closes_break (declared_by c.args.plan.now) c.args.stmt.now c.args.held.now.store world _ c.all_shut.result _ _ _ _ _ c.as_slice-in-Closes.ensures c.in-Closes.is (c.all_shut.ensures.breaks world over)
+
+pub returns-in-Write-clause-breaks : goal.returns-in-Write-clause-breaks
+returns-in-Write-clause-breaks g c = λ world outer over.
+    written_break (declared_by c.args.plan.now) c.args.stmt.now c.args.held.now.store world _ c.written.result _ _ _ _ _ _ c.as_ref-from.ensures.value c.in-Write.is (c.written.ensures.breaks world over)
+
+pub returns-in-Rewrite-clause-breaks : goal.returns-in-Rewrite-clause-breaks
+returns-in-Rewrite-clause-breaks g c = λ world outer over.
+    rewritten_break (declared_by c.args.plan.now) c.args.stmt.now c.args.held.now.store world _ c.rewritten.result _ _ _ _ _ _ c.as_ref-from-in-Rewrite.ensures.value c.in-Rewrite.is (c.rewritten.ensures.breaks world over)
+
+pub returns-in_ok-done-in-Read-clause-breaks : goal.returns-in_ok-done-in-Read-clause-breaks
+returns-in_ok-done-in-Read-clause-breaks g c = λ world outer over.
+    arm_break (declared_by c.args.plan.now) _ _ _ c.args.held.now.store world c.args.stmt.now c.in-Read.is c.in_ok-done-in-Read.done c.push_arm.result c.read_one.new.store _ _ _ _ _ _ _ c.place_of.ensures c.is_some.ensures (c.in_ok-done-in-Read.ensures.does world over) c.push_arm.ensures.error
+
+pub returns-in_err-done-in-Read-clause-breaks : goal.returns-in_err-done-in-Read-clause-breaks
+returns-in_err-done-in-Read-clause-breaks g c = λ world outer over.
+    let p = err_from_is_err_and c.from_residual.result c.from_residual.ensures.1 in
+    rw (p.1, p.2)
+    (read_break (declared_by c.args.plan.now) _ _ _ c.args.held.now.store world c.args.stmt.now c.in-Read.is c.in_err-done-in-Read.field-0.0 _ _ _ _ _ _ _ c.place_of.ensures c.is_some.ensures (c.in_err-done-in-Read.ensures.breaks world over))

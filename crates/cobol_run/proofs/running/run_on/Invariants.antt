@@ -1,8 +1,8 @@
 use Rattle.std.proofs.Common.{◌≡◌, ◌≤◌, map, take}
-use Rattle.file_model.specs.operations.Falling.{SameBench}
 use Rattle.file_model.specs.contracts.operations.watched.BoxDynDeviceWatched.TheImpl.{seen-value}
 use Rattle.cob_tree.specs.declared.program.Program.{Program}
 use Rattle.cobol_theory.specs.cobol_meaning.Runs.{Files}
+use Rattle.cobol_run.specs.Falling.{SameBench}
 use Rattle.cobol_run.specs.Over.{SoFarOver}
 use Rattle.cobol_run.specs.Own.{IsOwn}
 use Rattle.cobol_run.specs.Plain.{IsPlain}
@@ -20,5 +20,5 @@ invariant-loop-turn g l = record {
       SoFarOver program files l.machine (take l.bench.left (map (seen-value g.dyn-1).it l.bench.devices.items)) l.turn (since (g.K.Sink.held l.initial.out) (g.K.Sink.faults l.initial.out) (g.K.Sink.held l.out) (g.K.Sink.faults l.out));
   kept : (program : Program) → SoFar program l.initial.machine 0 (since (g.K.Sink.held l.initial.out) (g.K.Sink.faults l.initial.out) (g.K.Sink.held l.initial.out) (g.K.Sink.faults l.initial.out)) → IsPlain program →
       (l.bench ≡ l.initial.bench) × (l.machine.table ≡ l.initial.machine.table);
-  falls : SameBench l.initial.bench.left l.bench.left (map (seen-value g.dyn-1).it l.initial.bench.devices.items) (map (seen-value g.dyn-1).it l.bench.devices.items);
+  falls : SameBench l.initial.machine.plan.program.now.files l.initial.bench.left l.bench.left (map (seen-value g.dyn-1).it l.initial.bench.devices.items) (map (seen-value g.dyn-1).it l.bench.devices.items);
 }

@@ -1,4 +1,4 @@
-use Rattle.std.proofs.Common.{◌≡◌, map, take, string_bytes, false, Result, Ok, sym, subst}
+use Rattle.std.proofs.Common.{◌≡◌, map, string_bytes, false, Result, Ok, sym, subst}
 use Rattle.std.specs.Prelude.{IfOk}
 use Rattle.cob_base.specs.Source.{source_call}
 use Rattle.cob_base.specs.Sink.{sink_call}
@@ -24,7 +24,7 @@ returns-in-Ok-clause-over g c =
     let source = source_call g.S.Source.left g.S.Source.faults c.args.source.now c.serve.new.source in
     let out = sink_call g.K.Sink.held g.K.Sink.faults c.args.out.now c.serve.new.out in
     let notes = sink_call g.N.Sink.held g.N.Sink.faults c.args.notes.now c.serve.new.notes in
-    let old = take c.args.bench.now.left (map (seen-value g.dyn-1).it c.args.bench.now.devices.items) in
-    let new = take c.serve.new.bench.left (map (seen-value g.dyn-1).it c.serve.new.bench.devices.items) in
+    let old = map (seen-value g.dyn-1).it c.args.bench.now.devices.items in
+    let new = map (seen-value g.dyn-1).it c.serve.new.bench.devices.items in
     if-ok c.args.words c.in-Ok.words _ c.in-Ok.is
-    (subst (λ ws. is_page (map string_bytes ws) ≡ false → EndsWithFiles (ask_of (map string_bytes ws)) source out notes old new c.serve.result) c.as_slice.ensures.value c.serve.ensures.over)
+    (subst (λ ws. is_page (map string_bytes ws) ≡ false → EndsWithFiles (ask_of (map string_bytes ws)) source out notes c.args.bench.now.left c.serve.new.bench.left old new c.serve.result) c.as_slice.ensures.value c.serve.ensures.over)

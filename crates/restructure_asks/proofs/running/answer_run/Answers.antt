@@ -1,4 +1,4 @@
-use Rattle.std.proofs.Common.{map, take, subst}
+use Rattle.std.proofs.Common.{map, subst}
 use Rattle.cob_base.specs.Sink.{sink_call}
 use Rattle.file_model.specs.contracts.operations.watched.BoxDynDeviceWatched.TheImpl.{seen-value}
 use Rattle.restructure_core.specs.run.Answers.{Comes, ComesOver}
@@ -17,11 +17,11 @@ pub returns-in-Ok-clause-over : goal.returns-in-Ok-clause-over
 returns-in-Ok-clause-over g c =
     let out = sink_call g.K.Sink.held g.K.Sink.faults c.args.out.now c.run_source-came.new.out in
     let came = c.run_source-came.result in
-    let old = take c.args.bench.now.left (map (seen-value g.dyn-1).it c.args.bench.now.devices.items) in
-    let new = take c.run_source-came.new.bench.left (map (seen-value g.dyn-1).it c.run_source-came.new.bench.devices.items) in
-    over-run c.args.steps _ out c.in-Ok.bytes c.in-Ok.ensures.read came _ _ old new
+    let old = map (seen-value g.dyn-1).it c.args.bench.now.devices.items in
+    let new = map (seen-value g.dyn-1).it c.run_source-came.new.bench.devices.items in
+    over-run c.args.steps _ out c.in-Ok.bytes c.in-Ok.ensures.read came _ _ c.args.bench.now.left c.run_source-came.new.bench.left old new
     (subst (λ b. Comes b c.args.steps out came) c.as_slice.ensures c.run_source-came.ensures.came)
-    (subst (λ b. ComesOver b c.args.steps out old new came) c.as_slice.ensures c.run_source-came.ensures.over)
+    (subst (λ b. ComesOver b c.args.steps out c.args.bench.now.left c.run_source-came.new.bench.left old new came) c.as_slice.ensures c.run_source-came.ensures.over)
     c.tell.ensures c.run_source-came.ensures.cause
 
 pub returns-in-Ok-clause-devices : goal.returns-in-Ok-clause-devices

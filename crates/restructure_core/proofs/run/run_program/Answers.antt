@@ -7,4 +7,4 @@ returns-clause-came g c =
     (refl, λ plain files. c.run-ran.ensures.run files (passes_plain c.args.program plain))
 
 pub returns-clause-over : goal.returns-clause-over
-returns-clause-over g c = (refl, λ own files. c.run-ran.ensures.over files own)
+returns-clause-over g c = (refl, c.run-ran.ensures.ends)

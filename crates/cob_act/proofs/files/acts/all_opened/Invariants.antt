@@ -1,8 +1,9 @@
-use Rattle.std.proofs.Common.{drop, map, take}
+use Rattle.std.proofs.Common.{[], drop, map, take}
 use Rattle.file_model.specs.World.{World}
 use Rattle.meanings.specs.statements.Does.{declared_with}
 use Rattle.meanings.specs.statements.Filing.{each_file, opened}
-use Rattle.file_model.specs.operations.Falling.{SameBench}
+use Rattle.file_model.specs.operations.Calls.{addresses_of}
+use Rattle.file_model.specs.operations.Falling.{LeftOf, is_used}
 use Rattle.file_model.specs.contracts.operations.watched.BoxDynDeviceWatched.TheImpl.{seen-value}
 use Rattle.cob_act.specs.files.Over.{IsOver}
 use Rattle.cob_act.proofs.files_lemmas.EachLemmas.{Begun}
@@ -10,7 +11,7 @@ use Rattle.cob_act.proofs.files.acts.all_opened.Given as goal
 
 abbrev pub invariant-loop-opening : goal.invariant-loop-opening
 invariant-loop-opening g l =
-    SameBench l.initial.bench.left l.bench.left (map (seen-value g.dyn-1).it l.initial.bench.devices.items) (map (seen-value g.dyn-1).it l.bench.devices.items) × ((world : World) → IsOver l.program.files
+    LeftOf (is_used (addresses_of l.program.files)) [] l.initial.bench.left l.bench.left (map (seen-value g.dyn-1).it l.initial.bench.devices.items) (map (seen-value g.dyn-1).it l.bench.devices.items) × ((world : World) → IsOver l.program.files
     (take l.initial.bench.left (map (seen-value g.dyn-1).it l.initial.bench.devices.items)) l.initial.table.rows world →
     Begun (opened (declared_with l.program l.areas)) l.program.files (each_file (opened (declared_with l.program l.areas)) l.initial.store world l.openings) world (drop l.opening-index l.openings) l.store
     (take l.bench.left (map (seen-value g.dyn-1).it l.bench.devices.items)) l.table.rows)

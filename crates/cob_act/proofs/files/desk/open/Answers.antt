@@ -1,18 +1,25 @@
-use Rattle.std.proofs.Common.{◌<◌, false, length, refl}
+use Rattle.std.proofs.Common.{false, length, refl}
 use Rattle.file_model.specs.Attempts.{Address, opened_at}
 use Rattle.file_model.specs.operations.Calls.{addresses_of}
-use Rattle.file_model.proofs.operations_lemmas.FallLemmas.{falls}
-use Rattle.cob_act.proofs.files_lemmas.DeskLemmas.{beyond, past_opened, tried_over}
+use Rattle.cob_act.proofs.files_lemmas.BenchLemmas.{done_over, none_asked}
+use Rattle.cob_act.proofs.files_lemmas.DeskLemmas.{beyond, past_opened, stays_over, tried_over}
 use Rattle.cob_act.proofs.files.desk.open.Goals as goal
 
 pub returns-clause-bench : goal.returns-clause-bench
 returns-clause-bench g c =
-    let within : c.args.opening.file < length c.args.files.now = c.if-not-has_row.ensures.file refl in
-    c.status_of.ensures.bench _ _ _ _ (falls c.open-tried.result c.args.files.now c.args.opening.file _ _ _ _ within c.open-tried.ensures.bench)
+    done_over c.args.files.now c.args.opening.file c.status_of.result c.open-tried.result _ _ _ _ c.args.table.now.rows c.open-tried.new.table.rows (c.if-not-has_row.ensures.file refl) c.status_of.ensures c.open-tried.ensures.bench c.open-tried.ensures.notes
+
+pub returns-clause-breaks : goal.returns-clause-breaks
+returns-clause-breaks g c = λ world.
+    stays_over c.args.files.now c.args.opening.file c.status_of.result c.open-tried.result _ _ _ _ c.args.table.now.rows c.open-tried.new.table.rows world (λ (address : Address). opened_at world (addresses_of c.args.files.now) c.args.opening.file address c.args.opening.how) (c.if-not-has_row.ensures.file refl) c.status_of.ensures c.open-tried.ensures.bench c.open-tried.ensures.notes
+    (c.open-tried.ensures.world world)
+
+pub returns-then-not-has_row-clause-bench : goal.returns-then-not-has_row-clause-bench
+returns-then-not-has_row-clause-bench g c = none_asked c.args.files.now c.args.bench.now.left _
 
 pub returns-clause-does : goal.returns-clause-does
 returns-clause-does g c = λ world.
-    tried_over c.args.files.now c.args.opening.file c.status_of.result c.open-tried.result _ _ _ _ c.args.table.now.rows c.open-tried.new.table.rows world (λ (address : Address). opened_at world (addresses_of c.args.files.now) c.args.opening.file address c.args.opening.how) (c.if-not-has_row.ensures.file refl) c.status_of.ensures.answer c.open-tried.ensures.rows c.open-tried.ensures.bench
+    tried_over c.args.files.now c.args.opening.file c.status_of.result c.open-tried.result _ _ _ _ c.args.table.now.rows c.open-tried.new.table.rows world (λ (address : Address). opened_at world (addresses_of c.args.files.now) c.args.opening.file address c.args.opening.how) (c.if-not-has_row.ensures.file refl) c.status_of.ensures c.open-tried.ensures.rows c.open-tried.ensures.bench
     (c.open-tried.ensures.world world)
 
 pub returns-then-not-has_row-clause-does : goal.returns-then-not-has_row-clause-does

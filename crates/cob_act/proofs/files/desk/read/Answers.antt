@@ -1,23 +1,30 @@
-use Rattle.std.proofs.Common.{◌<◌, false, length, refl}
+use Rattle.std.proofs.Common.{false, length, refl}
 use Rattle.file_model.specs.Attempts.{Address, read_at}
 use Rattle.file_model.specs.Status.{may_read}
-use Rattle.file_model.proofs.operations_lemmas.FallLemmas.{falls}
-use Rattle.cob_act.proofs.files_lemmas.DeskLemmas.{beyond, past_row, record_came, tried_over}
+use Rattle.cob_act.proofs.files_lemmas.BenchLemmas.{done_over, none_asked}
+use Rattle.cob_act.proofs.files_lemmas.DeskLemmas.{beyond, past_row, record_came, stays_over, tried_over}
 use Rattle.cob_act.proofs.files.desk.read.Goals as goal
 
 pub returns-clause-bench : goal.returns-clause-bench
 returns-clause-bench g c =
-    let within : c.args.file < length c.args.files.now = c.if-not-has_row.ensures.file refl in
-    c.status_of.ensures.bench _ _ _ _ (falls c.read-tried.result c.args.files.now c.args.file _ _ _ _ within c.read-tried.ensures.bench)
+    done_over c.args.files.now c.args.file c.status_of.result c.read-tried.result _ _ _ _ c.args.table.now.rows c.read-tried.new.table.rows (c.if-not-has_row.ensures.file refl) c.status_of.ensures c.read-tried.ensures.bench c.read-tried.ensures.notes
+
+pub returns-clause-breaks : goal.returns-clause-breaks
+returns-clause-breaks g c = λ world.
+    stays_over c.args.files.now c.args.file c.status_of.result c.read-tried.result _ _ _ _ c.args.table.now.rows c.read-tried.new.table.rows world (λ (address : Address). read_at world c.args.file address (length c.args.into.now)) (c.if-not-has_row.ensures.file refl) c.status_of.ensures c.read-tried.ensures.bench c.read-tried.ensures.notes
+    (c.read-tried.ensures.world world)
+
+pub returns-then-not-has_row-clause-bench : goal.returns-then-not-has_row-clause-bench
+returns-then-not-has_row-clause-bench g c = none_asked c.args.files.now c.args.bench.now.left _
 
 pub returns-clause-does : goal.returns-clause-does
 returns-clause-does g c = λ world.
-    tried_over c.args.files.now c.args.file c.status_of.result c.read-tried.result _ _ _ _ c.args.table.now.rows c.read-tried.new.table.rows world (λ (address : Address). read_at world c.args.file address (length c.args.into.now)) (c.if-not-has_row.ensures.file refl) c.status_of.ensures.answer c.read-tried.ensures.rows c.read-tried.ensures.bench
+    tried_over c.args.files.now c.args.file c.status_of.result c.read-tried.result _ _ _ _ c.args.table.now.rows c.read-tried.new.table.rows world (λ (address : Address). read_at world c.args.file address (length c.args.into.now)) (c.if-not-has_row.ensures.file refl) c.status_of.ensures c.read-tried.ensures.rows c.read-tried.ensures.bench
     (c.read-tried.ensures.world world)
 
 pub returns-clause-record : goal.returns-clause-record
 returns-clause-record g c = λ world.
-    record_came c.args.files.now c.args.file c.status_of.result c.read-tried.result _ _ c.args.table.now.rows world c.read-tried.new.into (λ (address : Address). read_at world c.args.file address (length c.args.into.now)) (c.if-not-has_row.ensures.file refl) c.status_of.ensures.answer
+    record_came c.args.files.now c.args.file c.status_of.result c.read-tried.result _ _ c.args.table.now.rows world c.read-tried.new.into (λ (address : Address). read_at world c.args.file address (length c.args.into.now)) (c.if-not-has_row.ensures.file refl) c.status_of.ensures
     (c.read-tried.ensures.record world)
 
 pub returns-then-not-has_row-clause-does : goal.returns-then-not-has_row-clause-does

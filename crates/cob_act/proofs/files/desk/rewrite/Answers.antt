@@ -1,18 +1,25 @@
-use Rattle.std.proofs.Common.{◌<◌, false, length, refl}
+use Rattle.std.proofs.Common.{false, length, refl}
 use Rattle.file_model.specs.Attempts.{Address, rewritten_at}
 use Rattle.file_model.specs.Status.{may_rewrite}
-use Rattle.file_model.proofs.operations_lemmas.FallLemmas.{falls}
-use Rattle.cob_act.proofs.files_lemmas.DeskLemmas.{beyond, past_row, tried_over}
+use Rattle.cob_act.proofs.files_lemmas.BenchLemmas.{done_over, none_asked}
+use Rattle.cob_act.proofs.files_lemmas.DeskLemmas.{beyond, past_row, stays_over, tried_over}
 use Rattle.cob_act.proofs.files.desk.rewrite.Goals as goal
 
 pub returns-clause-bench : goal.returns-clause-bench
 returns-clause-bench g c =
-    let within : c.args.file < length c.args.files.now = c.if-not-has_row.ensures.file refl in
-    c.status_of.ensures.bench _ _ _ _ (falls c.rewrite-tried.result c.args.files.now c.args.file _ _ _ _ within c.rewrite-tried.ensures.bench)
+    done_over c.args.files.now c.args.file c.status_of.result c.rewrite-tried.result _ _ _ _ c.args.table.now.rows c.rewrite-tried.new.table.rows (c.if-not-has_row.ensures.file refl) c.status_of.ensures c.rewrite-tried.ensures.bench c.rewrite-tried.ensures.notes
+
+pub returns-clause-breaks : goal.returns-clause-breaks
+returns-clause-breaks g c = λ world.
+    stays_over c.args.files.now c.args.file c.status_of.result c.rewrite-tried.result _ _ _ _ c.args.table.now.rows c.rewrite-tried.new.table.rows world (λ (address : Address). rewritten_at world c.args.file address c.args.bytes.now) (c.if-not-has_row.ensures.file refl) c.status_of.ensures c.rewrite-tried.ensures.bench c.rewrite-tried.ensures.notes
+    (λ address here stands told. c.rewrite-tried.ensures.world world address here stands)
+
+pub returns-then-not-has_row-clause-bench : goal.returns-then-not-has_row-clause-bench
+returns-then-not-has_row-clause-bench g c = none_asked c.args.files.now c.args.bench.now.left _
 
 pub returns-clause-does : goal.returns-clause-does
 returns-clause-does g c = λ world.
-    tried_over c.args.files.now c.args.file c.status_of.result c.rewrite-tried.result _ _ _ _ c.args.table.now.rows c.rewrite-tried.new.table.rows world (λ (address : Address). rewritten_at world c.args.file address c.args.bytes.now) (c.if-not-has_row.ensures.file refl) c.status_of.ensures.answer c.rewrite-tried.ensures.rows c.rewrite-tried.ensures.bench
+    tried_over c.args.files.now c.args.file c.status_of.result c.rewrite-tried.result _ _ _ _ c.args.table.now.rows c.rewrite-tried.new.table.rows world (λ (address : Address). rewritten_at world c.args.file address c.args.bytes.now) (c.if-not-has_row.ensures.file refl) c.status_of.ensures c.rewrite-tried.ensures.rows c.rewrite-tried.ensures.bench
     (λ address here stands told. c.rewrite-tried.ensures.world world address here stands)
 
 pub returns-then-not-has_row-clause-does : goal.returns-then-not-has_row-clause-does

@@ -10,4 +10,5 @@ returns-in_ok-go_to-clause-step c = λ world trace rest.
 
 pub returns-else-self-len-clause-step : goal.returns-else-self-len-clause-step
 returns-else-self-len-clause-step c = λ world trace rest.
-    ap (λ state. state.run) (falls_past c.args.self.now.plan c.args.self.now.paragraph (state_with c.args.self.now rest (memory_in c.args.self.now.held.store world) trace) (omega (arith, c.if-self-len.false, c.len.ensures)))
+    let past = falls_past c.args.self.now.plan c.args.self.now.paragraph (state_with c.args.self.now rest (memory_in c.args.self.now.held.store world) trace) (omega (arith, c.if-self-len.false, c.len.ensures)) in
+    (ap (λ state. state.run) past, ap (λ state. state.memory.world) past)

@@ -1,7 +1,13 @@
-use Rattle.std.proofs.Common.{◌∙◌, ap}
+use Rattle.std.proofs.lemmas.Result.{err_from_is_err_and}
+use Rattle.std.proofs.Common.{◌∙◌, ap, refl}
 use Rattle.cobol_run.specs.Frames.{heads, last_of, rest_of}
+use Rattle.cobol_run.specs.Machine.{state_in}
+use Rattle.cobol_run.specs.Plan.{declared_by}
+use Rattle.cobol_run.specs.Points.{operations_in}
 use Rattle.cobol_run.proofs.FilingLemmas.{next_none, steps_none}
-use Rattle.cobol_run.proofs.MachineLemmas.{files_step, own_step, plain_step}
+use Rattle.cobol_run.proofs.MachineLemmas.{files_breaks, files_step, own_step, plain_step}
+use Rattle.cobol_run.proofs.OverRunLemmas.{live_breaks, not_begun}
+use Rattle.cobol_run.proofs.FallLemmas.{none_fell}
 use Rattle.cobol_run.proofs.machine.Machine.step.Goals as goal
 
 pub returns-in-None-clause-step : goal.returns-in-None-clause-step
@@ -36,3 +42,29 @@ returns-in-Some-clause-kept g c = λ world trace plain.
     let last = last_of c.args.self.now.plan.program.now c.args.self.now.paragraph in
     absurd (next_none c.args.self.now c.in-Some.stmt.now (rest_of last c.next.new.frames) world trace
     (c.in_ok-head.ensures.rest last ∙ ap (λ head. heads last head (rest_of last c.next.new.frames)) c.in-Some.ensures.here.0) c.in-Some.ensures.here.2 plain)
+
+pub returns-in-Some-clause-breaks : goal.returns-in-Some-clause-breaks
+returns-in-Some-clause-breaks g c = λ world trace own stands.
+    let last = last_of c.args.self.now.plan.program.now c.args.self.now.paragraph in
+    files_breaks c.args.self.now c.next.new.frames c.clear.new.shown c.file_step.new.self c.in_ok-head.head
+    (c.in_ok-head.ensures.rest last) (c.in_ok-head.ensures.pending c.args.self.now.plan.program.now)
+    c.in-Some.stmt.now (rest_of last c.next.new.frames) _ _ c.file_step.result
+    (c.in_ok-head.ensures.rest last ∙ ap (λ head. heads last head (rest_of last c.next.new.frames)) c.in-Some.ensures.here.0) world trace
+    (c.file_step.ensures.breaks world c.in-Some.ensures.here.1 stands)
+
+pub returns-in-None-clause-breaks : goal.returns-in-None-clause-breaks
+returns-in-None-clause-breaks g c = λ world trace own stands.
+    live_breaks c.args.self.now c.head_step.new.self c.args.bench.now.left _ world (operations_in (declared_by c.args.self.now.plan) (state_in c.args.self.now world trace)) c.head_step.result c.head_step.ensures.live c.head_step.ensures.plan c.head_step.ensures.table stands
+
+pub returns-then-len-clause-falls : goal.returns-then-len-clause-falls
+returns-then-len-clause-falls g c = none_fell c.args.self.now.plan.program.now.files c.args.bench.now.left _
+
+pub returns-then-len-clause-breaks : goal.returns-then-len-clause-breaks
+returns-then-len-clause-breaks g c = λ world trace own stands.
+    not_begun c.args.self.now c.args.self.now c.args.bench.now.left _ world (operations_in (declared_by c.args.self.now.plan) (state_in c.args.self.now world trace)) refl refl stands
+
+pub returns-in_err-head-clause-breaks : goal.returns-in_err-head-clause-breaks
+returns-in_err-head-clause-breaks g c = λ world trace own stands.
+    let p = err_from_is_err_and c.from_residual.result c.from_residual.ensures.1 in
+    rw p.1
+    (not_begun c.args.self.now c.args.self.now c.args.bench.now.left _ world (operations_in (declared_by c.args.self.now.plan) (state_in c.args.self.now world trace)) refl refl stands)

@@ -3,11 +3,12 @@ use Rattle.cob_tree.specs.declared.file.FileEntry.{FileEntry}
 use Rattle.file_model.specs.declared.device.Put.TheVariants as put
 use Rattle.file_model.specs.declared.mem_file.MemFile.{MemFile}
 use Rattle.file_model.specs.Attempts.{address_of, closed_at}
-use Rattle.file_model.specs.Status.{may_close}
+use Rattle.file_model.specs.Status.{closed_row, may_close, other_row}
 use Rattle.file_model.specs.Told.{Changes, shut}
 use Rattle.file_model.specs.operations.Calls.{addresses_of}
-use Rattle.file_model.proofs.operations_lemmas.EndLemmas.{called_named, done_bench, done_world, failed_bench, failed_world, first_named, nowhere_world, refused_bench, refused_world, site_of, close_tried}
+use Rattle.file_model.proofs.operations_lemmas.EndLemmas.{called_named, close_tried, done_bench, done_world, failed_bench, failed_notes, failed_world, first_named, noted_notes, nowhere_world, refused_bench, refused_world, set_notes, site_of}
 use Rattle.file_model.proofs.operations_lemmas.OpLemmas.{may_close_open, closes}
+use Rattle.file_model.proofs.operations_lemmas.ShutLemmas.{failed_status, other_status, others_called, shut_called}
 use Rattle.file_model.proofs.operations.closing.close.Goals as goal
 
 pub returns-then-status-ne0-clause-bench : goal.returns-then-status-ne0-clause-bench
@@ -62,3 +63,61 @@ returns-in-NoMemory-clause-bench g c = λ address here. absurd (c.in-NoMemory.en
 
 pub returns-in-NoMemory-clause-world : goal.returns-in-NoMemory-clause-world
 returns-in-NoMemory-clause-world g c = λ world address here stands. absurd (c.in-NoMemory.ensures.memory refl)
+
+pub returns-then-status-ne0-clause-notes : goal.returns-then-status-ne0-clause-notes
+returns-then-status-ne0-clause-notes g c = λ address here.
+    noted_notes c.noted.result c.may_close-status.result c.args.file address.device (addresses_of c.args.files.now) other_row c.args.table.now.rows c.noted.new.table.rows c.noted.ensures.answer (omega (arith, c.requires.file, c.requires.rows)) c.noted.ensures.table
+
+pub returns-in-None-clause-notes : goal.returns-in-None-clause-notes
+returns-in-None-clause-notes g c = λ address here.
+    noted_notes c.noted-in-None.result 30 c.args.file address.device (addresses_of c.args.files.now) other_row c.args.table.now.rows c.noted-in-None.new.table.rows c.noted-in-None.ensures.answer (omega (arith, c.requires.file, c.requires.rows)) c.noted-in-None.ensures.table
+
+pub returns-in-Done-clause-notes : goal.returns-in-Done-clause-notes
+returns-in-Done-clause-notes g c = λ address here.
+    set_notes c.shut.result 0 c.args.file address.device (addresses_of c.args.files.now) closed_row c.args.table.now.rows c.shut.new.table.rows c.shut.ensures.answer c.shut.ensures.table
+
+pub returns-in-Failed-clause-notes : goal.returns-in-Failed-clause-notes
+returns-in-Failed-clause-notes g c = λ address here.
+    let there = site_of c.args.files.now c.args.table.now.rows c.args.file c.index-files-file.result c.device_of.result.now c.name_of.result.now c.requires.file c.requires.rows c.index-files-file.is
+    (c.device_of.ensures ∙ ap (λ t. (address_of t).device) c.as_slice-assign.ensures ∙ ap (λ (e : FileEntry). (address_of e.assign).device) (sym c.index-files-file.is)) (c.name_of.ensures ∙ ap (λ t. (address_of t).name) c.as_slice-assign.ensures ∙ ap (λ (e : FileEntry). (address_of e.assign).name) (sym c.index-files-file.is)) in
+    failed_notes c.fail.result c.args.file address.device (addresses_of c.args.files.now) _ _ c.args.bench.now.left c.in-Some.at _ c.args.table.now.rows c.fail.new.table.rows c.fail.ensures.answer
+    (first_named c.args.files.now c.args.table.now.rows c.args.file c.device_of.result.now c.name_of.result.now there address here _ c.in-Some.at c.in-Some.ensures) c.in-Failed.ensures.called c.fail.ensures.table
+
+pub returns-in-NoMemory-clause-notes : goal.returns-in-NoMemory-clause-notes
+returns-in-NoMemory-clause-notes g c = λ address here. absurd (c.in-NoMemory.ensures.memory refl)
+
+pub returns-then-status-ne0-clause-shut : goal.returns-then-status-ne0-clause-shut
+returns-then-status-ne0-clause-shut g c = λ address here is. absurd (other_status c.noted.result c.may_close-status.result c.noted.ensures.answer c.if-status-ne0.true is)
+
+pub returns-in-None-clause-shut : goal.returns-in-None-clause-shut
+returns-in-None-clause-shut g c = λ address here is. absurd (other_status c.noted-in-None.result 30 c.noted-in-None.ensures.answer (λ e. omega (arith, e)) is)
+
+pub returns-in-Done-clause-shut : goal.returns-in-Done-clause-shut
+returns-in-Done-clause-shut g c = λ address here is.
+    let there = site_of c.args.files.now c.args.table.now.rows c.args.file c.index-files-file.result c.device_of.result.now c.name_of.result.now c.requires.file c.requires.rows c.index-files-file.is
+    (c.device_of.ensures ∙ ap (λ t. (address_of t).device) c.as_slice-assign.ensures ∙ ap (λ (e : FileEntry). (address_of e.assign).device) (sym c.index-files-file.is)) (c.name_of.ensures ∙ ap (λ t. (address_of t).name) c.as_slice-assign.ensures ∙ ap (λ (e : FileEntry). (address_of e.assign).name) (sym c.index-files-file.is)) in
+    shut_called c.args.bench.now.left _ _ c.in-Some.at address _ c.in-Done.ensures.left
+    (first_named c.args.files.now c.args.table.now.rows c.args.file c.device_of.result.now c.name_of.result.now there address here _ c.in-Some.at c.in-Some.ensures)
+    (called_named c.args.files.now c.args.table.now.rows c.args.file c.device_of.result.now c.name_of.result.now there address here (λ (n : List ℕ) (before after : Option (List MemFile)). Changes before n shut put.Done after) _ _ _ c.in-Some.at c.in-Done.ensures.called)
+
+pub returns-in-Failed-clause-shut : goal.returns-in-Failed-clause-shut
+returns-in-Failed-clause-shut g c = λ address here is. absurd (failed_status c.fail.result 0 c.fail.ensures.answer is)
+
+pub returns-in-NoMemory-clause-shut : goal.returns-in-NoMemory-clause-shut
+returns-in-NoMemory-clause-shut g c = λ address here is. absurd (c.in-NoMemory.ensures.memory refl)
+
+pub returns-then-status-ne0-clause-others : goal.returns-then-status-ne0-clause-others
+returns-then-status-ne0-clause-others g c = λ device name live was. was
+
+pub returns-in-None-clause-others : goal.returns-in-None-clause-others
+returns-in-None-clause-others g c = λ device name live was. was
+
+pub returns-in-Done-clause-others : goal.returns-in-Done-clause-others
+returns-in-Done-clause-others g c = λ device name live was.
+    others_called c.args.bench.now.left _ _ c.in-Some.at c.device_of.result.now c.name_of.result.now _ c.in-Done.ensures.left c.in-Some.ensures c.in-Done.ensures.called device name was
+
+pub returns-in-Failed-clause-others : goal.returns-in-Failed-clause-others
+returns-in-Failed-clause-others g c = λ device name live was. absurd (live c.fail.ensures.answer)
+
+pub returns-in-NoMemory-clause-others : goal.returns-in-NoMemory-clause-others
+returns-in-NoMemory-clause-others g c = λ device name live was. absurd (c.in-NoMemory.ensures.memory refl)

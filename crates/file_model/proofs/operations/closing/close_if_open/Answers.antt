@@ -1,35 +1,25 @@
-use Rattle.std.proofs.Common.{◌<◌, length, refl, arith}
+use Rattle.std.proofs.Common.{◌<◌, ap, arith, length, refl}
 use Rattle.file_model.specs.declared.operations.tried.Tried.TheVariants as tried
 use Rattle.file_model.specs.operations.Calls.{addresses_of}
-use Rattle.file_model.proofs.operations_lemmas.FallLemmas.{Named, falls, named_at}
-use Rattle.file_model.proofs.operations_lemmas.ShutLemmas.{shut_done, shut_gone}
-use Rattle.file_model.proofs.operations_lemmas.TellLemmas.{leaves_told}
+use Rattle.file_model.proofs.operations_lemmas.FallLemmas.{Named, named_at}
+use Rattle.file_model.proofs.operations_lemmas.ShutLemmas.{shuts_done, shuts_none, shuts_off}
 use Rattle.file_model.proofs.operations.closing.close_if_open.Goals as goal
 
-pub returns-in-Failed-clause-world : goal.returns-in-Failed-clause-world
-returns-in-Failed-clause-world g c = λ world stands.
-    let n : Named c.args.files.now c.args.file = named_at c.args.files.now c.args.file c.requires.file in
-    shut_gone (addresses_of c.args.files.now) _ c.close.new.table.rows world c.args.file n.address tried.Failed n.here refl (c.in-Failed.ensures.world world n.address n.here stands)
+pub returns-then-may_close-ne0-clause-shuts : goal.returns-then-may_close-ne0-clause-shuts
+returns-then-may_close-ne0-clause-shuts g c = λ gone left old apart left_of.
+    shuts_none c.args.file (addresses_of c.args.files.now) gone left c.args.bench.now.left old _ c.args.table.now.rows apart left_of c.may_close.result c.may_close.ensures c.if-may_close-ne0.true
 
-pub returns-in-Status-clause-world : goal.returns-in-Status-clause-world
-returns-in-Status-clause-world g c = λ world stands.
+pub returns-in-Failed-clause-shuts : goal.returns-in-Failed-clause-shuts
+returns-in-Failed-clause-shuts g c = λ gone left old apart left_of.
     let n : Named c.args.files.now c.args.file = named_at c.args.files.now c.args.file c.requires.file in
     let within : c.args.file < length c.args.table.now.rows = omega (arith, c.requires.file, c.requires.rows) in
-    shut_done (addresses_of c.args.files.now) _ _ c.args.table.now.rows c.close.new.table.rows world c.args.file c.may_close.result c.in-Status.field-0 n.address (tried.Status c.in-Status.field-0) stands within c.may_close.ensures c.if-may_close-ne0.false refl
-    (c.in-Status.ensures.world world n.address n.here stands)
+    shuts_off c.args.file (addresses_of c.args.files.now) gone left c.args.bench.now.left old _ c.args.table.now.rows apart left_of n.address n.here c.may_close.result within c.may_close.ensures c.if-may_close-ne0.false c.close.new.bench.left _ c.close.new.table.rows
+    (c.in-Failed.ensures.bench n.address n.here) (c.in-Failed.ensures.notes n.address n.here) (λ world. c.in-Failed.ensures.world world n.address n.here)
 
-pub returns-in-Failed-clause-bench : goal.returns-in-Failed-clause-bench
-returns-in-Failed-clause-bench g c = falls tried.Failed c.args.files.now c.args.file _ _ _ _ c.requires.file c.in-Failed.ensures.bench
-
-pub returns-in-Status-clause-bench : goal.returns-in-Status-clause-bench
-returns-in-Status-clause-bench g c = falls (tried.Status c.in-Status.field-0) c.args.files.now c.args.file _ _ _ _ c.requires.file c.in-Status.ensures.bench
-
-pub returns-in-Failed-clause-telling : goal.returns-in-Failed-clause-telling
-returns-in-Failed-clause-telling g c =
+pub returns-in-Status-clause-shuts : goal.returns-in-Status-clause-shuts
+returns-in-Status-clause-shuts g c = λ gone left old apart left_of.
     let n : Named c.args.files.now c.args.file = named_at c.args.files.now c.args.file c.requires.file in
-    leaves_told tried.Failed n.address.device _ _ _ _ (c.in-Failed.ensures.bench n.address n.here)
-
-pub returns-in-Status-clause-telling : goal.returns-in-Status-clause-telling
-returns-in-Status-clause-telling g c =
-    let n : Named c.args.files.now c.args.file = named_at c.args.files.now c.args.file c.requires.file in
-    leaves_told (tried.Status c.in-Status.field-0) n.address.device _ _ _ _ (c.in-Status.ensures.bench n.address n.here)
+    let within : c.args.file < length c.args.table.now.rows = omega (arith, c.requires.file, c.requires.rows) in
+    shuts_done c.args.file (addresses_of c.args.files.now) gone left c.args.bench.now.left old _ c.args.table.now.rows apart left_of n.address n.here c.may_close.result within c.may_close.ensures c.if-may_close-ne0.false c.close.new.bench.left _ c.close.new.table.rows
+    c.in-Status.field-0 (c.in-Status.ensures.bench n.address n.here) (c.in-Status.ensures.notes n.address n.here) (λ world. c.in-Status.ensures.world world n.address n.here)
+    (λ zero. c.in-Status.ensures.shut n.address n.here (ap tried.Status zero)) (λ device name. c.in-Status.ensures.others device name (λ e. cc))

@@ -3,13 +3,13 @@ use Rattle.cob_tree.specs.declared.file.FileEntry.{FileEntry}
 use Rattle.file_model.specs.declared.device.Opened.TheVariants as opened
 use Rattle.file_model.specs.declared.mem_file.MemFile.{MemFile}
 use Rattle.file_model.specs.Attempts.{address_of, can_be_opened, opened_at}
-use Rattle.file_model.specs.Status.{may_open}
+use Rattle.file_model.specs.Status.{may_open, opened_row, other_row}
 use Rattle.file_model.specs.Told.{Opens}
 use Rattle.file_model.specs.declared.operations.tried.Tried.TheVariants as tried
 use Rattle.file_model.specs.operations.Calls.{addresses_of}
 use Rattle.file_model.specs.operations.Standing.{is_open_there}
 use Rattle.file_model.proofs.operations_lemmas.BenchLemmas.{found_before}
-use Rattle.file_model.proofs.operations_lemmas.EndLemmas.{called_named, done_bench, done_world, entry_address, failed_bench, failed_breaks, failed_world, first_named, refused_bench, refused_world, site_of, wanted_bench}
+use Rattle.file_model.proofs.operations_lemmas.EndLemmas.{called_named, done_bench, done_world, entry_address, failed_bench, failed_breaks, failed_notes, failed_world, first_named, noted_notes, refused_bench, refused_world, set_notes, site_of, wanted_bench}
 use Rattle.file_model.proofs.operations_lemmas.OpenLemmas.{both_false, down_at, missed_world, missing, no_device, nowhere_named, open_tried, open_wanted, opens, refused_with, status_breaks, told_first, turned_down}
 use Rattle.file_model.proofs.operations.opening.open.Goals as goal
 
@@ -137,3 +137,33 @@ returns-in-NoMemory-clause-gone g c = λ world address here stands.
     let there = site_of c.args.files.now c.args.table.now.rows c.args.file c.index-files-file.result c.device_of.result.now c.name_of.result.now c.requires.file c.requires.rows c.index-files-file.is
     (c.device_of.ensures ∙ ap (λ t. (address_of t).device) c.as_slice-assign.ensures ∙ ap (λ (e : FileEntry). (address_of e.assign).device) (sym c.index-files-file.is)) (c.name_of.ensures ∙ ap (λ t. (address_of t).name) c.as_slice-assign.ensures ∙ ap (λ (e : FileEntry). (address_of e.assign).name) (sym c.index-files-file.is)) in
     open_wanted (addresses_of c.args.files.now) _ _ c.args.table.now.rows world c.args.bench.now.left _ c.in-Some.at address.device c.name_of.result.now c.args.how c.in-NoMemory.ensures.left stands (first_named c.args.files.now c.args.table.now.rows c.args.file c.device_of.result.now c.name_of.result.now there address here _ c.in-Some.at c.in-Some.ensures) c.in-NoMemory.ensures.called
+
+pub returns-then-status-ne0-clause-notes : goal.returns-then-status-ne0-clause-notes
+returns-then-status-ne0-clause-notes g c = λ address here.
+    noted_notes c.noted.result c.may_open-status.result c.args.file address.device (addresses_of c.args.files.now) other_row c.args.table.now.rows c.noted.new.table.rows c.noted.ensures.answer (omega (arith, c.requires.file, c.requires.rows)) c.noted.ensures.table
+
+pub returns-then-is_refused-clause-notes : goal.returns-then-is_refused-clause-notes
+returns-then-is_refused-clause-notes g c = λ address here.
+    noted_notes c.noted-then-is_refused.result 30 c.args.file address.device (addresses_of c.args.files.now) other_row c.args.table.now.rows c.noted-then-is_refused.new.table.rows c.noted-then-is_refused.ensures.answer (omega (arith, c.requires.file, c.requires.rows)) c.noted-then-is_refused.ensures.table
+
+pub returns-in-None-clause-notes : goal.returns-in-None-clause-notes
+returns-in-None-clause-notes g c = λ address here.
+    noted_notes c.noted-in-None.result 30 c.args.file address.device (addresses_of c.args.files.now) other_row c.args.table.now.rows c.noted-in-None.new.table.rows c.noted-in-None.ensures.answer (omega (arith, c.requires.file, c.requires.rows)) c.noted-in-None.ensures.table
+
+pub returns-in-Ready-clause-notes : goal.returns-in-Ready-clause-notes
+returns-in-Ready-clause-notes g c = λ address here.
+    set_notes c.opened.result 0 c.args.file address.device (addresses_of c.args.files.now) (opened_row c.args.how) c.args.table.now.rows c.opened.new.table.rows c.opened.ensures.answer c.opened.ensures.table
+
+pub returns-in-Missing-clause-notes : goal.returns-in-Missing-clause-notes
+returns-in-Missing-clause-notes g c = λ address here.
+    noted_notes c.noted-in-Missing.result 35 c.args.file address.device (addresses_of c.args.files.now) other_row c.args.table.now.rows c.noted-in-Missing.new.table.rows c.noted-in-Missing.ensures.answer (omega (arith, c.requires.file, c.requires.rows)) c.noted-in-Missing.ensures.table
+
+pub returns-in-Failed-clause-notes : goal.returns-in-Failed-clause-notes
+returns-in-Failed-clause-notes g c = λ address here.
+    let there = site_of c.args.files.now c.args.table.now.rows c.args.file c.index-files-file.result c.device_of.result.now c.name_of.result.now c.requires.file c.requires.rows c.index-files-file.is
+    (c.device_of.ensures ∙ ap (λ t. (address_of t).device) c.as_slice-assign.ensures ∙ ap (λ (e : FileEntry). (address_of e.assign).device) (sym c.index-files-file.is)) (c.name_of.ensures ∙ ap (λ t. (address_of t).name) c.as_slice-assign.ensures ∙ ap (λ (e : FileEntry). (address_of e.assign).name) (sym c.index-files-file.is)) in
+    failed_notes c.fail.result c.args.file address.device (addresses_of c.args.files.now) _ _ c.args.bench.now.left c.in-Some.at _ c.args.table.now.rows c.fail.new.table.rows c.fail.ensures.answer
+    (first_named c.args.files.now c.args.table.now.rows c.args.file c.device_of.result.now c.name_of.result.now there address here _ c.in-Some.at c.in-Some.ensures) c.in-Failed.ensures.called c.fail.ensures.table
+
+pub returns-in-NoMemory-clause-notes : goal.returns-in-NoMemory-clause-notes
+returns-in-NoMemory-clause-notes g c = λ address here. refl

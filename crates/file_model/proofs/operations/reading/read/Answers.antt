@@ -1,11 +1,11 @@
-use Rattle.std.proofs.Common.{◌≡◌, ◌∙◌, ◌<◌, ◌==◌, ap, arith, if◌then◌else◌, length, refl, sym}
+use Rattle.std.proofs.Common.{◌≡◌, ◌∙◌, ◌<◌, ◌==◌, ap, arith, if◌then◌else◌, length, refl, sym, true}
 use Rattle.file_model.specs.Attempts.{read_at}
-use Rattle.file_model.specs.Status.{may_read}
+use Rattle.file_model.specs.Status.{may_read, other_row, read_row}
 use Rattle.file_model.specs.declared.operations.tried.Tried.TheVariants as tried
 use Rattle.cob_tree.specs.declared.file.FileEntry.{FileEntry}
 use Rattle.file_model.specs.Attempts.{address_of}
 use Rattle.file_model.specs.operations.Calls.{addresses_of}
-use Rattle.file_model.proofs.operations_lemmas.EndLemmas.{done_bench, failed_bench, failed_world, failed_breaks, first_named, nowhere_world, refused_bench, refused_world, site_of}
+use Rattle.file_model.proofs.operations_lemmas.EndLemmas.{done_bench, failed_bench, failed_breaks, failed_notes, failed_world, first_named, noted_notes, nowhere_world, refused_bench, refused_world, site_of}
 use Rattle.file_model.proofs.operations_lemmas.OpenLemmas.{status_breaks}
 use Rattle.file_model.proofs.operations_lemmas.ReadLemmas.{can_read_open, no_record, read_bytes, read_end, read_tried, record_read}
 use Rattle.file_model.proofs.operations.reading.read.Goals as goal
@@ -101,3 +101,26 @@ returns-in-Failed-clause-world g c = λ world address here stands told.
 
 pub returns-in-Failed-clause-record : goal.returns-in-Failed-clause-record
 returns-in-Failed-clause-record g c = λ world address here stands told none. absurd (let e : tried.Failed ≡ tried.Status 0 = sym c.fail.ensures.answer ∙ none in cc)
+
+pub returns-then-status-ne0-clause-notes : goal.returns-then-status-ne0-clause-notes
+returns-then-status-ne0-clause-notes g c = λ address here.
+    noted_notes c.noted.result c.may_read-status.result c.args.file address.device (addresses_of c.args.files.now) other_row c.args.table.now.rows c.noted.new.table.rows c.noted.ensures.answer (omega (arith, c.requires.file, c.requires.rows)) c.noted.ensures.table
+
+pub returns-in-None-clause-notes : goal.returns-in-None-clause-notes
+returns-in-None-clause-notes g c = λ address here.
+    noted_notes c.noted-in-None.result 30 c.args.file address.device (addresses_of c.args.files.now) other_row c.args.table.now.rows c.noted-in-None.new.table.rows c.noted-in-None.ensures.answer (omega (arith, c.requires.file, c.requires.rows)) c.noted-in-None.ensures.table
+
+pub returns-in-Bytes-clause-notes : goal.returns-in-Bytes-clause-notes
+returns-in-Bytes-clause-notes g c = λ address here.
+    noted_notes c.given.result (if c.in-Bytes.size == 0 then 10 else 0) c.args.file address.device (addresses_of c.args.files.now) (read_row (c.in-Bytes.size == 0)) c.args.table.now.rows c.given.new.table.rows c.given.ensures.answer (omega (arith, c.requires.file, c.requires.rows)) c.given.ensures.table
+
+pub returns-in-End-clause-notes : goal.returns-in-End-clause-notes
+returns-in-End-clause-notes g c = λ address here.
+    noted_notes c.ended.result 10 c.args.file address.device (addresses_of c.args.files.now) (read_row true) c.args.table.now.rows c.ended.new.table.rows c.ended.ensures.answer (omega (arith, c.requires.file, c.requires.rows)) c.ended.ensures.table
+
+pub returns-in-Failed-clause-notes : goal.returns-in-Failed-clause-notes
+returns-in-Failed-clause-notes g c = λ address here.
+    let there = site_of c.args.files.now c.args.table.now.rows c.args.file c.index-files-file.result c.device_of.result.now c.name_of.result.now c.requires.file c.requires.rows c.index-files-file.is
+    (c.device_of.ensures ∙ ap (λ t. (address_of t).device) c.as_slice-assign.ensures ∙ ap (λ (e : FileEntry). (address_of e.assign).device) (sym c.index-files-file.is)) (c.name_of.ensures ∙ ap (λ t. (address_of t).name) c.as_slice-assign.ensures ∙ ap (λ (e : FileEntry). (address_of e.assign).name) (sym c.index-files-file.is)) in
+    failed_notes c.fail.result c.args.file address.device (addresses_of c.args.files.now) _ _ c.args.bench.now.left c.in-Some.at _ c.args.table.now.rows c.fail.new.table.rows c.fail.ensures.answer
+    (first_named c.args.files.now c.args.table.now.rows c.args.file c.device_of.result.now c.name_of.result.now there address here _ c.in-Some.at c.in-Some.ensures) c.in-Failed.ensures.called c.fail.ensures.table

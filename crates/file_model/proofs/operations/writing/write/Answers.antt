@@ -3,11 +3,11 @@ use Rattle.cob_tree.specs.declared.file.FileEntry.{FileEntry}
 use Rattle.file_model.specs.declared.device.Put.TheVariants as put
 use Rattle.file_model.specs.declared.mem_file.MemFile.{MemFile}
 use Rattle.file_model.specs.Attempts.{address_of, written_at}
-use Rattle.file_model.specs.Status.{may_write}
+use Rattle.file_model.specs.Status.{may_write, other_row}
 use Rattle.file_model.specs.Told.{Changes, appended}
 use Rattle.file_model.specs.declared.operations.tried.Tried.TheVariants as tried
 use Rattle.file_model.specs.operations.Calls.{addresses_of}
-use Rattle.file_model.proofs.operations_lemmas.EndLemmas.{called_named, done_bench, done_world, failed_bench, failed_world, first_named, nowhere_world, refused_bench, refused_world, site_of, wanted_bench, wanted_world, write_tried}
+use Rattle.file_model.proofs.operations_lemmas.EndLemmas.{called_named, done_bench, done_world, failed_bench, failed_notes, failed_world, first_named, noted_notes, nowhere_world, refused_bench, refused_world, site_of, wanted_bench, wanted_world, write_tried}
 use Rattle.file_model.proofs.operations_lemmas.OpLemmas.{can_write_open, writes}
 use Rattle.file_model.proofs.operations.writing.write.Goals as goal
 
@@ -69,3 +69,25 @@ returns-in-NoMemory-clause-world g c = λ world address here stands.
     let there = site_of c.args.files.now c.args.table.now.rows c.args.file c.index-files-file.result c.device_of.result.now c.name_of.result.now c.requires.file c.requires.rows c.index-files-file.is
     (c.device_of.ensures ∙ ap (λ t. (address_of t).device) c.as_slice-assign.ensures ∙ ap (λ (e : FileEntry). (address_of e.assign).device) (sym c.index-files-file.is)) (c.name_of.ensures ∙ ap (λ t. (address_of t).name) c.as_slice-assign.ensures ∙ ap (λ (e : FileEntry). (address_of e.assign).name) (sym c.index-files-file.is)) in
     wanted_world tried.NoMemory _ _ c.args.bench.now.left _ c.in-Some.at address.device c.name_of.result.now (appended c.args.bytes.now) (addresses_of c.args.files.now) c.args.table.now.rows world (written_at world c.args.file address c.args.bytes.now) refl c.in-NoMemory.ensures.left (first_named c.args.files.now c.args.table.now.rows c.args.file c.device_of.result.now c.name_of.result.now there address here _ c.in-Some.at c.in-Some.ensures) c.in-NoMemory.ensures.called stands
+
+pub returns-then-status-ne0-clause-notes : goal.returns-then-status-ne0-clause-notes
+returns-then-status-ne0-clause-notes g c = λ address here.
+    noted_notes c.noted.result c.may_write-status.result c.args.file address.device (addresses_of c.args.files.now) other_row c.args.table.now.rows c.noted.new.table.rows c.noted.ensures.answer (omega (arith, c.requires.file, c.requires.rows)) c.noted.ensures.table
+
+pub returns-in-None-clause-notes : goal.returns-in-None-clause-notes
+returns-in-None-clause-notes g c = λ address here.
+    noted_notes c.noted-in-None.result 30 c.args.file address.device (addresses_of c.args.files.now) other_row c.args.table.now.rows c.noted-in-None.new.table.rows c.noted-in-None.ensures.answer (omega (arith, c.requires.file, c.requires.rows)) c.noted-in-None.ensures.table
+
+pub returns-in-Done-clause-notes : goal.returns-in-Done-clause-notes
+returns-in-Done-clause-notes g c = λ address here.
+    noted_notes c.noted-in-Done.result 0 c.args.file address.device (addresses_of c.args.files.now) other_row c.args.table.now.rows c.noted-in-Done.new.table.rows c.noted-in-Done.ensures.answer (omega (arith, c.requires.file, c.requires.rows)) c.noted-in-Done.ensures.table
+
+pub returns-in-Failed-clause-notes : goal.returns-in-Failed-clause-notes
+returns-in-Failed-clause-notes g c = λ address here.
+    let there = site_of c.args.files.now c.args.table.now.rows c.args.file c.index-files-file.result c.device_of.result.now c.name_of.result.now c.requires.file c.requires.rows c.index-files-file.is
+    (c.device_of.ensures ∙ ap (λ t. (address_of t).device) c.as_slice-assign.ensures ∙ ap (λ (e : FileEntry). (address_of e.assign).device) (sym c.index-files-file.is)) (c.name_of.ensures ∙ ap (λ t. (address_of t).name) c.as_slice-assign.ensures ∙ ap (λ (e : FileEntry). (address_of e.assign).name) (sym c.index-files-file.is)) in
+    failed_notes c.fail.result c.args.file address.device (addresses_of c.args.files.now) _ _ c.args.bench.now.left c.in-Some.at _ c.args.table.now.rows c.fail.new.table.rows c.fail.ensures.answer
+    (first_named c.args.files.now c.args.table.now.rows c.args.file c.device_of.result.now c.name_of.result.now there address here _ c.in-Some.at c.in-Some.ensures) c.in-Failed.ensures.called c.fail.ensures.table
+
+pub returns-in-NoMemory-clause-notes : goal.returns-in-NoMemory-clause-notes
+returns-in-NoMemory-clause-notes g c = λ address here. refl
