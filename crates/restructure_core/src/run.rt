@@ -33,11 +33,7 @@ pub enum Came {
 
 /// Reads a source and runs its program over a bench for at most so many steps. What it displays
 /// goes to `out`, which is made ready before each display. Both stay as they are where nothing ran.
-<<<<<<< ours
-#[tactic(auto, using(crate::proofs::run_lemmas::AnswerLemmas::comes_of, crate::proofs::run_lemmas::AnswerLemmas::comes_over))]
-=======
-#[tactic(auto, using(crate::proofs::run_lemmas::AnswerLemmas::runs_answer, file_model::proofs::operations_lemmas::FallLemmas::same_bench))]
->>>>>>> theirs
+#[tactic(auto, using(crate::proofs::run_lemmas::AnswerLemmas::runs_answer))]
 pub fn run_source<K: Sink>(
     alloc: Global,
     bytes: &[u8],

@@ -24,19 +24,11 @@ comes_of bytes program steps sink came.NoMemory reads h = h
 read-own : (bytes : List ℕ) (program : Program) → Reads bytes program → IsOwn program
 read-own bytes program reads = paragraphs-own 0 program.paragraphs (read-named bytes program reads).1
 
-<<<<<<< ours
 pub comes_over : (bytes : List ℕ) (program : Program) (steps : ℕ) (sink : SinkCall) (left left_now : ℕ) (old new : List Seen) (answer : Came) → Reads bytes program → CameOver program steps sink left left_now old new answer → ComesOver bytes steps sink left left_now old new answer
 comes_over bytes program steps sink left left_now old new (came.Ran other ran) reads h =
     subst (λ p. Reads bytes p × IsOwn p × RunEnds p steps sink left left_now old new ran) (sym h.0) (reads, read-own bytes program reads, h.1)
 comes_over bytes program steps sink left left_now old new (came.Refused refusal) reads h = h
 comes_over bytes program steps sink left left_now old new came.NoMemory reads h = h
-=======
-pub comes_over : (bytes : List ℕ) (program : Program) (steps : ℕ) (sink : SinkCall) (old new : List Seen) (answer : Came) → Reads bytes program → CameOver program steps sink old new answer → ComesOver bytes steps sink old new answer
-comes_over bytes program steps sink old new (came.Ran other ran) reads h =
-    subst (λ p. Reads bytes p × ((files : Files) → TellFiles old files → RunsOver p files steps sink new ran)) (sym h.0) (reads, h.1 (read-own bytes program reads))
-comes_over bytes program steps sink old new (came.Refused refusal) reads h = tt
-comes_over bytes program steps sink old new came.NoMemory reads h = tt
 
 -- lemmas that are named together
 pub ruleset runs_answer = (comes_of, comes_over)
->>>>>>> theirs
