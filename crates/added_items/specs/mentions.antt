@@ -1,4 +1,4 @@
 -- where statements name cells
-pub mod Mentions
+pub mod CellUse
 -- the same within a loop, by the parts of a tree
 pub mod Within

@@ -8,16 +8,16 @@ use Rattle.control_flow_theory.specs.language.Language.{Choose, Picker, Stmts, n
 use Rattle.control_flow_theory.specs.language.Control.{seen, seen_stmts}
 use Rattle.control_flow_theory.specs.semantics.Graph as graph
 use Rattle.control_flow_theory.specs.graph_rules.Shapes.{alone, followed, last_stmts, arms_stmts}
-use Rattle.control_flow_theory.specs.closing.Closes.{none_left_out}
-use Rattle.control_flow_theory.specs.closing.Dispatches.{stated_arms}
+use Rattle.control_flow_theory.specs.structuring.Closes.{none_left_out}
+use Rattle.control_flow_theory.specs.structuring.Dispatches.{stated_arms}
 use Rattle.control_flow_theory.specs.rendering.Rendering.{Empty, Continues, Stays, Goes, arm_stands, standing, whole_arms, picker_lacks, written_arms, written_picker}
-use Rattle.branch_tree.specs.Trees.{seen_trees, jump_within, return_within}
+use Rattle.branch_tree.specs.Tree.{seen_trees, jump_within, return_within}
 use Rattle.branch_tree.specs.declared.tree.Leaves.{Leaves}
 use Rattle.branch_tree.specs.declared.tree.Tree.{Tree}
-use Rattle.statement_builders.specs.arms.Empties.{put_arm}
+use Rattle.statement_builders.specs.arms.EmptyArms.{put_arm}
 use Rattle.statement_builders.specs.arms.Written.{Way, naming_in, written, all_written}
 use Rattle.statement_builders.specs.item_words.Lists.{put_arms, stand_so, chosen}
-use Rattle.body_rendering.specs.Bodies.{within_arm, within_loop}
+use Rattle.body_rendering.specs.Pieces.{within_arm, within_loop}
 
 -- Lists.
 

@@ -2,7 +2,7 @@
 use Rattle.std.proofs.Common.{◌≡◌, ℕ, zero, suc, ◌+◌, ◌<◌, Bool, true, false, if◌then◌else◌, ◌==◌, List, [], ◌∷◌, get_or, length, drop, refl, ap, sym, ◌∙◌, arith, add-one, drop-cons}
 use Rattle.control_flow_theory.specs.language.Language.{Stmts, none}
 use Rattle.control_flow_theory.specs.semantics.Graph.{Label}
-use Rattle.control_flow_theory.specs.closing.Dispatches.{one_further, number_in, length_of}
+use Rattle.control_flow_theory.specs.structuring.Dispatches.{one_further, number_in, length_of}
 
 pub further_on : (number : ℕ) → 0 < number → number + 1 ≡ one_further number
 further_on zero h = absurd (omega (arith, h))

@@ -10,10 +10,10 @@ use Rattle.control_flow_theory.specs.language.Control.{seen, seen_stmts}
 use Rattle.control_flow_theory.specs.semantics.Graph as graph
 use Rattle.control_flow_theory.specs.graph_rules.Loops.{turned_test}
 use Rattle.control_flow_theory.specs.graph_rules.Shapes.{alone, followed, arm_stmts, arms_stmts, last_stmts}
-use Rattle.control_flow_theory.specs.closing.Closes.{none_left_out}
-use Rattle.control_flow_theory.specs.closing.Dispatches.{stated_end}
+use Rattle.control_flow_theory.specs.structuring.Closes.{none_left_out}
+use Rattle.control_flow_theory.specs.structuring.Dispatches.{stated_end}
 use Rattle.branch_tree.specs.Choosers.{seen_picker, seen_test}
-use Rattle.branch_tree.specs.Trees.{seen_piece, seen_body, seen_trees, seen_end, stated, jump_within, return_within, end_step, piece_step, tree_step}
+use Rattle.branch_tree.specs.Tree.{seen_piece, seen_body, seen_trees, seen_end, stated, jump_within, return_within, end_step, piece_step, tree_step}
 use Rattle.branch_tree.specs.declared.chooser.Picker.{Picker}
 use Rattle.branch_tree.specs.declared.chooser.Test.{Test}
 use Rattle.branch_tree.specs.declared.tree.End.TheVariants as ends
@@ -25,11 +25,11 @@ use Rattle.branch_tree.specs.declared.tree.Tree.{Tree}
 use Rattle.branch_tree.proofs.TreeRows.{seen_tree_is, seen_pick, seen_jump, seen_return, seen_stop, seen_dead, seen_own, seen_set, seen_choose, seen_loop}
 use Rattle.control_flow_theory.specs.rendering.Rendering.{required, written_test}
 use Rattle.statement_builders.specs.arms.Written.{Way, naming_in, written, all_written, IsWritten}
-use Rattle.statement_builders.specs.declared.arms.placing.Placed.{Placed}
+use Rattle.statement_builders.specs.declared.arms.placing.ProcedurePlace.{ProcedurePlace}
 use Rattle.statement_builders.specs.item_words.Words.{IsAct, IsLoop}
 use Rattle.statement_builders.specs.item_words.Lists.{IsChosen}
 use Rattle.statement_builders.specs.declared.item_words.cells.CellItem.{CellItem}
-use Rattle.body_rendering.specs.Bodies.{IsMade, AreMade, AddsStmts, AddsLists, within_arm, within_loop, end_stmts, stated_choice}
+use Rattle.body_rendering.specs.Pieces.{IsMade, AreMade, AddsStmts, AddsLists, within_arm, within_loop, end_stmts, stated_choice}
 use Rattle.body_rendering.proofs.BodyRows.{followed_none, followed_assoc, adds_one, adds_both, written_last, choice_row, stated_row}
 
 -- What is left of a list.
@@ -76,7 +76,7 @@ module _ (way : Way) where
 
 -- Pieces.
 
-module _ (cells : List CellItem) (places : List Placed) where
+module _ (cells : List CellItem) (places : List ProcedurePlace) where
   pub own_row : (stmt made : Stmt) → IsWritten places stmt made → IsMade cells places (seen_piece (pieces.Own stmt)) made
   own_row stmt made h way are placed = h way placed ∙ ap (written way) (sym (seen_own stmt))
 
@@ -123,7 +123,7 @@ module _ (cells : List CellItem) (places : List Placed) where
   pub one_row : (stmt : language.Stmt) (old new : List Stmt) (made : Stmt) → IsMade cells places stmt made → new ≡ old ++ made ∷ [] → AddsStmts cells places (alone stmt) old new
   one_row stmt old new made h e way are placed = adds_one way old new made stmt e (h way are placed)
 
-pub arm_row : (cells : List CellItem) (places : List Placed) (tree : Tree) (body : List Piece) (old between new : List Stmt) → body ≡ tree.body.items → AddsStmts cells places (seen_body body) old between →
+pub arm_row : (cells : List CellItem) (places : List ProcedurePlace) (tree : Tree) (body : List Piece) (old between new : List Stmt) → body ≡ tree.body.items → AddsStmts cells places (seen_body body) old between →
     seen_stmts 0 new ≡ followed (seen_stmts 0 between) (last_stmts (seen_end tree.end)) → AddsStmts cells places (within_arm tree) old new
 arm_row cells places tree body old between new b h e =
     let last = last_stmts (seen_end tree.end) in
@@ -131,22 +131,22 @@ arm_row cells places tree body old between new b h e =
     (ap arm_stmts (seen_tree_is tree) ∙ ap (λ ps. followed (seen_body ps) last) (sym b)) h
     (λ way are placed. e ∙ ap (followed (seen_stmts 0 between)) (sym (written_last way (seen_end tree.end))))
 
-pub stated_both : (cells : List CellItem) (places : List Placed) (leaves : Leaves) (tree : Tree) (body : List Piece) (old between new : List Stmt) → body ≡ tree.body.items → AddsStmts cells places (seen_body body) old between →
+pub stated_both : (cells : List CellItem) (places : List ProcedurePlace) (leaves : Leaves) (tree : Tree) (body : List Piece) (old between new : List Stmt) → body ≡ tree.body.items → AddsStmts cells places (seen_body body) old between →
     AddsStmts cells places (end_stmts leaves tree.end) between new → AddsStmts cells places (within_loop leaves tree) old new
 stated_both cells places leaves tree body old between new b h g =
     let last = end_stmts leaves tree.end in
     both_row cells places (seen_body body) last (within_loop leaves tree) old between new
     (ap (stated leaves) (seen_tree_is tree) ∙ ap (λ ps. followed (seen_body ps) last) (sym b)) h g
 
-pub adds_same : (cells : List CellItem) (places : List Placed) (stmts all : Stmts) (old new : List Stmt) → all ≡ stmts → AddsStmts cells places stmts old new → AddsStmts cells places all old new
+pub adds_same : (cells : List CellItem) (places : List ProcedurePlace) (stmts all : Stmts) (old new : List Stmt) → all ≡ stmts → AddsStmts cells places stmts old new → AddsStmts cells places all old new
 adds_same cells places stmts all old new e h way are placed = h way are placed ∙ ap (λ s. followed (seen_stmts 0 old) (all_written way s)) (sym e)
 
-pub chosen_made : (cells : List CellItem) (places : List Placed) (by : Picker) (arms : List Tree) (old lists : List (List Stmt)) (made : Stmt) → old ≡ [] → AddsLists cells places within_arm arms old lists → IsChosen cells by lists made →
+pub chosen_made : (cells : List CellItem) (places : List ProcedurePlace) (by : Picker) (arms : List Tree) (old lists : List (List Stmt)) (made : Stmt) → old ≡ [] → AddsLists cells places within_arm arms old lists → IsChosen cells by lists made →
     IsMade cells places (language.Choose (seen_picker by) (arms_stmts (seen_trees arms))) made
 chosen_made cells places by arms old lists made e l h way are placed =
     h way are ∙ choice_row way (seen_picker by) arms (map (seen_stmts 0) lists) (l way are placed ∙ ap (λ o. map (seen_stmts 0) o ++ map (all_written way) (map within_arm arms)) e)
 
-pub stated_made : (cells : List CellItem) (places : List Placed) (leaves : Leaves) (by : Picker) (arms : List Tree) (old lists : List (List Stmt)) (made : Stmt) → old ≡ [] → AddsLists cells places (within_loop leaves) arms old lists → IsChosen cells by lists made →
+pub stated_made : (cells : List CellItem) (places : List ProcedurePlace) (leaves : Leaves) (by : Picker) (arms : List Tree) (old lists : List (List Stmt)) (made : Stmt) → old ≡ [] → AddsLists cells places (within_loop leaves) arms old lists → IsChosen cells by lists made →
     IsMade cells places (stated_choice leaves by arms) made
 stated_made cells places leaves by arms old lists made e l h way are placed =
     h way are ∙ stated_row way leaves (seen_picker by) arms (map (seen_stmts 0) lists) (l way are placed ∙ ap (λ o. map (seen_stmts 0) o ++ map (all_written way) (map (within_loop leaves) arms)) e)

@@ -10,14 +10,14 @@ use Rattle.control_flow_theory.specs.semantics.Graph.{Tree, End, Pick, Jump, Ret
 use Rattle.control_flow_theory.specs.graph_rules.Shapes.{alone, followed}
 use Rattle.control_flow_theory.specs.rendering.Rendering.{required, then_stmts, closing}
 use Rattle.statement_builders.specs.arms.Written.{Way, all_written}
-use Rattle.branch_tree.specs.Trees.{seen_body, seen_end, seen_tree}
+use Rattle.branch_tree.specs.Tree.{seen_body, seen_end, seen_tree}
 use Rattle.branch_tree.specs.declared.tree.Piece.{Piece}
 use Rattle.branch_tree.specs.declared.tree.Tree as code
 use Rattle.branch_tree.proofs.TreeRows.{seen_tree_is}
-use Rattle.statement_builders.specs.declared.arms.placing.Placed.{Placed}
+use Rattle.statement_builders.specs.declared.arms.placing.ProcedurePlace.{ProcedurePlace}
 use Rattle.statement_builders.specs.declared.item_words.cells.CellItem.{CellItem}
-use Rattle.body_rendering.specs.Bodies.{AddsStmts}
-use Rattle.body_rendering.specs.Procedures.{stops, closed_stmts, is_main, IsSentence, IsProcedure}
+use Rattle.body_rendering.specs.Pieces.{AddsStmts}
+use Rattle.body_rendering.specs.Procedure.{stops, closed_stmts, is_main, IsSentence, IsProcedure}
 use Rattle.body_rendering.proofs.PieceRows.{both_row}
 use Rattle.body_rendering.proofs.BodyRows.{written_followed}
 
@@ -42,7 +42,7 @@ procedure_row way main whole e =
     ∙ ap (followed (all_written way (body_of whole))) (closing_row way way.range (end_of whole))
     ∙ sym (then_row (all_written way (body_of whole)) (closing way.range (end_of whole)))
 
-pub closed_row : (cells : List CellItem) (places : List Placed) (main : Bool) (tree : code.Tree) (body : List Piece) (tail : Stmts) (old between new : List Stmt) → body ≡ tree.body.items →
+pub closed_row : (cells : List CellItem) (places : List ProcedurePlace) (main : Bool) (tree : code.Tree) (body : List Piece) (tail : Stmts) (old between new : List Stmt) → body ≡ tree.body.items →
     AddsStmts cells places (seen_body body) old between → (if main || stops (seen_end tree.end) then alone language.StopRun else none) ≡ tail →
     seen_stmts 0 new ≡ followed (seen_stmts 0 between) tail → AddsStmts cells places (closed_stmts main (seen_tree tree)) old new
 closed_row cells places main tree body tail old between new b h t e =
@@ -56,7 +56,7 @@ closed_row cells places main tree body tail old between new b h t e =
     written_closed way true = refl
     written_closed way false = refl
 
-pub sentence_row : (cells : List CellItem) (places : List Placed) (main : Bool) (whole : Tree) (old new : List Stmt) (made : Sentence) → old ≡ [] → AddsStmts cells places (closed_stmts main whole) old new →
+pub sentence_row : (cells : List CellItem) (places : List ProcedurePlace) (main : Bool) (whole : Tree) (old new : List Stmt) (made : Sentence) → old ≡ [] → AddsStmts cells places (closed_stmts main whole) old new →
     IsSentence (seen_stmts 0 new) made → IsProcedure cells places main whole made
 sentence_row cells places main whole old new made e h s way are placed m =
     ap (λ x. x ∷ [])

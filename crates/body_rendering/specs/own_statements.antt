@@ -1,2 +1,2 @@
 -- the arms of a statement, as they are written
-pub mod Arms
+pub mod Writing

@@ -6,9 +6,9 @@ ghost use Rattle.cob_base.specs.Answers.{Makes};
 ghost use Rattle.control_flow_theory.specs.language.Control.{seen_stmts};
 ghost use Rattle.control_flow_theory.specs.graph_rules.Shapes.{followed, last_stmts};
 ghost use Rattle.control_flow_theory.specs.semantics.Graph.{Stop};
-ghost use Rattle.control_flow_theory.specs.closing.Dispatches.{length_of, number_in, one_further, set_to};
-ghost use Rattle.branch_tree.specs.Trees.{seen_end, jump_within, return_within};
-ghost use Rattle.body_rendering.specs.Bodies.{AddsWords};
+ghost use Rattle.control_flow_theory.specs.structuring.Dispatches.{length_of, number_in, one_further, set_to};
+ghost use Rattle.branch_tree.specs.Tree.{seen_end, jump_within, return_within};
+ghost use Rattle.body_rendering.specs.Pieces.{AddsWords};
 
 use branch_tree::{End, Label, Leaves};
 use cob_base::{Items, NoMemory};

@@ -4,15 +4,15 @@ ghost use Rattle.std.specs.Prelude.{IfOk, OnOk};
 ghost use Rattle.control_flow_theory.specs.language.Language.{Choose};
 ghost use Rattle.control_flow_theory.specs.graph_rules.Shapes.{alone, arms_stmts};
 ghost use Rattle.branch_tree.specs.Choosers.{seen_picker};
-ghost use Rattle.branch_tree.specs.Trees.{seen_piece, seen_body, seen_trees};
-ghost use Rattle.body_rendering.specs.Bodies.{IsMade, AreMade, AddsStmts, AddsLists, within_arm, within_loop, end_stmts, stated_choice};
+ghost use Rattle.branch_tree.specs.Tree.{seen_piece, seen_body, seen_trees};
+ghost use Rattle.body_rendering.specs.Pieces.{IsMade, AreMade, AddsStmts, AddsLists, within_arm, within_loop, end_stmts, stated_choice};
 
 use crate::leaves::{add_jump, add_last, add_return, add_stop};
 use crate::own_statements::write_stmt;
 use branch_tree::{End, Leaves, Picker, Piece, Tree, drop_trees};
 use cob_base::{Items, NoMemory};
 use cob_tree::Stmt;
-use statement_builders::arms::Placed;
+use statement_builders::arms::ProcedurePlace;
 use statement_builders::item_words::{
     CellItem, choose, drop_lists, drop_stmts, loop_until, lower_cell, set_cell, take_cell,
 };
@@ -25,7 +25,7 @@ fn write_piece(
     alloc: Global,
     piece: &mut Piece,
     cells: &[CellItem],
-    places: &[Placed],
+    places: &[ProcedurePlace],
 ) -> Result<Stmt, NoMemory>
     ensures { IfOk result (λ made. IsMade cells.now places.now (seen_piece piece.old) made) }
 {
@@ -57,7 +57,7 @@ fn add_pieces(
     pieces: &mut [Piece],
     made: &mut Items<Stmt>,
     cells: &[CellItem],
-    places: &[Placed],
+    places: &[ProcedurePlace],
 ) -> Result<(), NoMemory>
     ensures { OnOk result
         (AddsStmts cells.now places.now (seen_body pieces.old) made.old made.new) }
@@ -76,7 +76,7 @@ fn add_arm(
     arm: &mut Tree,
     made: &mut Items<Stmt>,
     cells: &[CellItem],
-    places: &[Placed],
+    places: &[ProcedurePlace],
 ) -> Result<(), NoMemory>
     ensures { OnOk result (AddsStmts cells.now places.now (within_arm arm.old) made.old made.new) }
 {
@@ -90,7 +90,7 @@ fn write_arm(
     alloc: Global,
     arm: &mut Tree,
     cells: &[CellItem],
-    places: &[Placed],
+    places: &[ProcedurePlace],
 ) -> Result<Items<Stmt>, NoMemory>
     ensures { IfOk result (λ made. AreMade cells.now places.now (within_arm arm.old) made) }
 {
@@ -110,7 +110,7 @@ fn add_arms(
     lists: &mut Items<Items<Stmt>>,
     arms: &mut [Tree],
     cells: &[CellItem],
-    places: &[Placed],
+    places: &[ProcedurePlace],
 ) -> Result<(), NoMemory>
     ensures { OnOk result
         (AddsLists cells.now places.now within_arm arms.old lists.old lists.new) }
@@ -129,7 +129,7 @@ fn write_choice(
     by: Picker,
     arms: Items<Tree>,
     cells: &[CellItem],
-    places: &[Placed],
+    places: &[ProcedurePlace],
 ) -> Result<Stmt, NoMemory>
     ensures { IfOk result (λ made. IsMade cells.now places.now
         (Choose (seen_picker by) (arms_stmts (seen_trees arms))) made) }
@@ -158,7 +158,7 @@ fn add_stated(
     made: &mut Items<Stmt>,
     leaves: &Leaves,
     cells: &[CellItem],
-    places: &[Placed],
+    places: &[ProcedurePlace],
 ) -> Result<(), NoMemory>
     ensures { OnOk result
         (AddsStmts cells.now places.now (within_loop leaves.now tree.old) made.old made.new) }
@@ -173,7 +173,7 @@ fn write_stated(
     tree: &mut Tree,
     leaves: &Leaves,
     cells: &[CellItem],
-    places: &[Placed],
+    places: &[ProcedurePlace],
 ) -> Result<Items<Stmt>, NoMemory>
     ensures { IfOk result
         (λ made. AreMade cells.now places.now (within_loop leaves.now tree.old) made) }
@@ -195,7 +195,7 @@ fn write_turns(
     tree: Tree,
     leaves: Leaves,
     cells: &[CellItem],
-    places: &[Placed],
+    places: &[ProcedurePlace],
 ) -> Result<Items<Stmt>, NoMemory>
     ensures { IfOk result (λ made. AreMade cells.now places.now (within_loop leaves tree) made) }
 {
@@ -214,7 +214,7 @@ fn add_end(
     made: &mut Items<Stmt>,
     leaves: &Leaves,
     cells: &[CellItem],
-    places: &[Placed],
+    places: &[ProcedurePlace],
 ) -> Result<(), NoMemory>
     ensures { OnOk result
         (AddsStmts cells.now places.now (end_stmts leaves.now end.old) made.old made.new) }
@@ -237,7 +237,7 @@ fn add_choice(
     made: &mut Items<Stmt>,
     leaves: &Leaves,
     cells: &[CellItem],
-    places: &[Placed],
+    places: &[ProcedurePlace],
 ) -> Result<(), NoMemory>
     ensures { OnOk result (AddsStmts cells.now places.now
         (alone (stated_choice leaves.now by arms)) made.old made.new) }
@@ -253,7 +253,7 @@ fn write_stated_choice(
     arms: Items<Tree>,
     leaves: &Leaves,
     cells: &[CellItem],
-    places: &[Placed],
+    places: &[ProcedurePlace],
 ) -> Result<Stmt, NoMemory>
     ensures { IfOk result
         (λ made. IsMade cells.now places.now (stated_choice leaves.now by arms) made) }
@@ -288,7 +288,7 @@ fn add_stated_arms(
     arms: &mut [Tree],
     leaves: &Leaves,
     cells: &[CellItem],
-    places: &[Placed],
+    places: &[ProcedurePlace],
 ) -> Result<(), NoMemory>
     ensures { OnOk result
         (AddsLists cells.now places.now (within_loop leaves.now) arms.old lists.old lists.new) }
@@ -309,7 +309,7 @@ pub fn add_body(
     made: &mut Items<Stmt>,
     pieces: &mut [Piece],
     cells: &[CellItem],
-    places: &[Placed],
+    places: &[ProcedurePlace],
 ) -> Result<(), NoMemory>
     ensures { OnOk result
         (AddsStmts cells.now places.now (seen_body pieces.old) made.old made.new) }

@@ -2,16 +2,16 @@
 
 ghost use Rattle.std.specs.Prelude.{◌≡◌, ◌||◌, IfOk, OnOk};
 ghost use Rattle.control_flow_theory.specs.language.Control.{seen_stmts};
-ghost use Rattle.branch_tree.specs.Trees.{seen_end, seen_tree};
-ghost use Rattle.body_rendering.specs.Bodies.{AddsStmts};
-ghost use Rattle.body_rendering.specs.Procedures.{stops, IsSentence, IsProcedure, closed_stmts};
+ghost use Rattle.branch_tree.specs.Tree.{seen_end, seen_tree};
+ghost use Rattle.body_rendering.specs.Pieces.{AddsStmts};
+ghost use Rattle.body_rendering.specs.Procedure.{stops, IsSentence, IsProcedure, closed_stmts};
 
 use crate::leaves::add_stop;
 use crate::pieces::{add_body, drop_tree};
 use branch_tree::{End, Tree};
 use cob_base::{Items, NoMemory};
 use cob_tree::{Sentence, Stmt};
-use statement_builders::arms::{Placed, or_continue};
+use statement_builders::arms::{ProcedurePlace, or_continue};
 use statement_builders::item_words::{CellItem, drop_stmts};
 use std::alloc::Global;
 
@@ -40,7 +40,7 @@ fn add_closed(
     tree: &mut Tree,
     is_main: bool,
     cells: &[CellItem],
-    places: &[Placed],
+    places: &[ProcedurePlace],
 ) -> Result<(), NoMemory>
     ensures { OnOk result (AddsStmts cells.now places.now (closed_stmts is_main (seen_tree tree.old))
         made.old made.new) }
@@ -70,7 +70,7 @@ pub fn write_procedure(
     tree: Tree,
     is_main: bool,
     cells: &[CellItem],
-    places: &[Placed],
+    places: &[ProcedurePlace],
 ) -> Result<Sentence, NoMemory>
     ensures { IfOk result (λ made. IsProcedure cells.now places.now is_main (seen_tree tree)
         made) }

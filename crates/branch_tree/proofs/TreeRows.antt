@@ -17,7 +17,7 @@ use Rattle.branch_tree.specs.declared.tree.Piece.TheVariants as piece
 use Rattle.branch_tree.specs.declared.tree.End.{fold-roll-End}
 use Rattle.branch_tree.specs.declared.tree.End.TheOpen.{End-F, Piece-F}
 use Rattle.branch_tree.specs.declared.tree.End.TheVariants as end
-use Rattle.branch_tree.specs.Trees.{seen_tree, seen_end, seen_piece, seen_body, seen_trees, stated, end_step, piece_step, tree_step}
+use Rattle.branch_tree.specs.Tree.{seen_tree, seen_end, seen_piece, seen_body, seen_trees, stated, end_step, piece_step, tree_step}
 
 -- a tree is its body and its end
 pub seen_tree_is : (t : Tree) → seen_tree t ≡ graph.tree (seen_body t.body.items) (seen_end t.end)

@@ -2,7 +2,7 @@
 use Rattle.std.specs.Prelude.{◌≡◌, Option, Some, None}
 use Rattle.control_flow_theory.specs.semantics.Graph.{Tree, tree, body_of, end_of}
 use Rattle.control_flow_theory.specs.graph_rules.Shapes.{followed}
-use Rattle.branch_tree.specs.Trees.{seen_tree}
+use Rattle.branch_tree.specs.Tree.{seen_tree}
 use Rattle.branch_tree.specs.declared.tree.Tree as code
 
 -- one tree in the place of the other's end

@@ -2,10 +2,10 @@
 use Rattle.std.specs.Prelude.{ℕ}
 use Rattle.control_flow_theory.specs.language.Language.{Picker, Stmts, Arms}
 use Rattle.control_flow_theory.specs.semantics.Graph.{End, Trees}
-use Rattle.control_flow_theory.specs.closing.Closes.{none_left_out}
-use Rattle.control_flow_theory.specs.closing.Dispatches.{stated_end, stated_arms}
+use Rattle.control_flow_theory.specs.structuring.Closes.{none_left_out}
+use Rattle.control_flow_theory.specs.structuring.Dispatches.{stated_end, stated_arms}
 use Rattle.branch_tree.specs.declared.tree.Leaves.{Leaves}
-use Rattle.branch_tree.specs.Trees.{jump_within, return_within}
+use Rattle.branch_tree.specs.Tree.{jump_within, return_within}
 
 abbrev pub end_within : Leaves → End → Stmts
 end_within leaves end = stated_end none_left_out (jump_within leaves) (return_within leaves) end

@@ -3,7 +3,7 @@
 ghost use Rattle.std.specs.Prelude.{◌≡◌, ◌+◌, ◌≤◌, ◌++◌, IfNone, IfSome};
 ghost use Rattle.std.specs.VecDeque.{deque_len, deque_capacity};
 ghost use Rattle.branch_tree.specs.Changes.{GoesOn};
-ghost use Rattle.branch_tree.specs.Trees.{seen_tree};
+ghost use Rattle.branch_tree.specs.Tree.{seen_tree};
 
 use crate::graph::Node;
 use crate::tree::{End, Piece, Tree};
@@ -59,7 +59,7 @@ impl Tree {
 
     /// Puts the other tree in the place of this one's end: the shorter body moves. Without memory it
     /// comes back, and this one stays.
-    pub fn go_on(&mut self, by: Tree) -> Option<Tree>
+    pub fn append_tree(&mut self, by: Tree) -> Option<Tree>
         ensures { GoesOn result (seen_tree by) (seen_tree self.old) (seen_tree self.new) }
     {
         let Tree { body, end } = by;

@@ -4,8 +4,8 @@ ghost use Rattle.std.specs.Prelude.{◌≡◌, ◌-◌, ◌^◌, min};
 ghost use Rattle.control_flow_theory.specs.semantics.Doing.{is_above};
 ghost use Rattle.control_flow_theory.specs.graph_rules.Shapes.{leaves_to, arms_leaves_to};
 ghost use Rattle.control_flow_theory.specs.graph_rules.Reduced.{all_leaves_to};
-ghost use Rattle.branch_tree.specs.Trees.{seen_tree, seen_trees};
-ghost use Rattle.branch_tree.specs.Graphs.{seen_nodes};
+ghost use Rattle.branch_tree.specs.Tree.{seen_tree, seen_trees};
+ghost use Rattle.branch_tree.specs.Graph.{seen_nodes};
 
 use crate::graph::Graph;
 use crate::label::Label;

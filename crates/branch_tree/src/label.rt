@@ -21,7 +21,7 @@ impl Model for Label {
 
     ghost coded = { coded_ℕ };
 
-    ghost use Rattle.branch_tree.specs.Labels.{number_of, label_of, label_of-number_of};
+    ghost use Rattle.branch_tree.specs.Label.{number_of, label_of, label_of-number_of};
 
     ghost view = { number_of };
 

@@ -2,7 +2,7 @@
 //! choose by. A body holds statements without a jump; each tree ends in a choice, a jump, a return,
 //! a stop, or dead.
 //!
-//! Contracts see a tree as the tree of the theory of control (`specs/Trees.antt`). The crate
+//! Contracts see a tree as the tree of the theory of control (`specs/Tree.antt`). The crate
 //! `graph_rewriting` holds a graph while the rules rewrite it.
 #![tactic(auto)]
 

@@ -5,12 +5,12 @@ use Rattle.cob_tree.specs.declared.stmt.Stmt.TheOpen.{Stmt-F}
 use Rattle.cob_store.specs.Store.{Roots}
 use Rattle.file_model.specs.World.{World, Display}
 use Rattle.meanings.specs.statements.Filing as files
-use Rattle.cob_act.specs.declared.acting.Done.{Done}
-use Rattle.cob_act.specs.declared.acting.Done.TheVariants.{Went, Shown, Chose, Abended}
+use Rattle.cob_act.specs.declared.acting.ActOutcome.{ActOutcome}
+use Rattle.cob_act.specs.declared.acting.ActOutcome.TheVariants.{Went, Shown, Chose, Abended}
 
 -- the effect of what was done: the world stays, and where bytes were shown that is the one
 -- operation
-abbrev pub effect_by : World → Roots → List ℕ → Done → files.Effect
+abbrev pub effect_by : World → Roots → List ℕ → ActOutcome → files.Effect
 effect_by world store shown Went = files.no_effect store files.Went
 effect_by world store shown Shown = record {
   operations = record { world = world; event = Display shown } ∷ [];

@@ -2,10 +2,10 @@
 use Rattle.std.specs.Prelude.{Ok, Err}
 use Rattle.cob_store.specs.Answer.{Answer}
 use Rattle.meanings.specs.statements.Side as sides
-use Rattle.cob_act.specs.declared.side.Side.{Side}
-use Rattle.cob_act.specs.declared.side.Side.TheVariants.{Amount, Literal, Item, Nought, Bytes, Filler}
+use Rattle.cob_act.specs.declared.side.ComparedSide.{ComparedSide}
+use Rattle.cob_act.specs.declared.side.ComparedSide.TheVariants.{Amount, Literal, Item, Nought, Bytes, Filler}
 
-abbrev pub seen : Side → sides.Side
+abbrev pub seen : ComparedSide → sides.Side
 seen (Amount number) = sides.Amount number
 seen (Literal number) = sides.Literal number.now
 seen (Item signed part sign bytes) = sides.Item signed part sign bytes.now
@@ -13,6 +13,6 @@ seen Nought = sides.Nought
 seen (Bytes bytes) = sides.Bytes bytes.now
 seen (Filler byte) = sides.Filler byte
 
-abbrev pub seen_answer : Answer Side → Answer sides.Side
+abbrev pub seen_answer : Answer ComparedSide → Answer sides.Side
 seen_answer (Ok side) = Ok (seen side)
 seen_answer (Err abend) = Err abend

@@ -17,7 +17,7 @@ use cob_tree::{Abend, Arms, Program, Stmt};
 
 /// What a statement did.
 #[derive(Clone, Copy, Debug, PartialEq, Eq)]
-pub enum Done {
+pub enum ActOutcome {
     Went,
     /// It went on, and showed bytes.
     Shown,
@@ -25,33 +25,33 @@ pub enum Done {
     Abended(Abend),
 }
 
-fn of_moves(answer: Result<(), Abend>) -> Done
+fn of_moves(answer: Result<(), Abend>) -> ActOutcome
     ensures { (world : World) → (store : List (List ℕ)) → (shown : List ℕ) →
         effect_by world store shown result ≡ of_moves (outcome_of store answer) }
 {
     match answer {
-        Ok(()) => Done::Went,
-        Err(abend) => Done::Abended(abend),
+        Ok(()) => ActOutcome::Went,
+        Err(abend) => ActOutcome::Abended(abend),
     }
 }
 
-fn chooses(answer: Result<usize, Abend>) -> Done
+fn chooses(answer: Result<usize, Abend>) -> ActOutcome
     ensures { (world : World) → (store : List (List ℕ)) → (shown : List ℕ) →
         effect_by world store shown result ≡ chooses store answer }
 {
     match answer {
-        Ok(arm) => Done::Chose(arm),
-        Err(abend) => Done::Abended(abend),
+        Ok(arm) => ActOutcome::Chose(arm),
+        Err(abend) => ActOutcome::Abended(abend),
     }
 }
 
-fn shows(answer: Result<(), Abend>) -> Done
+fn shows(answer: Result<(), Abend>) -> ActOutcome
     ensures { (world : World) → (store : List (List ℕ)) → (shown : List ℕ) →
         effect_by world store shown result ≡ shows store world (with_bytes answer shown) }
 {
     match answer {
-        Ok(()) => Done::Shown,
-        Err(abend) => Done::Abended(abend),
+        Ok(()) => ActOutcome::Shown,
+        Err(abend) => ActOutcome::Abended(abend),
     }
 }
 
@@ -63,19 +63,19 @@ pub fn has_arms(arms: &Arms) -> bool
 }
 
 // With a SIZE phrase the first arm is taken where a receiver had a size error, and else the second.
-fn of_sum(guarded: bool, answer: Result<bool, Abend>) -> Done
+fn of_sum(guarded: bool, answer: Result<bool, Abend>) -> ActOutcome
     ensures { (world : World) → (store : List (List ℕ)) → (shown : List ℕ) →
         effect_by world store shown result ≡ of_sum guarded store answer }
 {
     match answer {
-        Err(abend) => Done::Abended(abend),
+        Err(abend) => ActOutcome::Abended(abend),
         Ok(error) => {
             if !guarded {
-                Done::Went
+                ActOutcome::Went
             } else if error {
-                Done::Chose(1)
+                ActOutcome::Chose(1)
             } else {
-                Done::Chose(2)
+                ActOutcome::Chose(2)
             }
         }
     }
@@ -89,7 +89,7 @@ pub fn act(
     scratch: &mut Vec<u8>,
     shown: &mut Text,
     stmt: &Stmt,
-) -> Result<Done, NoMemory>
+) -> Result<ActOutcome, NoMemory>
     requires inner { IsTrue (is_inner stmt.now) }
     requires empty { shown.old ≡ [] }
     ensures { IfOk result (λ done. (world : World) → effect_by world store.new shown.new done
@@ -123,6 +123,6 @@ pub fn act(
             subject,
             whens.as_slice(),
         ))),
-        _ => Ok(Done::Went),
+        _ => Ok(ActOutcome::Went),
     }
 }

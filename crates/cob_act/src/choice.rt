@@ -8,7 +8,7 @@ ghost use Rattle.cob_act.specs.Choice.{seen_asked, seen_subject};
 ghost use Rattle.cob_act.specs.Side.{seen};
 
 use crate::condition::{holds, turned};
-use crate::side::{Side, compared, expr_side};
+use crate::side::{ComparedSide, compared, expr_side};
 use cob_store::{Area, Store};
 use cob_tree::{Abend, Cond, Entry, Expr, Subject, Test, When};
 
@@ -29,7 +29,7 @@ pub fn if_chosen(
 #[derive(Clone, Copy)]
 pub enum Asked<'a> {
     Truth(bool),
-    Beside(Side<'a>),
+    Beside(ComparedSide<'a>),
 }
 
 fn subject_read<'a>(
@@ -53,7 +53,7 @@ fn subject_read<'a>(
 fn in_range(
     areas: &[Area],
     store: &Store,
-    side: Side,
+    side: ComparedSide,
     from: &Expr,
     to: &Option<Expr>,
 ) -> Result<bool, Abend>

@@ -7,7 +7,9 @@ ghost use Rattle.cob_store.specs.Place.{memory_of};
 ghost use Rattle.meanings.specs.statements.Condition.{has_sign, holds, in_span, in_spans, is_alphabetic, is_number, is_of_class, named, rel_holds, relation, spans_of, turned};
 ghost use Rattle.cob_act.specs.Side.{seen};
 
-use crate::side::{Side, compared, expr_side, operand_side, place_side, side_bytes, valued};
+use crate::side::{
+    ComparedSide, compared, expr_side, operand_side, place_side, side_bytes, valued,
+};
 use crate::text::is_letter;
 use cob_num::Dec;
 use cob_store::{Area, Store, expr_value, number_in};
@@ -50,25 +52,25 @@ fn are_digits(bytes: &[u8]) -> bool
     bytes.iter().all(|byte| is_digit(*byte))
 }
 
-fn is_number(side: Side) -> bool
+fn is_number(side: ComparedSide) -> bool
     ensures { result ≡ is_number (seen side.entry) }
 {
     match side {
-        Side::Item {
+        ComparedSide::Item {
             signed,
             sign,
             bytes,
             ..
         } => number_in(signed, sign, bytes).is_some(),
-        Side::Amount(_) => are_digits(side_bytes(side)),
-        Side::Literal(_) => are_digits(side_bytes(side)),
-        Side::Nought => are_digits(side_bytes(side)),
-        Side::Bytes(bytes) => are_digits(bytes),
-        Side::Filler(_) => are_digits(side_bytes(side)),
+        ComparedSide::Amount(_) => are_digits(side_bytes(side)),
+        ComparedSide::Literal(_) => are_digits(side_bytes(side)),
+        ComparedSide::Nought => are_digits(side_bytes(side)),
+        ComparedSide::Bytes(bytes) => are_digits(bytes),
+        ComparedSide::Filler(_) => are_digits(side_bytes(side)),
     }
 }
 
-fn is_alphabetic(side: Side) -> bool
+fn is_alphabetic(side: ComparedSide) -> bool
     ensures { result ≡ is_alphabetic (seen side.entry) }
 {
     side_bytes(side)
@@ -76,7 +78,7 @@ fn is_alphabetic(side: Side) -> bool
         .all(|byte| *byte == b' ' || is_letter(*byte))
 }
 
-fn is_of_class(kind: ClassKind, side: Side) -> bool
+fn is_of_class(kind: ClassKind, side: ComparedSide) -> bool
     ensures { result ≡ is_of_class kind (seen side.entry) }
 {
     match kind {
@@ -105,7 +107,7 @@ pub fn turned(turn: bool, test: bool) -> bool
 fn in_span(
     areas: &[Area],
     store: &Store,
-    side: Side,
+    side: ComparedSide,
     from: &Operand,
     to: &Option<Operand>,
 ) -> Result<bool, Abend>
@@ -130,7 +132,12 @@ fn in_span(
     }
 }
 
-fn in_spans(areas: &[Area], store: &Store, side: Side, spans: &[Span]) -> Result<bool, Abend>
+fn in_spans(
+    areas: &[Area],
+    store: &Store,
+    side: ComparedSide,
+    spans: &[Span],
+) -> Result<bool, Abend>
     ensures { result ≡ in_spans (memory_of areas.now store.now) (seen side.entry) spans.now }
 {
     for span in spans {

@@ -16,7 +16,7 @@ mod moving;
 mod side;
 mod text;
 
-pub use acting::{Done, act, has_arms};
+pub use acting::{ActOutcome, act, has_arms};
 pub use arithmetic::{added, calculated};
 pub use choice::{evaluated, if_chosen};
 pub use condition::holds;

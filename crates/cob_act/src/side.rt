@@ -15,7 +15,7 @@ use std::cmp::Ordering;
 
 /// A side as it was read. A number item is decoded only where it is compared as a number.
 #[derive(Clone, Copy)]
-pub enum Side<'a> {
+pub enum ComparedSide<'a> {
     Amount(Dec),
     Literal(&'a Number),
     Item {
@@ -40,7 +40,11 @@ pub fn valued(value: Option<Dec>) -> Result<Dec, Abend>
     }
 }
 
-pub fn place_side<'a>(areas: &[Area], store: &'a Store, place: &Place) -> Result<Side<'a>, Abend>
+pub fn place_side<'a>(
+    areas: &[Area],
+    store: &'a Store,
+    place: &Place,
+) -> Result<ComparedSide<'a>, Abend>
     ensures { seen_answer result ≡ place_side (memory_of areas.now store.now) place.now }
 {
     let place = reached(areas, store, place)?;
@@ -51,14 +55,14 @@ pub fn place_side<'a>(areas: &[Area], store: &'a Store, place: &Place) -> Result
             part,
             sign,
             ..
-        } => Ok(Side::Item {
+        } => Ok(ComparedSide::Item {
             signed,
             part,
             sign,
             bytes,
         }),
-        Form::Group => Ok(Side::Bytes(bytes)),
-        Form::Text => Ok(Side::Bytes(bytes)),
+        Form::Group => Ok(ComparedSide::Bytes(bytes)),
+        Form::Text => Ok(ComparedSide::Bytes(bytes)),
     }
 }
 
@@ -66,19 +70,23 @@ pub fn operand_side<'a>(
     areas: &[Area],
     store: &'a Store,
     operand: &'a Operand,
-) -> Result<Side<'a>, Abend>
+) -> Result<ComparedSide<'a>, Abend>
     ensures { seen_answer result ≡ operand_side (memory_of areas.now store.now) operand.now }
 {
     match operand {
         Operand::Place(place) => place_side(areas, store, place),
-        Operand::Number(number) => Ok(Side::Literal(number)),
-        Operand::Text(text) => Ok(Side::Bytes(text.as_slice())),
-        Operand::Figure(Figure::Zero) => Ok(Side::Nought),
-        Operand::Figure(figure) => Ok(Side::Filler(figure_byte(*figure))),
+        Operand::Number(number) => Ok(ComparedSide::Literal(number)),
+        Operand::Text(text) => Ok(ComparedSide::Bytes(text.as_slice())),
+        Operand::Figure(Figure::Zero) => Ok(ComparedSide::Nought),
+        Operand::Figure(figure) => Ok(ComparedSide::Filler(figure_byte(*figure))),
     }
 }
 
-pub fn expr_side<'a>(areas: &[Area], store: &'a Store, expr: &'a Expr) -> Result<Side<'a>, Abend>
+pub fn expr_side<'a>(
+    areas: &[Area],
+    store: &'a Store,
+    expr: &'a Expr,
+) -> Result<ComparedSide<'a>, Abend>
     ensures { seen_answer result ≡ expr_side (memory_of areas.now store.now) expr.now }
 {
     match expr {
@@ -86,49 +94,49 @@ pub fn expr_side<'a>(areas: &[Area], store: &'a Store, expr: &'a Expr) -> Result
         _ => {
             let value = expr_value(areas, store, expr)?;
             let number = valued(value)?;
-            Ok(Side::Amount(number))
+            Ok(ComparedSide::Amount(number))
         }
     }
 }
 
-fn is_numeric(side: Side) -> bool
+fn is_numeric(side: ComparedSide) -> bool
     ensures { result ≡ is_numeric (seen side.entry) }
 {
     match side {
-        Side::Bytes(_) => false,
-        Side::Filler(_) => false,
+        ComparedSide::Bytes(_) => false,
+        ComparedSide::Filler(_) => false,
         _ => true,
     }
 }
 
-fn side_number(side: Side) -> Result<Dec, Abend>
+fn side_number(side: ComparedSide) -> Result<Dec, Abend>
     ensures { result ≡ side_number (seen side.entry) }
 {
     match side {
-        Side::Amount(number) => Ok(number),
-        Side::Literal(number) => valued(literal_value(number)),
-        Side::Item {
+        ComparedSide::Amount(number) => Ok(number),
+        ComparedSide::Literal(number) => valued(literal_value(number)),
+        ComparedSide::Item {
             signed,
             part,
             sign,
             bytes,
         } => number_of(number_in(signed, sign, bytes), part),
-        Side::Nought => valued(Dec::new(0, 0)),
+        ComparedSide::Nought => valued(Dec::new(0, 0)),
         _ => Err(Abend::OutOfRange),
     }
 }
 
-fn filler_of(side: Side) -> Option<u8>
+fn filler_of(side: ComparedSide) -> Option<u8>
     ensures { result ≡ filler_of (seen side.entry) }
 {
     match side {
-        Side::Nought => Some(b'0'),
-        Side::Filler(byte) => Some(byte),
+        ComparedSide::Nought => Some(b'0'),
+        ComparedSide::Filler(byte) => Some(byte),
         _ => None,
     }
 }
 
-fn numbers_compared(a: Side, b: Side) -> Result<Ordering, Abend>
+fn numbers_compared(a: ComparedSide, b: ComparedSide) -> Result<Ordering, Abend>
     ensures { result ≡ numbers_compared (seen a.entry) (seen b.entry) }
 {
     let first = side_number(a)?;
@@ -136,30 +144,30 @@ fn numbers_compared(a: Side, b: Side) -> Result<Ordering, Abend>
     Ok(compare(first, second))
 }
 
-pub fn side_bytes<'a>(side: Side<'a>) -> &'a [u8]
+pub fn side_bytes<'a>(side: ComparedSide<'a>) -> &'a [u8]
     ensures { result.now ≡ side_bytes (seen side.entry) }
 {
     match side {
-        Side::Literal(number) => number.digits.as_slice(),
-        Side::Item { bytes, .. } => bytes,
-        Side::Bytes(bytes) => bytes,
+        ComparedSide::Literal(number) => number.digits.as_slice(),
+        ComparedSide::Item { bytes, .. } => bytes,
+        ComparedSide::Bytes(bytes) => bytes,
         _ => &[],
     }
 }
 
-fn texts_compared(a: Side, b: Side) -> Ordering
+fn texts_compared(a: ComparedSide, b: ComparedSide) -> Ordering
     ensures { result ≡ texts_compared (seen a.entry) (seen b.entry) }
 {
-    if let Side::Literal(number) = a {
+    if let ComparedSide::Literal(number) = a {
         return literal_order(number, side_bytes(b));
     }
-    if let Side::Literal(number) = b {
+    if let ComparedSide::Literal(number) = b {
         return literal_order(number, side_bytes(a)).reverse();
     }
     text_order(side_bytes(a), side_bytes(b))
 }
 
-fn bytes_compared(a: Side, b: Side) -> Ordering
+fn bytes_compared(a: ComparedSide, b: ComparedSide) -> Ordering
     ensures { result ≡ bytes_compared (seen a.entry) (seen b.entry) }
 {
     match filler_of(a) {
@@ -175,7 +183,7 @@ fn bytes_compared(a: Side, b: Side) -> Ordering
 }
 
 /// The order of two sides: by value where both are numbers, and else by bytes.
-pub fn compared(a: Side, b: Side) -> Result<Ordering, Abend>
+pub fn compared(a: ComparedSide, b: ComparedSide) -> Result<Ordering, Abend>
     ensures { result ≡ compared (seen a.entry) (seen b.entry) }
 {
     if is_numeric(a) && is_numeric(b) {

@@ -15,12 +15,12 @@ use Rattle.cob_store.specs.declared.area.Area.{Area}
 use Rattle.cob_store.specs.declared.area.Dim.{Dim}
 use Rattle.cob_store.specs.declared.area.Form.{Form}
 use Rattle.cob_store.specs.declared.area.Form.TheVariants as forms
-use Rattle.cob_store.specs.declared.known.Known.{Known}
-use Rattle.cob_store.specs.declared.known.Part.{Part}
+use Rattle.cob_store.specs.declared.constant_place.ConstantPlace.{ConstantPlace}
+use Rattle.cob_store.specs.declared.constant_place.WindowNumbers.{WindowNumbers}
 use Rattle.cob_store.specs.declared.spot.Reached.{Reached}
 use Rattle.cob_store.specs.declared.spot.Spot.{Spot}
 use Rattle.cob_store.specs.Answer.{Answer, and_then}
-use Rattle.cob_store.specs.Known.{IsKnownOf, IsOf, KnownOf, alone, are_subs, expr_number, is_length, is_part, is_that, is_window, nowhere, number_alone, number_behind, numbers_spot, operand_number, part_spot, sub_number}
+use Rattle.cob_store.specs.ConstantPlace.{IsKnownOf, IsOf, KnownOf, alone, are_subs, expr_number, is_length, is_part, is_that, is_window, nowhere, number_alone, number_behind, numbers_spot, operand_number, part_spot, sub_number}
 use Rattle.cob_store.specs.Place as steps
 use Rattle.cob_store.specs.Place.{Memory, OfMemory, Value, expr_value, kept_behind, literal_value, long_by, memory_of, occurrence_at, offset_in, offsets_behind, operand_value, reached, reached_in, signed_by, spot_from, spot_of, sub_by, sub_value, subscripted, window_of, windowed_by}
 
@@ -102,7 +102,7 @@ window-by from (Some expr) first (Some wanted) memory spot e f =
 window-by from None first (Some wanted) memory spot e f = cc
 window-by from (Some expr) first None memory spot e f = cc
 
-window-alone : (window : Window) (part : Part) (memory : Memory) (spot : Spot) → is_window window part ≡ true → window_of window memory spot ≡ part_spot (Some part) spot
+window-alone : (window : Window) (part : WindowNumbers) (memory : Memory) (spot : Spot) → is_window window part ≡ true → window_of window memory spot ≡ part_spot (Some part) spot
 window-alone window part memory spot e =
     let parts = and_parts (is_that (expr_number (out-Window window).from) part.from) (is_length (out-Window window).«length» part.«length») e in
     ap (λ f. f memory spot) (fold_out-Window (OfMemory Value) (OfMemory Value) (OfMemory Reached) (OfMemory Value) (Memory → Spot → Answer Spot) steps.expr_step steps.operand_step steps.place_step steps.sub_step steps.window_step window)
@@ -116,7 +116,7 @@ form_in (Some window) form = forms.Text
 abbrev with_form : Option Window → Form → Spot → Answer Reached
 with_form window form spot = Ok (record { spot = spot; form = form_in window form })
 
-part-alone : (window : Option Window) (part : Option Part) (memory : Memory) (spot : Spot) (form : Form) → is_part window part ≡ true →
+part-alone : (window : Option Window) (part : Option WindowNumbers) (memory : Memory) (spot : Spot) (form : Form) → is_part window part ≡ true →
     windowed_by memory (option_map window_of window) spot form ≡ and_then (part_spot part spot) (with_form window form)
 part-alone None None memory spot form e = refl
 part-alone (Some window) (Some part) memory spot form e = ap (λ answer. and_then answer (λ spot. Ok (record { spot = spot; form = forms.Text }))) (window-alone window part memory spot e)
@@ -134,7 +134,7 @@ place-by : (y : Place-F Expr Operand Place Sub Window) (window : Option Window) 
 place-by y None memory = refl
 place-by y (Some window) memory = refl
 
-place-alone : (place : Place) (area : Area) (memory : Memory) (numbers : List ℕ) (part : Option Part) →
+place-alone : (place : Place) (area : Area) (memory : Memory) (numbers : List ℕ) (part : Option WindowNumbers) →
     slice_get memory.areas (out-Place place).item ≡ Some area → are_subs (out-Place place).subs numbers ≡ true → is_part (out-Place place).window part ≡ true →
     reached place memory ≡ and_then (numbers_spot area.dims (spot_of area area.start) numbers part) (with_form (out-Place place).window area.form)
 place-alone place area memory numbers part lies subs window =
@@ -166,13 +166,13 @@ spot-back (Ok spot) window form reached e = ap (λ answer. and_then answer (λ r
 spot-back (Err abend) window form reached e = cc
 
 -- what is reached at a place of numbers alone is known from then on
-pub learns : (place : Place) (area : Area) (memory : Memory) (known : Known) (reached_there : Reached) → slice_get memory.areas (out-Place place).item ≡ Some area →
+pub learns : (place : Place) (area : Area) (memory : Memory) (known : ConstantPlace) (reached_there : Reached) → slice_get memory.areas (out-Place place).item ≡ Some area →
     IsOf known (spot_of area area.start) place → reached place memory ≡ Ok reached_there → numbers_spot area.dims known.whole known.subs.items known.part ≡ Ok reached_there.spot
 learns place area memory known reached_there lies of there =
     ap (λ whole. numbers_spot area.dims whole known.subs.items known.part) of.lies
     ∙ spot-back _ (out-Place place).window area.form reached_there (sym (place-alone place area memory known.subs.items known.part lies of.subs of.part) ∙ there)
 
-pub learned_of : (place : Place) (area : Area) (memory : Memory) (known : Known) (there : Reached) → slice_get memory.areas (out-Place place).item ≡ Some area →
+pub learned_of : (place : Place) (area : Area) (memory : Memory) (known : ConstantPlace) (there : Reached) → slice_get memory.areas (out-Place place).item ≡ Some area →
     IsOf known (spot_of area area.start) place → reached place memory ≡ Ok there →
     IsKnownOf (slice_get memory.areas (out-Place place).item) (record { whole = known.whole; subs = known.subs; part = known.part; spot = there.spot })
 learned_of place area memory known there lies of e =

@@ -13,7 +13,7 @@ pub mod Store
 -- where places are, and what operands and expressions are worth
 pub mod Place
 -- places of numbers alone, whose spots are known before a run
-pub mod Known
+pub mod ConstantPlace
 -- the store at the start of a run
 pub mod Starting
 -- How long a program's items are, in bytes (ISO 1989:1985, PICTURE, OCCURS and REDEFINES

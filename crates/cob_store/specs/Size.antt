@@ -5,7 +5,7 @@ use Rattle.cob_tree.specs.declared.picture.Picture.TheVariants as pictures
 use Rattle.cob_tree.specs.declared.picture.Sign.{Sign}
 use Rattle.cob_tree.specs.declared.picture.Sign.TheVariants.{Within, SeparateLeading, SeparateTrailing}
 use Rattle.cob_tree.specs.declared.entry.Entry.{Entry}
-use Rattle.cob_store.specs.declared.size.Piece.{Piece}
+use Rattle.cob_store.specs.declared.size.SizedItem.{SizedItem}
 
 -- a size or a start past the last number of 32 bits counts as that number
 abbrev pub capped : ℕ → ℕ
@@ -36,12 +36,12 @@ abbrev pub is_apart : Entry → Bool
 is_apart entry = entry.level == 77
 
 -- the bytes of the pieces below an item, and the pieces behind it
-abbrev pub inside : ℕ → ℕ → List Piece → ℕ
+abbrev pub inside : ℕ → ℕ → List SizedItem → ℕ
 inside depth bytes [] = bytes
 inside depth bytes (piece ∷ pieces) =
     if nat_lt depth piece.depth then inside depth (capped (bytes + piece.bytes)) pieces else bytes
 
-abbrev pub behind : ℕ → List Piece → List Piece
+abbrev pub behind : ℕ → List SizedItem → List SizedItem
 behind depth [] = []
 behind depth (piece ∷ pieces) =
     if nat_lt depth piece.depth then behind depth pieces else piece ∷ pieces
@@ -61,7 +61,7 @@ added (Some redefined) bytes = 0
 -- the sizes of entries, and the outermost pieces that they are
 pub record Sized : Type 0 where
   pub sizes : List ℕ
-  pub pieces : List Piece
+  pub pieces : List SizedItem
 
 abbrev pub item_sized : Entry → ℕ → Sized → Sized
 item_sized entry size later = record {

@@ -3,7 +3,7 @@
 ghost use Rattle.std.specs.Prelude.{◌≡◌, ◌^◌, ◌-◌, min, sum, option_copied, slice_get};
 ghost use Rattle.cob_store.specs.Area.{root_of, size_of, start_of};
 
-use crate::known::Dims;
+use crate::constant_place::Dims;
 use cob_base::Items;
 use cob_tree::Sign;
 

@@ -2,10 +2,12 @@
 
 ghost use Rattle.std.specs.Prelude.{◌≡◌, IfSome, slice_get};
 ghost use Rattle.cob_tree.specs.declared.place.Place.{out-Place};
-ghost use Rattle.cob_store.specs.Known.{IsKnownOf};
+ghost use Rattle.cob_store.specs.ConstantPlace.{IsKnownOf};
 
 use crate::area::{Area, area_at};
-use crate::known::{Known, Part, expr_number, is_of, known_spot, sub_number};
+use crate::constant_place::{
+    ConstantPlace, WindowNumbers, expr_number, is_of, known_spot, sub_number,
+};
 use crate::place::{reached, whole_of};
 use crate::store::Store;
 use cob_base::{Boxed, NoMemory};
@@ -26,25 +28,25 @@ fn subs_of(alloc: Global, subs: &[Sub]) -> Option<SmallVec<u64, 3>> {
     Some(numbers)
 }
 
-fn part_of(window: &Window) -> Option<Part> {
+fn part_of(window: &Window) -> Option<WindowNumbers> {
     let length = match &window.length {
         None => None,
         Some(length) => Some(expr_number(length)?),
     };
-    Some(Part {
+    Some(WindowNumbers {
         from: expr_number(&window.from)?,
         length,
     })
 }
 
 // The numbers of a place, with the item itself for its spot, where it is of numbers alone.
-fn numbers_of(alloc: Global, area: &Area, place: &Place) -> Option<Known> {
+fn numbers_of(alloc: Global, area: &Area, place: &Place) -> Option<ConstantPlace> {
     let part = match &place.window {
         None => None,
         Some(window) => Some(part_of(window.get())?),
     };
     let whole = whole_of(area);
-    Some(Known {
+    Some(ConstantPlace {
         whole,
         subs: subs_of(alloc, place.subs.as_slice())?,
         part,
@@ -53,7 +55,7 @@ fn numbers_of(alloc: Global, area: &Area, place: &Place) -> Option<Known> {
 }
 
 // What is known of a place from now on.
-fn learned(areas: &[Area], store: &Store, place: &Place) -> Option<Known>
+fn learned(areas: &[Area], store: &Store, place: &Place) -> Option<ConstantPlace>
     ensures { IfSome result (λ known.
         IsKnownOf (slice_get areas.now (out-Place place.now).item) known) }
 {
@@ -69,7 +71,7 @@ fn learned(areas: &[Area], store: &Store, place: &Place) -> Option<Known>
     let Ok(reached) = reached(areas, store, place) else {
         return None;
     };
-    Some(Known {
+    Some(ConstantPlace {
         spot: reached.spot,
         ..known
     })

@@ -5,7 +5,7 @@ ghost use Rattle.cob_base.specs.Answers.{Makes};
 ghost use Rattle.cob_store.specs.Laying.{alone_laid, apart_laid, below_laid, condition_laid, dims_of, form_by, groups_of, item_laid, laid_by, last_area, layout_of, lengthened, next_by, root_by, same_file, start_by};
 
 use crate::area::{Area, Areas, Dim, Form, area_at};
-use crate::known::Dims;
+use crate::constant_place::Dims;
 use crate::size::{is_apart, is_condition, stacked_sizes, times};
 use crate::stack::Stack;
 use cob_base::{Items, NoMemory};

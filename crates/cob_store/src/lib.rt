@@ -8,8 +8,8 @@
 #![tactic(auto)]
 
 mod area;
+mod constant_place;
 mod knowing;
-mod known;
 mod laying;
 mod number;
 mod place;
@@ -21,8 +21,8 @@ mod starting;
 mod store;
 
 pub use area::{Area, Areas, Dim, Form, area_at};
+pub use constant_place::{ConstantPlace, Dims, WindowNumbers};
 pub use knowing::know;
-pub use known::{Dims, Known, Part};
 pub use laying::layout;
 pub use number::{number_in, put_digits};
 pub use place::{expr_value, kept, literal_value, number_at, operand_value, place_value, reached};

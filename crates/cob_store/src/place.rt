@@ -2,11 +2,11 @@
 
 ghost use Rattle.std.specs.Prelude.{◌≡◌, ◌<◌, ◌^◌, IfSome, Some, map, slice_get, unsigned_abs};
 ghost use Rattle.cob_tree.specs.declared.place.Place.{out-Place};
-ghost use Rattle.cob_store.specs.Known.{LeadsTo};
+ghost use Rattle.cob_store.specs.ConstantPlace.{LeadsTo};
 ghost use Rattle.cob_store.specs.Place.{calculated, expr_value, kept, kept_behind, literal_value, memory_of, negated, number_at, occurrence, occurrence_at, offset_in, operand_value, place_value, reached, signed_by, spot_of, sub_value, subscripted, sum_by, window_of, with_kept};
 
 use crate::area::{Area, Dim, Form, area_at};
-use crate::known::{expr_number, known_spot};
+use crate::constant_place::{expr_number, known_spot};
 use crate::spot::{Reached, Spot};
 use crate::store::Store;
 use cob_num::{Dec, Stored, add, mul, quotient, store, sub};

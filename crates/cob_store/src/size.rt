@@ -13,7 +13,7 @@ use std::alloc::Global;
 /// An item with all its occurrences, among others behind one another. One that redefines adds
 /// nothing.
 #[derive(Clone, Copy, Debug)]
-pub struct Piece {
+pub struct SizedItem {
     pub depth: u8,
     pub bytes: u32,
 }
@@ -88,7 +88,7 @@ fn size_by(picture: Option<Picture>, sign: Sign, bytes: u32) -> u32
 }
 
 // Takes the pieces below an item, and answers their bytes.
-fn take_inside(pieces: &mut Stack<Piece>, depth: u8) -> u32
+fn take_inside(pieces: &mut Stack<SizedItem>, depth: u8) -> u32
     ensures bytes { result ≡ inside depth 0 pieces.old }
     ensures left { pieces.new ≡ behind depth pieces.old }
 {
@@ -121,7 +121,7 @@ fn sizes_back(alloc: Global, entries: &[Entry], faulty: bool) -> Result<Stack<u3
             let bytes = take_inside(&mut pieces, entry.level);
             let size = size_by(entry.picture, entry.sign, bytes);
             sizes.push(size)?;
-            pieces.push(Piece {
+            pieces.push(SizedItem {
                 depth: entry.level,
                 bytes: added(entry.redefines, times(entry.occurs, size)),
             })?;

@@ -1,7 +1,7 @@
 -- A subject is compared as a side of a relation is.
 use Rattle.std.proofs.Common.{◌≡◌, ◌∙◌, refl, sym}
-use Rattle.cobol_grammar.specs.declared.expr_forms.side.Make.{Make}
-use Rattle.cobol_grammar.specs.declared.expr_forms.side.Make.TheVariants as makes
+use Rattle.cobol_grammar.specs.declared.expr_forms.side.ExprContent.{ExprContent}
+use Rattle.cobol_grammar.specs.declared.expr_forms.side.ExprContent.TheVariants as makes
 use Rattle.cobol_grammar.specs.declared.expr_forms.side.Side.{Side}
 use Rattle.cobol_grammar.specs.declared.expr_forms.side.ValueKind.{ValueKind}
 use Rattle.cobol_grammar.specs.declared.expr_forms.side.ValueKind.TheVariants as kinds
@@ -47,7 +47,7 @@ kinds_alike kinds.Unknown kinds.Figure left right = refl
 kinds_alike kinds.Unknown kinds.Condition left right = refl
 kinds_alike kinds.Unknown kinds.Unknown left right = refl
 
-makes_alike : (a b : Make) → (a ≡ makes.Literal → ⊥) → (left right : Side) →
+makes_alike : (a b : ExprContent) → (a ≡ makes.Literal → ⊥) → (left right : Side) →
     faults.makes_fault a b left right
     ≡ faults.kinds_fault (faults.compared_as left.kind) (faults.compared_as right.kind) left right
 makes_alike makes.Literal b not left right = absurd (not refl)

@@ -12,8 +12,8 @@ use Rattle.parser_combinators.specs.declared.note.Note.{Note}
 use Rattle.parser_combinators.specs.declared.note.Position.{Position}
 use Rattle.parser_combinators.specs.Form.{Form, pure, note, ◌>>=◌, ◌>>◌}
 use Rattle.parser_combinators.specs.Part.{valued}
-use Rattle.symbol_tables.specs.declared.data_names.name.Found.{Found}
-use Rattle.symbol_tables.specs.declared.data_names.name.Found.TheVariants as found
+use Rattle.symbol_tables.specs.declared.data_names.name.Referent.{Referent}
+use Rattle.symbol_tables.specs.declared.data_names.name.Referent.TheVariants as found
 use Rattle.symbol_tables.specs.data_names.Look.{look, look_file}
 use Rattle.symbol_tables.specs.data_names.Names.{Names}
 use Rattle.parser_combinators.specs.words.Word.{name}
@@ -46,14 +46,14 @@ is_record_entry (Some entry) = entry.level == 1 && is_some entry.file
 abbrev pub is_record : List Entry → ℕ → Bool
 is_record entries item = is_record_entry (slice_get entries item)
 
-abbrev pub record_fault : List Entry → Found → Position → Option Note
+abbrev pub record_fault : List Entry → Referent → Position → Option Note
 record_fault entries found.Unknown position = fault_at faults.Unknown position
 record_fault entries found.Ambiguous position = fault_at faults.Ambiguous position
 record_fault entries (found.Item item kind dims) position =
     if is_record entries item then None else usage position
 
 -- of what is no record nothing is known
-abbrev pub as_record : List Entry → Found → Found
+abbrev pub as_record : List Entry → Referent → Referent
 as_record entries found.Unknown = found.Unknown
 as_record entries found.Ambiguous = found.Unknown
 as_record entries (found.Item item kind dims) =

@@ -9,15 +9,15 @@ use Rattle.cob_tree.specs.declared.place.Place.{Place, out-Place, roll-Place}
 use Rattle.parser_combinators.specs.declared.note.Note.{Note}
 use Rattle.parser_combinators.specs.declared.note.Position.{Position}
 use Rattle.symbol_tables.specs.data_names.Names.{kind_of}
-use Rattle.cobol_grammar.specs.declared.expr_forms.side.Make.{Make}
-use Rattle.cobol_grammar.specs.declared.expr_forms.side.Make.TheVariants as makes
+use Rattle.cobol_grammar.specs.declared.expr_forms.side.ExprContent.{ExprContent}
+use Rattle.cobol_grammar.specs.declared.expr_forms.side.ExprContent.TheVariants as makes
 use Rattle.cobol_grammar.specs.declared.expr_forms.side.Side.{Side}
 use Rattle.cobol_grammar.specs.declared.expr_forms.side.ValueKind.{ValueKind}
 use Rattle.cobol_grammar.specs.declared.expr_forms.side.ValueKind.TheVariants as kinds
-use Rattle.cobol_grammar.specs.declared.expr_forms.side.What.{What}
-use Rattle.cobol_grammar.specs.declared.expr_forms.side.What.TheVariants as whats
+use Rattle.cobol_grammar.specs.declared.expr_forms.side.ParsedExpr.{ParsedExpr}
+use Rattle.cobol_grammar.specs.declared.expr_forms.side.ParsedExpr.TheVariants as whats
 use Rattle.cobol_grammar.specs.expr_forms.Fault.{usage, inexact_fault, compared_as, item_kind}
-use Rattle.cobol_grammar.specs.declared.known.Known.{Known}
+use Rattle.cobol_grammar.specs.declared.subject_kind.SubjectKind.{SubjectKind}
 
 -- ---- what stands in the tree
 
@@ -26,20 +26,20 @@ abbrev pub bare_place : ℕ → Place
 bare_place item = roll-Place (record { item = item; of = []; subs = []; window = None })
 
 -- no operand is a sum
-abbrev pub operand_of : What → Operand
+abbrev pub operand_of : ParsedExpr → Operand
 operand_of (whats.Ref place) = operands.Place place
 operand_of (whats.Literal operand) = operand
 operand_of (whats.Enclosed place) = operands.Place place
 operand_of (whats.Sum expr) = operands.Figure figures.Zero
 
 -- every reference is a place
-abbrev pub place_of : What → Place
+abbrev pub place_of : ParsedExpr → Place
 place_of (whats.Ref place) = place
 place_of (whats.Literal operand) = bare_place 0
 place_of (whats.Enclosed place) = place
 place_of (whats.Sum expr) = bare_place 0
 
-abbrev pub entry_of : What → ℕ
+abbrev pub entry_of : ParsedExpr → ℕ
 entry_of (whats.Ref place) = (out-Place place).item
 entry_of (whats.Literal operand) = 0
 entry_of (whats.Enclosed place) = (out-Place place).item
@@ -51,12 +51,12 @@ abbrev pub unless_whole : (whole : Bool) → Position → Option Note
 unless_whole whole position = if whole then None else usage position
 
 -- only an item's number may go to a group whatever its decimals
-abbrev pub to_group_fault : Make → (whole : Bool) → Position → Option Note
+abbrev pub to_group_fault : ExprContent → (whole : Bool) → Position → Option Note
 to_group_fault makes.Literal whole position = unless_whole whole position
 to_group_fault _ whole position = None
 
 -- a number with decimals moved to text
-abbrev pub number_moved : Make → (whole : Bool) → (to : ValueKind) → Position → Option Note
+abbrev pub number_moved : ExprContent → (whole : Bool) → (to : ValueKind) → Position → Option Note
 number_moved make whole kinds.Text position = unless_whole whole position
 number_moved make whole kinds.Group position = to_group_fault make whole position
 number_moved make whole _ position = None
@@ -67,7 +67,7 @@ figure_moved (kinds.Number whole) position = usage position
 figure_moved _ position = None
 
 -- the fault of a move, which stands at the position
-abbrev pub moved_fault : Make → (from to : ValueKind) → Position → Option Note
+abbrev pub moved_fault : ExprContent → (from to : ValueKind) → Position → Option Note
 moved_fault make (kinds.Number whole) to position = number_moved make whole to position
 moved_fault make kinds.Figure to position = figure_moved to position
 moved_fault make _ to position = None
@@ -94,10 +94,10 @@ into_fault entries (Some file) to =
 
 -- ---- EVALUATE
 
-abbrev pub known_of : Side → Known
+abbrev pub known_of : Side → SubjectKind
 known_of side = record { kind = side.kind; make = side.make; position = side.position }
 
-abbrev pub compared_fault : ValueKind → ValueKind → Known → Side → Option Note
+abbrev pub compared_fault : ValueKind → ValueKind → SubjectKind → Side → Option Note
 compared_fault kinds.Text (kinds.Number whole) known side =
     inexact_fault side.make side.kind side.position
 compared_fault (kinds.Number whole) kinds.Text known side =
@@ -107,6 +107,6 @@ compared_fault kinds.Figure (kinds.Number whole) known side = usage known.positi
 compared_fault _ _ known side = None
 
 -- a subject and what it is compared with
-unfoldable pub subject_fault : Known → Side → Option Note
+unfoldable pub subject_fault : SubjectKind → Side → Option Note
 subject_fault known side =
     compared_fault (compared_as known.kind) (compared_as side.kind) known side

@@ -16,12 +16,12 @@ use Rattle.symbol_tables.specs.declared.procedure_names.table.ProcedureTable.{Pr
 use Rattle.symbol_tables.specs.procedure_names.Procedures as procedures
 use Rattle.cobol_grammar.specs.stmt_forms.Part.{Parts}
 use Rattle.cobol_grammar.specs.stmt_forms.Paragraph as paragraphs
-use Rattle.cobol_grammar.specs.declared.known.Known.{Known}
+use Rattle.cobol_grammar.specs.declared.subject_kind.SubjectKind.{SubjectKind}
 use Rattle.cobol_grammar.specs.Use as uses
 use Rattle.cobol_grammar.specs.Name as words
 
 -- what statements are made of, in a program with these names, entries and procedures
-abbrev pub parts_of : Names → List Entry → ProcedureTable → Parts Side Known
+abbrev pub parts_of : Names → List Entry → ProcedureTable → Parts Side SubjectKind
 parts_of names entries table = record {
   known_of = λ side. uses.known_of side;
   begins_operand = begins_operand;
@@ -37,7 +37,8 @@ parts_of names entries table = record {
   record_name = words.record_name names entries;
   header_name = words.header_name;
   procedure_of = λ name. words.procedure_of table name;
-  again_fault = λ name position. procedures.again_fault (procedures.header_of table name) position;
+  duplicate_fault =
+      λ name position. procedures.duplicate_fault (procedures.header_of table name) position;
   operand_of = λ side. uses.operand_of side.what;
   place_of = λ side. uses.place_of side.what;
   expr_of = λ side. sides.expr_of side.what;

@@ -11,5 +11,5 @@ mod part;
 mod test;
 
 pub use crate::cond_forms::laws::{conditions_are_read, levels_only_add};
-pub use crate::cond_forms::part::{Joined, Part};
+pub use crate::cond_forms::part::{Joined, SimpleCond};
 pub use crate::cond_forms::test::{Primary, Read, Setting};

@@ -12,11 +12,11 @@
 pub mod cond_forms;
 pub mod data_forms;
 pub mod expr_forms;
-mod known;
 mod laws;
 pub mod part_readers;
 pub mod stmt_forms;
 pub mod stmt_levels;
+mod subject_kind;
 
-pub use known::Known;
 pub use laws::{grammar_is_read, subjects_are_compared};
+pub use subject_kind::SubjectKind;

@@ -19,7 +19,7 @@ use Rattle.ref_format.specs.Row.{Begins, Row, rows_text, last_of, AreRows}
 use Rattle.cobol_lex.specs.Byte.{is_quote, is_digit, is_mark}
 use Rattle.cobol_lex.specs.Awaits.{awaits_behind}
 use Rattle.cobol_lex.specs.Written.{written, doubled, pointed, sign_of, AreDigits, IsPlainToken, IsLawful}
-use Rattle.cobol_print.specs.Spacing.{hugs, clings, is_literal, fits, column_of, start_of}
+use Rattle.cobol_print.specs.Spacing.{hugs, no_space_behind, is_literal, fits, column_of, start_of}
 use Rattle.cobol_print.specs.Line.{next_column, turned, Rest, in_front, on_new_line, onto, column_behind, begun, rest_of, unit_lines, lines_of}
 use Rattle.cobol_print.specs.Printed.{line_behind, start_line}
 use Rattle.cobol_print.specs.Unit.{is_ink, IsSized, IsUnit, BeginsWell, AreLawfulKinds, all_tokens}
@@ -27,7 +27,7 @@ use Rattle.cobol_lex.specs.declared.awaits.Awaits.{Awaits}
 use Rattle.cobol_lex.specs.declared.awaits.Awaits.TheVariants as awaits
 use Rattle.cobol_lex.specs.declared.token.TokenKind.{TokenKind}
 use Rattle.cobol_lex.specs.declared.token.TokenKind.TheVariants as kind
-use Rattle.cobol_print.specs.declared.spacing.Start.{Start}
+use Rattle.cobol_print.specs.declared.spacing.TokenStart.{TokenStart}
 use Rattle.cobol_print.specs.declared.units.unit.PrintUnit.{PrintUnit}
 use Rattle.std.specs.Prelude.{if◌then◌else◌}
 use Rattle.cobol_print.proofs.PlacedLemmas.{Reads, piece, within, next_within, in_line, literal_reads, word_reads, new_line_reads, line_plain, line_below, line_reads}
@@ -168,14 +168,14 @@ token_some margin awaits token column rest lawful sized room = ink_some (written
 pub Broken : (margin : ℕ) → TokenKind → (size column : ℕ) → Type 0
 Broken margin token size column = ((column ≡ 12) × (is_literal token ≡ true)) ⊎ ((column ≡ margin + 4) × ((is_literal token ≡ false) ⊎ (fits (margin + 4) size ≡ true)))
 
-pub start_cases : (P : Start → Type 0) (margin column : ℕ) (clinging : Bool) (token : TokenKind) (size : ℕ) →
+pub start_cases : (P : TokenStart → Type 0) (margin column : ℕ) (clinging : Bool) (token : TokenKind) (size : ℕ) →
     (fits (column_of column clinging token) size ≡ true → P (record { breaks = false; column = column_of column clinging token })) →
     ((at : ℕ) → Broken margin token size at → P (record { breaks = true; column = at })) →
     P (start_of margin column clinging token size)
 unfolding Broken
 start_cases P margin column clinging token size here below =
-    let wide : Start = record { breaks = true; column = 12 } in
-    let narrow : Start = record { breaks = true; column = margin + 4 } in
+    let wide : TokenStart = record { breaks = true; column = 12 } in
+    let narrow : TokenStart = record { breaks = true; column = margin + 4 } in
     elim (fits (column_of column clinging token) size)
     as (λ t. fits (column_of column clinging token) size ≡ t → P (cond t (record { breaks = false; column = column_of column clinging token }) (cond (is_literal token && not (fits (margin + 4) size)) wide narrow))) [
       | true ↦ here
@@ -217,19 +217,19 @@ behind_within (b ∷ bytes) column inside h = behind_within bytes (next_column c
 abbrev pub pad : (line column : ℕ) → List Placed
 pad line column = placed line (replicate (73 - column) 32)
 
-abbrev pub gap_placed : (line column : ℕ) → Start → List Placed
+abbrev pub gap_placed : (line column : ℕ) → TokenStart → List Placed
 gap_placed line column start =
     if start.breaks then pad line column ++ (placed line (10 ∷ []) ++ placed (line + 1) (replicate (start.column - 8) 32))
     else placed line (replicate (start.column - column) 32)
 
 -- the text of the tokens that follow in a unit, and of what stands below it
-abbrev pub rest_placed : (line margin column : ℕ) (clings : Bool) → List TokenKind → (after : ℕ → List Placed) → List Placed
+abbrev pub rest_placed : (line margin column : ℕ) (no_space_behind : Bool) → List TokenKind → (after : ℕ → List Placed) → List Placed
 rest_placed line margin column clinging [] after = pad line column ++ after line
 rest_placed line margin column clinging (token ∷ tokens) after =
-    let start : Start = start_of margin column clinging token (length (written token)) in
+    let start : TokenStart = start_of margin column clinging token (length (written token)) in
     gap_placed line column start ++ (piece (start_line line start) start.column false (written token)
     ++ rest_placed (line_behind (start_line line start) start.column false (written token)) margin
-    (column_behind start.column false (written token)) (clings token) tokens after)
+    (column_behind start.column false (written token)) (no_space_behind token) tokens after)
 
 behind_only : (n : ℕ) → behind Closed (replicate n 32) ≡ Closed
 behind_only zero = refl
@@ -268,16 +268,16 @@ module _ (margin : ℕ) (low : 8 ≤ margin) (below : List Row) (after : ℕ →
   rest_reads (token ∷ tokens) line column clinging awaits more room lawful sized last =
       let w : List ℕ = written token in
       let token_sized : IsSized margin token = All-head (IsSized margin) token tokens sized in
-      let there : (on at : ℕ) → HasRoom token at → Standing on at (onto at false w (rest_of margin (column_behind at false w) (clings token) tokens below))
-      (piece on at false w ++ rest_placed (line_behind on at false w) margin (column_behind at false w) (clings token) tokens after) =
+      let there : (on at : ℕ) → HasRoom token at → Standing on at (onto at false w (rest_of margin (column_behind at false w) (no_space_behind token) tokens below))
+      (piece on at false w ++ rest_placed (line_behind on at false w) margin (column_behind at false w) (no_space_behind token) tokens after) =
       λ on at has. token_reads margin awaits token on at _ _ lawful.0 token_sized has
-      (rest_reads tokens (line_behind on at false w) (column_behind at false w) (clings token) (awaits_behind awaits token) more
+      (rest_reads tokens (line_behind on at false w) (column_behind at false w) (no_space_behind token) (awaits_behind awaits token) more
       (behind_within w at false (omega (arith, has.begins))) lawful.1 (All-tail (IsSized margin) token tokens sized)) in
       start_cases
       (λ start. Reads line column Closed last
-      (begun start column (onto start.column false w (rest_of margin (column_behind start.column false w) (clings token) tokens below)))
+      (begun start column (onto start.column false w (rest_of margin (column_behind start.column false w) (no_space_behind token) tokens below)))
       (gap_placed line column start ++ (piece (start_line line start) start.column false w
-      ++ rest_placed (line_behind (start_line line start) start.column false w) margin (column_behind start.column false w) (clings token) tokens after)))
+      ++ rest_placed (line_behind (start_line line start) start.column false w) margin (column_behind start.column false w) (no_space_behind token) tokens after)))
       margin column clinging token (length w)
       (λ fit.
       let at : ℕ = column_of column clinging token in
@@ -287,8 +287,8 @@ module _ (margin : ℕ) (low : 8 ≤ margin) (below : List Row) (after : ℕ →
       spaced_reads line column (clinging || hugs token) _ _ room (omega (arith, width)) (there line at has) last)
       (λ at broken.
       let has = broken_room margin awaits token at low lawful.0 token_sized broken in
-      let rest : Rest = onto at false w (rest_of margin (column_behind at false w) (clings token) tokens below) in
-      let text : List Placed = piece (line + 1) at false w ++ rest_placed (line_behind (line + 1) at false w) margin (column_behind at false w) (clings token) tokens after in
+      let rest : Rest = onto at false w (rest_of margin (column_behind at false w) (no_space_behind token) tokens below) in
+      let text : List Placed = piece (line + 1) at false w ++ rest_placed (line_behind (line + 1) at false w) margin (column_behind at false w) (no_space_behind token) tokens after in
       subst (λ t. Reads line column Closed last (on_new_line (replicate (at - 8) 32) rest) t)
       (sym (append_assoc (pad line column) (placed line (10 ∷ []) ++ placed (line + 1) (replicate (at - 8) 32)) text ∙ ap (λ t. pad line column ++ t) (append_assoc (placed line (10 ∷ [])) (placed (line + 1) (replicate (at - 8) 32)) text)))
       (new_line_reads line column last at rest text room has.0 (token_some margin awaits token at _ lawful.0 token_sized has.1.begins) (there (line + 1) at has.1 32)))
@@ -298,7 +298,7 @@ abbrev pub unit_placed : (line column : ℕ) → List TokenKind → (after : ℕ
 unit_placed line column [] after = []
 unit_placed line column (token ∷ tokens) after =
     piece line column false (written token)
-    ++ rest_placed (line_behind line column false (written token)) column (column_behind column false (written token)) (clings token) tokens after
+    ++ rest_placed (line_behind line column false (written token)) column (column_behind column false (written token)) (no_space_behind token) tokens after
 
 abbrev pub units_placed : (line : ℕ) → List PrintUnit → List Placed
 units_placed line [] = []
@@ -329,10 +329,10 @@ unit_reads column (token ∷ tokens) below after awaits more ready reads low beg
     let width : column + 4 + length w ≤ 73 = sized_width column token first (begins_plain token tokens begins) in
     let some : 0 < length w = written_some column awaits token lawful.0 first in
     let has : HasRoom token column = record { begins = omega (arith, width, some); ends = λ no. omega (arith, width) } in
-    let rest : Rest = onto column false w (rest_of column (column_behind column false w) (clings token) tokens below) in
+    let rest : Rest = onto column false w (rest_of column (column_behind column false w) (no_space_behind token) tokens below) in
     let stands : (line : ℕ) → Reads line column Closed 32 rest (unit_placed line column (token ∷ tokens) after) =
     λ line. token_reads column awaits token line column _ _ lawful.0 first has
-    (rest_reads column low below after ready reads tokens (line_behind line column false w) (column_behind column false w) (clings token) (awaits_behind awaits token) more
+    (rest_reads column low below after ready reads tokens (line_behind line column false w) (column_behind column false w) (no_space_behind token) (awaits_behind awaits token) more
     (behind_within w column false (omega (arith, width))) lawful.1 (All-tail (IsSized column) token tokens sized)) 32 in
     let filled_line : is_blank rest.here ≡ false = token_some column awaits token column _ lawful.0 first has.begins in
     record {

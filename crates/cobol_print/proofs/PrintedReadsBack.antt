@@ -16,7 +16,7 @@ use Rattle.cobol_lex.specs.Token.{tokens_of}
 use Rattle.cobol_lex.specs.Written.{written, runs_on, stands_alone, ends_picture_run, is_open, IsLawful, SignCounts}
 use Rattle.cobol_lex.specs.Laid.{Laid, IsLaid, AreLaid, Ends, laid_text, last_byte}
 use Rattle.cobol_lex.specs.Laws.{LaidReadsBack}
-use Rattle.cobol_print.specs.Spacing.{hugs, clings, column_of, start_of}
+use Rattle.cobol_print.specs.Spacing.{hugs, no_space_behind, column_of, start_of}
 use Rattle.cobol_print.specs.Line.{bytes_of_lines, NoEntryRow, turned, next_column, column_behind, lines_of}
 use Rattle.cobol_print.specs.Printed.{next_line, line_behind, start_line, rest_tokens, rest_line, unit_tokens, unit_line, printed_tokens}
 use Rattle.cobol_print.specs.Unit.{all_tokens, AreLawfulKinds, IsSized, may_meet, MayMeet, BeginsWell, IsUnit}
@@ -26,7 +26,7 @@ use Rattle.cobol_lex.specs.declared.awaits.Awaits.TheVariants as awaits
 use Rattle.cobol_lex.specs.declared.token.Token.{Token}
 use Rattle.cobol_lex.specs.declared.token.TokenKind.{TokenKind}
 use Rattle.cobol_lex.specs.declared.token.TokenKind.TheVariants as kind
-use Rattle.cobol_print.specs.declared.spacing.Start.{Start}
+use Rattle.cobol_print.specs.declared.spacing.TokenStart.{TokenStart}
 use Rattle.cobol_print.specs.declared.units.unit.PrintUnit.{PrintUnit}
 use Rattle.cobol_print.proofs.PlacedLemmas.{piece}
 use Rattle.cobol_print.proofs.LineLemmas.{both_true, first_true, rest_true, start_cases, broken_room, fits_is, written_some, sized_width, HasRoom, pad, gap_placed, rest_placed, unit_placed, units_placed, begins_plain, IsFirst, unit_reads, lawful_behind, AreRead, units_read}
@@ -68,7 +68,7 @@ separate-break line n k =
     separate-append (placed line (replicate n 32)) (placed line (10 ∷ []) ++ placed (line + 1) (replicate k 32)) (separate-spaces line n)
     (separate-append (placed line (10 ∷ [])) (placed (line + 1) (replicate k 32)) refl (separate-spaces (line + 1) k))
 
-separate-gap : (line column : ℕ) (start : Start) → list_all is_separator (bytes_of (gap_placed line column start)) ≡ true
+separate-gap : (line column : ℕ) (start : TokenStart) → list_all is_separator (bytes_of (gap_placed line column start)) ≡ true
 separate-gap line column start =
     elim start.breaks as (λ t. list_all is_separator (bytes_of (cond t (pad line column ++ (placed line (10 ∷ []) ++ placed (line + 1) (replicate (start.column - 8) 32))) (placed line (replicate (start.column - column) 32)))) ≡ true)
     [ true ↦ separate-break line (73 - column) (start.column - 8) | false ↦ separate-spaces line (start.column - column) ]
@@ -149,10 +149,10 @@ hug_ends before (kind.Mark b) line column rest h meets period =
     never before b h meets p = absurd (cc)
 hug_ends before token line column rest h meets period = absurd (cc)
 
-clings_alone : (b : ℕ) → clings (kind.Mark b) ≡ true → stands_alone b ≡ true
+clings_alone : (b : ℕ) → no_space_behind (kind.Mark b) ≡ true → stands_alone b ≡ true
 clings_alone b h = of_two (λ c. stands_alone c ≡ true) b 40 58 h refl refl
 
-clings_leads : (token : TokenKind) (before line column : ℕ) → clings token ≡ true → leads_sign (last_byte before (piece line column false (written token))) ≡ true
+clings_leads : (token : TokenKind) (before line column : ℕ) → no_space_behind token ≡ true → leads_sign (last_byte before (piece line column false (written token))) ≡ true
 clings_leads (kind.Mark b) before line column h = of_two (λ c. leads_sign c ≡ true) b 40 58 h refl refl
 clings_leads token before line column h = absurd (cc)
 
@@ -178,10 +178,10 @@ module _ (margin : ℕ) (low : 8 ≤ margin) (more : List TokenKind) (after : �
     (opens : (line : ℕ) → is_open (bytes_of (after line)) ≡ true)
     (follows : (awaits : Awaits) (before line column : ℕ) → AreLawfulKinds awaits more → IsText awaits before (pad line column ++ after line) (later line)) where
   -- what stands from a start on
-  from : (line column : ℕ) → TokenKind → List TokenKind → Start → List Placed
+  from : (line column : ℕ) → TokenKind → List TokenKind → TokenStart → List Placed
   from line column token tokens start =
       gap_placed line column start ++ (piece (start_line line start) start.column false (written token)
-      ++ rest_placed (line_behind (start_line line start) start.column false (written token)) margin (column_behind start.column false (written token)) (clings token) tokens after)
+      ++ rest_placed (line_behind (start_line line start) start.column false (written token)) margin (column_behind start.column false (written token)) (no_space_behind token) tokens after)
 
   rest_open : (tokens : List TokenKind) (line column : ℕ) → MayMeet kind.Period tokens → is_open (bytes_of (rest_placed line margin column false tokens after)) ≡ true
   unfolding from
@@ -204,9 +204,9 @@ module _ (margin : ℕ) (low : 8 ≤ margin) (more : List TokenKind) (after : �
       (λ _. decide (hugs token) refl)
       (λ at _. ends_open before (from line column token tokens (record { breaks = true; column = at })) (open_break line (73 - column) (placed (line + 1) (replicate (at - 8) 32)) _))
     where
-      period_open : (token : TokenKind) → MayMeet token tokens → (on at : ℕ) → token ≡ kind.Period → is_open (bytes_of (rest_placed on margin at (clings token) tokens after)) ≡ true
+      period_open : (token : TokenKind) → MayMeet token tokens → (on at : ℕ) → token ≡ kind.Period → is_open (bytes_of (rest_placed on margin at (no_space_behind token) tokens after)) ≡ true
       period_open token meets on at e =
-          subst (λ t. MayMeet t tokens → is_open (bytes_of (rest_placed on margin at (clings t) tokens after)) ≡ true) (sym e) (rest_open tokens on at) meets
+          subst (λ t. MayMeet t tokens → is_open (bytes_of (rest_placed on margin at (no_space_behind t) tokens after)) ≡ true) (sym e) (rest_open tokens on at) meets
 
       decide : (t : Bool) → hugs token ≡ t → Ends before (from line column token tokens (record { breaks = false; column = column_of column false token }))
       decide false e =
@@ -216,13 +216,13 @@ module _ (margin : ℕ) (low : 8 ≤ margin) (more : List TokenKind) (after : �
           let at : ℕ = column_of column false token in
           let none : 0 ≡ at - column = rw e (omega arith) in
           subst (λ n. Ends before (placed line (replicate n 32) ++ (piece line at false (written token)
-          ++ rest_placed (line_behind line at false (written token)) margin (column_behind at false (written token)) (clings token) tokens after))) none
+          ++ rest_placed (line_behind line at false (written token)) margin (column_behind at false (written token)) (no_space_behind token) tokens after))) none
           (hug_ends before token line at _ e meets.0 (period_open token meets.1 (line_behind line at false (written token)) (column_behind at false (written token))))
 
-  ends_before : (before : TokenKind) (tokens : List TokenKind) (line column : ℕ) → MayMeet before tokens → Ends before (rest_placed line margin column (clings before) tokens after)
-  ends_before (kind.Mark b) tokens line column meets = decide (clings (kind.Mark b)) refl
+  ends_before : (before : TokenKind) (tokens : List TokenKind) (line column : ℕ) → MayMeet before tokens → Ends before (rest_placed line margin column (no_space_behind before) tokens after)
+  ends_before (kind.Mark b) tokens line column meets = decide (no_space_behind (kind.Mark b)) refl
     where
-      decide : (t : Bool) → clings (kind.Mark b) ≡ t → Ends (kind.Mark b) (rest_placed line margin column t tokens after)
+      decide : (t : Bool) → no_space_behind (kind.Mark b) ≡ t → Ends (kind.Mark b) (rest_placed line margin column t tokens after)
       decide true e = inl (clings_alone b e)
       decide false e = ends_apart (kind.Mark b) tokens line column meets
   ends_before before tokens line column meets = ends_apart before tokens line column meets
@@ -257,14 +257,14 @@ module _ (margin : ℕ) (low : 8 ≤ margin) (more : List TokenKind) (after : �
   rest_text [] line column before clinging awaits leads meets lawful sized = follows awaits before line column lawful
   rest_text (token ∷ tokens) line column before clinging awaits leads meets lawful sized =
       let w : List ℕ = written token in
-      let start : Start = start_of margin column clinging token (length w) in
+      let start : TokenStart = start_of margin column clinging token (length w) in
       let on : ℕ = start_line line start in
       let first : IsSized margin token = All-head (IsSized margin) token tokens sized in
       let has : HasRoom token start.column = start_room token column clinging awaits lawful.0 first in
       let gap : List Placed = gap_placed line column start in
       let one : Laid = record { gap = gap; piece = piece on start.column false w; token = record { kind = token; line = on } } in
       text_one awaits before one
-      (rest_placed (line_behind on start.column false w) margin (column_behind start.column false w) (clings token) tokens after) _
+      (rest_placed (line_behind on start.column false w) margin (column_behind start.column false w) (no_space_behind token) tokens after) _
       (record {
         apart = separate-gap line column start;
         spelled = piece-bytes on start.column false w;
@@ -273,7 +273,7 @@ module _ (margin : ℕ) (low : 8 ≤ margin) (more : List TokenKind) (after : �
         signed = start_signed token line column before clinging leads;
         ended = ends_before token tokens (line_behind on start.column false w) (column_behind start.column false w) meets;
       })
-      (rest_text tokens (line_behind on start.column false w) (column_behind start.column false w) (last_byte (last_byte before gap) (piece on start.column false w)) (clings token) (awaits_behind awaits token)
+      (rest_text tokens (line_behind on start.column false w) (column_behind start.column false w) (last_byte (last_byte before gap) (piece on start.column false w)) (no_space_behind token) (awaits_behind awaits token)
       (clings_leads token (last_byte before gap) on start.column) (chained token tokens meets) lawful.1 (All-tail (IsSized margin) token tokens sized))
 
   begins_signed : (before : ℕ) (token : TokenKind) (tokens : List TokenKind) → BeginsWell (token ∷ tokens) → SignCounts before token
@@ -298,7 +298,7 @@ module _ (margin : ℕ) (low : 8 ≤ margin) (more : List TokenKind) (after : �
       let meets : MayMeet token tokens = begins_meets token tokens begins in
       let one : Laid = record { gap = gap; piece = piece line margin false w; token = record { kind = token; line = line } } in
       text_one awaits before one
-      (rest_placed (line_behind line margin false w) margin (column_behind margin false w) (clings token) tokens after) _
+      (rest_placed (line_behind line margin false w) margin (column_behind margin false w) (no_space_behind token) tokens after) _
       (record {
         apart = apart;
         spelled = piece-bytes line margin false w;
@@ -307,7 +307,7 @@ module _ (margin : ℕ) (low : 8 ≤ margin) (more : List TokenKind) (after : �
         signed = begins_signed (last_byte before gap) token tokens begins;
         ended = ends_before token tokens (line_behind line margin false w) (column_behind margin false w) meets;
       })
-      (rest_text tokens (line_behind line margin false w) (column_behind margin false w) (last_byte (last_byte before gap) (piece line margin false w)) (clings token) (awaits_behind awaits token)
+      (rest_text tokens (line_behind line margin false w) (column_behind margin false w) (last_byte (last_byte before gap) (piece line margin false w)) (no_space_behind token) (awaits_behind awaits token)
       (clings_leads token (last_byte before gap) line margin) (chained token tokens meets) lawful.1 (All-tail (IsSized margin) token tokens sized))
 
 after_open : (units : List PrintUnit) (line : ℕ) → is_open (bytes_of (units_placed line units)) ≡ true

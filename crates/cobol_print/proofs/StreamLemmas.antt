@@ -3,11 +3,11 @@ use Rattle.std.proofs.Common.{◌≡◌, ◌≤◌, ℕ, ◌+◌, ◌-◌, ◌==
 use Rattle.std.proofs.lemmas.Bool.{ne_eqb}
 use Rattle.ref_format.specs.Row.{Row}
 use Rattle.cobol_lex.specs.Written.{written}
-use Rattle.cobol_print.specs.Spacing.{clings, start_of}
+use Rattle.cobol_print.specs.Spacing.{no_space_behind, start_of}
 use Rattle.cobol_print.specs.Line.{bytes_of_lines, Rest, in_front, on_new_line, continued, mark_again, turned, byte_onto, next_column, onto, column_behind, begun, rest_of, unit_lines, lines_of}
-use Rattle.cobol_print.specs.Stream.{continuation, byte_bytes, spread, start_bytes, rest_bytes, unit_bytes, units_bytes}
+use Rattle.cobol_print.specs.Layout.{continuation, byte_bytes, spread, start_bytes, rest_bytes, unit_bytes, units_bytes}
 use Rattle.cobol_lex.specs.declared.token.TokenKind.{TokenKind}
-use Rattle.cobol_print.specs.declared.spacing.Start.{Start}
+use Rattle.cobol_print.specs.declared.spacing.TokenStart.{TokenStart}
 use Rattle.cobol_print.specs.declared.units.unit.PrintUnit.{PrintUnit}
 
 -- the bytes of what stands from some column on
@@ -31,7 +31,7 @@ onto-bytes column inside (b ∷ bytes) rest =
     ∙ ap (λ t. byte_bytes column inside b ++ t) (onto-bytes (next_column column inside) (turned inside b) bytes rest)
     ∙ sym (append_assoc (byte_bytes column inside b) (spread (next_column column inside) (turned inside b) bytes) (bytes_from rest))
 
-begun-bytes : (start : Start) (column : ℕ) (rest : Rest) → bytes_from (begun start column rest) ≡ start_bytes start column ++ bytes_from rest
+begun-bytes : (start : TokenStart) (column : ℕ) (rest : Rest) → bytes_from (begun start column rest) ≡ start_bytes start column ++ bytes_from rest
 begun-bytes start column rest =
     elim start.breaks as (λ t. bytes_from (cond t (on_new_line (replicate (start.column - 8) 32) rest) (in_front (replicate (start.column - column) 32) rest)) ≡ cond t (10 ∷ replicate 7 32 ++ replicate (start.column - 8) 32) (replicate (start.column - column) 32) ++ bytes_from rest) [
       | true ↦ ap (λ t. 10 ∷ 32 ∷ 32 ∷ 32 ∷ 32 ∷ 32 ∷ 32 ∷ 32 ∷ t) (append_assoc (replicate (start.column - 8) 32) rest.here (10 ∷ bytes_of_lines rest.below))
@@ -42,12 +42,12 @@ rest-bytes : (margin column : ℕ) (clinging : Bool) (tokens : List TokenKind) (
 rest-bytes margin column clinging [] below = refl
 rest-bytes margin column clinging (token ∷ tokens) below =
     let bytes : List ℕ = written token in
-    let start : Start = start_of margin column clinging token (length bytes) in
+    let start : TokenStart = start_of margin column clinging token (length bytes) in
     let after : ℕ = column_behind start.column false bytes in
-    let rest : Rest = rest_of margin after (clings token) tokens below in
+    let rest : Rest = rest_of margin after (no_space_behind token) tokens below in
     begun-bytes start column (onto start.column false bytes rest)
     ∙ ap (λ t. start_bytes start column ++ t) (onto-bytes start.column false bytes rest)
-    ∙ ap (λ t. start_bytes start column ++ (spread start.column false bytes ++ t)) (rest-bytes margin after (clings token) tokens below)
+    ∙ ap (λ t. start_bytes start column ++ (spread start.column false bytes ++ t)) (rest-bytes margin after (no_space_behind token) tokens below)
     ∙ simp append_assoc
 
 unit-bytes : (column : ℕ) (tokens : List TokenKind) (below : List Row) → bytes_of_lines (unit_lines column tokens below) ≡ unit_bytes column tokens ++ bytes_of_lines below
@@ -55,13 +55,13 @@ unit-bytes column [] below = refl
 unit-bytes column (token ∷ tokens) below =
     let bytes : List ℕ = written token in
     let after : ℕ = column_behind column false bytes in
-    let rest : Rest = rest_of column after (clings token) tokens below in
+    let rest : Rest = rest_of column after (no_space_behind token) tokens below in
     let front : List ℕ = replicate 7 32 ++ replicate (column - 8) 32 in
     let whole : bytes_of_lines (unit_lines column (token ∷ tokens) below) ≡ front ++ bytes_from (onto column false bytes rest) =
     ap (λ t. 32 ∷ 32 ∷ 32 ∷ 32 ∷ 32 ∷ 32 ∷ 32 ∷ t) (append_assoc (replicate (column - 8) 32) (onto column false bytes rest).here (10 ∷ bytes_of_lines (onto column false bytes rest).below)) in
     whole
     ∙ ap (λ t. front ++ t) (onto-bytes column false bytes rest)
-    ∙ ap (λ t. front ++ (spread column false bytes ++ t)) (rest-bytes column after (clings token) tokens below)
+    ∙ ap (λ t. front ++ (spread column false bytes ++ t)) (rest-bytes column after (no_space_behind token) tokens below)
     ∙ simp append_assoc
 
 pub lines-bytes : (units : List PrintUnit) → bytes_of_lines (lines_of units) ≡ units_bytes units

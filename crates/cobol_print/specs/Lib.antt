@@ -2,7 +2,7 @@
 pub mod Spacing
 -- Units as lines, and the lines as bytes.
 pub mod Line
-pub mod Stream
+pub mod Layout
 -- A program as bytes: `printed`.
 pub mod Program
 -- The tokens with their lines, and which units can be printed.

@@ -6,9 +6,9 @@ use Rattle.ref_format.specs.Line.{source_of}
 use Rattle.ref_format.specs.Row.{Row, Begins, GoesOn, row_line}
 use Rattle.cobol_lex.specs.Written.{written}
 use Rattle.cobol_lex.specs.declared.token.TokenKind.{TokenKind}
-use Rattle.cobol_print.specs.declared.spacing.Start.{Start}
+use Rattle.cobol_print.specs.declared.spacing.TokenStart.{TokenStart}
 use Rattle.cobol_print.specs.declared.units.unit.PrintUnit.{PrintUnit}
-use Rattle.cobol_print.specs.Spacing.{clings, start_of}
+use Rattle.cobol_print.specs.Spacing.{no_space_behind, start_of}
 
 -- what stands on a line from some column on, and the lines below it
 pub record Rest : Type 0 where
@@ -59,18 +59,19 @@ column_behind column inside (b ∷ bytes) =
 -- ---- the tokens of a unit
 
 -- a token from where it begins, behind what ends before this column
-abbrev pub begun : Start → (column : ℕ) → Rest → Rest
+abbrev pub begun : TokenStart → (column : ℕ) → Rest → Rest
 begun start column rest =
     if start.breaks then on_new_line (replicate (start.column - 8) space) rest
     else in_front (replicate (start.column - column) space) rest
 
 -- the tokens that follow in a unit from this margin, above these lines
-abbrev pub rest_of : (margin column : ℕ) (clings : Bool) → List TokenKind → List Row → Rest
+abbrev pub rest_of : (margin column : ℕ) (no_space_behind : Bool) → List TokenKind → List Row → Rest
 rest_of margin column clinging [] below = record { here = []; below = below }
 rest_of margin column clinging (token ∷ tokens) below =
-    let start : Start = start_of margin column clinging token (length (written token)) in
+    let start : TokenStart = start_of margin column clinging token (length (written token)) in
     begun start column (onto start.column false (written token)
-    (rest_of margin (column_behind start.column false (written token)) (clings token) tokens below))
+    (rest_of margin (column_behind start.column false (written token)) (no_space_behind token)
+    tokens below))
 
 abbrev pub first_line : (column : ℕ) → Rest → List Row
 first_line column rest = Begins (replicate (column - 8) space ++ rest.here) ∷ rest.below
@@ -80,7 +81,8 @@ abbrev pub unit_lines : (column : ℕ) → List TokenKind → List Row → List 
 unit_lines column [] below = below
 unit_lines column (token ∷ tokens) below =
     first_line column (onto column false (written token)
-    (rest_of column (column_behind column false (written token)) (clings token) tokens below))
+    (rest_of column (column_behind column false (written token)) (no_space_behind token) tokens
+    below))
 
 -- ---- all units
 

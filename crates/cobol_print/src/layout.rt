@@ -3,10 +3,10 @@
 ghost use Rattle.std.specs.Prelude.{◌≡◌, ◌≤◌, ◌++◌, [], false, OnOk, replicate};
 ghost use Rattle.cobol_print.specs.Line.{turned, next_column, column_behind};
 ghost use Rattle.cobol_lex.specs.Written.{written};
-ghost use Rattle.cobol_print.specs.Stream.{byte_bytes, column_after, spread, start_bytes, rest_bytes, token_bytes, unit_bytes};
+ghost use Rattle.cobol_print.specs.Layout.{byte_bytes, column_after, spread, start_bytes, rest_bytes, token_bytes, unit_bytes};
 
-use crate::spacing::{BEHIND, Start, clings, start_of};
-use crate::spelling::{plain, spelled};
+use crate::spacing::{BEHIND, TokenStart, no_space_behind, start_of};
+use crate::spelling::{held_bytes, spelled};
 use crate::units::PrintUnit;
 use cob_base::{NoMemory, Text};
 use cobol_lex::TokenKind;
@@ -104,7 +104,7 @@ impl Layout {
     }
 
     /// Goes to where a token begins.
-    fn go_to(&mut self, start: Start) -> Result<(), NoMemory>
+    fn go_to(&mut self, start: TokenStart) -> Result<(), NoMemory>
         requires { start.column ≤ 73 }
         ensures out { OnOk result
             (self.new.out ≡ self.old.out ++ start_bytes start self.old.column) }
@@ -134,7 +134,7 @@ impl Layout {
         self.column = unit.column;
         let bytes = spelled(alloc, first)?;
         self.put_all(bytes.as_slice())?;
-        self.add_rest(alloc, unit.column, clings(first), rest)
+        self.add_rest(alloc, unit.column, no_space_behind(first), rest)
     }
 
     /// Adds a token in a unit from this margin.
@@ -153,7 +153,7 @@ impl Layout {
             (self.new.column ≡ column_after margin self.old.column clinging token.now) }
         ensures within { OnOk result (self.new.column ≤ 73) }
     {
-        if let Some(bytes) = plain(token) {
+        if let Some(bytes) = held_bytes(token) {
             return self.add_bytes(margin, clinging, token, bytes);
         }
         let bytes = spelled(alloc, token)?;
@@ -198,7 +198,7 @@ impl Layout {
         let mut clinging = clinging;
         for token in tokens {
             self.add_token(alloc, margin, clinging, token)?;
-            clinging = clings(token);
+            clinging = no_space_behind(token);
         }
         self.out.add(b"\n")
     }

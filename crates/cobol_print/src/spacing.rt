@@ -1,7 +1,7 @@
 //! Where tokens stand on a line.
 
 ghost use Rattle.std.specs.Prelude.{◌≡◌, ◌≤◌};
-ghost use Rattle.cobol_print.specs.Spacing.{hugs as hugs_left, clings as clings_right, is_literal as literal_kind, start_of as start_by};
+ghost use Rattle.cobol_print.specs.Spacing.{hugs as hugs_left, no_space_behind as clings_right, is_literal as literal_kind, start_of as start_by};
 
 use cobol_lex::TokenKind;
 
@@ -16,7 +16,7 @@ fn hugs(token: &TokenKind) -> bool
 }
 
 /// Whether no space stands behind this token.
-pub fn clings(token: &TokenKind) -> bool
+pub fn no_space_behind(token: &TokenKind) -> bool
     ensures { result ≡ clings_right token.now }
 {
     matches!(token, TokenKind::Mark(b'(' | b':'))
@@ -30,32 +30,38 @@ fn is_literal(token: &TokenKind) -> bool
 
 /// Where a token begins, and whether on a new line.
 #[derive(Clone, Copy, Debug)]
-pub struct Start {
+pub struct TokenStart {
     pub breaks: bool,
     pub column: usize,
 }
 
 /// Where a token of this size begins, in a unit from this margin, behind what ends before this
 /// column.
-pub fn start_of(margin: usize, column: usize, clings: bool, token: &TokenKind, size: usize) -> Start
+pub fn start_of(
+    margin: usize,
+    column: usize,
+    clings: bool,
+    token: &TokenKind,
+    size: usize,
+) -> TokenStart
     requires margin { margin ≤ 32 }
     requires column { column ≤ 73 }
     ensures { result ≡ start_by margin column clings token.now size }
 {
     let gap = if clings || hugs(token) { 0 } else { 1 };
     if column + gap <= BEHIND && size <= BEHIND - (column + gap) {
-        return Start {
+        return TokenStart {
             breaks: false,
             column: column + gap,
         };
     }
     if is_literal(token) && size > BEHIND - (margin + 4) {
-        return Start {
+        return TokenStart {
             breaks: true,
             column: 12,
         };
     }
-    Start {
+    TokenStart {
         breaks: true,
         column: margin + 4,
     }

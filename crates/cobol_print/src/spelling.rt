@@ -11,7 +11,7 @@ use cobol_lex::TokenKind;
 use std::alloc::Global;
 
 /// The bytes that a token is written with, where it holds them itself.
-pub fn plain(token: &TokenKind) -> Option<&[u8]>
+pub fn held_bytes(token: &TokenKind) -> Option<&[u8]>
     ensures { IfSome result (λ bytes. bytes.now ≡ written token.now) }
 {
     match token {

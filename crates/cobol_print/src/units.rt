@@ -15,7 +15,7 @@ ghost use Rattle.std.specs.Prelude.{◌≤◌, All, IfOk};
 ghost use Rattle.cob_base.specs.Answers.{Makes};
 ghost use Rattle.cobol_print.specs.units.Division.{program_units};
 
-pub use crate::units::statement::Phrase;
+pub use crate::units::statement::ArmPhrase;
 pub use crate::units::unit::{PrintUnit, Units, deeper};
 use cob_base::{Items, NoMemory};
 use cob_tree::Program;

@@ -1,7 +1,7 @@
 -- What a statement on files does is what control says of it.
 use Rattle.std.proofs.Common.{◌≡◌, ℕ, List, [], take, Option, Result, Ok, Err, refl, ap, sym, ◌∙◌, subst, append-nil}
-use Rattle.cob_act.specs.declared.acting.Done.{Done}
-use Rattle.cob_act.specs.declared.acting.Done.TheVariants as done
+use Rattle.cob_act.specs.declared.acting.ActOutcome.{ActOutcome}
+use Rattle.cob_act.specs.declared.acting.ActOutcome.TheVariants as done
 use Rattle.cob_store.specs.Store.{Roots}
 use Rattle.cob_tree.specs.declared.file.FileEntry.{FileEntry}
 use Rattle.cob_tree.specs.declared.file.Opening.{Opening}
@@ -12,7 +12,7 @@ use Rattle.cob_tree.specs.declared.stmt.Stmt.TheVariants as stmts
 use Rattle.file_model.specs.declared.table.FileRow.{FileRow}
 use Rattle.file_model.specs.World.{World}
 use Rattle.file_model.specs.operations.Seen.{Seen}
-use Rattle.cob_act.specs.declared.files.fault.Fault.{Fault}
+use Rattle.cob_act.specs.declared.files.fault.FileFault.{FileFault}
 use Rattle.cob_act.specs.files.Ends.{ended_as}
 use Rattle.cob_act.specs.files.Over.{BreaksIn, BrokeIn, Did, world_behind}
 use Rattle.meanings.specs.statements.Does.{does}
@@ -34,13 +34,13 @@ use Rattle.cobol_run.specs.Over.{FiledBreaks, FiledOver, filed_way}
 use Rattle.cobol_run.specs.Plan.{memory_in}
 use Rattle.cobol_run.specs.Points.{stmt_operations}
 use Rattle.cobol_run.specs.Running.{displayed}
-use Rattle.cobol_run.specs.Ways.{on}
+use Rattle.cobol_run.specs.NextStep.{on}
 use Rattle.cobol_run.proofs.DisplayLemmas.{IsSilent, closes_silent, front_silent, opens_silent, rewritten_silent, written_silent}
 
 -- ---- statements that act
 
 -- a statement goes on, or ends the run
-acted-way : (made : Done) (events : Trace) (memory : Memory) (rest : List Item) →
+acted-way : (made : ActOutcome) (events : Trace) (memory : Memory) (rest : List Item) →
     filed_way made events memory rest ≡ tried (acted_by (ended_as made) events memory) (λ u. on rest)
 acted-way done.Went events memory rest = ap (λ trace. ways.On trace memory rest) (sym (append-nil events))
 acted-way done.Shown events memory rest = ap (λ trace. ways.On trace memory rest) (sym (append-nil events))
@@ -52,7 +52,7 @@ module _ (declared : Declared) where
   doing = doing_in declared
 
   acts-over : (stmt : Stmt) → ((last : ℕ) → seen last stmt ≡ language.Do (language.Own stmt)) → (store : Roots) (world : World) (effect : Effect) → does declared stmt store world ≡ effect → IsSilent effect →
-      (files : List FileEntry) (result : Result Done Fault) (now : Roots) (devices : List Seen) (table : List FileRow) (frames : List Frame) → Did files result world effect now devices table →
+      (files : List FileEntry) (result : Result ActOutcome FileFault) (now : Roots) (devices : List Seen) (table : List FileRow) (frames : List Frame) → Did files result world effect now devices table →
       FiledOver result files devices table now frames (λ last. item_way doing (items.Do (seen last stmt)) (rest_of last frames) (memory_in store world))
   acts-over stmt there store world effect is silent files (Err fault) now devices table frames did = tt
   acts-over stmt there store world effect is silent files (Ok made) now devices table frames did =
@@ -69,7 +69,7 @@ module _ (declared : Declared) where
         did.2,
       )
 
-  module _ (stmt : Stmt) (store : Roots) (world : World) (files : List FileEntry) (result : Result Done Fault) (now : Roots) (devices : List Seen) (table : List FileRow) (frames : List Frame) where
+  module _ (stmt : Stmt) (store : Roots) (world : World) (files : List FileEntry) (result : Result ActOutcome FileFault) (now : Roots) (devices : List Seen) (table : List FileRow) (frames : List Frame) where
     abbrev Over : Stmt → Type 0
     Over s = FiledOver result files devices table now frames (λ last. item_way doing (items.Do (seen last s)) (rest_of last frames) (memory_in store world))
 
@@ -100,7 +100,7 @@ module _ (declared : Declared) where
   -- ---- a statement that broke off
 
   acts_break : (stmt : Stmt) → ((last : ℕ) → seen last stmt ≡ language.Do (language.Own stmt)) → (store : Roots) (world : World) (effect : Effect) → does declared stmt store world ≡ effect → IsSilent effect →
-      (files : List FileEntry) (result : Result Done Fault) (left : ℕ) (devices : List Seen) (table : List FileRow) → BreaksIn result files world effect left devices table →
+      (files : List FileEntry) (result : Result ActOutcome FileFault) (left : ℕ) (devices : List Seen) (table : List FileRow) → BreaksIn result files world effect left devices table →
       FiledBreaks result files world (λ last. stmt_operations declared (seen last stmt) (memory_in store world)) left devices table
   acts_break stmt there store world effect is silent files (Ok made) left devices table broke = tt
   acts_break stmt there store world effect is silent files (Err fault) left devices table broke = λ last.
@@ -110,7 +110,7 @@ module _ (declared : Declared) where
         subst (λ (ops : List Operation). displayed (events_of (take broke.0 ops)) ≡ []) (sym same) (front_silent broke.0 effect.operations silent),
       )
 
-  module _ (stmt : Stmt) (store : Roots) (world : World) (files : List FileEntry) (result : Result Done Fault) (left : ℕ) (devices : List Seen) (table : List FileRow) where
+  module _ (stmt : Stmt) (store : Roots) (world : World) (files : List FileEntry) (result : Result ActOutcome FileFault) (left : ℕ) (devices : List Seen) (table : List FileRow) where
     abbrev Broke : Stmt → Type 0
     Broke s = FiledBreaks result files world (λ last. stmt_operations declared (seen last s) (memory_in store world)) left devices table
 

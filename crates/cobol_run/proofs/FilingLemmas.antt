@@ -18,7 +18,7 @@ use Rattle.control_flow_theory.specs.language.Language as language
 use Rattle.control_flow_theory.specs.language.Own.{OwnTest}
 use Rattle.control_flow_theory.proofs.language_lemmas.Rows.{seen_closes, seen_opens, seen_read, seen_rewrite, seen_write}
 use Rattle.cobol_run.specs.declared.machine.Machine.{Machine}
-use Rattle.cobol_run.specs.declared.machine.Step.{Step}
+use Rattle.cobol_run.specs.declared.machine.StepOutcome.{StepOutcome}
 use Rattle.cobol_run.specs.Filing.{StandsInNone}
 use Rattle.cobol_run.specs.Frames.{last_of}
 use Rattle.cobol_run.specs.Machine.{Follows, rest_in, state_in, steps_by}
@@ -60,7 +60,7 @@ next_none old stmt rest world trace there none plain =
     none (last_of old.plan.program.now old.paragraph) (subst (standing.ItemsHave PlainAct OwnTest PlainPicker) there plain.0).0
 
 -- so any step follows
-pub steps_none : (old new : Machine) (stmt : Stmt) (rest : List Item) (result : Result Step NoMemory) →
+pub steps_none : (old new : Machine) (stmt : Stmt) (rest : List Item) (result : Result StepOutcome NoMemory) →
     rest_in old ≡ Do (seen (last_of old.plan.program.now old.paragraph) stmt) ∷ rest → StandsInNone stmt →
     IfOk result (λ step. (world : World) (trace : Trace) → PlainState (state_in old world trace) → Follows step new world trace (steps_by old.plan (state_in old world trace)))
 steps_none old new stmt rest (Err e) there none = tt

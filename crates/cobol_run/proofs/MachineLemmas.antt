@@ -20,12 +20,12 @@ use Rattle.cobol_theory.specs.cobol_meaning.Runs.{State, doing_in, files_left}
 use Rattle.cobol_run.specs.declared.frame.Frame.{Frame}
 use Rattle.cobol_run.specs.declared.held.Plan.{Plan}
 use Rattle.cobol_run.specs.declared.machine.Machine.{Machine}
-use Rattle.cobol_run.specs.declared.machine.Step.{Step}
+use Rattle.cobol_run.specs.declared.machine.StepOutcome.{StepOutcome}
 use Rattle.cobol_run.specs.declared.frames.Head.{Head}
 use Rattle.cobol_run.specs.Frames.{heads, last_in, last_of, pending_of, rest_of, sentences_before}
 use Rattle.control_flow_theory.specs.semantics.Items.{item_way}
 use Rattle.cobol_run.specs.declared.held.Held.{Held}
-use Rattle.cobol_run.specs.declared.way.Way as ways
+use Rattle.cobol_run.specs.declared.next_step.NextStep as ways
 use Rattle.cobol_run.specs.Machine.{Follows, ends_by, falls_by, goes_by, rest_in, rests_by, state_in, state_with, steps_by}
 use Rattle.cobol_run.specs.Over.{FollowsOver, StandsOver, StepBreaks, stmt_meant}
 use Rattle.cobol_run.specs.Own.{NoFiling, OwnState, StandsAlone}
@@ -37,7 +37,7 @@ use Rattle.cobol_run.specs.Plan.{declared_by, memory_in}
 use Rattle.cobol_run.specs.Points.{next_operations, operations_in, stmt_operations}
 use Rattle.control_flow_theory.specs.runs.Run.{Going}
 use Rattle.meanings.specs.statements.Filing.{Operation}
-use Rattle.cobol_run.specs.Ways.{KeepsPending, way_seen}
+use Rattle.cobol_run.specs.NextStep.{KeepsPending, way_seen}
 use Rattle.cobol_run.proofs.FrameLemmas.{sentences_items}
 use Rattle.cobol_run.proofs.OverLemmas.{follows_over}
 use Rattle.cobol_run.proofs.OwnLemmas.{own_alone, plain_alone}
@@ -123,14 +123,14 @@ falls_past plan paragraph state past =
 -- ---- the end of a paragraph
 
 -- no return is pending
-pub ends_falling : (old : Machine) (frames : List Frame) (new : Machine) (result : Result Step NoMemory) →
+pub ends_falling : (old : Machine) (frames : List Frame) (new : Machine) (result : Result StepOutcome NoMemory) →
     pending_of old.plan.program.now old.frames ≡ [] → frames ≡ [] →
     IfOk result (λ step. (world : World) (trace : Trace) (rest : List Item) → Follows step new world trace (falls_by old.plan old.paragraph (state_with (record old { frames = frames }) rest (memory_in old.held.store world) trace))) →
     IfOk result (λ step. (world : World) (trace : Trace) (rest : List Item) → Follows step new world trace (ends_by old.plan (pending_of old.plan.program.now old.frames) (state_with old rest (memory_in old.held.store world) trace)))
 ends_falling old frames new result none empty h = rw none (subst (λ (list : List Frame). IfOk result (λ step. (world : World) (trace : Trace) (rest : List Item) → Follows step new world trace (falls_by old.plan old.paragraph (state_with (record old { frames = list }) rest (memory_in old.held.store world) trace)))) empty h)
 
 -- a return is pending that isn't made here
-pub ends_passing : (old : Machine) (frames : List Frame) (new : Machine) (result : Result Step NoMemory) (top : Pending) (others : List Pending) →
+pub ends_passing : (old : Machine) (frames : List Frame) (new : Machine) (result : Result StepOutcome NoMemory) (top : Pending) (others : List Pending) →
     pending_of old.plan.program.now old.frames ≡ top ∷ others → pending_of old.plan.program.now frames ≡ top ∷ others →
     (top.end == old.paragraph) ≡ false → ends_at old.paragraph others ≡ false →
     IfOk result (λ step. (world : World) (trace : Trace) (rest : List Item) → Follows step new world trace (falls_by old.plan old.paragraph (state_with (record old { frames = frames }) rest (memory_in old.held.store world) trace))) →
@@ -147,13 +147,13 @@ abbrev last-in : Machine → ℕ
 last-in machine = last_of machine.plan.program.now machine.paragraph
 
 -- what the step comes to whose head is this
-abbrev Heads : Machine → Machine → Result Step NoMemory → Head → Type 0
+abbrev Heads : Machine → Machine → Result StepOutcome NoMemory → Head → Type 0
 Heads old new result next =
     IfOk result (λ step. (world : World) (trace : Trace) (rest : List Item) → StandsAlone (last-in old) next →
     Follows step new world trace (rests_by old.plan (heads (last-in old) next (rest_in old)) (state_with old rest (memory_in old.held.store world) trace)))
 
 -- so it is by the items
-pub headed : (old new : Machine) (result : Result Step NoMemory) (next : Head) (items : List Item) → heads (last-in old) next (rest_in old) ≡ items →
+pub headed : (old new : Machine) (result : Result StepOutcome NoMemory) (next : Head) (items : List Item) → heads (last-in old) next (rest_in old) ≡ items →
     IfOk result (λ step. (world : World) (trace : Trace) (rest : List Item) → Follows step new world trace (rests_by old.plan items (state_with old rest (memory_in old.held.store world) trace))) →
     Heads old new result next
 headed old new (Err e) next items is h = tt
@@ -161,7 +161,7 @@ headed old new (Ok step) next items is h = λ world trace rest alone.
     subst (λ list. Follows step new world trace (rests_by old.plan list (state_with old rest (memory_in old.held.store world) trace))) (sym is) (h world trace rest)
 
 -- an item goes its way
-pub head_goes : (old : Machine) (frames : List Frame) (held : Held) (new : Machine) (result : Result Step NoMemory) (next : Head) (item : Item) (way : ways.Way) →
+pub head_goes : (old : Machine) (frames : List Frame) (held : Held) (new : Machine) (result : Result StepOutcome NoMemory) (next : Head) (item : Item) (way : ways.NextStep) →
     heads (last-in old) next (rest_in old) ≡ item ∷ rest_in old → pending_of old.plan.program.now frames ≡ pending_of old.plan.program.now old.frames →
     ((world : World) → StandsAlone (last-in old) next →
     way_seen (last-in old) way held.shown (memory_in held.store world) (rest_of (last-in old) frames) ≡ item_way (doing_in (declared_by old.plan)) item (rest_in old) (memory_in old.held.store world)) →
@@ -193,7 +193,7 @@ module _ (old : Machine) (frames : List Frame) (shown : List ℕ) (new : Machine
   here = mid old frames (record old.held { shown = shown })
 
   -- without devices
-  pub plain_step : (result : Result Step NoMemory) → NoFiling next → Heads here new result next →
+  pub plain_step : (result : Result StepOutcome NoMemory) → NoFiling next → Heads here new result next →
       IfOk result (λ step. (world : World) (trace : Trace) → PlainState (state_in old world trace) → Follows step new world trace (steps_by old.plan (state_in old world trace)))
   plain_step (Err e) free h = tt
   plain_step (Ok step) free h = λ world trace plain.
@@ -201,7 +201,7 @@ module _ (old : Machine) (frames : List Frame) (shown : List ℕ) (new : Machine
       (h world trace (rest_in old) (plain_alone (last-in old) next (rest_of (last-in old) frames) free (subst (standing.ItemsHave PlainAct OwnTest PlainPicker) there plain.0)))
 
   -- over devices, which it leaves alone
-  pub own_step : (devices : List Seen) (result : Result Step NoMemory) → NoFiling next → Heads here new result next → new.plan ≡ old.plan → new.table ≡ old.table →
+  pub own_step : (devices : List Seen) (result : Result StepOutcome NoMemory) → NoFiling next → Heads here new result next → new.plan ≡ old.plan → new.table ≡ old.table →
       IfOk result (λ step. (world : World) (trace : Trace) → OwnState (state_in old world trace) → StandsOver old devices world → FollowsOver step new devices world trace (steps_by old.plan (state_in old world trace)))
   own_step devices (Err e) free h plan table = tt
   own_step devices (Ok step) free h plan table = λ world trace own stands.
@@ -211,7 +211,7 @@ module _ (old : Machine) (frames : List Frame) (shown : List ℕ) (new : Machine
       (rw (plan, table) stands))
 
   -- a statement on files
-  pub files_step : (stmt : Stmt) (devices left : List Seen) (result : Result Step NoMemory) → ((rest : List Item) → heads (last-in old) next rest ≡ items.Do (seen (last-in old) stmt) ∷ rest) → is_inner stmt ≡ false →
+  pub files_step : (stmt : Stmt) (devices left : List Seen) (result : Result StepOutcome NoMemory) → ((rest : List Item) → heads (last-in old) next rest ≡ items.Do (seen (last-in old) stmt) ∷ rest) → is_inner stmt ≡ false →
       IfOk result (λ step. (world : World) (trace : Trace) (rest : List Item) → is_inner stmt ≡ false → StandsOver here devices world →
       FollowsOver step new left world trace (goes_by here.plan (stmt_meant here stmt world) (state_with here rest (memory_in here.held.store world) trace))) →
       IfOk result (λ step. (world : World) (trace : Trace) → OwnState (state_in old world trace) → StandsOver old devices world → FollowsOver step new left world trace (steps_by old.plan (state_in old world trace)))
@@ -222,7 +222,7 @@ module _ (old : Machine) (frames : List Frame) (shown : List ℕ) (new : Machine
       (h world trace (rest_in old) outer stands))
 
   -- what it breaks off behind are operations of the step
-  pub files_breaks : (stmt : Stmt) (rest : List Item) (left : ℕ) (devices : List Seen) (result : Result Step NoMemory) → rest_in old ≡ items.Do (seen (last-in old) stmt) ∷ rest → (world : World) (trace : Trace) →
+  pub files_breaks : (stmt : Stmt) (rest : List Item) (left : ℕ) (devices : List Seen) (result : Result StepOutcome NoMemory) → rest_in old ≡ items.Do (seen (last-in old) stmt) ∷ rest → (world : World) (trace : Trace) →
       StepBreaks result new world (stmt_operations (declared_by old.plan) (seen (last-in old) stmt) (memory_in old.held.store world)) left devices → StepBreaks result new world (operations_in (declared_by old.plan) (state_in old world trace)) left devices
   files_breaks stmt rest left devices result is world trace breaks =
       subst (λ (operations : List Operation). StepBreaks result new world operations left devices)

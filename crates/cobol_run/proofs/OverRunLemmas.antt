@@ -16,7 +16,7 @@ use Rattle.file_model.specs.operations.Shutting.{LeavesFiles}
 use Rattle.file_model.proofs.operations_lemmas.FallLemmas.{left_same}
 use Rattle.file_model.proofs.operations_lemmas.ShutLemmas.{left_standing}
 use Rattle.cob_base.specs.declared.memory.NoMemory.{NoMemory}
-use Rattle.cob_act.specs.declared.files.fault.Fault.TheVariants as faults
+use Rattle.cob_act.specs.declared.files.fault.FileFault.TheVariants as faults
 use Rattle.cob_act.specs.files.Ends.{gone_by}
 use Rattle.meanings.specs.statements.Filing.{Declared, Operation}
 use Rattle.control_flow_theory.specs.runs.Run.{Over}
@@ -34,8 +34,8 @@ use Rattle.cobol_theory.specs.cobol_meaning.Runs.{Files, State, begun_in, doing_
 use Rattle.cob_base.specs.giving.Giving.{Gained, Gains, Takes}
 use Rattle.cobol_run.specs.declared.machine.Ending.{Ending}
 use Rattle.cobol_run.specs.declared.machine.Machine.{Machine}
-use Rattle.cobol_run.specs.declared.machine.Step.{Step}
-use Rattle.cobol_run.specs.declared.machine.Step.TheVariants as step
+use Rattle.cobol_run.specs.declared.machine.StepOutcome.{StepOutcome}
+use Rattle.cobol_run.specs.declared.machine.StepOutcome.TheVariants as step
 use Rattle.cobol_run.specs.declared.running.Ran.{Ran}
 use Rattle.cobol_run.specs.declared.running.Ran.TheVariants as ran
 use Rattle.cobol_run.specs.Falling.{NamesDevice, breaks_off}
@@ -122,7 +122,7 @@ not_begun old new left devices world operations plan table stands = (
 )
 
 -- a step that asks no device
-pub live_breaks : (old new : Machine) (left : ℕ) (devices : List Seen) (world : World) (operations : List Operation) (result : Result Step NoMemory) → IfOk result (λ made. made ≡ step.Failed → ⊥) → new.plan ≡ old.plan → new.table ≡ old.table → StandsOver old (take left devices) world → StepBreaks result new world operations left devices
+pub live_breaks : (old new : Machine) (left : ℕ) (devices : List Seen) (world : World) (operations : List Operation) (result : Result StepOutcome NoMemory) → IfOk result (λ made. made ≡ step.Failed → ⊥) → new.plan ≡ old.plan → new.table ≡ old.table → StandsOver old (take left devices) world → StepBreaks result new world operations left devices
 live_breaks old new left devices world operations (Err e) live plan table stands = not_begun old new left devices world operations plan table stands
 live_breaks old new left devices world operations (Ok step.On) live plan table stands = tt
 live_breaks old new left devices world operations (Ok step.Shown) live plan table stands = tt
@@ -175,7 +175,7 @@ module _ (program : Program) (files : Files) (machine : Machine) (devices : List
 
   module _ (own : IsOwn program) (new : Machine) (left : ℕ) (devices_now : List Seen) (plan : new.plan ≡ machine.plan) where
     -- a step that broke off
-    module _ (result : Result Step NoMemory) (breaks : (world : World) (trace : Trace) → OwnState (state_in machine world trace) → StandsOver machine devices world → StepBreaks result new world (operations_in (declared_by machine.plan) (state_in machine world trace)) left devices_now) where
+    module _ (result : Result StepOutcome NoMemory) (breaks : (world : World) (trace : Trace) → OwnState (state_in machine world trace) → StandsOver machine devices world → StepBreaks result new world (operations_in (declared_by machine.plan) (state_in machine world trace)) left devices_now) where
       abbrev broken : StepBreaks result new so_far.world operations_next left devices_now
       broken = breaks so_far.world so_far.trace (own-before own) so_far.stands
 
@@ -189,7 +189,7 @@ module _ (program : Program) (files : Files) (machine : Machine) (devices : List
           let b = subst (λ r. StepBreaks r new so_far.world operations_next left devices_now) is broken in
           over_breaks (OpenYet [] new (take left devices_now)) b.0 (omega (arith, within)) b.2 now count_now refl b.1
 
-    module _ (made : Step)
+    module _ (made : StepOutcome)
         (follows : (world : World) (trace : Trace) → OwnState (state_in machine world trace) → StandsOver machine devices world → FollowsOver made new (take left devices_now) world trace (steps_by machine.plan (state_in machine world trace))) where
       next-over : FollowsOver made new (take left devices_now) so_far.world so_far.trace (after program files (suc done))
       next-over =

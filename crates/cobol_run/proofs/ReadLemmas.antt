@@ -1,8 +1,8 @@
 -- READ chooses an arm in control, also where it has none.
 use Rattle.std.proofs.Common.{◌≡◌, ℕ, zero, suc, ◌-◌, Bool, true, false, ◌&&◌, ◌||◌, ◌==◌, List, [], ◌∷◌, ◌++◌, length, take, Option, Some, None, is_some, Result, Ok, Err, refl, ap, sym, ◌∙◌, subst, append-nil, ◌⊎◌, inl, inr}
 use Rattle.std.specs.Prelude.{IfErr, IfOk, if◌then◌else◌}
-use Rattle.cob_act.specs.declared.acting.Done.{Done}
-use Rattle.cob_act.specs.declared.acting.Done.TheVariants as done
+use Rattle.cob_act.specs.declared.acting.ActOutcome.{ActOutcome}
+use Rattle.cob_act.specs.declared.acting.ActOutcome.TheVariants as done
 use Rattle.cob_store.specs.Answer.{Answer}
 use Rattle.cob_store.specs.Store.{Roots}
 use Rattle.cob_tree.specs.declared.ending.Abend.{Abend}
@@ -16,9 +16,9 @@ use Rattle.file_model.specs.Attempts.{Attempt, read_at}
 use Rattle.file_model.specs.World.{World}
 use Rattle.file_model.specs.World as verbs
 use Rattle.file_model.specs.operations.Seen.{Seen}
-use Rattle.cob_act.specs.declared.files.fault.Fault.{Fault}
+use Rattle.cob_act.specs.declared.files.fault.FileFault.{FileFault}
 use Rattle.cob_act.specs.files.Ends.{ended_as}
-use Rattle.cob_act.specs.declared.files.fault.Fault.TheVariants as faults
+use Rattle.cob_act.specs.declared.files.fault.FileFault.TheVariants as faults
 use Rattle.cob_act.specs.files.Over.{BreaksIn, BrokeIn, Did, IsOver, world_behind}
 use Rattle.cob_act.proofs.files_lemmas.DeskLemmas.{over_left}
 use Rattle.meanings.specs.statements.Does.{has_arms}
@@ -39,7 +39,7 @@ use Rattle.cobol_run.specs.Over.{FiledBreaks, FiledOver, armed_rest, filed_way}
 use Rattle.cobol_run.specs.Plan.{memory_in}
 use Rattle.cobol_run.specs.Points.{stmt_operations}
 use Rattle.cobol_run.specs.Running.{displayed}
-use Rattle.cobol_run.specs.Ways.{on}
+use Rattle.cobol_run.specs.NextStep.{on}
 use Rattle.cobol_run.proofs.DisplayLemmas.{front_silent, read_silent}
 use Rattle.cobol_run.proofs.StatementLemmas.{either-arm, second-arm}
 
@@ -120,7 +120,7 @@ module _ (last : ℕ) (arms : Arms) (events : Trace) (memory : Memory) (rest : L
   abbrev goes : Ended → Way Memory
   goes end = tried (chosen_by end events memory) (λ k. on (before_arm (both_arms (arms_seen last arms)) k rest))
 
-  abbrev went : Done → Way Memory
+  abbrev went : ActOutcome → Way Memory
   went made = filed_way made events memory (armed_rest last made arms rest)
 
   on-with : (first second : List Item) → first ≡ second → ◌≡◌ {A = Way Memory} (ways.On events memory first) (ways.On (events ++ []) memory second)
@@ -136,7 +136,7 @@ module _ (last : ℕ) (arms : Arms) (events : Trace) (memory : Memory) (rest : L
   arm-taken arm (inl one) = subst (λ n. went (done.Chose n) ≡ goes (Chose n)) (sym one) (on-with _ _ first-taken)
   arm-taken arm (inr two) = subst (λ n. went (done.Chose n) ≡ goes (Chose n)) (sym two) (on-with _ _ second-taken)
 
-  picked-way : (made : Done) (end : Ended) → ended_as made ≡ end → IsPick end → went made ≡ goes end
+  picked-way : (made : ActOutcome) (end : Ended) → ended_as made ≡ end → IsPick end → went made ≡ goes end
   picked-way done.Went end is pick = absurd (subst IsPick (sym is) pick)
   picked-way done.Shown end is pick = absurd (subst IsPick (sym is) pick)
   picked-way (done.Chose arm) end is pick = arm-taken arm (subst IsPick (sym is) pick) ∙ ap goes is
@@ -159,7 +159,7 @@ module _ (last : ℕ) (arms : Arms) (events : Trace) (memory : Memory) (rest : L
   bare-abended abend (Chose arm) alike = absurd alike
   bare-abended abend (Abended other) alike = ap (λ a. went (done.Abended a)) alike
 
-  bare-way : (made : Done) (end armed : Ended) → has_arms arms ≡ false → ended_as made ≡ end → Alike end armed → went made ≡ goes armed
+  bare-way : (made : ActOutcome) (end armed : Ended) → has_arms arms ≡ false → ended_as made ≡ end → Alike end armed → went made ≡ goes armed
   bare-way done.Went end armed none is alike = bare-went armed none (subst (λ e. Alike e armed) (sym is) alike)
   bare-way done.Shown end armed none is alike = bare-went armed none (subst (λ e. Alike e armed) (sym is) alike)
   bare-way (done.Chose arm) end armed none is alike = absurd (subst (λ e. Alike e armed) (sym is) alike)
@@ -184,7 +184,7 @@ module _ (declared : Declared) (file : ℕ) (place : Option Place) (arms : Arms)
       ∙ ap (λ s. item_way (doing_in declared) (items.Do s) rest (memory_in store world)) (sym (seen_read last file place arms))
 
   -- the effect is that with arms, but for its end
-  read-goes : (has : Bool) → has_arms arms ≡ has → (made : Done) (now : Roots) (files : List FileEntry) (devices : List Seen) (table : List FileRow) (before_frames frames : List Frame) →
+  read-goes : (has : Bool) → has_arms arms ≡ has → (made : ActOutcome) (now : Roots) (files : List FileEntry) (devices : List Seen) (table : List FileRow) (before_frames frames : List Frame) →
       ((last : ℕ) → rest_of last frames ≡ armed_rest last made arms (rest_of last before_frames)) →
       Did files (Ok made) world (read declared store world file place (is_some (out-Arms arms).first) has) now devices table →
       FiledOver (Ok made) files devices table now frames (λ last. item_way (doing_in declared) (items.Do (seen last (stmts.Read file place arms))) (rest_of last before_frames) (memory_in store world))
@@ -214,18 +214,18 @@ module _ (declared : Declared) (file : ℕ) (place : Option Place) (arms : Arms)
         subst (λ operations. IsOver files devices table (last_world world operations)) alike.operations did.2,
       )
 
-  abbrev Over : Result Done Fault → Roots → List FileEntry → List Seen → List FileRow → List Frame → List Frame → Stmt → Type 0
+  abbrev Over : Result ActOutcome FileFault → Roots → List FileEntry → List Seen → List FileRow → List Frame → List Frame → Stmt → Type 0
   Over result now files devices table before_frames frames stmt =
       FiledOver result files devices table now frames (λ last. item_way (doing_in declared) (items.Do (seen last stmt)) (rest_of last before_frames) (memory_in store world))
 
-  did-so : (given : Option Place) (at_end has : Bool) → given ≡ place → at_end ≡ is_some (out-Arms arms).first → has ≡ has_arms arms → (made : Done) (now : Roots) (files : List FileEntry) (devices : List Seen) (table : List FileRow) →
+  did-so : (given : Option Place) (at_end has : Bool) → given ≡ place → at_end ≡ is_some (out-Arms arms).first → has ≡ has_arms arms → (made : ActOutcome) (now : Roots) (files : List FileEntry) (devices : List Seen) (table : List FileRow) →
       Did files (Ok made) world (read declared store world file given at_end has) now devices table → Did files (Ok made) world (read declared store world file place (is_some (out-Arms arms).first) (has_arms arms)) now devices table
   did-so given at_end has p a h made now files devices table did =
       subst (λ x. Did files (Ok made) world (read declared store world file place (is_some (out-Arms arms).first) x) now devices table) h
       (subst (λ x. Did files (Ok made) world (read declared store world file place x has) now devices table) a
       (subst (λ x. Did files (Ok made) world (read declared store world file x at_end has) now devices table) p did))
 
-  pub read_over : (stmt : Stmt) → stmt ≡ stmts.Read file place arms → (made : Done) (result : Result Done Fault) (now : Roots) (files : List FileEntry) (devices : List Seen) (table : List FileRow) (before_frames frames : List Frame)
+  pub read_over : (stmt : Stmt) → stmt ≡ stmts.Read file place arms → (made : ActOutcome) (result : Result ActOutcome FileFault) (now : Roots) (files : List FileEntry) (devices : List Seen) (table : List FileRow) (before_frames frames : List Frame)
       (given : Option Place) (at_end has : Bool) → given ≡ place → at_end ≡ is_some (out-Arms arms).first → has ≡ has_arms arms →
       Did files (Ok made) world (read declared store world file given at_end has) now devices table → IfOk result (λ other. other ≡ made) →
       IfOk result (λ other. (last : ℕ) → rest_of last frames ≡ armed_rest last made arms (rest_of last before_frames)) →
@@ -251,8 +251,8 @@ module _ (declared : Declared) (file : ℕ) (place : Option Place) (arms : Arms)
       go true = refl
       go false = (read-alike declared file given store world at_end).operations
 
-  pub read_break : (stmt : Stmt) → stmt ≡ stmts.Read file place arms → (fault : Fault) (files : List FileEntry) (left : ℕ) (devices : List Seen) (table : List FileRow) (given : Option Place) (at_end has : Bool) → given ≡ place → at_end ≡ is_some (out-Arms arms).first →
-      BreaksIn {A = Done} (Err fault) files world (read declared store world file given at_end has) left devices table →
+  pub read_break : (stmt : Stmt) → stmt ≡ stmts.Read file place arms → (fault : FileFault) (files : List FileEntry) (left : ℕ) (devices : List Seen) (table : List FileRow) (given : Option Place) (at_end has : Bool) → given ≡ place → at_end ≡ is_some (out-Arms arms).first →
+      BreaksIn {A = ActOutcome} (Err fault) files world (read declared store world file given at_end has) left devices table →
       FiledBreaks (Err fault) files world (λ last. stmt_operations declared (seen last stmt) (memory_in store world)) left devices table
   read_break stmt is fault files left devices table given at_end has p a broke = λ last.
       let same : (read declared store world file given at_end has).operations ≡ stmt_operations declared (seen last stmt) (memory_in store world) =
@@ -267,12 +267,12 @@ module _ (declared : Declared) (file : ℕ) (place : Option Place) (arms : Arms)
   whole (op ∷ ops) = ap (λ l. op ∷ l) (whole ops)
 
   -- the arm that it chose wanted memory
-  pub arm_break : (stmt : Stmt) → stmt ≡ stmts.Read file place arms → (made : Done) (result : Result Done Fault) (now : Roots) (files : List FileEntry) (left : ℕ) (devices : List Seen) (table : List FileRow) (given : Option Place) (at_end has : Bool) → given ≡ place → at_end ≡ is_some (out-Arms arms).first →
+  pub arm_break : (stmt : Stmt) → stmt ≡ stmts.Read file place arms → (made : ActOutcome) (result : Result ActOutcome FileFault) (now : Roots) (files : List FileEntry) (left : ℕ) (devices : List Seen) (table : List FileRow) (given : Option Place) (at_end has : Bool) → given ≡ place → at_end ≡ is_some (out-Arms arms).first →
       Did files (Ok made) world (read declared store world file given at_end has) now (take left devices) table → IfErr result (λ fault. fault ≡ faults.NoMemory) →
       FiledBreaks result files world (λ last. stmt_operations declared (seen last stmt) (memory_in store world)) left devices table
   arm_break stmt is made (Ok other) now files left devices table given at_end has p a did only = tt
   arm_break stmt is made (Err fault) now files left devices table given at_end has p a did only =
       let ops : List Operation = (read declared store world file given at_end has).operations in
-      subst (λ (f : Fault). FiledBreaks (Err f) files world (λ last. stmt_operations declared (seen last stmt) (memory_in store world)) left devices table) (sym only)
+      subst (λ (f : FileFault). FiledBreaks (Err f) files world (λ last. stmt_operations declared (seen last stmt) (memory_in store world)) left devices table) (sym only)
       (read_break stmt is faults.NoMemory files left devices table given at_end has p a
       (length ops, subst (λ (w : World). BrokeIn faults.NoMemory files w left devices table) (sym (ap (last_world world) (whole ops))) (over_left files left devices table (last_world world ops) did.2)))

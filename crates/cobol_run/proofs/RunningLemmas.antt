@@ -16,8 +16,8 @@ use Rattle.cobol_theory.specs.cobol_meaning.Runs.{Files, State, begun_in, doing_
 use Rattle.cob_base.specs.giving.Giving.{Gained, Takes}
 use Rattle.cobol_run.specs.declared.machine.Machine.{Machine}
 use Rattle.cobol_run.specs.declared.machine.Ending.{Ending}
-use Rattle.cobol_run.specs.declared.machine.Step.{Step}
-use Rattle.cobol_run.specs.declared.machine.Step.TheVariants as step
+use Rattle.cobol_run.specs.declared.machine.StepOutcome.{StepOutcome}
+use Rattle.cobol_run.specs.declared.machine.StepOutcome.TheVariants as step
 use Rattle.cobol_run.specs.declared.running.Ran.TheVariants as ran
 use Rattle.cobol_run.specs.Filing.{some_open}
 use Rattle.cobol_run.specs.Machine.{Follows, ending_seen, state_in, steps_by}
@@ -116,7 +116,7 @@ module _ (program : Program) (machine : Machine) (done steps : ℕ) (held now : 
       let r = so_far.reached files plain in
       subst PlainState r.1 (iterate-has PlainAct OwnTest PlainPicker (doing_in (declared_in program)) files_left (control_of program) plain done (begun_in program (declared_in program) files) (begun-has PlainAct OwnTest PlainPicker (doing_in (declared_in program)) files_left (control_of program) plain (first_memory (declared_in program) files)))
 
-  module _ (new : Machine) (plan : new.plan ≡ machine.plan) (made : Step)
+  module _ (new : Machine) (plan : new.plan ≡ machine.plan) (made : StepOutcome)
       (follows : (world : World) (trace : Trace) → PlainState (state_in machine world trace) → Follows made new world trace (steps_by machine.plan (state_in machine world trace))) where
     next-follows : (files : Files) (plain : IsPlain program) → Follows made new (world_with (declared_in program) files) (so_far.reached files plain).0 (after program files (suc done))
     next-follows files plain =

@@ -34,21 +34,21 @@ use Rattle.control_flow_theory.proofs.language_lemmas.Rows.{seen_arith, seen_bot
 use Rattle.cobol_theory.specs.cobol_meaning.Acting.{Memory, chooses_in, chosen, does_to, tests_in}
 use Rattle.cobol_theory.specs.cobol_meaning.Runs.{doing_in}
 use Rattle.cobol_run.specs.declared.frame.Frame.{Frame}
-use Rattle.cobol_run.specs.declared.frame.Turning.{Turning}
-use Rattle.cobol_run.specs.declared.frame.Turning.TheVariants as turning
+use Rattle.cobol_run.specs.declared.frame.LoopProgress.{LoopProgress}
+use Rattle.cobol_run.specs.declared.frame.LoopProgress.TheVariants as turning
 use Rattle.cobol_run.specs.declared.held.Held.{Held}
-use Rattle.cobol_run.specs.declared.way.Way as ways
+use Rattle.cobol_run.specs.declared.next_step.NextStep as ways
 use Rattle.cobol_run.specs.Frames.{rest_of, turning_seen}
 use Rattle.cobol_run.specs.Own.{ActsAlone, HeadOwn}
 use Rattle.cobol_run.specs.Plain.{once_by, once_of}
 use Rattle.cobol_run.specs.Plan.{memory_in}
 use Rattle.cobol_run.specs.Standing as standing
-use Rattle.cobol_run.specs.Ways.{Leads, LeadsWhere, arm_at, arm_by, either, loop_meant, on, steps_on_meant, stmts_or_none, turn_meant, way_seen}
+use Rattle.cobol_run.specs.NextStep.{Leads, LeadsWhere, arm_at, arm_by, either, loop_meant, on, steps_on_meant, stmts_or_none, turn_meant, way_seen}
 use Rattle.cobol_run.proofs.AlwaysLemmas.{always_holds}
 use Rattle.cobol_run.proofs.WayLemmas.{do-way, if-way, test-is}
 
 -- what was meant is what control says
-pub led : (Holds : ℕ → Type 0) (result : Result ways.Way NoMemory) (before after : List Frame) (old new : Held) (meant other : ℕ → List Item → Memory → Way Memory) →
+pub led : (Holds : ℕ → Type 0) (result : Result ways.NextStep NoMemory) (before after : List Frame) (old new : Held) (meant other : ℕ → List Item → Memory → Way Memory) →
     ((last : ℕ) (rest : List Item) (memory : Memory) → Holds last → meant last rest memory ≡ other last rest memory) →
     IfOk result (λ way. Leads way before after old new meant) → IfOk result (λ way. LeadsWhere Holds way before after old new other)
 led Holds (Err e) before after old new meant other same h = tt
@@ -56,7 +56,7 @@ led Holds (Ok way) before after old new meant other same h = λ world last holds
     h world last ∙ same last (rest_of last before) (memory_in old.store world) holds
 
 -- the frames stay
-pub led_beside : (Holds : ℕ → Type 0) (result : Result ways.Way NoMemory) (frames : List Frame) (old new : Held) (meant other : ℕ → List Item → Memory → Way Memory) →
+pub led_beside : (Holds : ℕ → Type 0) (result : Result ways.NextStep NoMemory) (frames : List Frame) (old new : Held) (meant other : ℕ → List Item → Memory → Way Memory) →
     ((last : ℕ) (rest : List Item) (memory : Memory) → Holds last → meant last rest memory ≡ other last rest memory) →
     IfOk result (λ way. (last : ℕ) (world : World) (rest : List Item) → way_seen last way new.shown (memory_in new.store world) rest ≡ meant last rest (memory_in old.store world)) →
     IfOk result (λ way. LeadsWhere Holds way frames frames old new other)
@@ -245,7 +245,7 @@ module _ (declared : Declared) where
   steps-on true item by until body rest memory = refl
   steps-on false item by until body rest memory = refl
 
-  pub turn_led : (last : ℕ) (turn : Turning) (body : language.Body) (rest : List Item) (memory : Memory) → standing.TurningHas OwnAct OwnTest OwnPicker (turning_seen turn) →
+  pub turn_led : (last : ℕ) (turn : LoopProgress) (body : language.Body) (rest : List Item) (memory : Memory) → standing.TurningHas OwnAct OwnTest OwnPicker (turning_seen turn) →
       turn_meant declared turn body rest memory ≡ turn_way doing (turning_seen turn) body rest memory
   turn_led last (turning.Counted turns) body rest memory h = refl
   turn_led last (turning.Tests until) body rest memory h = tested until.now memory _ h
@@ -258,7 +258,7 @@ module _ (declared : Declared) where
 
   -- ---- arms of the code
 
-  pub if_answered : (stmt : Stmt) (cond : Cond) (met unmet met_now unmet_now : List Stmt) (result : Result ways.Way NoMemory) (old_frames new_frames : List Frame) (old new : Held) → stmt ≡ stmts.If cond met unmet → met_now ≡ met → unmet_now ≡ unmet →
+  pub if_answered : (stmt : Stmt) (cond : Cond) (met unmet met_now unmet_now : List Stmt) (result : Result ways.NextStep NoMemory) (old_frames new_frames : List Frame) (old new : Held) → stmt ≡ stmts.If cond met unmet → met_now ≡ met → unmet_now ≡ unmet →
       IfOk result (λ way. Leads way old_frames new_frames old new (λ last rest memory. tried (tests_in declared cond memory) (λ holds. on (before (seen_stmts last (if holds then met_now else unmet_now)) rest)))) →
       IfOk result (λ way. LeadsWhere (ActsAlone stmt) way old_frames new_frames old new (λ last rest memory. item_way doing (items.Do (seen last stmt)) rest memory))
   if_answered stmt cond met unmet met_now unmet_now result old_frames new_frames old new is m u h =
@@ -270,7 +270,7 @@ module _ (declared : Declared) where
       ∙ ap (λ (x : List Stmt). tried (tests_in declared cond memory) (λ holds. on (before (seen_stmts last (if holds then met else x)) rest))) u
       ∙ if_led last cond met unmet rest memory plain) h)
 
-  pub evaluate_answered : (stmt : Stmt) (subject : Subject) (whens whens_now : List When) (other : Option (List Stmt)) (result : Result ways.Way NoMemory) (old_frames new_frames : List Frame) (old new : Held) → stmt ≡ stmts.Evaluate subject whens other → whens_now ≡ whens →
+  pub evaluate_answered : (stmt : Stmt) (subject : Subject) (whens whens_now : List When) (other : Option (List Stmt)) (result : Result ways.NextStep NoMemory) (old_frames new_frames : List Frame) (old new : Held) → stmt ≡ stmts.Evaluate subject whens other → whens_now ≡ whens →
       IfOk result (λ way. Leads way old_frames new_frames old new (λ last rest memory. tried (chooses_in declared (language.Evaluate subject (map (λ when. (out-When when).tests) whens_now) (is_some other)) memory) (λ arm. on (before (seen_stmts last (arm_at whens_now other arm)) rest)))) →
       IfOk result (λ way. LeadsWhere (ActsAlone stmt) way old_frames new_frames old new (λ last rest memory. item_way doing (items.Do (seen last stmt)) rest memory))
   evaluate_answered stmt subject whens whens_now other result old_frames new_frames old new is w h =
@@ -281,7 +281,7 @@ module _ (declared : Declared) where
       (λ last rest memory plain. ap (λ list. tried (chooses_in declared (language.Evaluate subject (map (λ when. (out-When when).tests) list) (is_some other)) memory) (λ arm. on (before (seen_stmts last (arm_at list other arm)) rest))) w
       ∙ evaluate_led last subject whens other rest memory plain) h)
 
-  pub loop_answered : (stmt : Stmt) (control : Control) (body body_now : List Stmt) (result : Result ways.Way NoMemory) (old_frames new_frames : List Frame) (old new : Held) → stmt ≡ stmts.Loop control body → body_now ≡ body →
+  pub loop_answered : (stmt : Stmt) (control : Control) (body body_now : List Stmt) (result : Result ways.NextStep NoMemory) (old_frames new_frames : List Frame) (old new : Held) → stmt ≡ stmts.Loop control body → body_now ≡ body →
       IfOk result (λ way. Leads way old_frames new_frames old new (λ last rest memory. loop_meant declared control (language.Nested (seen_stmts last body_now)) rest memory)) →
       IfOk result (λ way. LeadsWhere (ActsAlone stmt) way old_frames new_frames old new (λ last rest memory. item_way doing (items.Do (seen last stmt)) rest memory))
   loop_answered stmt control body body_now result old_frames new_frames old new is b h =
@@ -292,7 +292,7 @@ module _ (declared : Declared) where
       ∙ loop_led last control body rest memory
       ∙ ap (λ s. item_way doing (items.Do (seen last s)) rest memory) (sym is)) h
 
-  pub alone_answered : (stmt : Stmt) (calc : Calc) (into : List Target) (arms : Arms) (result : Result ways.Way NoMemory) (frames : List Frame) (old new : Held) → stmt ≡ stmts.Arith calc into arms → has_arms arms ≡ false →
+  pub alone_answered : (stmt : Stmt) (calc : Calc) (into : List Target) (arms : Arms) (result : Result ways.NextStep NoMemory) (frames : List Frame) (old new : Held) → stmt ≡ stmts.Arith calc into arms → has_arms arms ≡ false →
       IfOk result (λ way. (last : ℕ) (world : World) (rest : List Item) → way_seen last way new.shown (memory_in new.store world) rest ≡ tried (does_to declared stmt (memory_in old.store world)) (λ u. on rest)) →
       IfOk result (λ way. LeadsWhere (ActsAlone stmt) way frames frames old new (λ last rest memory. item_way doing (items.Do (seen last stmt)) rest memory))
   alone_answered stmt calc into arms result frames old new is none h =

@@ -26,7 +26,7 @@ use Rattle.control_flow_theory.proofs.language_lemmas.Unseen.{cond_of, simple_of
 use Rattle.cobol_theory.specs.cobol_meaning.Acting.{Memory, acting, answered, does_to, tests_in}
 use Rattle.cobol_theory.specs.cobol_meaning.Runs.{doing_in}
 use Rattle.cobol_run.specs.Own.{HeadOwn}
-use Rattle.cobol_run.specs.Ways.{on}
+use Rattle.cobol_run.specs.NextStep.{on}
 
 -- ---- conditions and acts
 

@@ -7,10 +7,10 @@ use Rattle.file_model.specs.Told.{Counts}
 use Rattle.file_model.specs.operations.Calls.{addresses_of}
 use Rattle.file_model.specs.operations.Seen.{Seen, device_found}
 use Rattle.file_model.specs.operations.Falling.{LeftOf, is_used}
-use Rattle.cob_act.specs.declared.files.fault.Fault.TheVariants as faults
+use Rattle.cob_act.specs.declared.files.fault.FileFault.TheVariants as faults
 use Rattle.cob_act.specs.files.Ends.{BrokeOver}
-use Rattle.cobol_run.specs.declared.machine.Step.{Step}
-use Rattle.cobol_run.specs.declared.machine.Step.TheVariants as step
+use Rattle.cobol_run.specs.declared.machine.StepOutcome.{StepOutcome}
+use Rattle.cobol_run.specs.declared.machine.StepOutcome.TheVariants as step
 use Rattle.cobol_run.specs.declared.running.Turned.{Turned}
 use Rattle.cobol_run.specs.declared.running.Turned.TheVariants as turned
 use Rattle.cobol_run.specs.declared.running.Ran.{Ran}
@@ -22,7 +22,7 @@ SameBench files left left_now old new =
     LeftOf (is_used (addresses_of files)) [] left left_now old new
 
 -- a step: where memory was wanted no device failed
-abbrev pub StepFalls : Result Step NoMemory → List FileEntry → (left left_now : ℕ) →
+abbrev pub StepFalls : Result StepOutcome NoMemory → List FileEntry → (left left_now : ℕ) →
     (old new : List Seen) → List FileRow → Type 0
 StepFalls (Ok step.On) files left left_now old new table = SameBench files left left_now old new
 StepFalls (Ok step.Shown) files left left_now old new table = SameBench files left left_now old new

@@ -9,8 +9,8 @@ use Rattle.control_flow_theory.specs.language.Items as items
 use Rattle.control_flow_theory.specs.language.Language as language
 use Rattle.cobol_run.specs.declared.frame.Body.{Body}
 use Rattle.cobol_run.specs.declared.frame.Body.TheVariants.{Nested, Performed}
-use Rattle.cobol_run.specs.declared.frame.Turning.{Turning}
-use Rattle.cobol_run.specs.declared.frame.Turning.TheVariants.{Counted, Tests, Steps, StepsAfter}
+use Rattle.cobol_run.specs.declared.frame.LoopProgress.{LoopProgress}
+use Rattle.cobol_run.specs.declared.frame.LoopProgress.TheVariants.{Counted, Tests, Steps, StepsAfter}
 use Rattle.cobol_run.specs.declared.frame.Frame.{Frame}
 use Rattle.cobol_run.specs.declared.frame.Frame.TheVariants as frames
 use Rattle.cobol_run.specs.declared.frames.Return.{Return}
@@ -23,7 +23,7 @@ abbrev pub body_seen : ℕ → Body → language.Body
 body_seen last (Nested stmts) = language.Nested (seen_stmts last stmts.now)
 body_seen last (Performed entry exit) = language.Performed entry exit
 
-abbrev pub turning_seen : Turning → items.Turning
+abbrev pub turning_seen : LoopProgress → items.Turning
 turning_seen (Counted turns) = items.Counted turns
 turning_seen (Tests until) = items.Tests (test_of until.now)
 turning_seen (Steps reached item by until) =

@@ -13,7 +13,7 @@ pub mod Own
 -- statements on files
 pub mod Filing
 -- what the head of the rest comes to
-pub mod Ways
+pub mod NextStep
 -- the machine as a state of the source machine
 pub mod Machine
 -- what a run comes to

@@ -15,8 +15,8 @@ use Rattle.cobol_theory.specs.cobol_meaning.Runs.{Files, State, doing_in, files_
 use Rattle.cobol_run.specs.declared.held.Plan.{Plan}
 use Rattle.cobol_run.specs.declared.machine.Ending.{Ending}
 use Rattle.cobol_run.specs.declared.machine.Ending.TheVariants as ending
-use Rattle.cobol_run.specs.declared.machine.Step.{Step}
-use Rattle.cobol_run.specs.declared.machine.Step.TheVariants as step
+use Rattle.cobol_run.specs.declared.machine.StepOutcome.{StepOutcome}
+use Rattle.cobol_run.specs.declared.machine.StepOutcome.TheVariants as step
 use Rattle.cobol_run.specs.declared.machine.Machine.{Machine}
 use Rattle.cobol_run.specs.Frames.{last_of, pending_of, rest_of}
 use Rattle.cobol_run.specs.Plan.{declared_by, memory_in}
@@ -51,7 +51,7 @@ ending_seen (ending.Abended abend) left = Stopped (outcome.Abend (abend_number a
 ending_seen (ending.Faulted fault) left = Faulted (fault_seen fault)
 
 -- the state is that of the machine, and goes on; or its run came to this end. No device fails.
-abbrev pub Follows : Step → Machine → World → Trace → State → Type 0
+abbrev pub Follows : StepOutcome → Machine → World → Trace → State → Type 0
 Follows step.On machine world trace state = state ≡ state_in machine world trace
 Follows step.Shown machine world trace state =
     state ≡ state_in machine world (trace ++ (0 ∷ machine.held.shown) ∷ [])

@@ -1,8 +1,8 @@
 -- Steps and runs over devices that tell their files, exact.
 use Rattle.std.specs.Prelude.{ℕ, suc, ◌≡◌, ◌<◌, ◌≤◌, ◌==◌, List, [], ◌∷◌, ◌++◌, take, Result, Ok, Err}
 use Rattle.cob_base.specs.Sink.{SinkCall}
-use Rattle.cob_act.specs.declared.acting.Done.{Done}
-use Rattle.cob_act.specs.declared.acting.Done.TheVariants as done
+use Rattle.cob_act.specs.declared.acting.ActOutcome.{ActOutcome}
+use Rattle.cob_act.specs.declared.acting.ActOutcome.TheVariants as done
 use Rattle.cob_store.specs.Store.{Roots}
 use Rattle.cob_tree.specs.declared.file.FileEntry.{FileEntry}
 use Rattle.cob_tree.specs.declared.program.Program.{Program}
@@ -13,9 +13,9 @@ use Rattle.file_model.specs.World.{World, shelf_found}
 use Rattle.file_model.specs.operations.Calls.{addresses_of}
 use Rattle.file_model.specs.operations.Seen.{Seen, device_found}
 use Rattle.file_model.specs.operations.Standing.{SameShelf, TellUsed}
-use Rattle.cob_act.specs.declared.files.fault.Fault.{Fault}
+use Rattle.cob_act.specs.declared.files.fault.FileFault.{FileFault}
 use Rattle.cob_act.specs.files.Over.{BrokeIn, IsOver, world_behind}
-use Rattle.cob_act.specs.declared.files.fault.Fault.TheVariants as faults
+use Rattle.cob_act.specs.declared.files.fault.FileFault.TheVariants as faults
 use Rattle.cob_act.specs.files.Ends.{gone_by}
 use Rattle.cob_base.specs.declared.memory.NoMemory.{NoMemory}
 use Rattle.meanings.specs.statements.Filing.{Operation}
@@ -35,8 +35,8 @@ use Rattle.cobol_run.specs.declared.frame.Frame.{Frame}
 use Rattle.cobol_run.specs.declared.machine.Ending.{Ending}
 use Rattle.cobol_run.specs.declared.machine.Ending.TheVariants as ending
 use Rattle.cobol_run.specs.declared.machine.Machine.{Machine}
-use Rattle.cobol_run.specs.declared.machine.Step.{Step}
-use Rattle.cobol_run.specs.declared.machine.Step.TheVariants as step
+use Rattle.cobol_run.specs.declared.machine.StepOutcome.{StepOutcome}
+use Rattle.cobol_run.specs.declared.machine.StepOutcome.TheVariants as step
 use Rattle.cobol_run.specs.declared.running.Ran.{Ran}
 use Rattle.cobol_run.specs.declared.running.Ran.TheVariants as ran
 use Rattle.cobol_run.specs.declared.running.Turned.{Turned}
@@ -48,23 +48,24 @@ use Rattle.cobol_run.specs.Falling.{Names}
 use Rattle.cobol_run.specs.Own.{IsOwn}
 use Rattle.cobol_run.specs.Points.{events_at, world_after, world_at}
 use Rattle.cobol_run.specs.Running.{Stands, after, begun_sink, displayed}
-use Rattle.cobol_run.specs.Ways.{either}
+use Rattle.cobol_run.specs.NextStep.{either}
 
 -- ---- statements on files
 
 -- the arm that was chosen is to be done first
-abbrev pub armed_rest : ℕ → Done → Arms → List Item → List Item
+abbrev pub armed_rest : ℕ → ActOutcome → Arms → List Item → List Item
 armed_rest last (done.Chose arm) arms rest = before (seen_stmts last (either arms (arm == 1))) rest
 armed_rest last _ arms rest = rest
 
 -- it went on with this rest, or ended the run
-abbrev pub filed_way : Done → Trace → Memory → List Item → control.Way Memory
+abbrev pub filed_way : ActOutcome → Trace → Memory → List Item → control.Way Memory
 filed_way (done.Abended abend) events memory rest =
     control.Halts events (Abend (abend_number abend)) memory
 filed_way _ events memory rest = control.On events memory rest
 
 -- what was meant of the section's last paragraph is what was done; nothing was displayed
-abbrev pub FiledOver : Result Done Fault → List FileEntry → List Seen → List FileRow → Roots →
+abbrev pub FiledOver : Result ActOutcome FileFault → List FileEntry → List Seen → List FileRow →
+    Roots →
     List Frame → (ℕ → control.Way Memory) → Type 0
 FiledOver (Ok done) files devices table store frames meant =
     (now : World) × (events : Trace) × (displayed events ≡ [])
@@ -73,19 +74,20 @@ FiledOver (Ok done) files devices table store frames meant =
 FiledOver (Err fault) files devices table store frames meant = Unit {0}
 
 -- it broke off behind some of these operations, which display nothing
-abbrev pub BrokeBehind : Fault → List FileEntry → World → List Operation → (left : ℕ) →
+abbrev pub BrokeBehind : FileFault → List FileEntry → World → List Operation → (left : ℕ) →
     List Seen → List FileRow → Type 0
 BrokeBehind fault files world operations left devices table = (some : ℕ)
     × BrokeIn fault files (world_behind some world operations) left devices table
     × (displayed (events_of (take some operations)) ≡ [])
 
-abbrev pub FiledBreaks : Result Done Fault → List FileEntry → World → (ℕ → List Operation) →
+abbrev pub FiledBreaks : Result ActOutcome FileFault → List FileEntry → World →
+    (ℕ → List Operation) →
     (left : ℕ) → List Seen → List FileRow → Type 0
 FiledBreaks (Ok done) files world operations left devices table = Unit {0}
 FiledBreaks (Err fault) files world operations left devices table =
     (last : ℕ) → BrokeBehind fault files world (operations last) left devices table
 
-abbrev pub step_done : Done → Step
+abbrev pub step_done : ActOutcome → StepOutcome
 step_done (done.Abended abend) = step.Over (ending.Abended abend)
 step_done _ = step.On
 
@@ -105,7 +107,7 @@ stmt_meant machine stmt world =
 
 -- the state is that of the machine, which stands over the devices, and goes on; or its run came to
 -- this end. It displayed what the step showed, from this world, which a display leaves as it is.
-abbrev pub FollowsOver : Step → Machine → List Seen → World → Trace → State → Type 0
+abbrev pub FollowsOver : StepOutcome → Machine → List Seen → World → Trace → State → Type 0
 FollowsOver step.On machine devices before trace state =
     (world : World) × (now : Trace) × (state ≡ state_in machine world now)
     × (displayed now ≡ displayed trace) × StandsOver machine devices world
@@ -122,7 +124,8 @@ FollowsOver (step.Over ending) machine devices before trace state =
 FollowsOver step.Failed machine devices before trace state = Unit {0}
 
 -- a step that breaks off leaves the world behind some of its operations
-abbrev pub StepBreaks : Result Step NoMemory → Machine → World → List Operation → (left : ℕ) →
+abbrev pub StepBreaks : Result StepOutcome NoMemory → Machine → World → List Operation →
+    (left : ℕ) →
     List Seen → Type 0
 StepBreaks (Ok step.On) machine world operations left devices = Unit {0}
 StepBreaks (Ok step.Shown) machine world operations left devices = Unit {0}

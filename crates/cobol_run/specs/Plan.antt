@@ -5,7 +5,7 @@ use Rattle.cob_store.specs.Store.{Roots}
 use Rattle.file_model.specs.World.{World}
 use Rattle.meanings.specs.statements.Filing.{Declared}
 use Rattle.meanings.specs.statements.Does.{declared_with}
-use Rattle.cob_act.specs.declared.acting.Done.{Done}
+use Rattle.cob_act.specs.declared.acting.ActOutcome.{ActOutcome}
 use Rattle.cob_act.specs.Acting.{effect_by}
 use Rattle.control_flow_theory.specs.semantics.Outcome.{Tried, Got, Ends}
 use Rattle.cobol_theory.specs.cobol_meaning.Acting.{Memory, acted, abend_number}
@@ -18,7 +18,7 @@ abbrev pub memory_in : Roots → World → Memory
 memory_in store world = record { store = store; world = world }
 
 -- what a statement that needs no device did, with these bytes shown and this memory left
-abbrev pub did : Done → List ℕ → Memory → Tried Memory (Unit {0})
+abbrev pub did : ActOutcome → List ℕ → Memory → Tried Memory (Unit {0})
 did done shown memory = acted memory (effect_by memory.world memory.store shown done)
 
 -- a choice that leaves this memory

@@ -14,14 +14,14 @@ ghost use Rattle.cobol_run.specs.Frames.{rest_of};
 ghost use Rattle.cobol_run.specs.Over.{FiledBreaks, FiledOver, armed_rest};
 ghost use Rattle.cobol_run.specs.Plan.{declared_by, memory_in};
 ghost use Rattle.cobol_run.specs.Points.{stmt_operations};
-ghost use Rattle.cobol_run.specs.Ways.{KeepsPending};
+ghost use Rattle.cobol_run.specs.NextStep.{KeepsPending};
 
 use crate::frame::Frame;
 use crate::frames::push_stmts;
 use crate::held::{Held, Plan};
-use crate::way::stmts_or_none;
-use cob_act::files::{Fault, Reading, all_opened, all_shut, read_one, rewritten, written};
-use cob_act::{Done, has_arms};
+use crate::next_step::stmts_or_none;
+use cob_act::files::{FileFault, ReadRequest, all_opened, all_shut, read_one, rewritten, written};
+use cob_act::{ActOutcome, has_arms};
 use cob_store::Stack;
 use cob_tree::{Arms, Place, Stmt};
 use file_model::operations::Watched;
@@ -53,16 +53,20 @@ fn place_of(place: &Option<Place>) -> Option<&Place>
 }
 
 // The arm that a READ chose is to be done first.
-fn push_arm<'a>(frames: &mut Stack<Frame<'a>>, arms: &'a Arms, done: Done) -> Result<Done, Fault>
-    ensures error { IfErr result (λ fault. fault ≡ Fault.NoMemory) }
+fn push_arm<'a>(
+    frames: &mut Stack<Frame<'a>>,
+    arms: &'a Arms,
+    done: ActOutcome,
+) -> Result<ActOutcome, FileFault>
+    ensures error { IfErr result (λ fault. fault ≡ FileFault.NoMemory) }
     ensures same { IfOk result (λ now. now ≡ done) }
     ensures rest { IfOk result (λ now. (last : ℕ) → rest_of last frames.new
         ≡ armed_rest last done arms.now (rest_of last frames.old)) }
     ensures pending { IfOk result (λ now. KeepsPending frames.old frames.new) }
 {
     match done {
-        Done::Chose(1) => push_stmts(frames, stmts_or_none(&arms.first))?,
-        Done::Chose(_) => push_stmts(frames, stmts_or_none(&arms.second))?,
+        ActOutcome::Chose(1) => push_stmts(frames, stmts_or_none(&arms.first))?,
+        ActOutcome::Chose(_) => push_stmts(frames, stmts_or_none(&arms.second))?,
         _ => {}
     }
     Ok(done)
@@ -77,7 +81,7 @@ pub fn filed<'a>(
     table: &mut FileTable,
     bench: &mut Bench,
     stmt: &'a Stmt,
-) -> Result<Done, Fault>
+) -> Result<ActOutcome, FileFault>
     ensures bench { DoneOver result plan.now.program.now.files bench.old.left bench.new.left
         (map ⟦<Box<dyn Device> as Watched>⟧.seen bench.old.devices.items)
         (map ⟦<Box<dyn Device> as Watched>⟧.seen bench.new.devices.items) table.new.rows }
@@ -108,7 +112,7 @@ pub fn filed<'a>(
         }
         Stmt::Closes(files) => all_shut(program, areas, store, bench, table, files.as_slice()),
         Stmt::Read { file, into, arms } => {
-            let reading = Reading {
+            let reading = ReadRequest {
                 file: *file,
                 into: place_of(into),
                 at_end: arms.first.is_some(),
@@ -125,6 +129,6 @@ pub fn filed<'a>(
             let from = from.as_ref();
             rewritten(program, areas, store, scratch, bench, table, *entry, from)
         }
-        _ => Ok(Done::Went),
+        _ => Ok(ActOutcome::Went),
     }
 }

@@ -11,7 +11,7 @@ pub enum Body<'a> {
 
 /// What is left of a loop: so many turns, or a test before each.
 #[derive(Clone, Copy)]
-pub enum Turning<'a> {
+pub enum LoopProgress<'a> {
     Counted(u128),
     Tests(&'a Cond),
     /// VARYING tested before; `reached` says that the test was made before.
@@ -38,7 +38,7 @@ pub enum Frame<'a> {
     /// The end of a sentence, and the sentences behind it in its paragraph.
     Sentences(&'a [Sentence]),
     /// What is left of a loop.
-    Turn(Turning<'a>, Body<'a>),
+    Turn(LoopProgress<'a>, Body<'a>),
     /// A range was performed: it returns at the end of one paragraph, into another, where what
     /// stands below is still to do.
     Return { end: u32, paragraph: u32 },

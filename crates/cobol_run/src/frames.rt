@@ -7,7 +7,7 @@ ghost use Rattle.std.specs.List.{list_any};
 ghost use Rattle.cobol_run.specs.Frames.{TakesReturn, body_seen, ends_here, heads, pending_of, rest_of, sentences_before, turning_seen};
 ghost use Rattle.control_flow_theory.specs.language.Control.{seen_stmts};
 
-use crate::frame::{Body, Frame, Turning};
+use crate::frame::{Body, Frame, LoopProgress};
 use cob_base::NoMemory;
 use cob_store::Stack;
 use cob_tree::{Sentence, Stmt};
@@ -19,7 +19,7 @@ pub enum Head<'a> {
     Stmt(&'a Stmt),
     Enter { entry: u32, exit: u32 },
     SentenceEnd,
-    Turn(Turning<'a>, Body<'a>),
+    Turn(LoopProgress<'a>, Body<'a>),
 }
 
 /// A return that is pending: the paragraph at whose end it is made, and the one in which it goes
@@ -93,7 +93,7 @@ pub fn push_stmts<'a>(frames: &mut Stack<Frame<'a>>, stmts: &'a [Stmt]) -> Resul
 /// What is left of a loop, to be done first.
 pub fn push_turn<'a>(
     frames: &mut Stack<Frame<'a>>,
-    turning: Turning<'a>,
+    turning: LoopProgress<'a>,
     body: Body<'a>,
 ) -> Result<(), NoMemory>
     ensures rest { IfOk result (λ u. (last : ℕ) → rest_of last frames.new
@@ -122,7 +122,7 @@ pub fn push_body<'a>(frames: &mut Stack<Frame<'a>>, body: Body<'a>) -> Result<()
 /// A loop's body, and then what is left of the loop.
 pub fn turn_on<'a>(
     frames: &mut Stack<Frame<'a>>,
-    turning: Turning<'a>,
+    turning: LoopProgress<'a>,
     body: Body<'a>,
 ) -> Result<(), NoMemory>
     ensures rest { IfOk result (λ u. (last : ℕ) → rest_of last frames.new

@@ -11,9 +11,9 @@ ghost use Rattle.cob_tree.specs.declared.stmt.When.{out-When};
 ghost use Rattle.cobol_theory.specs.cobol_meaning.Acting.{answered, chooses_in, counts_in, does_to, name_in, tests_in, turns_in};
 ghost use Rattle.cob_store.specs.Answer.{and_then};
 ghost use Rattle.cobol_run.specs.Plan.{declared_by, did, memory_in, picked};
-ghost use Rattle.cobol_run.specs.Ways.{arm_after};
+ghost use Rattle.cobol_run.specs.NextStep.{arm_after};
 
-use cob_act::{Done, act, added, calculated, evaluated, holds, moved};
+use cob_act::{ActOutcome, act, added, calculated, evaluated, holds, moved};
 use cob_base::{NoMemory, Text};
 use cob_num::Dec;
 use cob_store::{Areas, Store, operand_value, place_value};
@@ -37,7 +37,7 @@ pub struct Held {
 }
 
 /// A statement that acts and needs no device.
-pub fn acts(plan: &Plan, held: &mut Held, stmt: &Stmt) -> Result<Done, NoMemory>
+pub fn acts(plan: &Plan, held: &mut Held, stmt: &Stmt) -> Result<ActOutcome, NoMemory>
     requires inner { IsTrue (is_inner stmt.now) }
     requires empty { held.old.shown ≡ [] }
     ensures { IfOk result (λ done. (world : World) →

@@ -5,7 +5,7 @@
 //! are pending. `Machine::step` makes exactly the step of the source machine (`step_in` of
 //! `cobol_meaning`), in every world where no statement on files stands in the program, and else
 //! over devices that tell their files (`FollowsOver` in specs/Over.antt): hold `state_in` in
-//! specs/Machine.antt against `SourceState`. `way` has what the head of the rest comes to,
+//! specs/Machine.antt against `SourceState`. `next_step` has what the head of the rest comes to,
 //! `statement` what each statement does and `filing` what those on files do (ISO 1989:1985,
 //! PROCEDURE DIVISION).
 #![tactic(auto)]
@@ -16,12 +16,12 @@ mod frame;
 mod frames;
 mod held;
 mod machine;
+mod next_step;
 mod running;
 mod statement;
 pub mod structured_runs;
-mod way;
 
-pub use frame::{Body, Frame, Turning};
+pub use frame::{Body, Frame, LoopProgress};
 pub use held::{Held, Plan};
-pub use machine::{Ending, Machine, Step};
+pub use machine::{Ending, Machine, StepOutcome};
 pub use running::{Ran, run, start};

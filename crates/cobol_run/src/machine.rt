@@ -17,16 +17,16 @@ ghost use Rattle.cobol_run.specs.Over.{FollowsOver, StandsOver, StepBreaks, step
 ghost use Rattle.cobol_run.specs.Plain.{PlainState};
 ghost use Rattle.cobol_run.specs.Plan.{declared_by, memory_in};
 ghost use Rattle.cobol_run.specs.Points.{operations_in, stmt_operations};
-ghost use Rattle.cobol_run.specs.Ways.{KeepsPending, way_seen};
+ghost use Rattle.cobol_run.specs.NextStep.{KeepsPending, way_seen};
 
 use crate::filing::{filed, is_filing};
 use crate::frame::Frame;
 use crate::frames::{Head, is_pending, leave, next, push_sentences, take_return};
 use crate::held::{Held, Plan};
+use crate::next_step::{NextStep, turning_way};
 use crate::statement::{performed_once, stmt_way};
-use crate::way::{Way, turning_way};
-use cob_act::Done;
-use cob_act::files::Fault;
+use cob_act::ActOutcome;
+use cob_act::files::FileFault;
 use cob_base::{NoMemory, Text};
 use cob_store::Stack;
 use cob_tree::{Abend, FlowFault, Paragraph, Stmt};
@@ -43,7 +43,7 @@ pub enum Ending {
 
 /// What a step comes to.
 #[derive(Clone, Copy)]
-pub enum Step {
+pub enum StepOutcome {
     On,
     /// It goes on, and showed bytes.
     Shown,
@@ -65,25 +65,25 @@ pub struct Machine<'a> {
 }
 
 // What a statement on files comes to.
-fn step_after(done: Done) -> Step
+fn step_after(done: ActOutcome) -> StepOutcome
     ensures { result ≡ step_done done }
 {
     match done {
-        Done::Abended(abend) => Step::Over(Ending::Abended(abend)),
-        Done::Went => Step::On,
-        Done::Shown => Step::On,
-        Done::Chose(_) => Step::On,
+        ActOutcome::Abended(abend) => StepOutcome::Over(Ending::Abended(abend)),
+        ActOutcome::Went => StepOutcome::On,
+        ActOutcome::Shown => StepOutcome::On,
+        ActOutcome::Chose(_) => StepOutcome::On,
     }
 }
 
 // What a statement on files that broke off comes to.
-fn step_broken(fault: Fault) -> Result<Step, NoMemory>
-    ensures device { fault ≡ Fault.Device → result ≡ Ok Step.Failed }
-    ensures memory { fault ≡ Fault.NoMemory → IsErr result }
+fn step_broken(fault: FileFault) -> Result<StepOutcome, NoMemory>
+    ensures device { fault ≡ FileFault.Device → result ≡ Ok StepOutcome.Failed }
+    ensures memory { fault ≡ FileFault.NoMemory → IsErr result }
 {
     match fault {
-        Fault::Device => Ok(Step::Failed),
-        Fault::NoMemory => Err(NoMemory),
+        FileFault::Device => Ok(StepOutcome::Failed),
+        FileFault::NoMemory => Err(NoMemory),
     }
 }
 
@@ -142,31 +142,31 @@ impl<'a> Machine<'a> {
     }
 
     // On to the next paragraph; past the last one the run stops.
-    fn fall(&mut self) -> Result<Step, NoMemory>
+    fn fall(&mut self) -> Result<StepOutcome, NoMemory>
         requires few { IsNumbered self.old.plan }
         ensures step { IfOk result (λ step. (world : World) (trace : Trace) (rest : List Item) →
             Follows step self.new world trace (falls_by self.old.plan self.old.paragraph
             (state_with self.old rest (memory_in self.old.held.store world) trace))) }
-        ensures live { IfOk result (λ step. step ≢ Step.Failed) }
+        ensures live { IfOk result (λ step. step ≢ StepOutcome.Failed) }
         ensures plan { self.new.plan ≡ self.old.plan }
         ensures table { self.new.table ≡ self.old.table }
     {
         if (self.paragraph as usize) + 1 < self.plan.program.paragraphs.len() {
             self.go_to(self.paragraph + 1)?;
-            Ok(Step::On)
+            Ok(StepOutcome::On)
         } else {
-            Ok(Step::Over(Ending::Stopped))
+            Ok(StepOutcome::Over(Ending::Stopped))
         }
     }
 
     // The end of a paragraph.
-    fn end(&mut self) -> Result<Step, NoMemory>
+    fn end(&mut self) -> Result<StepOutcome, NoMemory>
         requires few { IsNumbered self.old.plan }
         ensures step { IfOk result (λ step. (world : World) (trace : Trace) (rest : List Item) →
             Follows step self.new world trace (ends_by self.old.plan
             (pending_of self.old.plan.program.now self.old.frames)
             (state_with self.old rest (memory_in self.old.held.store world) trace))) }
-        ensures live { IfOk result (λ step. step ≢ Step.Failed) }
+        ensures live { IfOk result (λ step. step ≢ StepOutcome.Failed) }
         ensures plan { self.new.plan ≡ self.old.plan }
         ensures table { self.new.table ≡ self.old.table }
     {
@@ -175,11 +175,11 @@ impl<'a> Machine<'a> {
             Some(top) => {
                 if top.end == self.paragraph {
                     self.paragraph = top.paragraph;
-                    return Ok(Step::On);
+                    return Ok(StepOutcome::On);
                 }
                 if is_pending(&self.frames, self.paragraph) {
                     let fault = FlowFault::Overlap(self.paragraph);
-                    return Ok(Step::Over(Ending::Faulted(fault)));
+                    return Ok(StepOutcome::Over(Ending::Faulted(fault)));
                 }
                 self.frames.push(Frame::Return {
                     end: top.end,
@@ -191,61 +191,61 @@ impl<'a> Machine<'a> {
     }
 
     // A range is performed, and then what is to be done.
-    fn perform(&mut self, entry: u32, exit: u32) -> Result<Step, NoMemory>
+    fn perform(&mut self, entry: u32, exit: u32) -> Result<StepOutcome, NoMemory>
         ensures step { IfOk result (λ step. (world : World) (trace : Trace) (rest : List Item) →
             Follows step self.new world trace (performs_by self.old.plan entry exit
             (rest_in self.old)
             (state_with self.old rest (memory_in self.old.held.store world) trace))) }
-        ensures live { IfOk result (λ step. step ≢ Step.Failed) }
+        ensures live { IfOk result (λ step. step ≢ StepOutcome.Failed) }
         ensures plan { self.new.plan ≡ self.old.plan }
         ensures table { self.new.table ≡ self.old.table }
     {
         if is_pending(&self.frames, exit) {
             let fault = FlowFault::Reentry(exit);
-            return Ok(Step::Over(Ending::Faulted(fault)));
+            return Ok(StepOutcome::Over(Ending::Faulted(fault)));
         }
         self.frames.push(Frame::Return {
             end: exit,
             paragraph: self.paragraph,
         })?;
         self.go_to(entry)?;
-        Ok(Step::On)
+        Ok(StepOutcome::On)
     }
 
     // Goes the way that the head of the rest came to.
-    fn go(&mut self, way: Way) -> Result<Step, NoMemory>
+    fn go(&mut self, way: NextStep) -> Result<StepOutcome, NoMemory>
         requires few { IsNumbered self.old.plan }
         ensures step { IfOk result (λ step. (world : World) (trace : Trace) (rest : List Item)
             (memory : Memory) → Follows step self.new world trace (goes_by self.old.plan
             (way_seen (last_of self.old.plan.program.now self.old.paragraph) way
             self.old.held.shown (memory_in self.old.held.store world) (rest_in self.old))
             (state_with self.old rest memory trace))) }
-        ensures live { IfOk result (λ step. step ≢ Step.Failed) }
+        ensures live { IfOk result (λ step. step ≢ StepOutcome.Failed) }
         ensures plan { self.new.plan ≡ self.old.plan }
         ensures table { self.new.table ≡ self.old.table }
     {
         match way {
-            Way::On => Ok(Step::On),
-            Way::Shown => Ok(Step::Shown),
-            Way::Halts => Ok(Step::Over(Ending::Stopped)),
-            Way::Abends(abend) => Ok(Step::Over(Ending::Abended(abend))),
-            Way::To(number) => {
+            NextStep::On => Ok(StepOutcome::On),
+            NextStep::Shown => Ok(StepOutcome::Shown),
+            NextStep::Halts => Ok(StepOutcome::Over(Ending::Stopped)),
+            NextStep::Abends(abend) => Ok(StepOutcome::Over(Ending::Abended(abend))),
+            NextStep::To(number) => {
                 self.go_to(number)?;
-                Ok(Step::On)
+                Ok(StepOutcome::On)
             }
-            Way::ToSectionEnd => {
+            NextStep::ToSectionEnd => {
                 let paragraphs = self.plan.program.paragraphs.as_slice();
                 let last = section_last(paragraphs, self.paragraph);
                 leave(&mut self.frames)?;
                 self.paragraph = last;
-                Ok(Step::On)
+                Ok(StepOutcome::On)
             }
         }
     }
 
     // A statement on files.
     #[tactic(auto, using(crate::proofs::FallLemmas::done_falls))]
-    fn file_step(&mut self, bench: &mut Bench, stmt: &'a Stmt) -> Result<Step, NoMemory>
+    fn file_step(&mut self, bench: &mut Bench, stmt: &'a Stmt) -> Result<StepOutcome, NoMemory>
         ensures over { IfOk result (λ step. (world : World) (trace : Trace) (rest : List Item) →
             is_inner stmt.now ≡ false → StandsOver self.old (take bench.old.left
             (map ⟦<Box<dyn Device> as Watched>⟧.seen bench.old.devices.items)) world →
@@ -281,7 +281,7 @@ impl<'a> Machine<'a> {
     }
 
     // What is next, where it isn't a statement on files.
-    fn head_step(&mut self, head: Head<'a>) -> Result<Step, NoMemory>
+    fn head_step(&mut self, head: Head<'a>) -> Result<StepOutcome, NoMemory>
         requires few { IsNumbered self.old.plan }
         requires empty { self.old.held.shown ≡ [] }
         ensures step { IfOk result (λ step. (world : World) (trace : Trace) (rest : List Item) →
@@ -289,7 +289,7 @@ impl<'a> Machine<'a> {
             Follows step self.new world trace (rests_by self.old.plan (heads
             (last_of self.old.plan.program.now self.old.paragraph) head.entry (rest_in self.old))
             (state_with self.old rest (memory_in self.old.held.store world) trace))) }
-        ensures live { IfOk result (λ step. step ≢ Step.Failed) }
+        ensures live { IfOk result (λ step. step ≢ StepOutcome.Failed) }
         ensures plan { self.new.plan ≡ self.old.plan }
         ensures table { self.new.table ≡ self.old.table }
     {
@@ -303,7 +303,7 @@ impl<'a> Machine<'a> {
                 self.go(way)
             }
             Head::Enter { entry, exit } => self.perform(entry, exit),
-            Head::SentenceEnd => Ok(Step::On),
+            Head::SentenceEnd => Ok(StepOutcome::On),
             Head::Turn(turning, body) => {
                 let way = turning_way(&self.plan, &mut self.frames, &mut self.held, turning, body)?;
                 self.go(way)
@@ -314,7 +314,7 @@ impl<'a> Machine<'a> {
     /// One step. Bytes that it shows are in `held.shown`. Its statements on files are done over the
     /// bench, and a device that fails is taken off it.
     #[tactic(auto, using(crate::proofs::FallLemmas::asks_none))]
-    pub fn step(&mut self, bench: &mut Bench) -> Result<Step, NoMemory>
+    pub fn step(&mut self, bench: &mut Bench) -> Result<StepOutcome, NoMemory>
         ensures step { IfOk result (λ step. (world : World) (trace : Trace) →
             PlainState (state_in self.old world trace) → Follows step self.new world trace
             (steps_by self.old.plan (state_in self.old world trace))) }

@@ -21,7 +21,7 @@ ghost use Rattle.cobol_run.specs.Running.{RunsAs, SoFar, TurnsTo, since};
 
 use crate::constant_places::with_known;
 use crate::held::{Held, Plan};
-use crate::machine::{Ending, Machine, Step};
+use crate::machine::{Ending, Machine, StepOutcome};
 use cob_act::files::close_left;
 use cob_base::giving::give_all;
 use cob_base::{NoMemory, Sink, Text};
@@ -133,10 +133,10 @@ fn make_turn<K: Sink>(machine: &mut Machine, bench: &mut Bench, out: &mut K) -> 
 {
     match machine.step(bench) {
         Err(_) => Turned::NoMemory,
-        Ok(Step::On) => Turned::On,
-        Ok(Step::Over(ending)) => Turned::Over(ending),
-        Ok(Step::Failed) => Turned::Failed,
-        Ok(Step::Shown) => {
+        Ok(StepOutcome::On) => Turned::On,
+        Ok(StepOutcome::Over(ending)) => Turned::Over(ending),
+        Ok(StepOutcome::Failed) => Turned::Failed,
+        Ok(StepOutcome::Shown) => {
             let shown = machine.held.shown.as_slice();
             if out.ready(shown.len()).is_err() {
                 return Turned::NoMemory;

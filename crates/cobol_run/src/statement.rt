@@ -9,12 +9,14 @@ ghost use Rattle.control_flow_theory.specs.language.Language.{Perform};
 ghost use Rattle.cobol_run.specs.Own.{ActsAlone};
 ghost use Rattle.cobol_run.specs.Plain.{once_of};
 ghost use Rattle.cobol_run.specs.Plan.{declared_by};
-ghost use Rattle.cobol_run.specs.Ways.{KeepsPending, LeadsWhere};
+ghost use Rattle.cobol_run.specs.NextStep.{KeepsPending, LeadsWhere};
 
 use crate::frame::{Body, Frame};
 use crate::frames::{leave, leave_loop, leave_sentence};
 use crate::held::{Held, Plan};
-use crate::way::{Way, arith_way, control_way, evaluate_way, go_depending_way, if_way, simple_way};
+use crate::next_step::{
+    NextStep, arith_way, control_way, evaluate_way, go_depending_way, if_way, simple_way,
+};
 use cob_act::has_arms;
 use cob_base::NoMemory;
 use cob_store::Stack;
@@ -57,7 +59,7 @@ pub fn stmt_way<'a>(
     frames: &mut Stack<Frame<'a>>,
     held: &mut Held,
     stmt: &'a Stmt,
-) -> Result<Way, NoMemory>
+) -> Result<NextStep, NoMemory>
     requires empty { held.old.shown ≡ [] }
     ensures way { IfOk result (λ way. LeadsWhere (ActsAlone stmt.now) way
         frames.old frames.new held.old held.new
@@ -98,29 +100,29 @@ pub fn stmt_way<'a>(
             };
             control_way(plan, frames, held, control, body)
         }
-        Stmt::Go(to) => Ok(Way::To(*to)),
+        Stmt::Go(to) => Ok(NextStep::To(*to)),
         Stmt::GoDepending { to, on } => Ok(go_depending_way(plan, held, to.as_slice(), on)),
         Stmt::NextSentence => {
             leave_sentence(frames)?;
-            Ok(Way::On)
+            Ok(NextStep::On)
         }
-        Stmt::StopRun => Ok(Way::Halts),
+        Stmt::StopRun => Ok(NextStep::Halts),
         Stmt::Exit => simple_way(plan, held, stmt),
         Stmt::ExitParagraph => {
             leave(frames)?;
-            Ok(Way::On)
+            Ok(NextStep::On)
         }
-        Stmt::ExitSection => Ok(Way::ToSectionEnd),
+        Stmt::ExitSection => Ok(NextStep::ToSectionEnd),
         Stmt::ExitPerform { cycle } => {
             leave_loop(frames, *cycle)?;
-            Ok(Way::On)
+            Ok(NextStep::On)
         }
         Stmt::Continue => simple_way(plan, held, stmt),
         // Statements on files are done over a bench.
-        Stmt::Opens(_) => Ok(Way::On),
-        Stmt::Closes(_) => Ok(Way::On),
-        Stmt::Read { .. } => Ok(Way::On),
-        Stmt::Write { .. } => Ok(Way::On),
-        Stmt::Rewrite { .. } => Ok(Way::On),
+        Stmt::Opens(_) => Ok(NextStep::On),
+        Stmt::Closes(_) => Ok(NextStep::On),
+        Stmt::Read { .. } => Ok(NextStep::On),
+        Stmt::Write { .. } => Ok(NextStep::On),
+        Stmt::Rewrite { .. } => Ok(NextStep::On),
     }
 }

@@ -1,9 +1,9 @@
 //! The parts of COBOL programs meet what the theory of control asks of parts.
 //!
-//! `told_of` of `program_facts::completion` says what lowering is told of them: which statements do
-//! nothing, how many arms a choice has, and which READ never comes to its first arm. The laws say
-//! that the parts, as `cobol_meaning` has them, do what is told. Nothing here runs: the functions
-//! are laws.
+//! `flow_facts_of` of `program_facts::completion` says what lowering is told of them: which
+//! statements do nothing, how many arms a choice has, and which READ never comes to its first arm.
+//! The laws say that the parts, as `cobol_meaning` has them, do what is told. Nothing here runs:
+//! the functions are laws.
 
 ghost use Rattle.cobol_theory.specs.cobol_parts.Laws.{CobolChoosersGiveSomeArm, CobolPartsDoWhatIsTold, CobolProgramsAreSources};
 

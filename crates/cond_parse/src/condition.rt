@@ -11,7 +11,7 @@ use crate::test_words::{
 };
 use cob_base::limit::MAX_PARENS;
 use cob_tree::Cond;
-use cobol_grammar::cond_forms::{Joined, Part, Primary, Read, Setting};
+use cobol_grammar::cond_forms::{Joined, Primary, Read, Setting, SimpleCond};
 use cobol_grammar::expr_forms::Side;
 use expr_parse::ExprContext;
 use parser_combinators::{Cursor, Position, Unread, Why};
@@ -89,13 +89,13 @@ fn join(cursor: &mut Cursor<'_>, context: ExprContext<'_>, state: Joined) -> Res
         cursor.old) result cursor.new }
 {
     let Joined { before, part } = state;
-    let Part {
+    let SimpleCond {
         cond: left,
         setting,
         count,
-        not_read,
+        pending_not,
     } = part;
-    if not_read {
+    if pending_not {
         drop(before);
         drop(left);
         drop(setting);
@@ -131,8 +131,8 @@ fn joins_from(
 fn conds_from(
     cursor: &mut Cursor<'_>,
     context: ExprContext<'_>,
-    first: Part,
-) -> Result<Part, Unread>
+    first: SimpleCond,
+) -> Result<SimpleCond, Unread>
     ensures { Reads ((conditions.conds_from context.entry.names.now (inner context.entry.names.now
         context.entry.levels) (content context.entry.names.now context.entry.levels) first).reads
         cursor.old) result cursor.new }
@@ -150,7 +150,7 @@ fn conds_from(
 fn content_from(
     cursor: &mut Cursor<'_>,
     context: ExprContext<'_>,
-    first: Part,
+    first: SimpleCond,
 ) -> Result<Read, Unread>
     ensures { Reads ((conditions.content_from context.entry.names.now (inner
         context.entry.names.now context.entry.levels) (content context.entry.names.now
@@ -167,13 +167,13 @@ fn alone_content(
     context: ExprContext<'_>,
     side: Side,
     count: u32,
-    not_read: bool,
+    pending_not: bool,
 ) -> Result<Read, Unread>
     ensures { Reads ((conditions.alone_content context.entry.names.now (inner
         context.entry.names.now context.entry.levels) (content context.entry.names.now
-        context.entry.levels) side count not_read).reads cursor.old) result cursor.new }
+        context.entry.levels) side count pending_not).reads cursor.old) result cursor.new }
 {
-    let first = alone_part(context.alloc, cursor, false, None, side, count, not_read)?;
+    let first = alone_part(context.alloc, cursor, false, None, side, count, pending_not)?;
     content_from(cursor, context, first)
 }
 
@@ -185,19 +185,19 @@ fn content_by(
     position: Position,
     prim: Primary,
     count: u32,
-    not_read: bool,
+    pending_not: bool,
 ) -> Result<Read, Unread>
     ensures { Reads ((conditions.content_by context.entry.names.now (inner context.entry.names.now
         context.entry.levels) (content context.entry.names.now context.entry.levels) position prim
-        count not_read).reads cursor.old) result cursor.new }
+        count pending_not).reads cursor.old) result cursor.new }
 {
     match prim {
         Primary::Test(cond, after) => {
-            let first = part_of(cond, after, count, not_read);
+            let first = part_of(cond, after, count, pending_not);
             content_from(cursor, context, first)
         }
         Primary::Alone(side) => {
-            if not_read {
+            if pending_not {
                 return alone_content(cursor, context, side, count, true);
             }
             if cursor.sees_mark(b')') {
@@ -239,9 +239,9 @@ fn prim_content(
     let Read {
         prim,
         count,
-        not_read,
+        pending_not,
     } = prim(cursor, context, count)?;
-    content_by(cursor, context, position, prim, count, not_read)
+    content_by(cursor, context, position, prim, count, pending_not)
 }
 
 #[cycle(conds)]
@@ -282,7 +282,11 @@ pub fn content(
 
 /// Reads a condition with so many levels of parentheses.
 #[tactic(auto, unfolding(cobol_grammar::specs::cond_forms::Condition::cond_with))]
-fn cond_with(cursor: &mut Cursor<'_>, context: ExprContext<'_>, count: u32) -> Result<Part, Unread>
+fn cond_with(
+    cursor: &mut Cursor<'_>,
+    context: ExprContext<'_>,
+    count: u32,
+) -> Result<SimpleCond, Unread>
     ensures { Reads ((conditions.cond_with context.entry.names.now (inner context.entry.names.now
         context.entry.levels) (content context.entry.names.now context.entry.levels) count).reads
         cursor.old) result cursor.new }
@@ -293,7 +297,7 @@ fn cond_with(cursor: &mut Cursor<'_>, context: ExprContext<'_>, count: u32) -> R
 
 /// Reads a condition as far as it goes, with what is known of it.
 #[tactic(auto, unfolding(cobol_grammar::specs::cond_forms::Condition::cond))]
-pub fn cond(alloc: Global, cursor: &mut Cursor<'_>, names: &NameTable) -> Result<Part, Unread>
+pub fn cond(alloc: Global, cursor: &mut Cursor<'_>, names: &NameTable) -> Result<SimpleCond, Unread>
     ensures { Reads ((conditions.cond names.now).reads cursor.old) result cursor.new }
 {
     let context = ExprContext {
@@ -314,12 +318,12 @@ pub fn whole_cond(
 ) -> Result<(Cond, bool), Unread>
     ensures { Reads ((conditions.whole_cond names.now).reads cursor.old) result cursor.new }
 {
-    let Part {
+    let SimpleCond {
         cond,
         setting,
-        not_read,
+        pending_not,
         ..
     } = cond(alloc, cursor, names)?;
     drop(setting);
-    Ok((cond, not_read))
+    Ok((cond, pending_not))
 }

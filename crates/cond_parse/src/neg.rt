@@ -15,9 +15,9 @@ use crate::primary::{expr_prim, prim_behind};
 use crate::test_words::{at_plain_rel, at_rel, part_by, part_of, rel, relation_of, with_rel};
 use cob_base::{Copied, NoMemory};
 use cob_tree::Rel;
-use cobol_grammar::cond_forms::{Part, Read, Setting};
+use cobol_grammar::cond_forms::{Read, Setting, SimpleCond};
 use cobol_grammar::expr_forms::Side;
-use expr_parse::actions::{relation_fault, tally, value_fault};
+use expr_parse::actions::{count_terms, relation_fault, value_fault};
 use expr_parse::{ExprContext, operand};
 use parser_combinators::{Cursor, Unread, Why};
 use std::alloc::Global;
@@ -29,7 +29,7 @@ fn abbreviated_part(
     sign: Rel,
     right: Side,
     count: u32,
-) -> Result<Part, NoMemory>
+) -> Result<SimpleCond, NoMemory>
     ensures { Makes (alones.part_of (tests.relation_of setting.left sign right) (Some
         (tests.setting_of setting.left sign setting.terms)) count false) result }
 {
@@ -53,11 +53,11 @@ fn abbreviated_by(
     negated: bool,
     setting: Setting,
     count: u32,
-) -> Result<Part, Unread>
+) -> Result<SimpleCond, Unread>
     ensures { Reads ((negs.abbreviated_by context.entry.names.now (inner context.entry.names.now
         context.entry.levels) negated setting count).reads cursor.old) result cursor.new }
 {
-    let more = match tally(cursor, count, setting.terms) {
+    let more = match count_terms(cursor, count, setting.terms) {
         Ok(more) => more,
         Err(stop) => {
             drop(setting);
@@ -91,7 +91,7 @@ pub fn abbreviated(
     negated: bool,
     setting: Option<Setting>,
     count: u32,
-) -> Result<Part, Unread>
+) -> Result<SimpleCond, Unread>
     ensures { Reads ((negs.abbreviated context.entry.names.now (inner context.entry.names.now
         context.entry.levels) negated setting count).reads cursor.old) result cursor.new }
 {
@@ -143,7 +143,7 @@ fn prim_part(
     negated: bool,
     setting: Option<Setting>,
     count: u32,
-) -> Result<Part, Unread>
+) -> Result<SimpleCond, Unread>
     ensures { Reads ((negs.prim_part context.entry.names.now (inner context.entry.names.now
         context.entry.levels) (content context.entry.names.now context.entry.levels) negated
         setting count).reads cursor.old) result cursor.new }
@@ -153,7 +153,7 @@ fn prim_part(
             Read {
                 prim,
                 count,
-                not_read,
+                pending_not,
             },
         ) => part_by(
             context.alloc,
@@ -162,7 +162,7 @@ fn prim_part(
             setting,
             prim,
             count,
-            not_read,
+            pending_not,
         ),
         Err(stop) => {
             drop(setting);
@@ -178,7 +178,7 @@ fn behind_not(
     context: ExprContext<'_>,
     setting: Option<Setting>,
     count: u32,
-) -> Result<Part, Unread>
+) -> Result<SimpleCond, Unread>
     ensures { Reads ((negs.behind_not context.entry.names.now (inner context.entry.names.now
         context.entry.levels) (content context.entry.names.now context.entry.levels) setting
         count).reads cursor.old) result cursor.new }
@@ -186,7 +186,7 @@ fn behind_not(
     if at_plain_rel(cursor) {
         abbreviated(cursor, context, true, setting, count)
     } else {
-        match tally(cursor, count, 1) {
+        match count_terms(cursor, count, 1) {
             Ok(more) => prim_part(cursor, context, true, setting, more),
             Err(stop) => {
                 drop(setting);
@@ -203,7 +203,7 @@ fn not_neg(
     context: ExprContext<'_>,
     setting: Option<Setting>,
     count: u32,
-) -> Result<Part, Unread>
+) -> Result<SimpleCond, Unread>
     ensures { Reads ((negs.not_neg context.entry.names.now (inner context.entry.names.now
         context.entry.levels) (content context.entry.names.now context.entry.levels) setting
         count).reads cursor.old) result cursor.new }
@@ -223,7 +223,7 @@ pub fn neg(
     context: ExprContext<'_>,
     setting: Option<Setting>,
     count: u32,
-) -> Result<Part, Unread>
+) -> Result<SimpleCond, Unread>
     ensures { Reads ((negs.neg context.entry.names.now (inner context.entry.names.now
         context.entry.levels) (content context.entry.names.now context.entry.levels) setting
         count).reads cursor.old) result cursor.new }

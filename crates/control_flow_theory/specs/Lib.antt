@@ -1,17 +1,17 @@
 -- A structured program has one meaning: what its nested statements do, the source machine does.
-pub mod agreement
+pub mod semantics_agree
 -- Lowering takes a program's ranges to graphs of trees, and flow paths tell what it asks.
 pub mod lowering
 -- Join, Inline and the loop in its four forms keep what the walk of a family does.
 pub mod graph_rules
 -- A range's graph is closed: loops with a flag or several exits, the dispatch, and all rules.
-pub mod closing
+pub mod structuring
 -- The procedures of a closed family are written as a program.
 pub mod rendering
 -- From a source to its structured program: lowering, the rules and rendering composed.
-pub mod headline
+pub mod main_theorem
 -- What may be written of a source may be written of its lowered graphs.
-pub mod served_graphs
+pub mod expressible_graphs
 -- A program as far as control goes: statements that act, choices with their arms, loops, PERFORM
 -- and the jumps, over the tree's own parts.
 pub mod language

@@ -1,5 +1,5 @@
 -- What lowering is told of the parts that it doesn't look inside, and what is said of them.
-pub mod Told
+pub mod FlowFacts
 -- What a statement holds, whether it can complete, and what stands behind one that can't.
 pub mod Completes
 -- Lowering: the trees that are built from rests, and the nodes of a range. A counter cell has the

@@ -50,8 +50,8 @@ again_from before (clause ∷ clauses) =
     then fault_at Usage (position_of clause)
     else again_from (before ++ clause ∷ []) clauses
 
-abbrev pub again_fault : List Clause → Option Note
-again_fault clauses = again_from [] clauses
+abbrev pub duplicate_fault : List Clause → Option Note
+duplicate_fault clauses = again_from [] clauses
 
 abbrev pub is_other : Clause → Bool
 is_other clause = not (is_of kinds.Value clause)

@@ -19,9 +19,9 @@ abbrev pub is_described : List ℕ → FdDraft → Bool
 is_described name fd = bytes_eq fd.name name
 
 -- FILE STATUS twice in one SELECT
-abbrev pub again_fault : List StatusDraft → Option Note
-again_fault (first ∷ second ∷ statuses) = fault_at Usage second.at
-again_fault _ = None
+abbrev pub duplicate_fault : List StatusDraft → Option Note
+duplicate_fault (first ∷ second ∷ statuses) = fault_at Usage second.at
+duplicate_fault _ = None
 
 abbrev pub named_fault : List FdDraft → (before : List SelectDraft) → SelectDraft → Option Note
 named_fault fds before select =
@@ -31,7 +31,7 @@ named_fault fds before select =
 
 abbrev pub select_fault : List FdDraft → (before : List SelectDraft) → SelectDraft → Option Note
 select_fault fds before select =
-    first_of (named_fault fds before select ∷ again_fault select.statuses ∷ [])
+    first_of (named_fault fds before select ∷ duplicate_fault select.statuses ∷ [])
 
 -- the first fault of these, where this one was found before
 abbrev pub selects_from : List FdDraft → Option Note → (before selects : List SelectDraft) →

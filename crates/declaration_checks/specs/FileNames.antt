@@ -9,7 +9,7 @@ use Rattle.parser_combinators.specs.declared.note.Note.{Note}
 use Rattle.parser_combinators.specs.Note.{earliest}
 use Rattle.declaration_checks.specs.declared.file_names.FileNames.{FileNames}
 use Rattle.declaration_checks.specs.Fault.{fault_at, fault_unless, first_of}
-use Rattle.declaration_checks.specs.File.{again_fault}
+use Rattle.declaration_checks.specs.File.{duplicate_fault}
 
 abbrev pub selected : List SelectDraft → List (List ℕ)
 selected selects = map (λ select. select.name) selects
@@ -29,7 +29,7 @@ named_fault names at select =
 
 abbrev pub select_fault : FileNames → (at : ℕ) → SelectDraft → Option Note
 select_fault names at select =
-    first_of (named_fault names at select ∷ again_fault select.statuses ∷ [])
+    first_of (named_fault names at select ∷ duplicate_fault select.statuses ∷ [])
 
 -- the first fault of SELECTs from this number on, where this one was found before
 abbrev pub selects_from : FileNames → Option Note → (at : ℕ) → List SelectDraft → Option Note

@@ -8,7 +8,7 @@ use Rattle.cob_tree.specs.declared.picture.Picture.TheVariants as pictures
 use Rattle.cob_tree.specs.declared.place.Figure.TheVariants as figures
 use Rattle.cob_tree.specs.declared.place.Operand.{Operand}
 use Rattle.cob_tree.specs.declared.place.Operand.TheVariants as operands
-use Rattle.declaration_checks.specs.declared.literal.Target.{Target}
+use Rattle.declaration_checks.specs.declared.literal.LiteralTarget.{LiteralTarget}
 
 abbrev pub is_zero : ℕ → Bool
 is_zero digit = digit == digit_0
@@ -56,7 +56,7 @@ fits_picture literal (Some (pictures.Number signed whole part)) size =
     fits_number literal signed whole part
 fits_picture literal (Some _) size = fits_text literal size
 
-abbrev pub fits : Operand → Target → Bool
+abbrev pub fits : Operand → LiteralTarget → Bool
 fits literal target =
     if target.group then fits_text literal target.size
     else fits_picture literal target.picture target.size

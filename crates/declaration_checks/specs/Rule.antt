@@ -6,10 +6,10 @@ use Rattle.cobol_grammar.specs.declared.data_forms.draft.EntryDraft.{EntryDraft}
 use Rattle.symbol_tables.specs.data_names.Names.{is_group}
 use Rattle.parser_combinators.specs.declared.note.NameKind.TheVariants.{Level}
 use Rattle.parser_combinators.specs.declared.note.Note.{Note}
-use Rattle.declaration_checks.specs.declared.literal.Target.{Target}
+use Rattle.declaration_checks.specs.declared.literal.LiteralTarget.{LiteralTarget}
 use Rattle.declaration_checks.specs.declared.standing.Standing.{Standing}
 use Rattle.declaration_checks.specs.Base.{spans_of}
-use Rattle.declaration_checks.specs.Clause.{again_fault, other_fault}
+use Rattle.declaration_checks.specs.Clause.{duplicate_fault, other_fault}
 use Rattle.declaration_checks.specs.Fault.{fault_at, first_of}
 use Rattle.declaration_checks.specs.Item.{level_stands, occurs_fault, picture_fault, sign_fault}
 use Rattle.declaration_checks.specs.Redefining.{redefines_fault, size_at}
@@ -17,14 +17,14 @@ use Rattle.declaration_checks.specs.Standing.{before, behind, holder_of, standin
 use Rattle.declaration_checks.specs.Value.{missing_fault, spans_fault, value_fault}
 
 -- what a literal for this entry is to fit, which is a group or isn't
-abbrev pub target_by : (group : Bool) → List ℕ → ℕ → Entry → Target
+abbrev pub target_by : (group : Bool) → List ℕ → ℕ → Entry → LiteralTarget
 target_by group sizes at entry = record {
   group = group;
   picture = entry.picture;
   size = size_at (slice_get sizes at);
 }
 
-abbrev pub target_of : List Entry → List ℕ → ℕ → Entry → Target
+abbrev pub target_of : List Entry → List ℕ → ℕ → Entry → LiteralTarget
 target_of bases sizes at entry = target_by (is_group entry (behind bases at)) sizes at entry
 
 abbrev pub fits_at : List Entry → List ℕ → EntryDraft → ℕ → Option Entry → Option Note
@@ -41,16 +41,16 @@ fits_fault bases sizes draft (Some item) = fits_at bases sizes draft item (slice
 abbrev pub condition_fault : List Entry → List ℕ → EntryDraft → Option ℕ → Option Note
 condition_fault bases sizes draft item =
     first_of
-    (again_fault draft.clauses
+    (duplicate_fault draft.clauses
     ∷ other_fault draft.clauses
     ∷ missing_fault draft.at draft.clauses
     ∷ fits_fault bases sizes draft item ∷ [])
 
 -- the clauses of an item or a group, where this stands above it
-abbrev pub clauses_fault : Entry → Target → Standing → EntryDraft → Option Note
+abbrev pub clauses_fault : Entry → LiteralTarget → Standing → EntryDraft → Option Note
 clauses_fault entry target standing draft =
     first_of
-    (again_fault draft.clauses
+    (duplicate_fault draft.clauses
     ∷ picture_fault entry.picture target.group draft.at draft.clauses
     ∷ sign_fault entry.picture target.group draft.clauses
     ∷ occurs_fault entry.level standing.dims draft.clauses

@@ -12,7 +12,7 @@ use Rattle.parser_combinators.specs.Note.{earliest}
 use Rattle.parser_combinators.specs.declared.note.Note.{Note}
 use Rattle.parser_combinators.specs.declared.note.Position.{Position}
 use Rattle.declaration_checks.specs.declared.clause.ClauseKind.TheVariants as kinds
-use Rattle.declaration_checks.specs.declared.literal.Target.{Target}
+use Rattle.declaration_checks.specs.declared.literal.LiteralTarget.{LiteralTarget}
 use Rattle.declaration_checks.specs.Clause.{clause_of}
 use Rattle.declaration_checks.specs.Fault.{fault_at, fault_unless, first_of}
 use Rattle.declaration_checks.specs.Literal.{fits}
@@ -26,19 +26,19 @@ missing_by at (Some clause) = None
 abbrev pub missing_fault : Position → List Clause → Option Note
 missing_fault at clauses = missing_by at (clause_of kinds.Value clauses)
 
-abbrev pub to_fault : Target → Option ThruDraft → Option Note
+abbrev pub to_fault : LiteralTarget → Option ThruDraft → Option Note
 to_fault target None = None
 to_fault target (Some thru) = fault_unless (fits thru.to target) Value thru.to_at
 
-abbrev pub span_fault : Target → SpanDraft → Option Note
+abbrev pub span_fault : LiteralTarget → SpanDraft → Option Note
 span_fault target span =
     first_of
     (fault_unless (fits span.from target) Value span.from_at ∷ to_fault target span.thru ∷ [])
 
-abbrev pub and_span : Target → Option Note → SpanDraft → Option Note
+abbrev pub and_span : LiteralTarget → Option Note → SpanDraft → Option Note
 and_span target fault span = earliest fault (span_fault target span)
 
-abbrev pub spans_fault : Target → List SpanDraft → Option Note
+abbrev pub spans_fault : LiteralTarget → List SpanDraft → Option Note
 spans_fault target spans = fold (and_span target) None spans
 
 -- ---- of an item: one literal, which fits
@@ -58,20 +58,20 @@ abbrev pub second_fault : List SpanDraft → Option Note
 second_fault [] = None
 second_fault (span ∷ spans) = fault_at Value span.from_at
 
-abbrev pub literals_fault : Target → List SpanDraft → Option Note
+abbrev pub literals_fault : LiteralTarget → List SpanDraft → Option Note
 literals_fault target [] = None
 literals_fault target (span ∷ spans) =
     first_of
     (fault_unless (fits span.from target) Value span.from_at
     ∷ thru_fault span.thru ∷ second_fault spans ∷ [])
 
-abbrev pub value_by : Entry → Target → (barred : Bool) → Option Clause → Option Note
+abbrev pub value_by : Entry → LiteralTarget → (barred : Bool) → Option Clause → Option Note
 value_by entry target barred (Some (drafts.Value at spans)) =
     first_of
     (fault_unless (may_have_value entry target.group barred) Value at
     ∷ literals_fault target spans ∷ [])
 value_by entry target barred _ = None
 
-abbrev pub value_fault : Entry → Target → (barred : Bool) → List Clause → Option Note
+abbrev pub value_fault : Entry → LiteralTarget → (barred : Bool) → List Clause → Option Note
 value_fault entry target barred clauses =
     value_by entry target barred (clause_of kinds.Value clauses)

@@ -82,8 +82,8 @@ pub fn has_clause(kind: ClauseKind, clauses: &[Clause]) -> bool
 
 /// The fault of the first clause that stands twice, at its second.
 #[tactic(auto, using(crate::proofs::StepLemmas::again_from_step))]
-pub fn again_fault(clauses: &[Clause]) -> Option<Note>
-    ensures { result ≡ spec.again_fault clauses.now }
+pub fn duplicate_fault(clauses: &[Clause]) -> Option<Note>
+    ensures { result ≡ spec.duplicate_fault clauses.now }
 {
     for (at, clause) in clauses.iter().enumerate() {
         if has_clause(kind_of(clause), &clauses[..at]) {

@@ -14,8 +14,8 @@ use cobol_grammar::data_forms::{FdDraft, SelectDraft, StatusDraft};
 use parser_combinators::{NameKind, Note};
 use std::alloc::Global;
 
-fn again_fault(statuses: &[StatusDraft]) -> Option<Note>
-    ensures { result ≡ files.again_fault statuses.now }
+fn duplicate_fault(statuses: &[StatusDraft]) -> Option<Note>
+    ensures { result ≡ files.duplicate_fault statuses.now }
 {
     match statuses {
         [_, second, ..] => fault_at(NameKind::Usage, second.at),
@@ -38,7 +38,7 @@ fn select_fault(names: &FileNames, at: usize, select: &SelectDraft) -> Option<No
 {
     first_of(
         named_fault(names, at, select),
-        again_fault(select.statuses.as_slice()),
+        duplicate_fault(select.statuses.as_slice()),
     )
 }
 

@@ -8,7 +8,7 @@ use cob_tree::{Figure, Number, Operand, Picture};
 
 /// What a literal is to fit: a group, or an item with this picture, and its bytes.
 #[derive(Clone, Copy, Debug)]
-pub struct Target {
+pub struct LiteralTarget {
     pub group: bool,
     /// None where it has none, or a text that is no picture.
     pub picture: Option<Picture>,
@@ -123,7 +123,7 @@ fn fits_picture(literal: &Operand, picture: Option<Picture>, size: u32) -> bool
 }
 
 /// Whether a literal fits an item.
-pub fn fits(literal: &Operand, target: Target) -> bool
+pub fn fits(literal: &Operand, target: LiteralTarget) -> bool
     ensures { result ≡ literals.fits literal.now target }
 {
     if target.group {

@@ -7,10 +7,10 @@ ghost use Rattle.declaration_checks.specs.Rule as rules;
 ghost use Rattle.declaration_checks.specs.Tables.{tables_of};
 
 use crate::base::spans_of;
-use crate::clause::{again_fault, other_fault};
+use crate::clause::{duplicate_fault, other_fault};
 use crate::fault::{fault_at, first_of};
 use crate::item::{level_stands, occurs_fault, picture_fault, sign_fault};
-use crate::literal::Target;
+use crate::literal::LiteralTarget;
 use crate::redefining::{redefines_fault, size_at};
 use crate::standing::{Standing, standing_of};
 use crate::table::Tables;
@@ -21,10 +21,10 @@ use parser_combinators::{NameKind, Note};
 use symbol_tables::data_names::{Nesting, nesting_at};
 
 /// What a literal for this entry is to fit.
-fn target_by(group: bool, sizes: &[u32], at: usize, entry: &Entry) -> Target
+fn target_by(group: bool, sizes: &[u32], at: usize, entry: &Entry) -> LiteralTarget
     ensures { result ≡ rules.target_by group sizes.now at entry.now }
 {
-    Target {
+    LiteralTarget {
         group,
         picture: entry.picture,
         size: size_at(sizes, at),
@@ -83,21 +83,21 @@ fn condition_fault(
     ensures { result ≡ rules.condition_fault bases.now sizes.now draft.now item }
 {
     let clauses = draft.clauses.as_slice();
-    let again = first_of(again_fault(clauses), other_fault(clauses));
+    let again = first_of(duplicate_fault(clauses), other_fault(clauses));
     let missing = first_of(again, missing_fault(draft.at, clauses));
     first_of(missing, fits_fault(bases, sizes, nestings, draft, item))
 }
 
 fn clauses_fault(
     entry: &Entry,
-    target: Target,
+    target: LiteralTarget,
     standing: Standing,
     draft: &EntryDraft,
 ) -> Option<Note>
     ensures { result ≡ rules.clauses_fault entry.now target standing draft.now }
 {
     let clauses = draft.clauses.as_slice();
-    let again = again_fault(clauses);
+    let again = duplicate_fault(clauses);
     let picture = picture_fault(entry.picture, target.group, draft.at, clauses);
     let sign = sign_fault(entry.picture, target.group, clauses);
     let occurs = occurs_fault(entry.level, standing.dims, clauses);

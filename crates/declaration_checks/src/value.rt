@@ -5,7 +5,7 @@ ghost use Rattle.declaration_checks.specs.Value as values;
 
 use crate::clause::{ClauseKind, clause_of};
 use crate::fault::{fault_at, first_of, unless};
-use crate::literal::{Target, fits};
+use crate::literal::{LiteralTarget, fits};
 use cob_tree::Entry;
 use cobol_grammar::data_forms::{Clause, SpanDraft, ThruDraft};
 use parser_combinators::{NameKind, Note, Position};
@@ -20,7 +20,7 @@ pub fn missing_fault(at: Position, clauses: &[Clause]) -> Option<Note>
     }
 }
 
-fn to_fault(target: Target, thru: &Option<ThruDraft>) -> Option<Note>
+fn to_fault(target: LiteralTarget, thru: &Option<ThruDraft>) -> Option<Note>
     ensures { result ≡ values.to_fault target thru.now }
 {
     match thru {
@@ -29,7 +29,7 @@ fn to_fault(target: Target, thru: &Option<ThruDraft>) -> Option<Note>
     }
 }
 
-fn span_fault(target: Target, span: &SpanDraft) -> Option<Note>
+fn span_fault(target: LiteralTarget, span: &SpanDraft) -> Option<Note>
     ensures { result ≡ values.span_fault target span.now }
 {
     first_of(
@@ -40,7 +40,7 @@ fn span_fault(target: Target, span: &SpanDraft) -> Option<Note>
 
 /// The fault of the values of a level 88.
 #[tactic(auto, using(crate::proofs::StepLemmas::fold_step))]
-pub fn spans_fault(target: Target, spans: &[SpanDraft]) -> Option<Note>
+pub fn spans_fault(target: LiteralTarget, spans: &[SpanDraft]) -> Option<Note>
     ensures { result ≡ values.spans_fault target spans.now }
 {
     let mut fault = None;
@@ -75,7 +75,7 @@ fn second_fault(spans: &[SpanDraft]) -> Option<Note>
     }
 }
 
-fn literals_fault(target: Target, spans: &[SpanDraft]) -> Option<Note>
+fn literals_fault(target: LiteralTarget, spans: &[SpanDraft]) -> Option<Note>
     ensures { result ≡ values.literals_fault target spans.now }
 {
     match spans {
@@ -91,7 +91,12 @@ fn literals_fault(target: Target, spans: &[SpanDraft]) -> Option<Note>
 }
 
 /// The fault of an item's VALUE clause, where a group above it bars one or none does.
-pub fn value_fault(entry: &Entry, target: Target, barred: bool, clauses: &[Clause]) -> Option<Note>
+pub fn value_fault(
+    entry: &Entry,
+    target: LiteralTarget,
+    barred: bool,
+    clauses: &[Clause],
+) -> Option<Note>
     ensures { result ≡ values.value_fault entry.now target barred clauses.now }
 {
     match clause_of(ClauseKind::Value, clauses) {

@@ -27,7 +27,7 @@ pub use crate::actions::fault::{
     condition_fault, found_fault, is_condition, is_whole, item_of, kind_of, last_fault,
     number_fault, relation_fault, value_fault, whole_fault, whole_fault_at,
 };
-pub use crate::actions::limit::tally;
+pub use crate::actions::limit::count_terms;
 pub use crate::actions::side::{
     digits_side, enclosed, expr_of, literal_kind, literal_side, negated, number_of, place_of,
     ref_side, shape_of, sum_side,

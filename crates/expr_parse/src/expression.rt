@@ -6,8 +6,8 @@ ghost use Rattle.cobol_grammar.specs.expr_forms.Expression as expressions;
 ghost use Rattle.cobol_grammar.specs.expr_forms.Levels.{inner};
 
 use crate::actions::{
-    at_operand, at_turn, chain_of, drop_chain, drop_side, finish, joined, last_fault, literal_kind,
-    literal_side, negated, number_fault, operator, sum_side, tally,
+    at_operand, at_turn, chain_of, count_terms, drop_chain, drop_side, finish, joined, last_fault,
+    literal_kind, literal_side, negated, number_fault, operator, sum_side,
 };
 use crate::context::ExprContext;
 use crate::levels::nested;
@@ -46,7 +46,7 @@ pub fn operand(
     if !at_operand(cursor) {
         return Err(Unread::Stop(Why::Syntax));
     }
-    let count = tally(cursor, count, 1)?;
+    let count = count_terms(cursor, count, 1)?;
     if sees_name(cursor) {
         reference(cursor, context, count)
     } else {
@@ -82,7 +82,7 @@ fn minussed(
     ensures { Reads ((expressions.minussed context.entry.names.now (inner context.entry.names.now
         context.entry.levels) count).reads cursor.old) result cursor.new }
 {
-    let count = tally(cursor, count, 1)?;
+    let count = count_terms(cursor, count, 1)?;
     let position = cursor.mark(b'-')?;
     let (side, count) = unsigned(cursor, context, count)?;
     cursor.note(number_fault(&side));

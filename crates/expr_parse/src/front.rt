@@ -10,8 +10,8 @@ ghost use Rattle.expr_parse.specs.End as ends;
 ghost use Rattle.expr_parse.specs.Front as names_in_front;
 
 use crate::actions::{
-    at_colon, at_turn, chain_of, drop_chain, drop_either, drop_subs, either_fault, finish,
-    found_fault, number_either, operator, ref_either, subs_of, sum_of, sum_side, tally,
+    at_colon, at_turn, chain_of, count_terms, drop_chain, drop_either, drop_subs, either_fault,
+    finish, found_fault, number_either, operator, ref_either, subs_of, sum_of, sum_side,
     window_suffix, with_number,
 };
 use crate::context::ExprContext;
@@ -21,18 +21,18 @@ use crate::subscript::more_subs;
 use crate::window::window_behind;
 use cob_base::{Items, Word};
 use cob_tree::Op;
-use cobol_grammar::expr_forms::{Chain, Either, Front, Suffix};
+use cobol_grammar::expr_forms::{Chain, FirstInParens, MaybeSubscripts, Suffix};
 use parser_combinators::words::{name, sees_digits, sees_name};
 use parser_combinators::{Cursor, Position, Unread};
 use std::alloc::Global;
-use symbol_tables::data_names::{Found, NameTable};
+use symbol_tables::data_names::{NameTable, Referent};
 
 #[tactic(auto, unfolding(cobol_grammar::specs::expr_forms::Front::digits_front))]
-fn digits_front(alloc: Global, cursor: &mut Cursor<'_>) -> Result<Front, Unread>
+fn digits_front(alloc: Global, cursor: &mut Cursor<'_>) -> Result<FirstInParens, Unread>
     ensures { Reads (fronts.digits_front.reads cursor.old) result cursor.new }
 {
     let (digits, position) = cursor.digits(alloc)?;
-    Ok(Front::Either(number_either(alloc, digits, position)?))
+    Ok(FirstInParens::Either(number_either(alloc, digits, position)?))
 }
 
 #[cycle(exprs)]
@@ -41,7 +41,7 @@ fn plus_front(
     cursor: &mut Cursor<'_>,
     context: ExprContext<'_>,
     count: u32,
-) -> Result<Front, Unread>
+) -> Result<FirstInParens, Unread>
     ensures { Reads ((fronts.plus_front context.entry.names.now (inner context.entry.names.now
         context.entry.levels) count).reads cursor.old) result cursor.new }
 {
@@ -50,7 +50,7 @@ fn plus_front(
         digits_front(context.alloc, cursor)
     } else {
         let (side, count) = unsigned(cursor, context, count)?;
-        Ok(Front::Sum(chain_of(sum_side(position, side)), count))
+        Ok(FirstInParens::Sum(chain_of(sum_side(position, side)), count))
     }
 }
 
@@ -60,32 +60,32 @@ fn plus_front(
 fn enclosing_front(
     cursor: &mut Cursor<'_>,
     context: ExprContext<'_>,
-    found: Found,
+    found: Referent,
     of: Items<Word>,
     position: Position,
     count: u32,
-) -> Result<Front, Unread>
+) -> Result<FirstInParens, Unread>
     ensures { Reads ((names_in_front.enclosing_front (inner context.entry.names.now
         context.entry.levels) found of position count).reads cursor.old) result cursor.new }
 {
-    let count = tally(cursor, count, 1)?;
+    let count = count_terms(cursor, count, 1)?;
     let (side, count) = ref_behind(cursor, context, found, of, position, count)?;
-    Ok(Front::Sum(chain_of(side), count))
+    Ok(FirstInParens::Sum(chain_of(side), count))
 }
 
 #[tactic(auto, unfolding(crate::specs::Front::bare_front))]
 fn bare_front(
     alloc: Global,
     cursor: &mut Cursor<'_>,
-    found: Found,
+    found: Referent,
     of: Items<Word>,
     position: Position,
-) -> Result<Front, Unread>
+) -> Result<FirstInParens, Unread>
     ensures { Reads ((names_in_front.bare_front found of position).reads cursor.old)
         result cursor.new }
 {
     cursor.note(found_fault(found, 0, false, position));
-    Ok(Front::Either(ref_either(alloc, found, of, position)?))
+    Ok(FirstInParens::Either(ref_either(alloc, found, of, position)?))
 }
 
 /// Goes on behind a name.
@@ -94,11 +94,11 @@ fn bare_front(
 fn name_behind(
     cursor: &mut Cursor<'_>,
     context: ExprContext<'_>,
-    found: Found,
+    found: Referent,
     of: Items<Word>,
     position: Position,
     count: u32,
-) -> Result<Front, Unread>
+) -> Result<FirstInParens, Unread>
     ensures { Reads ((names_in_front.name_behind (inner context.entry.names.now
         context.entry.levels) found of position count).reads cursor.old) result cursor.new }
 {
@@ -115,7 +115,7 @@ fn named_front(
     cursor: &mut Cursor<'_>,
     context: ExprContext<'_>,
     count: u32,
-) -> Result<Front, Unread>
+) -> Result<FirstInParens, Unread>
     ensures { Reads ((names_in_front.named_front context.entry.names.now (inner
         context.entry.names.now context.entry.levels) count).reads cursor.old) result cursor.new }
 {
@@ -130,7 +130,7 @@ fn name_front(
     cursor: &mut Cursor<'_>,
     context: ExprContext<'_>,
     count: u32,
-) -> Result<Front, Unread>
+) -> Result<FirstInParens, Unread>
     ensures { Reads ((fronts.name_front context.entry.names.now (inner context.entry.names.now
         context.entry.levels) count).reads cursor.old) result cursor.new }
 {
@@ -143,12 +143,12 @@ fn unary_front(
     cursor: &mut Cursor<'_>,
     context: ExprContext<'_>,
     count: u32,
-) -> Result<Front, Unread>
+) -> Result<FirstInParens, Unread>
     ensures { Reads ((fronts.unary_front context.entry.names.now (inner context.entry.names.now
         context.entry.levels) count).reads cursor.old) result cursor.new }
 {
     let (side, count) = unary(cursor, context, count)?;
-    Ok(Front::Sum(chain_of(side), count))
+    Ok(FirstInParens::Sum(chain_of(side), count))
 }
 
 #[cycle(exprs)]
@@ -157,7 +157,7 @@ fn other_front(
     cursor: &mut Cursor<'_>,
     context: ExprContext<'_>,
     count: u32,
-) -> Result<Front, Unread>
+) -> Result<FirstInParens, Unread>
     ensures { Reads ((fronts.other_front context.entry.names.now (inner context.entry.names.now
         context.entry.levels) count).reads cursor.old) result cursor.new }
 {
@@ -174,7 +174,7 @@ pub fn first_front(
     cursor: &mut Cursor<'_>,
     context: ExprContext<'_>,
     count: u32,
-) -> Result<Front, Unread>
+) -> Result<FirstInParens, Unread>
     ensures { Reads ((fronts.first_front context.entry.names.now (inner context.entry.names.now
         context.entry.levels) count).reads cursor.old) result cursor.new }
 {
@@ -194,17 +194,17 @@ fn decided(
     cursor: &mut Cursor<'_>,
     context: ExprContext<'_>,
     count: u32,
-    either: Either,
+    either: MaybeSubscripts,
     op: Op,
-) -> Result<Front, Unread>
+) -> Result<FirstInParens, Unread>
     ensures { Reads ((fronts.decided context.entry.names.now (inner context.entry.names.now
         context.entry.levels) count either op).reads cursor.old) result cursor.new }
 {
     let (chain, leaves) = sum_of(either);
-    match tally(cursor, count, leaves) {
+    match count_terms(cursor, count, leaves) {
         Ok(count) => {
             let (chain, count) = operated(cursor, context, op, chain, count)?;
-            Ok(Front::Sum(chain, count))
+            Ok(FirstInParens::Sum(chain, count))
         }
         Err(stop) => {
             drop_chain(chain);
@@ -219,15 +219,15 @@ fn number_turn(
     cursor: &mut Cursor<'_>,
     op: Op,
     negative: bool,
-    either: Either,
-) -> Result<Front, Unread>
+    either: MaybeSubscripts,
+) -> Result<FirstInParens, Unread>
     ensures { Reads ((fronts.number_turn op negative either).reads cursor.old) result cursor.new }
 {
     match cursor.digits(alloc) {
         Ok((digits, position)) => {
             cursor.note(either_fault(&either));
             let either = with_number(alloc, op, negative, digits, position, either)?;
-            Ok(Front::Either(either))
+            Ok(FirstInParens::Either(either))
         }
         Err(stop) => {
             drop_either(either);
@@ -242,10 +242,10 @@ fn number_or_decided(
     cursor: &mut Cursor<'_>,
     context: ExprContext<'_>,
     count: u32,
-    either: Either,
+    either: MaybeSubscripts,
     op: Op,
     negative: bool,
-) -> Result<Front, Unread>
+) -> Result<FirstInParens, Unread>
     ensures { Reads ((fronts.number_or_decided context.entry.names.now (inner
         context.entry.names.now context.entry.levels) count either op negative).reads cursor.old)
         result cursor.new }
@@ -263,8 +263,8 @@ fn plus_turn(
     cursor: &mut Cursor<'_>,
     context: ExprContext<'_>,
     count: u32,
-    either: Either,
-) -> Result<Front, Unread>
+    either: MaybeSubscripts,
+) -> Result<FirstInParens, Unread>
     ensures { Reads ((fronts.plus_turn context.entry.names.now (inner context.entry.names.now
         context.entry.levels) count either).reads cursor.old) result cursor.new }
 {
@@ -278,7 +278,7 @@ fn plus_turn(
 }
 
 /// Whether the last subscript is an item alone.
-fn takes_minus(either: &Either) -> bool
+fn takes_minus(either: &MaybeSubscripts) -> bool
     ensures { result ≡ fronts.takes_minus either.now }
 {
     either.base.is_some()
@@ -290,8 +290,8 @@ fn minus_behind(
     cursor: &mut Cursor<'_>,
     context: ExprContext<'_>,
     count: u32,
-    either: Either,
-) -> Result<Front, Unread>
+    either: MaybeSubscripts,
+) -> Result<FirstInParens, Unread>
     ensures { Reads ((fronts.minus_behind context.entry.names.now (inner context.entry.names.now
         context.entry.levels) count either).reads cursor.old) result cursor.new }
 {
@@ -308,8 +308,8 @@ fn minus_turn(
     cursor: &mut Cursor<'_>,
     context: ExprContext<'_>,
     count: u32,
-    either: Either,
-) -> Result<Front, Unread>
+    either: MaybeSubscripts,
+) -> Result<FirstInParens, Unread>
     ensures { Reads ((fronts.minus_turn context.entry.names.now (inner context.entry.names.now
         context.entry.levels) count either).reads cursor.old) result cursor.new }
 {
@@ -328,8 +328,8 @@ fn factor_turn(
     cursor: &mut Cursor<'_>,
     context: ExprContext<'_>,
     count: u32,
-    either: Either,
-) -> Result<Front, Unread>
+    either: MaybeSubscripts,
+) -> Result<FirstInParens, Unread>
     ensures { Reads ((fronts.factor_turn context.entry.names.now (inner context.entry.names.now
         context.entry.levels) count either).reads cursor.old) result cursor.new }
 {
@@ -348,17 +348,17 @@ fn front_turn(
     cursor: &mut Cursor<'_>,
     context: ExprContext<'_>,
     count: u32,
-    front: Front,
-) -> Result<Front, Unread>
+    front: FirstInParens,
+) -> Result<FirstInParens, Unread>
     ensures { Reads ((fronts.front_turn context.entry.names.now (inner context.entry.names.now
         context.entry.levels) count front).reads cursor.old) result cursor.new }
 {
     match front {
-        Front::Sum(chain, more) => {
+        FirstInParens::Sum(chain, more) => {
             let (chain, count) = turn(cursor, context, (chain, more))?;
-            Ok(Front::Sum(chain, count))
+            Ok(FirstInParens::Sum(chain, count))
         }
-        Front::Either(either) => {
+        FirstInParens::Either(either) => {
             if cursor.sees_mark(b'+') {
                 plus_turn(cursor, context, count, either)
             } else if cursor.sees_mark(b'-') {
@@ -375,8 +375,8 @@ pub fn front_turns(
     cursor: &mut Cursor<'_>,
     context: ExprContext<'_>,
     count: u32,
-    first: Front,
-) -> Result<Front, Unread>
+    first: FirstInParens,
+) -> Result<FirstInParens, Unread>
     ensures { Reads ((fronts.front_turns context.entry.names.now (inner context.entry.names.now
         context.entry.levels) count first).reads cursor.old) result cursor.new }
 {
@@ -393,7 +393,7 @@ fn subs_suffix(
     cursor: &mut Cursor<'_>,
     names: &NameTable,
     count: u32,
-    either: Either,
+    either: MaybeSubscripts,
 ) -> Result<(Suffix, u32), Unread>
     ensures { Reads ((fronts.subs_suffix names.now count either).reads cursor.old)
         result cursor.new }
@@ -434,13 +434,13 @@ fn colon_end(
     context: ExprContext<'_>,
     alone: bool,
     count: u32,
-    either: Either,
+    either: MaybeSubscripts,
 ) -> Result<(Suffix, u32), Unread>
     ensures { Reads ((ends.colon_end context.entry.names.now (inner context.entry.names.now
         context.entry.levels) alone count either).reads cursor.old) result cursor.new }
 {
     let (chain, leaves) = sum_of(either);
-    match tally(cursor, count, leaves) {
+    match count_terms(cursor, count, leaves) {
         Ok(count) => window_end(cursor, context, alone, chain, count),
         Err(stop) => {
             drop_chain(chain);
@@ -456,14 +456,14 @@ pub fn front_end(
     context: ExprContext<'_>,
     alone: bool,
     count: u32,
-    front: Front,
+    front: FirstInParens,
 ) -> Result<(Suffix, u32), Unread>
     ensures { Reads ((fronts.front_end context.entry.names.now (inner context.entry.names.now
         context.entry.levels) alone count front).reads cursor.old) result cursor.new }
 {
     match front {
-        Front::Sum(chain, more) => window_end(cursor, context, alone, chain, more),
-        Front::Either(either) => {
+        FirstInParens::Sum(chain, more) => window_end(cursor, context, alone, chain, more),
+        FirstInParens::Either(either) => {
             if at_colon(cursor) {
                 colon_end(cursor, context, alone, count, either)
             } else {

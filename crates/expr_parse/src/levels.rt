@@ -6,7 +6,7 @@ ghost use Rattle.cobol_grammar.specs.expr_forms.Operand as operands;
 ghost use Rattle.cobol_grammar.specs.expr_forms.Levels as knots;
 ghost use Rattle.cobol_grammar.specs.expr_forms.Levels.{inner};
 
-use crate::actions::{at_operand, both_behind, drop_subs, found_fault, ref_side, tally};
+use crate::actions::{at_operand, both_behind, count_terms, drop_subs, found_fault, ref_side};
 use crate::context::ExprContext;
 use crate::expression::{expr, in_nested, literal_operand};
 use crate::front::in_suffix;
@@ -15,11 +15,11 @@ use crate::window::in_window;
 use cob_base::limit::MAX_PARENS;
 use cob_base::{Items, Word};
 use cob_tree::Window;
-use cobol_grammar::expr_forms::{Behind, Side, Suffix};
+use cobol_grammar::expr_forms::{RefSuffixes, Side, Suffix};
 use parser_combinators::words::{name, sees_name};
 use parser_combinators::{Cursor, Position, Unread, Why};
 use std::alloc::Global;
-use symbol_tables::data_names::{Found, NameTable};
+use symbol_tables::data_names::{NameTable, Referent};
 
 /// Reads an expression in parentheses, where a level is left.
 #[cycle(exprs)]
@@ -90,7 +90,7 @@ fn data_behind(
     cursor: &mut Cursor<'_>,
     names: &NameTable,
     count: u32,
-) -> Result<Behind, Unread>
+) -> Result<RefSuffixes, Unread>
     ensures { Reads ((references.behind (knots.outer names.now) count).reads cursor.old)
         result cursor.new }
 {
@@ -100,7 +100,7 @@ fn data_behind(
         levels: MAX_PARENS,
     };
     if !cursor.sees_mark(b'(') {
-        return Ok(Behind {
+        return Ok(RefSuffixes {
             subs: Items::new(alloc),
             window: None,
             count,
@@ -108,7 +108,7 @@ fn data_behind(
     }
     let (found, count) = in_suffix(cursor, context, true, count)?;
     match found {
-        Suffix::Window(window) => Ok(Behind {
+        Suffix::Window(window) => Ok(RefSuffixes {
             subs: Items::new(alloc),
             window: Some(window),
             count,
@@ -123,7 +123,7 @@ fn data_behind(
                     }
                 }
             } else {
-                Ok(Behind {
+                Ok(RefSuffixes {
                     subs,
                     window: None,
                     count,
@@ -138,7 +138,7 @@ fn data_ref_behind(
     alloc: Global,
     cursor: &mut Cursor<'_>,
     names: &NameTable,
-    found: Found,
+    found: Referent,
     of: Items<Word>,
     position: Position,
     count: u32,
@@ -146,7 +146,7 @@ fn data_ref_behind(
     ensures { Reads ((references.ref_behind (knots.outer names.now) found of position count).reads
         cursor.old) result cursor.new }
 {
-    let Behind {
+    let RefSuffixes {
         subs,
         window,
         count,
@@ -199,7 +199,7 @@ fn data_value(
     if !at_operand(cursor) {
         return Err(Unread::Stop(Why::Syntax));
     }
-    let count = tally(cursor, count, 1)?;
+    let count = count_terms(cursor, count, 1)?;
     if sees_name(cursor) {
         data_words(alloc, cursor, names, count)
     } else {

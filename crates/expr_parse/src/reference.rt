@@ -8,11 +8,11 @@ use crate::actions::{at_of, both_behind, drop_subs, found_fault, ref_side};
 use crate::context::ExprContext;
 use crate::levels::{suffix, window};
 use cob_base::{Items, Word};
-use cobol_grammar::expr_forms::{Behind, Side, Suffix};
+use cobol_grammar::expr_forms::{RefSuffixes, Side, Suffix};
 use parser_combinators::words::name;
 use parser_combinators::{Cursor, Position, Unread};
 use std::alloc::Global;
-use symbol_tables::data_names::Found;
+use symbol_tables::data_names::Referent;
 
 #[tactic(auto, unfolding(cobol_grammar::specs::expr_forms::Reference::qualifier))]
 fn qualifier(cursor: &mut Cursor<'_>) -> Result<Word, Unread>
@@ -40,12 +40,16 @@ pub fn qualifiers(alloc: Global, cursor: &mut Cursor<'_>) -> Result<Items<Word>,
 
 #[cycle(exprs)]
 #[tactic(auto, unfolding(cobol_grammar::specs::expr_forms::Reference::behind))]
-fn behind(cursor: &mut Cursor<'_>, context: ExprContext<'_>, count: u32) -> Result<Behind, Unread>
+fn behind(
+    cursor: &mut Cursor<'_>,
+    context: ExprContext<'_>,
+    count: u32,
+) -> Result<RefSuffixes, Unread>
     ensures { Reads ((references.behind (inner context.entry.names.now context.entry.levels)
         count).reads cursor.old) result cursor.new }
 {
     if !cursor.sees_mark(b'(') {
-        return Ok(Behind {
+        return Ok(RefSuffixes {
             subs: Items::new(context.alloc),
             window: None,
             count,
@@ -53,7 +57,7 @@ fn behind(cursor: &mut Cursor<'_>, context: ExprContext<'_>, count: u32) -> Resu
     }
     let (found, count) = suffix(cursor, context, count)?;
     match found {
-        Suffix::Window(window) => Ok(Behind {
+        Suffix::Window(window) => Ok(RefSuffixes {
             subs: Items::new(context.alloc),
             window: Some(window),
             count,
@@ -68,7 +72,7 @@ fn behind(cursor: &mut Cursor<'_>, context: ExprContext<'_>, count: u32) -> Resu
                     }
                 }
             } else {
-                Ok(Behind {
+                Ok(RefSuffixes {
                     subs,
                     window: None,
                     count,
@@ -84,7 +88,7 @@ fn behind(cursor: &mut Cursor<'_>, context: ExprContext<'_>, count: u32) -> Resu
 pub fn ref_behind(
     cursor: &mut Cursor<'_>,
     context: ExprContext<'_>,
-    found: Found,
+    found: Referent,
     of: Items<Word>,
     position: Position,
     count: u32,
@@ -92,7 +96,7 @@ pub fn ref_behind(
     ensures { Reads ((references.ref_behind (inner context.entry.names.now context.entry.levels)
         found of position count).reads cursor.old) result cursor.new }
 {
-    let Behind {
+    let RefSuffixes {
         subs,
         window,
         count,

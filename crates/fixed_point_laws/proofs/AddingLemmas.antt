@@ -13,20 +13,20 @@ use Rattle.control_flow_theory.specs.lowering.Renamed.{end_anew, tree_anew}
 use Rattle.control_flow_theory.specs.lowering.WellFormed.{AreJustReached}
 use Rattle.control_flow_theory.specs.graph_rules.Families.{Added}
 use Rattle.control_flow_theory.specs.graph_rules.Reduced.{Node, tree_in}
-use Rattle.control_flow_theory.specs.closing.Laws.{PlainEnd}
-use Rattle.control_flow_theory.specs.headline.Headline.{Plan, graphs_by}
-use Rattle.control_flow_theory.specs.headline.Numbering.{control_counters, stmt_counters, stmts_counters, arms_counters, body_counters, paragraph_counters, paragraphs_counters, counts, numbers_by, added_by}
+use Rattle.control_flow_theory.specs.structuring.Laws.{PlainEnd}
+use Rattle.control_flow_theory.specs.main_theorem.MainTheorem.{Plan, graphs_by}
+use Rattle.control_flow_theory.specs.main_theorem.Numbering.{control_counters, stmt_counters, stmts_counters, arms_counters, body_counters, paragraph_counters, paragraphs_counters, counts, numbers_by, added_by}
 use Rattle.control_flow_theory.proofs.semantics_lemmas.Ranges.{eq-self}
-use Rattle.control_flow_theory.proofs.headline_lemmas.graphs.LoweredGraphs.{graphs-family}
-use Rattle.added_items.specs.mentions.Mentions.{cells_named}
-use Rattle.added_items.specs.item_table.Items.{item_kinds, holder, kind_in, counted_on, each_once}
-use Rattle.added_items.specs.item_table.Names.{all_from_one, entries_from}
+use Rattle.control_flow_theory.proofs.main_theorem_lemmas.graphs.LoweredGraphs.{graphs-family}
+use Rattle.added_items.specs.mentions.CellUse.{cells_named}
+use Rattle.added_items.specs.item_table.Owners.{item_kinds, owner_of, kind_in, counted_on, each_once}
+use Rattle.added_items.specs.item_table.Naming.{all_from_one, entries_from}
 use Rattle.added_items.specs.item_table.Row.{CellRange, in_row, kinds_of_row, named_behind}
 use Rattle.fixed_point_laws.specs.Adding.{LoneNodesCountNothing, RangesWithoutCellsAddNothing}
 
 -- ---- without kept heads there are no counters
 
-module _ (keep : Label → Bool) (none_kept : (place : ℕ) → keep (lower.head place) ≡ false) where
+module _ (keep : Label → Bool) (none_kept : (place : ℕ) → keep (lower.loop_head_label place) ≡ false) where
   both-empty : (xs ys : List ℕ) → xs ≡ [] → ys ≡ [] → xs ++ ys ≡ []
   both-empty xs ys e f = ap (λ zs. zs ++ ys) e ∙ f
 
@@ -105,7 +105,7 @@ apart : (b : Bool) → (b ≡ true → ⊥) → b ≡ false
 apart true h = absurd (h refl)
 apart false h = refl
 
-no-head : (place other : ℕ) → lower.head place ≡ lower.point other → ⊥
+no-head : (place other : ℕ) → lower.loop_head_label place ≡ lower.point other → ⊥
 no-head place other e = absurd (omega (arith, e))
 
 module _ (plan : Plan) (program : Program) (range : Range) (just : AreJustReached plan.told program range (plan.keep range)) (left : Tree) (plain : PlainEnd (end_of left))
@@ -124,17 +124,17 @@ module _ (plan : Plan) (program : Program) (range : Range) (just : AreJustReache
 
   anew : tree_anew (numbers range) ((lowered plan.told program).node range entry) ≡ left
   anew =
-      ap (λ b. tree_anew (numbers range) (if b then (lowered plan.told program).node range entry else lower.only Dead)) (sym (just.1 entry entered))
+      ap (λ b. tree_anew (numbers range) (if b then (lowered plan.told program).node range entry else lower.end_alone Dead)) (sym (just.1 entry entered))
       ∙ ap (λ f. f.node range entry) (graphs-family plan.told program plan.keep numbers (added_by plan.keep program))
       ∙ found
 
   ends : PlainEnd (end_of ((lowered plan.told program).node range entry))
   ends = tree-plain (numbers range) ((lowered plan.told program).node range entry) (subst (λ t. PlainEnd (end_of t)) (sym anew) plain)
 
-  heads : (place : ℕ) → plan.keep range (lower.head place) ≡ false
+  heads : (place : ℕ) → plan.keep range (lower.loop_head_label place) ≡ false
   heads place =
-      apart (plan.keep range (lower.head place)) (λ is.
-      no-head place (place_in program (entry_of range)) (entry-alone (lowered plan.told program) range ends (lower.head place) (just.0 (lower.head place) is)))
+      apart (plan.keep range (lower.loop_head_label place)) (λ is.
+      no-head place (place_in program (entry_of range)) (entry-alone (lowered plan.told program) range ends (lower.loop_head_label place) (just.0 (lower.loop_head_label place) is)))
 
   pub no-counters : (graphs_by plan program range).added ≡ []
   no-counters = ap counts (paragraphs-none (plan.keep range) heads program.paragraphs 0)
@@ -168,8 +168,8 @@ none-named before (row ∷ rows) h =
 no-items : (rows : List CellRange) → Without rows → item_kinds rows ≡ []
 no-items rows h =
     let kinds = kinds_of_row rows in
-    ap (λ named. map (kind_in kinds) (each_once [] (map (holder kinds) (named ++ counted_on 0 (length kinds))))) (none-named 0 rows h)
-    ∙ ap (λ n. map (kind_in kinds) (each_once [] (map (holder kinds) (counted_on 0 n)))) (ap (λ (ks : List Added). length ks) (no-kinds rows h))
+    ap (λ named. map (kind_in kinds) (each_once [] (map (owner_of kinds) (named ++ counted_on 0 (length kinds))))) (none-named 0 rows h)
+    ∙ ap (λ n. map (kind_in kinds) (each_once [] (map (owner_of kinds) (counted_on 0 n)))) (ap (λ (ks : List Added). length ks) (no-kinds rows h))
 
 pub add-nothing : RangesWithoutCellsAddNothing
 add-nothing = λ words rows h. (no-items rows h, ap (λ kinds. entries_from words all_from_one kinds) (no-items rows h))

@@ -9,7 +9,7 @@ use Rattle.control_flow_theory.specs.language.Language as language
 use Rattle.control_flow_theory.specs.language.Language.{Act, Picker, Range, Main, Part, Stmt, Do, Choose, Loop, Perform, Go, GoDepending, NextSentence, ExitParagraph, ExitSection, ExitPerform, StopRun, Stmts, none, also, Arms, done, given, missing, Body, Nested, Performed}
 use Rattle.control_flow_theory.specs.language.Structured.{StmtsNest, IsStructured}
 use Rattle.control_flow_theory.specs.lowering.Completes.{skips}
-use Rattle.control_flow_theory.specs.lowering.Told.{Told, IsSource}
+use Rattle.control_flow_theory.specs.lowering.FlowFacts.{FlowFacts, IsSource}
 use Rattle.control_flow_theory.specs.language.OwnItems.{NamesOwnItems}
 use Rattle.control_flow_theory.specs.lowering.flow.Entered.{IsEntered}
 use Rattle.control_flow_theory.specs.lowering.flow.Paths as theory
@@ -17,12 +17,12 @@ use Rattle.control_flow_theory.specs.lowering.WellFormed.{AreJustReached}
 use Rattle.control_flow_theory.specs.graph_rules.Reduced.{Graphs, size}
 use Rattle.control_flow_theory.specs.graph_rules.Walked.{In}
 use Rattle.control_flow_theory.specs.rendering.Rendering.{Naming, Procedure, place_of, written_act, written_paragraph}
-use Rattle.control_flow_theory.specs.headline.Chain.{IsPlan, procedures_of}
-use Rattle.control_flow_theory.specs.headline.CallsReached.{GivesSome}
-use Rattle.control_flow_theory.specs.headline.Headline.{Plan, graphs_by, procedures_by}
-use Rattle.program_facts.specs.completion.Told.{told_of, width_of}
+use Rattle.control_flow_theory.specs.main_theorem.Chain.{IsPlan, procedures_of}
+use Rattle.control_flow_theory.specs.main_theorem.CallsReached.{GivesSome}
+use Rattle.control_flow_theory.specs.main_theorem.MainTheorem.{Plan, graphs_by, procedures_by}
+use Rattle.program_facts.specs.completion.FlowFacts.{flow_facts_of, width_of}
 use Rattle.program_points.proofs.table_building_lemmas.Sections.{seen-length}
-use Rattle.program_points.specs.numbering.Kinds.{never_first_of}
+use Rattle.program_points.specs.numbering.Kind.{never_first_of}
 use Rattle.meanings.specs.statements.Does.{declared_in}
 use Rattle.cobol_theory.specs.added_items.Own.{items}
 use Rattle.cobol_theory.specs.cobol_headline.Alike.{Writing, naming_of, IsWrittenOf}
@@ -32,17 +32,18 @@ use Rattle.cobol_theory.proofs.cobol_parts_lemmas.Sources as sources
 use Rattle.statement_builders.specs.arms.Written.{Way, naming_in}
 use Rattle.added_items.specs.item_table.Laws.{closed_ranges}
 use Rattle.added_items.specs.item_table.Tables.{most_arms, table_of_cells}
-use Rattle.lowering_labels.specs.points.Fall.{seen_range}
+use Rattle.lowering_labels.specs.points.FallThrough.{seen_range}
 use Rattle.pending_returns.specs.Summary.{IsSummary}
 use Rattle.pending_returns.specs.declared.facts.Summary.{Summary}
 use Rattle.procedure_split.specs.Rows.{row_of, rows_of}
-use Rattle.procedure_split.specs.Split.{IsSplit}
+use Rattle.procedure_split.specs.Splitting.{IsSplit}
 use Rattle.procedure_split.specs.plan.Laws.{others_of}
 use Rattle.procedure_split.specs.plan.Planned.{IsPlanOf}
 use Rattle.procedure_split.specs.shaped_ranges.Laws.{IsPlannedWith}
-use Rattle.procedure_split.specs.shaped_ranges.Shaped.{IsShapedTo}
+use Rattle.procedure_split.specs.shaped_ranges.Shaping.{IsShapedTo}
 use Rattle.procedure_split.specs.declared.shaped_ranges.shaping.Closed.{Closed}
-use Rattle.procedure_split.specs.split_behaviour.Alike.{IsWellMade, FlowsSo}
+use Rattle.procedure_split.specs.split_behaviour.Alike.{IsWellMade}
+use Rattle.pending_returns.specs.FaultFree.{IsFaultFree}
 use Rattle.procedure_split.proofs.made_procedures_lemmas.Plans.{each-closed, entry-first}
 use Rattle.procedure_split.proofs.made_procedures_lemmas.Rows.{shaped-at, in-at}
 use Rattle.procedure_split.proofs.split_behaviour_lemmas.ClosedRows.{closed_row, row-is, all-rows}
@@ -111,7 +112,7 @@ pub record PlannedAgain (made : Program) (other : Summary) : Type 0 where
   pub order : List code.Range
   pub is : IsPlanOf other.ranges returning order
   pub plan : Plan
-  pub told : plan.told ≡ told_of made.files returning
+  pub told : plan.told ≡ flow_facts_of made.files returning
   pub others : plan.others ≡ others_of order
   pub planned : IsPlan plan.told (control_of made) plan.keep plan.others
 
@@ -121,7 +122,7 @@ control-size program = sym (seen-length 0 program.paragraphs)
 
 -- ---- the rows of a split program are those of its closed graphs
 
-module _ (program made : Program) (summary : Summary) (well : IsWellMade program) (flows : FlowsSo program summary) (split : IsSplit program summary made) where
+module _ (program made : Program) (summary : Summary) (well : IsWellMade program) (flows : IsFaultFree program summary) (split : IsSplit program summary made) where
   abbrev pub plan : Plan
   plan = joined.plan program made summary well flows split
 
@@ -162,11 +163,11 @@ module _ (program made : Program) (summary : Summary) (well : IsWellMade program
   few : (range : Range) → In range (Main ∷ plan.others) → size (graphs range).nodes < most_arms
   few range here =
       few-nodes graphs split.plan.order split.graphs
-      (as-many-graphs (told_of program.files split.plan.returning) (control_of program) split.plan.order split.graphs split.lowered.are)
+      (as-many-graphs (flow_facts_of program.files split.plan.returning) (control_of program) split.plan.order split.graphs split.lowered.are)
       split.lowered.within planned.each range
       (subst (λ all. In range all) (sym (joined.in-order program made summary well flows split)) here)
 
-  told-is : plan.told ≡ told_of program.files split.plan.returning
+  told-is : plan.told ≡ flow_facts_of program.files split.plan.returning
   told-is = planned.told
 
   pub counted : (number : ℕ) (procedure : Procedure) → slice_get (procedures_by plan (control_of program)) number ≡ Some procedure →
@@ -195,8 +196,8 @@ module _ (program made : Program) (summary : Summary) (well : IsWellMade program
     other_naming = naming_in other_way
 
     -- it has the source's files
-    other-told : p.plan.told ≡ told_of program.files p.returning
-    other-told = p.told ∙ ap (λ files. told_of files p.returning) split.written.files
+    other-told : p.plan.told ≡ flow_facts_of program.files p.returning
+    other-told = p.told ∙ ap (λ files. flow_facts_of files p.returning) split.written.files
 
     abbrev pub way : Way
     way = record {
@@ -209,7 +210,7 @@ module _ (program made : Program) (summary : Summary) (well : IsWellMade program
     names : NamesAlike naming plan.told p.plan.told
     names =
         subst (λ told. NamesAlike naming told p.plan.told) (sym told-is)
-        (subst (λ told. NamesAlike naming (told_of program.files split.plan.returning) told) (sym other-told)
+        (subst (λ told. NamesAlike naming (flow_facts_of program.files split.plan.returning) told) (sym other-told)
         (reads-alike way program.files split.plan.returning p.returning))
 
     gives : GivesSome plan.told
@@ -245,7 +246,7 @@ module _ (program made : Program) (summary : Summary) (well : IsWellMade program
 
     summed : IsSummary p.plan.told.never_first (control_of made) other
     summed =
-        subst (λ (told : Told). IsSummary told.never_first (control_of made) other) (sym p.told)
+        subst (λ (told : FlowFacts). IsSummary told.never_first (control_of made) other) (sym p.told)
         (subst (λ never. IsSummary never (control_of made) other) (same-told made.files) is)
 
     pub places : GoesByPlaces (control_of made) p.order
@@ -271,7 +272,7 @@ module _ (program made : Program) (summary : Summary) (well : IsWellMade program
     acting = subst (λ told. ParagraphsAct told (control_of program).paragraphs) (sym told-is) (acts program.files split.plan.returning program)
 
     skipped : p.plan.told.skipped naming.nothing ≡ true
-    skipped = ap (λ (told : Told). told.skipped Continue) p.told
+    skipped = ap (λ (told : FlowFacts). told.skipped Continue) p.told
 
     does : (range : Range) (act : Act) → skips plan.told act ≡ false → skips p.plan.told (written_act naming (place_of (procedures_by plan (control_of program))) range act) ≡ false
     does range act h =
@@ -291,7 +292,7 @@ module _ (program made : Program) (summary : Summary) (well : IsWellMade program
         come-again way other_way (place_of (procedures_by plan (control_of program))) (place_of (procedures_by p.plan (result_by plan (control_of program) naming)))
         procedure.range range (procedures_by plan (control_of program)) picker arms fits)
         procedure.body
-        (subst (λ (told : Told). StmtsChoose (ChoiceFits naming (counting told.width writing.table.most) (procedures_by plan (control_of program)) procedure.range) procedure.body) told-is
+        (subst (λ (told : FlowFacts). StmtsChoose (ChoiceFits naming (counting told.width writing.table.most) (procedures_by plan (control_of program)) procedure.range) procedure.body) told-is
         (counted number procedure here).1)
 
     pub written-again : ResultIsWritten plan (control_of program) naming p.plan other_naming

@@ -5,11 +5,11 @@ use Rattle.std.proofs.lemmas.Bool.{lt-ltb, le-ltb}
 use Rattle.std.proofs.lemmas.Bool.Decides.{eqb_tells}
 use Rattle.control_flow_theory.specs.language.Language.{Chooser, Evaluate, Read, Arith, Depending, Picker, If, By, ByCell, none, also, Arms, done, given, missing, Range}
 use Rattle.control_flow_theory.specs.rendering.Rendering.{Empty, Continues, Goes, Naming, Procedure, count_arms, arm_stands, standing, written_picker, picker_lacks}
-use Rattle.program_facts.specs.completion.Told.{width_of}
+use Rattle.program_facts.specs.completion.FlowFacts.{width_of}
 use Rattle.cobol_theory.specs.cell_items.Laws.{number_tests}
 use Rattle.cobol_theory.specs.cell_serving.Entries.{whole_literal}
 use Rattle.cobol_theory.specs.cell_serving.Naming.{first_stands, last_stands, numbers_from, other_stands, whens_of}
-use Rattle.statement_builders.specs.arms.Empties.{if_had, of_whens, of_chooser, of_cell}
+use Rattle.statement_builders.specs.arms.EmptyArms.{if_had, of_whens, of_chooser, of_cell}
 use Rattle.statement_builders.specs.arms.Written.{Way, naming_in}
 use Rattle.fixed_point.specs.Again.{StaysMissing}
 use Rattle.fixed_point.specs.Choices as fixed

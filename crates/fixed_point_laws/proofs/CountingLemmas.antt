@@ -4,20 +4,20 @@ use Rattle.std.specs.Prelude.{slice_get}
 use Rattle.control_flow_theory.specs.language.Language.{Act, Own, Set, Take, Lower, Test, Holds, Not, Is, Above, Chooser, Picker, If, By, ByCell, Control, Times, Until, Varying, Stmt, Choose, Loop, Perform, Go, GoDepending, NextSentence, ExitParagraph, ExitSection, ExitPerform, StopRun, Stmts, none, also, Arms, done, given, missing, Body, Nested, Performed, Paragraph, Program, Range, Main}
 use Rattle.control_flow_theory.specs.language.Language as language
 use Rattle.control_flow_theory.specs.language.Structured.{StmtsNest}
-use Rattle.control_flow_theory.specs.lowering.Told.{Told, OwnStmt, OwnStmts, OwnArms, OwnBody, OwnParagraph, OwnParagraphs, IsSource, arm_count}
+use Rattle.control_flow_theory.specs.lowering.FlowFacts.{FlowFacts, OwnStmt, OwnStmts, OwnArms, OwnBody, OwnParagraph, OwnParagraphs, IsSource, arm_count}
 use Rattle.control_flow_theory.specs.semantics.Graph.{body_of}
 use Rattle.control_flow_theory.specs.graph_rules.Families.{Added, Never, Flag, Count, State, Exit}
 use Rattle.control_flow_theory.specs.graph_rules.Reduced.{kind_at, size, tree_in}
 use Rattle.control_flow_theory.specs.graph_rules.Walked.{In}
-use Rattle.control_flow_theory.specs.closing.Closes.{closed_graph}
+use Rattle.control_flow_theory.specs.structuring.Closes.{closed_graph}
 use Rattle.control_flow_theory.specs.rendering.Rendering.{Empty, Naming, Procedure, count_arms, standing}
-use Rattle.control_flow_theory.specs.headline.Chain.{IsPlan, IsNumberedPlan, ChoiceServed, KindServed, EachCellServed, stmts_arms}
-use Rattle.control_flow_theory.specs.headline.Headline.{Plan, graphs_by, procedures_by}
-use Rattle.control_flow_theory.specs.headline.Numbering.{numbers_by, added_by}
-use Rattle.control_flow_theory.specs.served_graphs.Served.{TestIsServed, ChooserIsServed, StmtIsServed, StmtsAreServed, ArmsAreServed, BodyIsServed, ControlIsServed, ActIsServed, ParagraphIsServed, ParagraphsAreServed, ProgramIsServed}
-use Rattle.control_flow_theory.proofs.headline_lemmas.graphs.LoweredStand.{closed-graphs-stand}
-use Rattle.control_flow_theory.proofs.headline_lemmas.graphs.Numbering.{counters-numbered}
-use Rattle.control_flow_theory.proofs.served_graphs_lemmas.Graphs.{served-graphs}
+use Rattle.control_flow_theory.specs.main_theorem.Chain.{IsPlan, IsNumberedPlan, ChoiceServed, KindServed, EachCellServed, stmts_arms}
+use Rattle.control_flow_theory.specs.main_theorem.MainTheorem.{Plan, graphs_by, procedures_by}
+use Rattle.control_flow_theory.specs.main_theorem.Numbering.{numbers_by, added_by}
+use Rattle.control_flow_theory.specs.expressible_graphs.Served.{TestIsServed, ChooserIsServed, StmtIsServed, StmtsAreServed, ArmsAreServed, BodyIsServed, ControlIsServed, ActIsServed, ParagraphIsServed, ParagraphsAreServed, ProgramIsServed}
+use Rattle.control_flow_theory.proofs.main_theorem_lemmas.graphs.LoweredStand.{closed-graphs-stand}
+use Rattle.control_flow_theory.proofs.main_theorem_lemmas.graphs.Numbering.{counters-numbered}
+use Rattle.control_flow_theory.proofs.expressible_graphs_lemmas.Graphs.{served-graphs}
 use Rattle.fixed_point.specs.Choices.{ChoiceFits}
 use Rattle.fixed_point.specs.Fixed.{stands_in}
 use Rattle.fixed_point.specs.Written.{StmtsChoose}
@@ -34,7 +34,7 @@ flags-count empty first done = refl
 flags-count empty first (given arm others) = ap (λ (n : ℕ). suc n) (flags-count empty (suc first) others)
 flags-count empty first (missing others) = ap (λ (n : ℕ). suc n) (flags-count empty (suc first) others)
 
-module _ (naming : Naming) (told : Told) (most : Range → ℕ → ℕ) (range : Range) where
+module _ (naming : Naming) (told : FlowFacts) (most : Range → ℕ → ℕ) (range : Range) where
   abbrev Served : Stmt → Type 0
   Served stmt = StmtIsServed naming (counting told.width most) told range stmt
 

@@ -7,7 +7,7 @@ use Rattle.control_flow_theory.specs.language.Language.{Act, Stmt, Do, Choose, L
 use Rattle.control_flow_theory.specs.language.Language as language
 use Rattle.control_flow_theory.specs.language.Structured.{stmts_perform}
 use Rattle.control_flow_theory.specs.semantics.Graph.{Label, Tree, tree, End, Pick, Jump, Return, Stop, Dead, Trees, no_more, more}
-use Rattle.control_flow_theory.specs.lowering.Told.{Told}
+use Rattle.control_flow_theory.specs.lowering.FlowFacts.{FlowFacts}
 use Rattle.control_flow_theory.specs.lowering.Completes.{complete}
 use Rattle.control_flow_theory.specs.lowering.Lower as lower
 use Rattle.control_flow_theory.specs.lowering.Lowered.{lowered}
@@ -15,14 +15,14 @@ use Rattle.control_flow_theory.specs.lowering.Reached.{kept}
 use Rattle.control_flow_theory.specs.lowering.Renamed.{end_anew, trees_anew, tree_anew}
 use Rattle.control_flow_theory.specs.graph_rules.Walked.{is_in, In}
 use Rattle.control_flow_theory.specs.graph_rules.Reduced.{Node, Graphs, tree_in}
-use Rattle.control_flow_theory.specs.closing.Dispatches.{either, end_returns, tree_returns, trees_return}
-use Rattle.control_flow_theory.specs.closing.Closes.{closed_graph}
+use Rattle.control_flow_theory.specs.structuring.Dispatches.{either, end_returns, tree_returns, trees_return}
+use Rattle.control_flow_theory.specs.structuring.Closes.{closed_graph}
 use Rattle.control_flow_theory.specs.rendering.Rendering.{Naming, Procedure, place_of, required, then_stmts, written_stmts, closing, written_paragraph}
-use Rattle.control_flow_theory.specs.headline.Chain.{procedure_of, procedures_of}
-use Rattle.control_flow_theory.specs.headline.Headline.{Plan, graphs_by, procedures_by}
-use Rattle.control_flow_theory.specs.headline.Numbering.{numbers_by, added_by}
+use Rattle.control_flow_theory.specs.main_theorem.Chain.{procedure_of, procedures_of}
+use Rattle.control_flow_theory.specs.main_theorem.MainTheorem.{Plan, graphs_by, procedures_by}
+use Rattle.control_flow_theory.specs.main_theorem.Numbering.{numbers_by, added_by}
 use Rattle.control_flow_theory.proofs.semantics_lemmas.Ranges.{eq-self, same-self, same-range}
-use Rattle.control_flow_theory.proofs.headline_lemmas.graphs.LoweredGraphs.{graphs-family, graphs-closed}
+use Rattle.control_flow_theory.proofs.main_theorem_lemmas.graphs.LoweredGraphs.{graphs-family, graphs-closed}
 use Rattle.fixed_point.specs.Tight.{pass, StmtsAreTight, EndIsTight}
 use Rattle.fixed_point.specs.Again.{StmtsAreUncut}
 use Rattle.fixed_point.specs.Returns.{NodesReturn}
@@ -121,12 +121,12 @@ closing-idle number (Part e x) (Jump to) = refl
 closing-idle number (Part e x) Return = refl
 closing-idle number (Part e x) Dead = refl
 
-complete-required : (naming : Naming) (t : Told) (ss : Stmts) → complete t ss ≡ true → complete t (required naming.nothing ss) ≡ true
+complete-required : (naming : Naming) (t : FlowFacts) (ss : Stmts) → complete t ss ≡ true → complete t (required naming.nothing ss) ≡ true
 complete-required naming t none h = refl
 complete-required naming t (also s ss) h = h
 
 -- a sentence of what is written of an uncut body
-front-of : (naming : Naming) (t : Told) (body last : Stmts) → StmtsAreUncut t body → ((number : ℕ) → stmts_perform number last ≡ false) → IsUncutFront t (required naming.nothing (then_stmts body last))
+front-of : (naming : Naming) (t : FlowFacts) (body last : Stmts) → StmtsAreUncut t body → ((number : ℕ) → stmts_perform number last ≡ false) → IsUncutFront t (required naming.nothing (then_stmts body last))
 front-of naming t none none u idle = record { front = also (Do (language.Own naming.nothing)) none; last = none; is = refl; uncut = (tt, tt, tt); idle = idle }
 front-of naming t none (also s ss) u idle = record { front = none; last = also s ss; is = refl; uncut = tt; idle = idle }
 front-of naming t (also s ss) last u idle = record { front = also s ss; last = last; is = refl; uncut = u; idle = idle }
@@ -140,8 +140,8 @@ then-none : (a : Stmts) → then_stmts a none ≡ a
 then-none none = refl
 then-none (also s a) = ap (also s) (then-none a)
 
-module _ (plan : Plan) (program : Program) (naming : Naming) (result_told : Told) (r : IsFirstWritten plan program naming result_told) where
-  abbrev told : Told
+module _ (plan : Plan) (program : Program) (naming : Naming) (result_told : FlowFacts) (r : IsFirstWritten plan program naming result_told) where
+  abbrev told : FlowFacts
   told = plan.told
 
   abbrev procs : List Procedure
@@ -168,7 +168,7 @@ module _ (plan : Plan) (program : Program) (naming : Naming) (result_told : Told
       let nodes = (graphs_by plan program (Part e x)).nodes in
       let found : tree_in nodes s.0 ≡ tree_anew (numbers (Part e x)) ((kept keep (lowered told program)).node (Part e x) s.0) =
       sym (ap (λ f. f.node (Part e x) s.0) (graphs-family told program keep numbers (added_by plan.keep program))) in
-      let kept_is = ap (λ b. if b then (lowered told program).node (Part e x) s.0 else lower.only Dead) k in
+      let kept_is = ap (λ b. if b then (lowered told program).node (Part e x) s.0 else lower.end_alone Dead) k in
       let one : tree_returns (tree_in nodes s.0) ≡ true =
       ap tree_returns found ∙ tree-returns-anew (numbers (Part e x)) ((kept keep (lowered told program)).node (Part e x) s.0) ∙ ap tree_returns kept_is ∙ s.2 in
       closed-returns (graphs_by plan program (Part e x))
@@ -204,7 +204,7 @@ module _ (plan : Plan) (program : Program) (naming : Naming) (result_told : Told
   tight : (n : ℕ) (p : Procedure) → slice_get procs n ≡ Some p → StmtsAreTight told p.body × EndIsTight told p.body p.end
   tight n p is = procedures-tight plan program r.source n p is
 
-  abbrev by : Told
+  abbrev by : FlowFacts
   by = with_returning result_told table
 
   names-by : NamesAlike naming told (with_returning result_told table)
@@ -229,7 +229,7 @@ module _ (plan : Plan) (program : Program) (naming : Naming) (result_told : Told
   abbrev sentence_of : Procedure → Stmts
   sentence_of p = required naming.nothing (then_stmts (Ws p.range p.body) (closing p.range p.end))
 
-  passes-by : (t : Told) → NamesAlike naming told t → ((e x : ℕ) → stands_in procs e x ≡ true → told.returning e x ≡ true → t.returning (place (Part e x)) (place (Part e x)) ≡ true) →
+  passes-by : (t : FlowFacts) → NamesAlike naming told t → ((e x : ℕ) → stands_in procs e x ≡ true → told.returning e x ≡ true → t.returning (place (Part e x)) (place (Part e x)) ≡ true) →
       (n : ℕ) (p : Procedure) → slice_get procs n ≡ Some p → pass told p.body ≡ true → complete t (Ws p.range p.body) ≡ true
   passes-by t names rets n p is h = pass-so naming place p.range told t (stands_in procs) names rets p.body (r.nests n p is) h
 

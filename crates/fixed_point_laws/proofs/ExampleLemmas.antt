@@ -7,7 +7,7 @@ use Rattle.control_flow_theory.specs.language.Items.{Item, Do, SentenceEnd}
 use Rattle.control_flow_theory.specs.language.Structured.{StmtsNest, IsStructured}
 use Rattle.control_flow_theory.specs.semantics.Items.{Way, On, Into, To, ToEnd, item_way}
 use Rattle.control_flow_theory.specs.semantics.Graph.{Label, end_of}
-use Rattle.control_flow_theory.specs.lowering.Told.{Told}
+use Rattle.control_flow_theory.specs.lowering.FlowFacts.{FlowFacts}
 use Rattle.control_flow_theory.specs.lowering.WellFormed.{AreJustReached}
 use Rattle.control_flow_theory.specs.lowering.flow.Comes.{begins, enters, goes_on, goes_to, goes_to_end, over, falls}
 use Rattle.control_flow_theory.specs.lowering.Lowered.{lowered}
@@ -17,10 +17,10 @@ use Rattle.control_flow_theory.specs.lowering.flow.Entered.{FreelyComes, IsEnter
 use Rattle.control_flow_theory.specs.lowering.flow.Called.{IsCalled}
 use Rattle.control_flow_theory.specs.graph_rules.Walked.{In}
 use Rattle.control_flow_theory.specs.rendering.Rendering.{Procedure, place_of}
-use Rattle.control_flow_theory.specs.headline.Chain.{IsPlan}
-use Rattle.control_flow_theory.specs.headline.CallsReached.{GivesSome}
-use Rattle.control_flow_theory.specs.headline.Headline.{procedures_by}
-use Rattle.program_facts.specs.completion.Told.{told_of}
+use Rattle.control_flow_theory.specs.main_theorem.Chain.{IsPlan}
+use Rattle.control_flow_theory.specs.main_theorem.CallsReached.{GivesSome}
+use Rattle.control_flow_theory.specs.main_theorem.MainTheorem.{procedures_by}
+use Rattle.program_facts.specs.completion.FlowFacts.{flow_facts_of}
 use Rattle.statement_builders.specs.arms.Written.{naming_in}
 use Rattle.fixed_point.specs.Again.{IsRangeAt}
 use Rattle.fixed_point.specs.Fixed.{stands_in, result_by, ResultIsWritten}
@@ -28,8 +28,8 @@ use Rattle.fixed_point.specs.Written.{PickerAgain, StmtsChoose}
 use Rattle.fixed_point_laws.specs.Example.{stopping, stopping_kept, stopping_plan, stopping_way, StoppingComesAgain}
 use Rattle.fixed_point_laws.proofs.NameLemmas.{parts-keep, reads-alike, acts-so}
 
-abbrev told : Told
-told = told_of [] []
+abbrev told : FlowFacts
+told = flow_facts_of [] []
 
 abbrev whole_rest : List Item
 whole_rest = Do StopRun ∷ SentenceEnd ∷ []

@@ -3,16 +3,16 @@ use Rattle.std.proofs.Common.{◌≡◌, List, [], Option, Some, None, if◌then
 use Rattle.cob_tree.specs.declared.file.FileEntry.{FileEntry}
 use Rattle.control_flow_theory.specs.language.Control.{control_of}
 use Rattle.control_flow_theory.specs.language.Language.{Chooser, Evaluate, Read, Arith, Depending, Program}
-use Rattle.control_flow_theory.specs.lowering.Told.{Told}
+use Rattle.control_flow_theory.specs.lowering.FlowFacts.{FlowFacts}
 use Rattle.control_flow_theory.specs.language.Structured.{IsStructured}
 use Rattle.control_flow_theory.specs.lowering.flow.Paths.{free, nothing_left}
 use Rattle.control_flow_theory.specs.lowering.flow.Paths as theory
-use Rattle.control_flow_theory.proofs.agreement_lemmas.Faultless.{structured-faultless}
-use Rattle.program_facts.specs.completion.Told.{never_ends, status_missing, told_of}
+use Rattle.control_flow_theory.proofs.semantics_agree_lemmas.Faultless.{structured-faultless}
+use Rattle.program_facts.specs.completion.FlowFacts.{never_ends, status_missing, flow_facts_of}
 use Rattle.meanings.specs.statements.Does.{declared_in}
 use Rattle.cobol_theory.proofs.cobol_parts_lemmas.SomeArm.{gives-some}
 use Rattle.cobol_theory.proofs.cobol_parts_lemmas.Sources.{source}
-use Rattle.program_points.specs.numbering.Kinds.{has_no_status, never_first_of}
+use Rattle.program_points.specs.numbering.Kind.{has_no_status, never_first_of}
 use Rattle.program_points.specs.paths.Flow.{IsFaulty}
 use Rattle.program_points.proofs.machine_paths_lemmas.Lifting.{faulty-there}
 use Rattle.fixed_point_laws.specs.Faultless.{StructuredProgramsAreFaultless}
@@ -31,12 +31,12 @@ same-first files (Depending on names) = refl
 pub same-told : (files : List FileEntry) → never_first_of files ≡ never_ends files
 same-told files = λ i chooser. same-first files chooser i
 
-pub no-fault : (told : Told) (program : Program) → IsStructured program → theory.IsFaulty told program → ⊥
+pub no-fault : (told : FlowFacts) (program : Program) → IsStructured program → theory.IsFaulty told program → ⊥
 no-fault told program structured there = structured-faultless (free told) nothing_left program structured there.0 there.1 there.2 there.3
 
 pub are-faultless : StructuredProgramsAreFaultless
 are-faultless = λ program items paragraphs structured faulty.
-    let told : Told = told_of program.files [] in
+    let told : FlowFacts = flow_facts_of program.files [] in
     no-fault told (control_of program) structured
     (faulty-there told (control_of program) (source (declared_in program) [] program items paragraphs) (gives-some (declared_in program) [])
     (subst (λ never. IsFaulty never (control_of program)) (same-told program.files) faulty))

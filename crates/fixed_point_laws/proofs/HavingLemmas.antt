@@ -6,19 +6,19 @@ use Rattle.control_flow_theory.specs.language.Control.{control_of}
 use Rattle.control_flow_theory.specs.language.Language.{Program, Range, Main, same_range}
 use Rattle.control_flow_theory.specs.semantics.Graph.{Label}
 use Rattle.control_flow_theory.proofs.semantics_lemmas.Ranges.{same-range, same-self}
-use Rattle.control_flow_theory.specs.lowering.Told.{Told}
+use Rattle.control_flow_theory.specs.lowering.FlowFacts.{FlowFacts}
 use Rattle.control_flow_theory.specs.lowering.Lowered.{lowered}
 use Rattle.control_flow_theory.specs.lowering.Reached.{AreReached, IsReached}
 use Rattle.control_flow_theory.specs.lowering.WellFormed.{AreJustReached}
 use Rattle.control_flow_theory.specs.graph_rules.Walked.{In, is_in}
 use Rattle.control_flow_theory.specs.graph_rules.Reduced as reduced
 use Rattle.control_flow_theory.specs.graph_rules.Reduced.{Graph}
-use Rattle.control_flow_theory.specs.headline.Chain.{lowered_graphs}
-use Rattle.control_flow_theory.specs.headline.Headline.{Plan, graphs_by}
-use Rattle.control_flow_theory.specs.headline.Numbering.{numbers_by, added_by}
-use Rattle.program_facts.specs.completion.Told.{told_of}
+use Rattle.control_flow_theory.specs.main_theorem.Chain.{lowered_graphs}
+use Rattle.control_flow_theory.specs.main_theorem.MainTheorem.{Plan, graphs_by}
+use Rattle.control_flow_theory.specs.main_theorem.Numbering.{numbers_by, added_by}
+use Rattle.program_facts.specs.completion.FlowFacts.{flow_facts_of}
 use Rattle.program_points.proofs.table_building_lemmas.Sections.{seen-length}
-use Rattle.lowering_labels.specs.points.Fall.{seen_range}
+use Rattle.lowering_labels.specs.points.FallThrough.{seen_range}
 use Rattle.pending_returns.specs.declared.facts.Summary.{Summary}
 use Rattle.procedure_split.specs.plan.Laws.{others_of}
 use Rattle.procedure_split.specs.plan.Planned.{IsPlanOf}
@@ -32,7 +32,7 @@ use Rattle.fixed_point_laws.proofs.AgainLemmas.{PlannedAgain}
 abbrev Kept : Type 0
 Kept = Range → Label → Bool
 
-module _ (told : Told) (program : Program) where
+module _ (told : FlowFacts) (program : Program) where
   -- a range that isn't there keeps all
   abbrev pub kept_by : (ranges : List code.Range) (graphs : List Graph) →
       HaveGraphs told program ranges graphs → Kept
@@ -147,9 +147,9 @@ pub record PlannedHaving (program : cobol.Program) (summary : Summary) (order : 
       graph ≡ graphs_by planned.plan (control_of program) (seen_range range)
 
 pub planned-having : (program : cobol.Program) (summary : Summary) (returning : List (List ℕ)) (order : List code.Range) (graphs : List Graph) → HasFlow program summary →
-    IsPlanOf summary.ranges returning order → HaveGraphs (told_of program.files returning) (control_of program) order graphs → PlannedHaving program summary order graphs
+    IsPlanOf summary.ranges returning order → HaveGraphs (flow_facts_of program.files returning) (control_of program) order graphs → PlannedHaving program summary order graphs
 planned-having program summary returning order graphs flow by have =
-    let told = told_of program.files returning in
+    let told = flow_facts_of program.files returning in
     let control = control_of program in
     let some : 0 < length control.paragraphs = subst (λ n. 0 < n) (sym (seen-length 0 program.paragraphs)) flow.some in
     let first = cobol-planned program summary returning order flow.items flow.paragraphs some flow.fair flow.is by in

@@ -9,7 +9,7 @@ use Rattle.control_flow_theory.specs.language.Items.{Turning, Counted, Tests, St
 use Rattle.control_flow_theory.specs.semantics.Items.{Way, On, Halts, Into, To, ToEnd, way_after, tried, on, first_turn, varying, loop_begins, turns, tests, steps_on, turn_way, stmt_way, item_way}
 use Rattle.control_flow_theory.specs.semantics.Source.{rest_of}
 use Rattle.control_flow_theory.specs.language.Structured.{StmtNests, StmtsNest, ArmsNest, BodyNests, NamesLater, ParagraphNests, ParagraphsNest, EndsInStop, FirstStops, IsStructured}
-use Rattle.control_flow_theory.specs.lowering.Told.{Told}
+use Rattle.control_flow_theory.specs.lowering.FlowFacts.{FlowFacts}
 use Rattle.control_flow_theory.specs.lowering.flow.Comes.{Comes, IsNoExit, begins, enters, goes_on, goes_to, goes_to_end, over, falls}
 use Rattle.control_flow_theory.specs.lowering.flow.Paths.{free}
 use Rattle.control_flow_theory.specs.lowering.flow.Entered.{IsEntered, main, performed}
@@ -245,7 +245,7 @@ module _ {Memory : Type 0} (doing : Doing Memory) (program : Program) (structure
       inside-on r n item more memory (Into entry exit items) items is (λ here k. k.1) (inside r n (item ∷ more) c)
   inside range number rest (falls r n next there passed c) = inside-falls r n passed (inside r n [] c) (rest_of program (suc n))
 
-module _ (told : Told) (program : Program) (structured : IsStructured program) where
+module _ (told : FlowFacts) (program : Program) (structured : IsStructured program) where
   -- what the level of a paragraph performs
   pub later : (number : ℕ) (range : Range) → number < length program.paragraphs → IsRangeAt number range → (entry exit : ℕ) → IsCalled told program range entry exit →
       NamesLater (length program.paragraphs) number entry exit

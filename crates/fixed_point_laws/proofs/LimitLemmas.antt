@@ -14,20 +14,20 @@ use Rattle.control_flow_theory.specs.language.Language as language
 use Rattle.control_flow_theory.specs.language.Language.{Picker, Range, Main, Stmt, Do, Choose, Loop, Perform, Go, GoDepending, NextSentence, ExitParagraph, ExitSection, ExitPerform, StopRun, Stmts, none, also, Arms, done, given, missing, Body, Nested, Performed, Paragraph}
 use Rattle.control_flow_theory.specs.language.Structured.{IsStructured}
 use Rattle.control_flow_theory.specs.lowering.Completes.{sizes}
-use Rattle.control_flow_theory.specs.lowering.Told.{Told}
+use Rattle.control_flow_theory.specs.lowering.FlowFacts.{FlowFacts}
 use Rattle.control_flow_theory.specs.lowering.Lowered.{lowered, total}
 use Rattle.control_flow_theory.specs.semantics.Graph.{tree, End, Pick, Jump, Return, Stop, Dead, body_of}
 use Rattle.control_flow_theory.specs.graph_rules.Reduced.{Graph, Node}
-use Rattle.control_flow_theory.specs.closing.Closes.{closed_graph}
-use Rattle.control_flow_theory.specs.closing.Laws.{PlainEnd}
+use Rattle.control_flow_theory.specs.structuring.Closes.{closed_graph}
+use Rattle.control_flow_theory.specs.structuring.Laws.{PlainEnd}
 use Rattle.control_flow_theory.specs.rendering.Rendering.{Naming, Procedure, place_of, required, then_stmts, closing, written_paragraph, written_stmts}
-use Rattle.control_flow_theory.specs.headline.Headline.{Plan, graphs_by, procedures_by}
+use Rattle.control_flow_theory.specs.main_theorem.MainTheorem.{Plan, graphs_by, procedures_by}
 use Rattle.control_flow_theory.proofs.rendering_lemmas.Written.{map-get}
-use Rattle.program_points.specs.numbering.Kinds.{never_first_of}
-use Rattle.branch_tree.specs.Graphs.{seen_graph}
-use Rattle.lowering_labels.specs.points.Fall.{seen_range}
-use Rattle.flow_graph.specs.graph_sizes.Sizes.{end_size, graph_size, node_size, tree_size}
-use Rattle.region_rewrite.specs.Shape.{first_tree, max_nesting, result_nesting}
+use Rattle.program_points.specs.numbering.Kind.{never_first_of}
+use Rattle.branch_tree.specs.Graph.{seen_graph}
+use Rattle.lowering_labels.specs.points.FallThrough.{seen_range}
+use Rattle.flow_graph.specs.graph_sizes.Sizing.{end_size, graph_size, node_size, tree_size}
+use Rattle.region_rewrite.specs.Shaping.{first_tree, max_nesting, result_nesting}
 use Rattle.region_rewrite.specs.written_nesting.Nesting.{leaves_out, is_nothing, arm_level, nesting, stmt_nesting, body_nesting, arms_nesting}
 use Rattle.cobol_print.specs.Unit.{all_tokens}
 use Rattle.cobol_print.specs.units.Division.{program_units}
@@ -36,19 +36,20 @@ use Rattle.cobol_theory.specs.added_items.Own.{items}
 use Rattle.statement_builders.specs.arms.Written.{Way}
 use Rattle.pending_returns.specs.Summary.{IsSummary}
 use Rattle.pending_returns.specs.declared.facts.Summary.{Summary}
-use Rattle.procedure_split.specs.Split.{IsSplit, IsSplitFault}
+use Rattle.procedure_split.specs.Splitting.{IsSplit, IsSplitFault}
 use Rattle.procedure_split.specs.plan.Planned.{IsPlanOf}
 use Rattle.procedure_split.specs.shaped_ranges.Graphs.{HaveGraphs, total_size}
 use Rattle.procedure_split.specs.shaped_ranges.Laws.{HasFlow}
 use Rattle.procedure_split.specs.shaped_ranges.Limit.{node_limit}
-use Rattle.procedure_split.specs.split_behaviour.Alike.{IsWellMade, FlowsSo}
+use Rattle.procedure_split.specs.split_behaviour.Alike.{IsWellMade}
+use Rattle.pending_returns.specs.FaultFree.{IsFaultFree}
 use Rattle.procedure_split.specs.written_depth.Levels.{levels, stmt_levels, body_levels, arms_levels, least_levels, paragraph_levels, program_levels}
 use Rattle.procedure_split.proofs.lowered_arms_lemmas.Graphs.{split-nests}
 use Rattle.procedure_split.proofs.shaped_ranges_lemmas.GraphRows.{have-seen}
 use Rattle.procedure_split.proofs.split_behaviour_lemmas.Joined as joined
 use Rattle.procedure_split.proofs.split_behaviour_lemmas.Named.{have-names}
 use Rattle.procedure_split.proofs.written_depth_lemmas.Seen.{program-agrees}
-use Rattle.program_facts.specs.completion.Told.{told_of}
+use Rattle.program_facts.specs.completion.FlowFacts.{flow_facts_of}
 use Rattle.program_facts.specs.well_scoped.Part.{is_filled}
 use Rattle.fixed_point.specs.Fixed.{result_by}
 use Rattle.fixed_point_laws.specs.Limits.{SplitsPassNoLimit}
@@ -189,7 +190,7 @@ sums-within (graph ∷ graphs) (paragraph ∷ paragraphs) many each =
     (sum_by-cons graph_size graph graphs) (each 0 graph paragraph refl refl)
     (sums-within graphs paragraphs (omega (arith, many)) (λ at g p e f. each (suc at) g p e f))
 
-module _ (program made : Program) (summary other : Summary) (well : IsWellMade program) (flows : FlowsSo program summary) (split : IsSplit program summary made)
+module _ (program made : Program) (summary other : Summary) (well : IsWellMade program) (flows : IsFaultFree program summary) (split : IsSplit program summary made)
     (well_made : IsWellMade made) (summed : IsSummary (never_first_of made.files) (control_of made) other) where
   abbrev plan : Plan
   plan = first.plan program made summary well flows split
@@ -214,7 +215,7 @@ module _ (program made : Program) (summary other : Summary) (well : IsWellMade p
   structured : IsStructured (control_of made)
   structured = (joined.behave-alike program made summary well flows split).0
 
-  flows_made : FlowsSo made other
+  flows_made : IsFaultFree made other
   flows_made = record {
     fair = are-faultless made well_made.proper.own_items well_made.proper.own_paragraphs structured;
     is = summed;
@@ -304,10 +305,10 @@ module _ (program made : Program) (summary other : Summary) (well : IsWellMade p
       (split-nests program made summary (joined.flow program made summary well flows split) well.fit.own.statements split)
 
   having : (returning : List (List ℕ)) (order : List code.Range) (graphs : List Graph) → IsPlanOf other.ranges returning order →
-      HaveGraphs (told_of made.files returning) (control_of made) order graphs → PlannedHaving made other order graphs
+      HaveGraphs (flow_facts_of made.files returning) (control_of made) order graphs → PlannedHaving made other order graphs
   having returning order graphs is have = planned-having made other returning order graphs flow is have
 
-  have-many : (told : Told) (ranges : List code.Range) (graphs : List Graph) → HaveGraphs told (control_of made) ranges graphs → length graphs ≡ length ranges
+  have-many : (told : FlowFacts) (ranges : List code.Range) (graphs : List Graph) → HaveGraphs told (control_of made) ranges graphs → length graphs ≡ length ranges
   have-many told [] [] have = refl
   have-many told [] (graph ∷ graphs) have = absurd have
   have-many told (range ∷ ranges) [] have = absurd have
@@ -346,13 +347,13 @@ module _ (program made : Program) (summary other : Summary) (well : IsWellMade p
   passes-none limit few (inl large) =
       let have = large.past.have in
       let h = having large.plan.returning large.plan.order large.past.graphs large.plan.is have in
-      let le = size-within large.plan.order large.past.graphs h (have-many (told_of made.files large.plan.returning) large.plan.order large.past.graphs have) in
+      let le = size-within large.plan.order large.past.graphs h (have-many (flow_facts_of made.files large.plan.returning) large.plan.order large.past.graphs have) in
       clash (total_size large.past.graphs) (parts_of (control_of made).paragraphs) node_limit le (tokens-within few) large.past.past
   passes-none limit few (inr deep) =
-      let have = have-seen (told_of made.files deep.plan.returning) (control_of made) deep.plan.order deep.graphs deep.lowered.are in
+      let have = have-seen (flow_facts_of made.files deep.plan.returning) (control_of made) deep.plan.order deep.graphs deep.lowered.are in
       let h = having deep.plan.returning deep.plan.order (map seen_graph deep.graphs) deep.plan.is have in
       let there = map-get seen_graph deep.graphs deep.deep.at deep.deep.graph deep.deep.there in
-      let count = have-many (told_of made.files deep.plan.returning) deep.plan.order (map seen_graph deep.graphs) have in
+      let count = have-many (flow_facts_of made.files deep.plan.returning) deep.plan.order (map seen_graph deep.graphs) have in
       let range = in-list deep.plan.order deep.deep.at (let lt = slice_get_within (map seen_graph deep.graphs) deep.deep.at (seen_graph deep.deep.graph) there in omega (arith, lt, count)) in
       let le = nests-within deep.plan.order (map seen_graph deep.graphs) h deep.deep.at range.0 (seen_graph deep.deep.graph) range.1 there in
       clash (result_nesting (closed_graph (seen_graph deep.deep.graph))) max_nesting max_nesting le (same-least max_nesting) deep.deep.deep

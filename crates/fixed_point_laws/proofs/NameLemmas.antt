@@ -4,7 +4,7 @@ use Rattle.std.specs.Prelude.{not, map}
 use Rattle.cob_tree.specs.declared.choice.Subject.TheVariants as subjects
 use Rattle.cob_tree.specs.declared.file.FileEntry.{FileEntry}
 use Rattle.control_flow_theory.specs.language.Language.{Own, Set, Take, Lower, Chooser, Evaluate, Read, Arith, Depending, If, By, ByCell, none, also, Arms, done, given, missing, Range}
-use Rattle.program_facts.specs.completion.Told.{told_of}
+use Rattle.program_facts.specs.completion.FlowFacts.{flow_facts_of}
 use Rattle.control_flow_theory.specs.rendering.Rendering.{standing}
 use Rattle.cobol_theory.specs.cell_items.Cell.{cell_operand, operand_expr}
 use Rattle.cobol_theory.specs.cell_items.Laws.{number_tests}
@@ -18,7 +18,7 @@ parts-keep = λ way. record { simple = λ s. refl; cond = λ c. refl; amount = �
 
 module _ (way : Way) (files : List FileEntry) (once again : List (List ℕ)) (range : Range) where
   chooser-alike : (chooser : Chooser) (arms : Arms) → (arms ≡ done → ⊥) →
-      (told_of files again).never_first ((naming_in way).chooser chooser (standing ((naming_in way).empty range (By chooser)) 0 arms)) ≡ true → (told_of files once).never_first chooser ≡ true
+      (flow_facts_of files again).never_first ((naming_in way).chooser chooser (standing ((naming_in way).empty range (By chooser)) 0 arms)) ≡ true → (flow_facts_of files once).never_first chooser ≡ true
   chooser-alike (Evaluate subject tests has_other) arms some e = absurd cc
   chooser-alike (Read file into has_end) done some e = absurd (some refl)
   chooser-alike (Read file into true) (given none others) some e = absurd cc

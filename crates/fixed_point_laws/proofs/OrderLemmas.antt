@@ -2,7 +2,7 @@
 use Rattle.std.proofs.Common.{◌≡◌, ◌<◌, ◌≤◌, ◌+◌, ℕ, zero, suc, Bool, true, false, not, ◌&&◌, ◌||◌, if◌then◌else◌, nat_eq, List, [], ◌∷◌, length, replicate, Some, slice_get, refl, ap, sym, ◌∙◌, subst, inl, inr, eqb-true, arith}
 use Rattle.std.specs.Prelude.{slice_set, slice_index_or}
 use Rattle.std.proofs.lemmas.Bool.Decides.{eqb_tells}
-use Rattle.pending_returns.specs.levels.Reaching.{Holds}
+use Rattle.pending_returns.specs.levels.Reach.{Holds}
 use Rattle.out_names.specs.Ordering.{calls_it, waits, is_ready, first_ready, order_from, order_of}
 
 -- so many numbers from this one on

@@ -5,11 +5,11 @@ use Rattle.cob_tree.specs.declared.program.Range as tree
 use Rattle.control_flow_theory.specs.language.Language.{Paragraph, Program, Range, Main, Part, Perform}
 use Rattle.control_flow_theory.specs.language.Structured.{FirstStops, IsStructured}
 use Rattle.control_flow_theory.specs.language.Items.{Do}
-use Rattle.control_flow_theory.specs.lowering.Told.{Told, IsSource}
+use Rattle.control_flow_theory.specs.lowering.FlowFacts.{FlowFacts, IsSource}
 use Rattle.control_flow_theory.specs.lowering.flow.Entered.{FreelyComes, IsEntered, main, performed}
 use Rattle.control_flow_theory.specs.lowering.flow.Called.{IsCalled}
 use Rattle.control_flow_theory.specs.lowering.flow.Paths as theory
-use Rattle.control_flow_theory.specs.headline.CallsReached.{GivesSome}
+use Rattle.control_flow_theory.specs.main_theorem.CallsReached.{GivesSome}
 use Rattle.program_points.specs.paths.Step.{Point, at, Calls, next}
 use Rattle.program_points.specs.paths.Flow.{main_range, part, Pending, returning, IsRange}
 use Rattle.program_points.specs.paths.Levels.{Comes, Levels, bottom, called}
@@ -18,7 +18,7 @@ use Rattle.program_points.specs.machine_paths.Uncounted.{uncounted, point_at, ra
 use Rattle.program_points.proofs.machine_paths_lemmas.Ways.{next-calls}
 use Rattle.program_points.proofs.machine_paths_lemmas.SameLevels.{comes-here, comes-back}
 use Rattle.program_points.specs.perform_ranges.Named.{is_before, Has}
-use Rattle.pending_returns.specs.levels.Reaching.{Holds}
+use Rattle.pending_returns.specs.levels.Reach.{Holds}
 use Rattle.pending_returns.proofs.levels_lemmas.Exact.{path-comes}
 use Rattle.pending_returns.specs.declared.facts.RangeFacts.{RangeFacts}
 use Rattle.pending_returns.specs.declared.facts.Summary.{Summary}
@@ -132,7 +132,7 @@ paragraphs-rise more number range next here there =
 
 -- ---- a structured program
 
-module _ (told : Told) (program : Program) (source : IsSource told program) (some : GivesSome told) (structured : IsStructured program) where
+module _ (told : FlowFacts) (program : Program) (source : IsSource told program) (some : GivesSome told) (structured : IsStructured program) where
   calls-there : (range : Range) (base : tree.Range) (point after : Point) (entry exit : ℕ) → range_of range ≡ base → Comes told.never_first program base point → next told.never_first program point ≡ Calls entry exit after → IsCalled told program range entry exit
   calls-there range base point after entry exit same c e =
       let first = next-calls told.never_first program point.paragraph point.rest entry exit after e in

@@ -9,9 +9,10 @@ use Rattle.cobol_read.specs.Reading.{Reads}
 use Rattle.out_names.specs.Ordering.{first_ready, order_from, order_of}
 use Rattle.pending_returns.specs.declared.facts.RangeFacts.{RangeFacts}
 use Rattle.pending_returns.specs.declared.facts.Summary.{Summary}
-use Rattle.procedure_split.specs.Split.{IsSplit}
+use Rattle.procedure_split.specs.Splitting.{IsSplit}
 use Rattle.procedure_split.specs.plan.Planned.{calls_of, range_at}
-use Rattle.procedure_split.specs.split_behaviour.Alike.{IsWellMade, FlowsSo}
+use Rattle.procedure_split.specs.split_behaviour.Alike.{IsWellMade}
+use Rattle.pending_returns.specs.FaultFree.{IsFaultFree}
 use Rattle.procedure_split.proofs.split_behaviour_lemmas.Joined as joined
 use Rattle.end_to_end_laws.specs.results.readable_results.Laws.{IsWithinLimits, SplitProgramsReadBack}
 use Rattle.end_to_end_laws.proofs.results_lemmas.read_headline_lemmas.WellMade.{well-made}
@@ -30,7 +31,7 @@ order-few (suc count) calls stands (Some number) =
     let k = order-few count calls (slice_set stands number true) (first_ready (length calls) calls (slice_set stands number true) 0) in
     omega (arith, k)
 
-module _ (read_back : SplitProgramsReadBack) (bytes : List ℕ) (program made : Program) (summary : Summary) (reads : Reads bytes program) (flows : FlowsSo program summary) (few : length summary.ranges ≤ 5000)
+module _ (read_back : SplitProgramsReadBack) (bytes : List ℕ) (program made : Program) (summary : Summary) (reads : Reads bytes program) (flows : IsFaultFree program summary) (few : length summary.ranges ≤ 5000)
     (split : IsSplit program summary made) (within : IsWithinLimits made) where
   well : IsWellMade program
   well = well-made bytes program reads

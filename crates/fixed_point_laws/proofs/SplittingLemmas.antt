@@ -13,9 +13,9 @@ use Rattle.control_flow_theory.specs.language.Own.{OwnParagraphs}
 use Rattle.control_flow_theory.specs.language.Structured.{IsStructured}
 use Rattle.control_flow_theory.specs.graph_rules.Reduced.{Graph, Graphs}
 use Rattle.control_flow_theory.specs.semantics.Graph.{tree}
-use Rattle.control_flow_theory.specs.closing.Closes.{closed_graph}
+use Rattle.control_flow_theory.specs.structuring.Closes.{closed_graph}
 use Rattle.control_flow_theory.specs.rendering.Rendering.{Naming, Procedure, place_of, written_paragraph, written_stmts}
-use Rattle.control_flow_theory.specs.headline.Headline.{Plan, graphs_by, procedures_by}
+use Rattle.control_flow_theory.specs.main_theorem.MainTheorem.{Plan, graphs_by, procedures_by}
 use Rattle.control_flow_theory.proofs.language_lemmas.Losing.{control-loses_nothing}
 use Rattle.meanings.specs.statements.Does.{declared_in}
 use Rattle.cobol_theory.specs.added_items.Own.{items}
@@ -23,19 +23,20 @@ use Rattle.cobol_theory.specs.cell_serving.Entries.{entries_of}
 use Rattle.statement_builders.specs.arms.Written.{Way}
 use Rattle.out_names.specs.Naming.{names_of}
 use Rattle.out_names.specs.Words.{program_words, table_of}
-use Rattle.added_items.specs.item_table.Items.{item_kinds}
+use Rattle.added_items.specs.item_table.Owners.{item_kinds}
 use Rattle.added_items.specs.item_table.Laws.{cell_range, closed_ranges}
 use Rattle.added_items.specs.item_table.Row.{CellRange}
-use Rattle.lowering_labels.specs.points.Fall.{seen_range}
-use Rattle.program_points.specs.numbering.Kinds.{never_first_of}
+use Rattle.lowering_labels.specs.points.FallThrough.{seen_range}
+use Rattle.program_points.specs.numbering.Kind.{never_first_of}
 use Rattle.pending_returns.specs.Summary.{IsSummary}
 use Rattle.pending_returns.specs.declared.facts.Summary.{Summary}
-use Rattle.procedure_split.specs.Counted.{counts_of}
+use Rattle.procedure_split.specs.Counting.{counts_of}
 use Rattle.procedure_split.specs.Rows.{rows_of}
-use Rattle.procedure_split.specs.Split.{IsSplit}
-use Rattle.procedure_split.specs.Written.{added_entries}
+use Rattle.procedure_split.specs.Splitting.{IsSplit}
+use Rattle.procedure_split.specs.Writing.{added_entries}
 use Rattle.procedure_split.specs.shaped_ranges.Laws.{IsPlannedWith}
-use Rattle.procedure_split.specs.split_behaviour.Alike.{IsWellMade, FlowsSo}
+use Rattle.procedure_split.specs.split_behaviour.Alike.{IsWellMade}
+use Rattle.pending_returns.specs.FaultFree.{IsFaultFree}
 use Rattle.procedure_split.proofs.made_procedures_lemmas.Rows.{beside, in-at}
 use Rattle.procedure_split.proofs.split_behaviour_lemmas.Joined as joined
 use Rattle.procedure_split.proofs.one_split_lemmas.Owned.{rendered-own}
@@ -65,7 +66,7 @@ in-list [] n lt = absurd (omega (arith, lt))
 in-list (x ∷ xs) zero lt = (x, refl)
 in-list (x ∷ xs) (suc n) lt = in-list xs n (omega (arith, lt))
 
-module _ (program made twice : Program) (summary other : Summary) (well : IsWellMade program) (flows : FlowsSo program summary) (split : IsSplit program summary made)
+module _ (program made twice : Program) (summary other : Summary) (well : IsWellMade program) (flows : IsFaultFree program summary) (split : IsSplit program summary made)
     (well_made : IsWellMade made) (summed : IsSummary (never_first_of made.files) (control_of made) other) (split_made : IsSplit made other twice) where
   abbrev plan : Plan
   plan = first.plan program made summary well flows split
@@ -76,7 +77,7 @@ module _ (program made twice : Program) (summary other : Summary) (well : IsWell
   structured : IsStructured (control_of made)
   structured = (joined.behave-alike program made summary well flows split).0
 
-  flows_made : FlowsSo made other
+  flows_made : IsFaultFree made other
   flows_made = record {
     fair = are-faultless made well_made.proper.own_items well_made.proper.own_paragraphs structured;
     is = summed;

@@ -6,9 +6,9 @@ use Rattle.control_flow_theory.proofs.semantics_lemmas.Ranges.{same-range}
 use Rattle.control_flow_theory.specs.graph_rules.Families.{Added, Never, Flag, Count, State, Exit}
 use Rattle.control_flow_theory.specs.graph_rules.Reduced.{Graphs, size}
 use Rattle.control_flow_theory.specs.graph_rules.Walked.{is_in, In}
-use Rattle.control_flow_theory.specs.closing.Closes.{closed_graph}
-use Rattle.control_flow_theory.specs.headline.Chain.{stmts_arms}
-use Rattle.added_items.specs.item_table.Items.{or_never, kind_in}
+use Rattle.control_flow_theory.specs.structuring.Closes.{closed_graph}
+use Rattle.control_flow_theory.specs.main_theorem.Chain.{stmts_arms}
+use Rattle.added_items.specs.item_table.Owners.{or_never, kind_in}
 use Rattle.added_items.specs.item_table.Laws.{cell_range, closed_ranges}
 use Rattle.added_items.specs.item_table.Row.{CellRange, of_range}
 use Rattle.added_items.specs.item_table.Tables.{most_arms, few_arms, most_by}

@@ -24,8 +24,8 @@ use Rattle.unparser.specs.Token.{Tokens, procedure_token}
 use Rattle.unparser.specs.Arithmetic.{calc_front, targets_tokens, calc_back, arithmetic_tokens, end_word}
 use Rattle.unparser.specs.Condition.{not_tokens}
 use Rattle.unparser.specs.Head.{head_step}
-use Rattle.cobol_print.specs.declared.units.statement.Phrase.{Phrase}
-use Rattle.cobol_print.specs.declared.units.statement.Phrase.TheVariants.{AtEnd, OnSizeError}
+use Rattle.cobol_print.specs.declared.units.statement.ArmPhrase.{ArmPhrase}
+use Rattle.cobol_print.specs.declared.units.statement.ArmPhrase.TheVariants.{AtEnd, OnSizeError}
 use Rattle.cobol_print.specs.declared.units.unit.PrintUnit.{PrintUnit}
 use Rattle.cobol_print.specs.units.Unit.{unit_at, header, deeper, ended}
 use Rattle.cobol_print.specs.units.Statement.{Lines, ArmLines, WhenLines, phrase_tokens, word_line, other_tokens, end_lines, tests_lines, some_lines, list_lines, arm_lines, whens_lines, held_by_other, held_by_else, held_step, stmt_step, arms_step, when_step, stmt_lines, arms_lines, when_lines}
@@ -177,7 +177,7 @@ module _ (program : Program) (last : ℕ) where
   IsSpelled stmt = (column : ℕ) (closed : Bool) → size (seen last stmt) ≤ told (stmt_lines program stmt column closed)
 
   abbrev ArmsAreSpelled : Arms → Type 0
-  ArmsAreSpelled arms = (phrase : Phrase) (column : ℕ) → size_arms (both_arms (seen_both last arms)) ≤ told ((arms_lines program arms).lines phrase column)
+  ArmsAreSpelled arms = (phrase : ArmPhrase) (column : ℕ) → size_arms (both_arms (seen_both last arms)) ≤ told ((arms_lines program arms).lines phrase column)
 
   abbrev WhenIsSpelled : When → Type 0
   WhenIsSpelled when = (column : ℕ) → sizes (seen_when last when).arm ≤ told (when_lines program when column)
@@ -347,12 +347,12 @@ module _ (program : Program) (last : ℕ) where
   abbrev lines_by : Arms-F Stmt Arms When → ArmLines
   lines_by arms = arms_step (map-Arms Stmt Arms When Lines ArmLines WhenLines (stmt_lines program) (arms_lines program) (when_lines program) arms)
 
-  arm-spelled : (xs : List SuchStmt) (phrase : Phrase) (not : Bool) (column : ℕ) → sizes (seen_stmts last (plain xs)) ≤ told (arm_lines (lines_of xs) phrase not column)
+  arm-spelled : (xs : List SuchStmt) (phrase : ArmPhrase) (not : Bool) (column : ℕ) → sizes (seen_stmts last (plain xs)) ≤ told (arm_lines (lines_of xs) phrase not column)
   arm-spelled xs phrase not column =
       let list = list_lines (lines_of xs) (deeper (deeper column)) true in
       first-of (unit_at (deeper column) (not_tokens not ++ phrase_tokens phrase)) list (sizes (seen_stmts last (plain xs))) (list-spelled xs (deeper (deeper column)) true)
 
-  both-spelled : (first second : Option (List SuchStmt)) (phrase : Phrase) (column : ℕ) →
+  both-spelled : (first second : Option (List SuchStmt)) (phrase : ArmPhrase) (column : ℕ) →
       size_arms (both_arms (both_of (mapped_arms (record { first = first; second = second })))) ≤ told ((lines_by (mapped_arms (record { first = first; second = second }))).lines phrase column)
   both-spelled None None phrase column = zero-least (told [])
   both-spelled None (Some second) phrase column =

@@ -14,14 +14,14 @@ use Rattle.cob_tree.specs.declared.stmt.Stmt.{Stmt, ind-Stmt, map-Stmt, roll-Stm
 use Rattle.cob_tree.specs.declared.stmt.Stmt.TheOpen.{Stmt-F, Arms-F, When-F}
 use Rattle.control_flow_theory.specs.language.Language as language
 use Rattle.control_flow_theory.specs.language.Control.{arith_stmt, arm_before, else_of, control_in, loop_of, perform_of, Branch, branches_before, Both, both_arms, both_step, branch_step, seen_step, seen, seen_when, seen_both, seen_stmts, seen_sentence, section_last, seen_paragraphs}
-use Rattle.control_flow_theory.specs.lowering.Told.{Told}
-use Rattle.program_facts.specs.completion.Told.{told_of}
+use Rattle.control_flow_theory.specs.lowering.FlowFacts.{FlowFacts}
+use Rattle.program_facts.specs.completion.FlowFacts.{flow_facts_of}
 use Rattle.fixed_point.specs.Tops.{StmtActs, StmtsAct, ArmsAct, ParagraphActs, ParagraphsAct}
 use Rattle.fixed_point_laws.specs.Turning.{VaryingActs}
 
 module _ (files : List FileEntry) (returning : List (List ℕ)) where
-  abbrev told : Told
-  told = told_of files returning
+  abbrev told : FlowFacts
+  told = flow_facts_of files returning
 
   -- ---- statements whose arms do
 

@@ -4,10 +4,10 @@ use Rattle.control_flow_theory.specs.language.Language.{Program, Range}
 use Rattle.control_flow_theory.specs.semantics.Graph.{Tree, end_of}
 use Rattle.control_flow_theory.specs.lowering.Lowered.{lowered}
 use Rattle.control_flow_theory.specs.lowering.WellFormed.{AreJustReached}
-use Rattle.control_flow_theory.specs.closing.Laws.{PlainEnd}
-use Rattle.control_flow_theory.specs.headline.Headline.{Plan, graphs_by}
-use Rattle.added_items.specs.item_table.Items.{item_kinds}
-use Rattle.added_items.specs.item_table.Names.{entries_for}
+use Rattle.control_flow_theory.specs.structuring.Laws.{PlainEnd}
+use Rattle.control_flow_theory.specs.main_theorem.MainTheorem.{Plan, graphs_by}
+use Rattle.added_items.specs.item_table.Owners.{item_kinds}
+use Rattle.added_items.specs.item_table.Naming.{entries_for}
 use Rattle.added_items.specs.item_table.Row.{CellRange}
 
 -- a graph of one node that jumps nowhere has no counter

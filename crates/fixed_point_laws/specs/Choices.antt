@@ -2,7 +2,7 @@
 use Rattle.std.specs.Prelude.{ℕ, List}
 use Rattle.control_flow_theory.specs.language.Language.{Picker, Arms, Range}
 use Rattle.control_flow_theory.specs.rendering.Rendering.{Procedure}
-use Rattle.program_facts.specs.completion.Told.{width_of}
+use Rattle.program_facts.specs.completion.FlowFacts.{width_of}
 use Rattle.statement_builders.specs.arms.Written.{Way, naming_in}
 use Rattle.fixed_point.specs.Choices.{ChoiceFits}
 use Rattle.fixed_point.specs.Written.{PickerAgain}

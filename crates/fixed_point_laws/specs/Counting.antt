@@ -2,16 +2,16 @@
 use Rattle.std.specs.Prelude.{ℕ, suc, ◌≡◌, ◌≤◌, ◌<◌, ◌==◌, true, ◌∷◌, length, Some, slice_get}
 use Rattle.control_flow_theory.specs.language.Language.{Chooser, Program, Range, Main}
 use Rattle.control_flow_theory.specs.language.Structured.{StmtsNest}
-use Rattle.control_flow_theory.specs.lowering.Told.{IsSource}
+use Rattle.control_flow_theory.specs.lowering.FlowFacts.{IsSource}
 use Rattle.control_flow_theory.specs.graph_rules.Families.{Added, Never, Flag, Count, State, Exit}
 use Rattle.control_flow_theory.specs.graph_rules.Reduced.{kind_at, size, tree_in}
 use Rattle.control_flow_theory.specs.graph_rules.Walked.{In}
 use Rattle.control_flow_theory.specs.semantics.Graph.{body_of}
-use Rattle.control_flow_theory.specs.closing.Closes.{closed_graph}
+use Rattle.control_flow_theory.specs.structuring.Closes.{closed_graph}
 use Rattle.control_flow_theory.specs.rendering.Rendering.{Naming, Procedure}
 use Rattle.control_flow_theory.specs.rendering.Procedures.{Writable}
-use Rattle.control_flow_theory.specs.headline.Chain.{IsPlan, stmts_arms}
-use Rattle.control_flow_theory.specs.headline.Headline.{Plan, graphs_by, procedures_by}
+use Rattle.control_flow_theory.specs.main_theorem.Chain.{IsPlan, stmts_arms}
+use Rattle.control_flow_theory.specs.main_theorem.MainTheorem.{Plan, graphs_by, procedures_by}
 use Rattle.fixed_point.specs.Choices.{ChoiceFits}
 use Rattle.fixed_point.specs.Fixed.{stands_in}
 use Rattle.fixed_point.specs.Written.{StmtsChoose}

@@ -2,17 +2,17 @@
 use Rattle.std.specs.Prelude.{ℕ, ◌≡◌, ◌≤◌, ◌<◌, true, length, Some, slice_get}
 use Rattle.control_flow_theory.specs.language.Language.{Program, Part}
 use Rattle.control_flow_theory.specs.language.Structured.{StmtsNest, IsStructured}
-use Rattle.control_flow_theory.specs.lowering.Told.{Told, IsSource}
+use Rattle.control_flow_theory.specs.lowering.FlowFacts.{FlowFacts, IsSource}
 use Rattle.control_flow_theory.specs.lowering.flow.Entered.{IsEntered}
 use Rattle.control_flow_theory.specs.rendering.Rendering.{Naming, Procedure}
-use Rattle.control_flow_theory.specs.headline.CallsReached.{GivesSome}
-use Rattle.control_flow_theory.specs.headline.Chain.{IsPlan}
-use Rattle.control_flow_theory.specs.headline.Headline.{Plan, procedures_by}
+use Rattle.control_flow_theory.specs.main_theorem.CallsReached.{GivesSome}
+use Rattle.control_flow_theory.specs.main_theorem.Chain.{IsPlan}
+use Rattle.control_flow_theory.specs.main_theorem.MainTheorem.{Plan, procedures_by}
 use Rattle.fixed_point.specs.Fixed.{stands_in, result_by}
 use Rattle.fixed_point.specs.Written.{NamesAlike}
 
 -- a source is written by this plan and naming, and lowering is told this of the result
-pub record IsFirstWritten (plan : Plan) (program : Program) (naming : Naming) (told : Told)
+pub record IsFirstWritten (plan : Plan) (program : Program) (naming : Naming) (told : FlowFacts)
     : Type 0 where
   pub source : IsSource plan.told program
   pub gives : GivesSome plan.told
@@ -29,7 +29,7 @@ pub record IsFirstWritten (plan : Plan) (program : Program) (naming : Naming) (t
 -- then flow paths enter each paragraph of the result
 abbrev pub ResultsAreEntered : Type 0
 ResultsAreEntered =
-    (plan : Plan) (program : Program) (naming : Naming) (told : Told) →
+    (plan : Plan) (program : Program) (naming : Naming) (told : FlowFacts) →
     IsFirstWritten plan program naming told → (number : ℕ) → 1 ≤ number →
     number < length (result_by plan program naming).paragraphs →
     IsEntered told (result_by plan program naming) (Part number number)

@@ -2,8 +2,8 @@
 use Rattle.std.specs.Prelude.{◌≡◌, Bool, true, false, ◌==◌, [], ◌∷◌}
 use Rattle.control_flow_theory.specs.language.Language.{StopRun, none, also, Program, Range, Main, Part}
 use Rattle.control_flow_theory.specs.semantics.Graph.{Label}
-use Rattle.control_flow_theory.specs.headline.Headline.{Plan}
-use Rattle.program_facts.specs.completion.Told.{told_of}
+use Rattle.control_flow_theory.specs.main_theorem.MainTheorem.{Plan}
+use Rattle.program_facts.specs.completion.FlowFacts.{flow_facts_of}
 use Rattle.statement_builders.specs.arms.Written.{Way, naming_in}
 use Rattle.fixed_point.specs.Fixed.{result_by, ResultIsWritten}
 
@@ -18,7 +18,7 @@ stopping_kept (Part entry exit) label = true
 
 -- it has no files, nothing returns, and main is its one range
 abbrev pub stopping_plan : Plan
-stopping_plan = record { told = told_of [] []; keep = stopping_kept; others = [] }
+stopping_plan = record { told = flow_facts_of [] []; keep = stopping_kept; others = [] }
 
 -- without an item
 abbrev pub stopping_way : Way

@@ -4,7 +4,7 @@ use Rattle.control_flow_theory.specs.language.Control.{control_of}
 use Rattle.control_flow_theory.specs.language.OwnItems.{NamesOwnItems}
 use Rattle.control_flow_theory.specs.language.Structured.{IsStructured}
 use Rattle.cobol_theory.specs.cobol_parts.Named.{NamesOwnParagraphs}
-use Rattle.program_points.specs.numbering.Kinds.{never_first_of}
+use Rattle.program_points.specs.numbering.Kind.{never_first_of}
 use Rattle.program_points.specs.paths.Flow.{IsFaulty}
 
 -- whatever its data, and whichever of its files have a status item

@@ -2,7 +2,7 @@
 use Rattle.std.specs.Prelude.{ℕ, ◌≡◌, ◌≤◌, ◌<◌, length}
 use Rattle.control_flow_theory.specs.language.Language.{Program, Range, Part}
 use Rattle.control_flow_theory.specs.language.Structured.{NamesLater, IsStructured}
-use Rattle.control_flow_theory.specs.lowering.Told.{Told}
+use Rattle.control_flow_theory.specs.lowering.FlowFacts.{FlowFacts}
 use Rattle.control_flow_theory.specs.lowering.flow.Called.{IsCalled}
 use Rattle.control_flow_theory.specs.lowering.flow.Entered.{IsEntered}
 use Rattle.fixed_point.specs.Again.{IsRangeAt}
@@ -10,7 +10,7 @@ use Rattle.fixed_point.specs.Again.{IsRangeAt}
 -- the level of a paragraph performs only later ones, each by itself
 abbrev pub LevelsPerformLater : Type 0
 LevelsPerformLater =
-    (told : Told) (program : Program) → IsStructured program → (number : ℕ) (range : Range) →
+    (told : FlowFacts) (program : Program) → IsStructured program → (number : ℕ) (range : Range) →
     number < length program.paragraphs → IsRangeAt number range → (entry exit : ℕ) →
     IsCalled told program range entry exit →
     NamesLater (length program.paragraphs) number entry exit
@@ -18,6 +18,6 @@ LevelsPerformLater =
 -- so each range that is entered, but main, is a paragraph by itself
 abbrev pub EnteredAreParagraphs : Type 0
 EnteredAreParagraphs =
-    (told : Told) (program : Program) → IsStructured program → (entry exit : ℕ) →
+    (told : FlowFacts) (program : Program) → IsStructured program → (entry exit : ℕ) →
     IsEntered told program (Part entry exit) →
     (entry ≡ exit) × (1 ≤ entry) × (entry < length program.paragraphs)

@@ -6,19 +6,20 @@ use Rattle.cob_tree.specs.declared.program.Program.{Program}
 use Rattle.control_flow_theory.specs.language.Control.{control_of}
 use Rattle.cobol_print.specs.Unit.{all_tokens}
 use Rattle.cobol_print.specs.units.Division.{program_units}
-use Rattle.program_points.specs.numbering.Kinds.{never_first_of}
+use Rattle.program_points.specs.numbering.Kind.{never_first_of}
 use Rattle.pending_returns.specs.Summary.{IsSummary}
 use Rattle.pending_returns.specs.declared.facts.Summary.{Summary}
-use Rattle.procedure_split.specs.Split.{IsSplit, IsSplitFault}
+use Rattle.procedure_split.specs.Splitting.{IsSplit, IsSplitFault}
 use Rattle.procedure_split.specs.shaped_ranges.Limit.{node_limit}
-use Rattle.procedure_split.specs.split_behaviour.Alike.{IsWellMade, FlowsSo}
+use Rattle.procedure_split.specs.split_behaviour.Alike.{IsWellMade}
+use Rattle.pending_returns.specs.FaultFree.{IsFaultFree}
 
 -- where it is printed as no more tokens than there may be labels and statements, what a program is
 -- split into isn't too large to be split, nor does it nest too deep
 abbrev pub SplitsPassNoLimit : Type 0
 SplitsPassNoLimit =
     (program made : Program) (summary other : Summary) (limit : Limit) → IsWellMade program →
-    FlowsSo program summary → IsSplit program summary made → IsWellMade made →
+    IsFaultFree program summary → IsSplit program summary made → IsWellMade made →
     IsSummary (never_first_of made.files) (control_of made) other →
     length (all_tokens (program_units made)) ≤ node_limit →
     IsSplitFault made other (fault.Limit limit) → ⊥

@@ -3,10 +3,10 @@ use Rattle.std.specs.Prelude.{ℕ, suc, ◌≡◌, ◌≤◌, ◌<◌, List, ◌
 use Rattle.cob_tree.specs.declared.program.Range as tree
 use Rattle.control_flow_theory.specs.language.Language.{Program, Range, Main, Part}
 use Rattle.control_flow_theory.specs.language.Structured.{IsStructured}
-use Rattle.control_flow_theory.specs.lowering.Told.{Told, IsSource}
+use Rattle.control_flow_theory.specs.lowering.FlowFacts.{FlowFacts, IsSource}
 use Rattle.control_flow_theory.specs.lowering.flow.Entered.{IsEntered}
 use Rattle.control_flow_theory.specs.lowering.flow.Paths.{IsFaulty}
-use Rattle.control_flow_theory.specs.headline.CallsReached.{GivesSome}
+use Rattle.control_flow_theory.specs.main_theorem.CallsReached.{GivesSome}
 use Rattle.pending_returns.specs.declared.facts.Summary.{Summary}
 use Rattle.pending_returns.specs.Summary.{IsSummary}
 use Rattle.procedure_split.specs.plan.Planned.{IsPlanOf}
@@ -24,7 +24,7 @@ pub record GoesByPlaces (program : Program) (order : List tree.Range) : Type 0 w
 -- where flow paths enter each of them
 abbrev pub PlansGoByPlaces : Type 0
 PlansGoByPlaces =
-    (told : Told) (program : Program) (summary : Summary) (returning : List (List ℕ))
+    (told : FlowFacts) (program : Program) (summary : Summary) (returning : List (List ℕ))
     (order : List tree.Range) → IsSource told program → GivesSome told → IsStructured program →
     (IsFaulty told program → ⊥) → IsSummary told.never_first program summary →
     IsPlanOf summary.ranges returning order →

@@ -7,14 +7,14 @@ use Rattle.cob_tree.specs.declared.program.Program.{Program}
 use Rattle.control_flow_theory.specs.language.Control.{control_of}
 use Rattle.cobol_print.specs.Program.{printed}
 use Rattle.cobol_read.specs.Reading.{Reads}
-use Rattle.program_points.specs.numbering.Kinds.{never_first_of}
+use Rattle.program_points.specs.numbering.Kind.{never_first_of}
 use Rattle.program_points.specs.paths.Flow.{IsFaulty}
 use Rattle.pending_returns.specs.Summary.{IsPast, IsSummary}
 use Rattle.pending_returns.specs.declared.facts.Summary.{Summary}
-use Rattle.procedure_split.specs.Counted.{none_added}
-use Rattle.procedure_split.specs.Split.{IsSplit, IsSplitFault, IsSplitWith}
+use Rattle.procedure_split.specs.Counting.{none_added}
+use Rattle.procedure_split.specs.Splitting.{IsSplit, IsSplitFault, IsSplitWith}
 use Rattle.procedure_split.specs.declared.writing.Split.{Split}
-use Rattle.procedure_split.specs.split_behaviour.Alike.{FlowsSo}
+use Rattle.pending_returns.specs.FaultFree.{IsFaultFree}
 use Rattle.end_to_end_laws.specs.results.readable_results.Laws.{IsWithinLimits}
 
 -- the program is split into itself, and its text is read as it
@@ -36,5 +36,5 @@ pub record IsFixed (made : Program) : Type 0 where
 abbrev pub ResultsAreFixed : Type 0
 ResultsAreFixed =
     (bytes : List ℕ) (program made : Program) (summary : Summary) → Reads bytes program →
-    FlowsSo program summary → length summary.ranges ≤ 5000 → IsSplit program summary made →
+    IsFaultFree program summary → length summary.ranges ≤ 5000 → IsSplit program summary made →
     IsWithinLimits made → IsFixed made

@@ -5,8 +5,8 @@ use Rattle.control_flow_theory.specs.semantics.Graph.{body_of}
 use Rattle.control_flow_theory.specs.graph_rules.Families.{Added}
 use Rattle.control_flow_theory.specs.graph_rules.Reduced.{Graphs, kind_at, size, tree_in}
 use Rattle.control_flow_theory.specs.graph_rules.Walked.{In}
-use Rattle.control_flow_theory.specs.closing.Closes.{closed_graph}
-use Rattle.control_flow_theory.specs.headline.Chain.{stmts_arms}
+use Rattle.control_flow_theory.specs.structuring.Closes.{closed_graph}
+use Rattle.control_flow_theory.specs.main_theorem.Chain.{stmts_arms}
 use Rattle.added_items.specs.item_table.Laws.{closed_ranges}
 use Rattle.added_items.specs.item_table.Tables.{most_arms, table_of_cells}
 use Rattle.fixed_point_laws.specs.Counting.{IsChosenBy}

@@ -4,13 +4,13 @@ use Rattle.std.proofs.lemmas.List.{take_all}
 use Rattle.std.proofs.lemmas.List.Sums.{sum_by_push}
 use Rattle.cob_tree.specs.declared.program.Range as code
 use Rattle.flow_graph.proofs.MadeRows.{one_more}
-use Rattle.flow_graph.specs.graph_sizes.Sizes.{tree_size}
-use Rattle.statement_lowering.specs.declared.telling.Telling.{Telling}
-use Rattle.flow_graph.specs.label_trees.Nodes.{node_in}
-use Rattle.statement_lowering.specs.declared.continuations.spot.Spot.{Spot}
+use Rattle.flow_graph.specs.graph_sizes.Sizing.{tree_size}
+use Rattle.statement_lowering.specs.declared.context.LoweringContext.{LoweringContext}
+use Rattle.flow_graph.specs.label_trees.Node.{node_in}
+use Rattle.statement_lowering.specs.declared.continuations.continuation.Continuation.{Continuation}
 use Rattle.flow_graph.specs.Counts.{CountsTo, IsSizeAt}
 
-module _ (telling : Telling) (spots : List Spot) (range : code.Range) where
+module _ (telling : LoweringContext) (spots : List Continuation) (range : code.Range) where
   pub counts-none : (places : List ℕ) → CountsTo telling spots range (take 0 places) 0
   counts-none [] program table = omega arith
   counts-none (place ∷ places) program table = omega arith

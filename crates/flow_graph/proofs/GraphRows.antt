@@ -11,33 +11,33 @@ use Rattle.control_flow_theory.specs.lowering.Lower as lower
 use Rattle.control_flow_theory.specs.lowering.Lowered.{nodes_of, place_in}
 use Rattle.control_flow_theory.specs.lowering.Reached.{kept_nodes}
 use Rattle.control_flow_theory.specs.lowering.Rests.{Has}
-use Rattle.control_flow_theory.specs.lowering.Told.{Told}
+use Rattle.control_flow_theory.specs.lowering.FlowFacts.{FlowFacts}
 use Rattle.control_flow_theory.specs.lowering.WellFormed.{IsLabelOf}
 use Rattle.control_flow_theory.specs.lowering.flow.Comes.{entry_of}
 use Rattle.control_flow_theory.proofs.lowering_lemmas.graphs.Families.{found-self}
-use Rattle.branch_tree.specs.Graphs.{seen_added}
+use Rattle.branch_tree.specs.Graph.{seen_added}
 use Rattle.branch_tree.specs.declared.graph.Graph.{Graph}
-use Rattle.lowering_labels.specs.points.Fall.{seen_range}
+use Rattle.lowering_labels.specs.points.FallThrough.{seen_range}
 use Rattle.lowering_labels.specs.points.Layout.{end_from, place_at}
-use Rattle.lowering_labels.specs.points.Leaf.{point_of}
-use Rattle.statement_lowering.specs.Along.{told_by}
-use Rattle.statement_lowering.specs.declared.telling.Telling.{Telling}
-use Rattle.statement_lowering.specs.declared.continuations.spot.Spot.{Spot}
-use Rattle.flow_graph.specs.label_trees.Nodes.{node_in}
-use Rattle.pending_returns.specs.levels.Reaching.{IsMarked}
+use Rattle.lowering_labels.specs.points.JumpTarget.{point_of}
+use Rattle.statement_lowering.specs.LowerList.{flow_facts_by}
+use Rattle.statement_lowering.specs.declared.context.LoweringContext.{LoweringContext}
+use Rattle.statement_lowering.specs.declared.continuations.continuation.Continuation.{Continuation}
+use Rattle.flow_graph.specs.label_trees.Node.{node_in}
+use Rattle.pending_returns.specs.levels.Reach.{IsMarked}
 use Rattle.flow_graph.specs.Lowered.{AreNodesAt, IsLoweredIn, node_of}
 use Rattle.flow_graph.specs.Reaching.{AreReachedIn, Begins, IsRangeIn}
 use Rattle.flow_graph.proofs.LabelRows.{nodes_within, reached_label}
 use Rattle.flow_graph.proofs.NodeRows.{Found, from_sorted, in_is, is_in, is_there, IsIn, same_nodes, sorted_rising, to_sorted}
 
-pub found_by : (told : Told) (place_of : ℕ → ℕ) (trees : graph.Label → graph.Tree) (xs : List lower.Node) → Has told place_of trees xs → Found trees xs
+pub found_by : (told : FlowFacts) (place_of : ℕ → ℕ) (trees : graph.Label → graph.Tree) (xs : List lower.Node) → Has told place_of trees xs → Found trees xs
 found_by told place_of trees [] h = tt
 found_by told place_of trees (x ∷ xs) h = (h.0, found_by told place_of trees xs h.1)
 
 abbrev graph_with : graph.Label → List reduced.Node → List families.Added → reduced.Graph
 graph_with entry nodes added = record { entry = entry; nodes = nodes; added = added }
 
-module _ (telling : Telling) (spots : List Spot) (range : code.Range) where
+module _ (telling : LoweringContext) (spots : List Continuation) (range : code.Range) where
   abbrev placed_at : ℕ → ℕ
   placed_at number = place_at telling.layout.now.places.items telling.layout.now.end number
 
@@ -54,7 +54,7 @@ module _ (telling : Telling) (spots : List Spot) (range : code.Range) where
     pub is_lowered : IsNonDecreasingBy (λ (n : ℕ). n) sorted → (made : Graph) (place number : ℕ) → number ≡ entry_of (seen_range range) → place ≡ placed_at number → made.entry ≡ point_of place →
         AreNodesAt telling spots range sorted made.nodes.items → made.added.items ≡ [] → IsLoweredIn telling spots range made
     is_lowered up made place number first at entry nodes none program is =
-        let told = told_by telling in
+        let told = flow_facts_by telling in
         let seen = control_of program in
         let own = seen_range range in
         let all = nodes_of told seen own in

@@ -6,10 +6,10 @@ use Rattle.std.proofs.lemmas.List.{drop_all}
 use Rattle.control_flow_theory.specs.language.Language as language
 use Rattle.control_flow_theory.specs.semantics.Graph as graph
 use Rattle.control_flow_theory.specs.lowering.Reached.{ArmsJumpTo, JumpsTo}
-use Rattle.branch_tree.specs.Trees.{seen_body, seen_end, seen_tree, seen_trees}
+use Rattle.branch_tree.specs.Tree.{seen_body, seen_end, seen_tree, seen_trees}
 use Rattle.branch_tree.specs.declared.tree.Tree as code
 use Rattle.branch_tree.proofs.TreeRows.{seen_tree_is}
-use Rattle.pending_returns.specs.levels.Reaching.{Adds, Holds}
+use Rattle.pending_returns.specs.levels.Reach.{Adds, Holds}
 use Rattle.flow_graph.specs.Jumps.{AddsArmJumps, AddsJumps, AddsThose, ArmsJumpBelow, JumpBelow}
 
 pub adds_nothing : (IsNew : ℕ → Type 0) (places : List ℕ) → ((label : ℕ) → IsNew label → ⊥) → AddsThose IsNew places places

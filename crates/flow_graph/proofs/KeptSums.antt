@@ -13,17 +13,17 @@ use Rattle.control_flow_theory.specs.lowering.Lowered.{Within, nodes_of, place_i
 use Rattle.control_flow_theory.specs.lowering.Reached.{kept_nodes}
 use Rattle.control_flow_theory.specs.lowering.WellFormed.{AreJustReached, IsLabelOf}
 use Rattle.control_flow_theory.proofs.lowering_lemmas.graphs.Families.{found-self}
-use Rattle.branch_tree.specs.Graphs.{seen_graph}
+use Rattle.branch_tree.specs.Graph.{seen_graph}
 use Rattle.branch_tree.specs.declared.graph.Graph.{Graph}
-use Rattle.pending_returns.specs.levels.Reaching.{Holds, IsMarked}
+use Rattle.pending_returns.specs.levels.Reach.{Holds, IsMarked}
 use Rattle.pending_returns.proofs.levels_lemmas.Searching.{distinct}
-use Rattle.flow_graph.specs.graph_sizes.Sizes.{graph_size, node_size, tree_size}
-use Rattle.lowering_labels.specs.points.Fall.{seen_range}
+use Rattle.flow_graph.specs.graph_sizes.Sizing.{graph_size, node_size, tree_size}
+use Rattle.lowering_labels.specs.points.FallThrough.{seen_range}
 use Rattle.lowering_labels.specs.points.Layout.{end_from}
-use Rattle.statement_lowering.specs.Along.{told_by}
-use Rattle.statement_lowering.specs.declared.telling.Telling.{Telling}
-use Rattle.flow_graph.specs.label_trees.Nodes.{node_in}
-use Rattle.statement_lowering.specs.declared.continuations.spot.Spot.{Spot}
+use Rattle.statement_lowering.specs.LowerList.{flow_facts_by}
+use Rattle.statement_lowering.specs.declared.context.LoweringContext.{LoweringContext}
+use Rattle.flow_graph.specs.label_trees.Node.{node_in}
+use Rattle.statement_lowering.specs.declared.continuations.continuation.Continuation.{Continuation}
 use Rattle.flow_graph.specs.Counts.{CountsTo, IsLargerIn}
 use Rattle.flow_graph.specs.Lowered.{IsLoweredIn, lowered_graph, node_of}
 use Rattle.flow_graph.specs.Reaching.{AreReachedIn, IsRangeIn, Reaches}
@@ -168,24 +168,24 @@ front-sum by (x ∷ xs) (suc n) =
 
 -- so it is of labels that are reached, of which some may still lack
 
-module _ (telling : Telling) (spots : List Spot) (range : code.Range) (places : List ℕ)
+module _ (telling : LoweringContext) (spots : List Continuation) (range : code.Range) (places : List ℕ)
     (marks : List Bool) (marked : IsMarked places marks)
     (sound : (program : Program) → IsRangeIn telling spots range program → (label : ℕ) →
     Holds places label → Reaches telling program range label) (program : Program)
     (is : IsRangeIn telling spots range program) where
   abbrev all : List Node
-  all = nodes_of (told_by telling) (control_of program) (seen_range range)
+  all = nodes_of (flow_facts_by telling) (control_of program) (seen_range range)
 
   abbrev sum : List ℕ → ℕ
   sum labels = sum_by (weight (node_in telling program range)) labels
 
   abbrev size : (graph.Label → Bool) → ℕ
   size keep = graph_size
-      (lowered_graph (told_by telling) (control_of program) (seen_range range) keep)
+      (lowered_graph (flow_facts_by telling) (control_of program) (seen_range range) keep)
 
   pub places-sum : total (is_in places) all ≡ sum places
   places-sum =
-      let told = told_by telling in
+      let told = flow_facts_by telling in
       let seen = control_of program in
       let end = 3 * end_from 0 program.paragraphs in
       let within = nodes_within told program (seen_range range) in
@@ -198,7 +198,7 @@ module _ (telling : Telling) (spots : List Spot) (range : code.Range) (places : 
       (sound program is label (in_holds places label there)))
 
   pub places-just : ((label : ℕ) → Reaches telling program range label → Holds places label) →
-      AreJustReached (told_by telling) (control_of program) (seen_range range) (is_in places)
+      AreJustReached (flow_facts_by telling) (control_of program) (seen_range range) (is_in places)
   places-just holds = (
     λ label on. sound program is label (in_holds places label (is_there places label on)),
     λ label reaches.
@@ -207,7 +207,7 @@ module _ (telling : Telling) (spots : List Spot) (range : code.Range) (places : 
   )
 
   pub sum-least : (keep : graph.Label → Bool) →
-      AreJustReached (told_by telling) (control_of program) (seen_range range) keep →
+      AreJustReached (flow_facts_by telling) (control_of program) (seen_range range) keep →
       sum places ≤ size keep
   sum-least keep just =
       let grows = total-grows (is_in places) keep all (λ label on.
@@ -217,7 +217,7 @@ module _ (telling : Telling) (spots : List Spot) (range : code.Range) (places : 
 
   pub sum-whole : ((label : ℕ) → Reaches telling program range label → Holds places label) →
       (keep : graph.Label → Bool) →
-      AreJustReached (told_by telling) (control_of program) (seen_range range) keep →
+      AreJustReached (flow_facts_by telling) (control_of program) (seen_range range) keep →
       size keep ≡ sum places
   sum-whole holds keep just =
       let least = sum-least keep just in
@@ -228,7 +228,7 @@ module _ (telling : Telling) (spots : List Spot) (range : code.Range) (places : 
 
 -- past a number of labels and statements, and not past it
 
-pub larger : (telling : Telling) (spots : List Spot) (range : code.Range) (places : List ℕ)
+pub larger : (telling : LoweringContext) (spots : List Continuation) (range : code.Range) (places : List ℕ)
     (marks : List Bool) → IsMarked places marks →
     ((program : Program) → IsRangeIn telling spots range program → (label : ℕ) →
     Holds places label → Reaches telling program range label) → (at count most : ℕ) →
@@ -238,13 +238,13 @@ larger telling spots range places marks marked sound at count most counts past =
     λ program is keep just.
     let by : ℕ → ℕ = weight (node_in telling program range) in
     let least : sum_by by places
-    ≤ graph_size (lowered_graph (told_by telling) (control_of program) (seen_range range) keep) =
+    ≤ graph_size (lowered_graph (flow_facts_by telling) (control_of program) (seen_range range) keep) =
     sum-least telling spots range places marks marked sound program is keep just in
     let front : sum_by by (take at places) ≤ sum_by by places = front-sum by places at in
     let counted : count ≡ min (sum_by by (take at places)) (2 ^ 64 - 1) = counts program is.table in
     omega (arith, least, front, counted, past)
 
-pub within-most : (telling : Telling) (spots : List Spot) (range : code.Range) (places : List ℕ)
+pub within-most : (telling : LoweringContext) (spots : List Continuation) (range : code.Range) (places : List ℕ)
     (marks : List Bool) → IsMarked places marks → AreReachedIn telling spots range places →
     (count most : ℕ) → CountsTo telling spots range places count → count ≤ most →
     most < 2 ^ 64 - 1 → ((program : Program) × IsRangeIn telling spots range program) →
@@ -256,7 +256,7 @@ within-most telling spots range places marks marked reached count most counts fe
     let low = lowered program is in
     let by : ℕ → ℕ = weight (node_in telling program range) in
     let kept : ℕ =
-    graph_size (lowered_graph (told_by telling) (control_of program) (seen_range range) low.0) in
+    graph_size (lowered_graph (flow_facts_by telling) (control_of program) (seen_range range) low.0) in
     let whole : kept ≡ sum_by by places =
     sum-whole telling spots range places marks marked (λ other on. (reached other on).0)
     program is (reached program is).1 low.0 low.1 in

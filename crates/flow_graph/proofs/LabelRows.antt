@@ -8,7 +8,7 @@ use Rattle.cob_tree.specs.declared.program.Sentence.{Sentence}
 use Rattle.control_flow_theory.specs.language.Control.{control_of, section_last, seen_paragraph, seen_paragraphs, seen_sentence}
 use Rattle.control_flow_theory.specs.language.Language.{Program, Range}
 use Rattle.control_flow_theory.specs.semantics.Graph.{Label, Tree, tree, End, Pick, Jump, Return, Stop, Dead, Trees, no_more, more, end_of}
-use Rattle.control_flow_theory.specs.lowering.Told.{IsSource, Told}
+use Rattle.control_flow_theory.specs.lowering.FlowFacts.{IsSource, FlowFacts}
 use Rattle.control_flow_theory.specs.lowering.Lower as lower
 use Rattle.control_flow_theory.specs.lowering.Lower.{Node}
 use Rattle.control_flow_theory.specs.lowering.Lowered.{find, lowered, nodes_from, nodes_of, place_in, total, Within}
@@ -20,16 +20,16 @@ use Rattle.lowering_labels.proofs.points_lemmas.SizeLemmas.{sizes-seen}
 use Rattle.lowering_labels.specs.points.Layout.{end_from, paragraph_size}
 use Rattle.statement_lowering.specs.continuations.Paragraphs.{left_at, nodes_of_paragraph, sentence_size, sentence_sizes}
 use Rattle.statement_lowering.proofs.continuations_lemmas.Begins.{within-sentences}
-use Rattle.statement_lowering.proofs.continuations_lemmas.ProgramSpots.{from_first}
+use Rattle.statement_lowering.proofs.continuations_lemmas.ProgramContinuations.{from_first}
 use Rattle.statement_lowering.proofs.continuations_lemmas.Within.{within-append, within-lower}
 
 total_is : (last : ℕ) (sentences : List Sentence) → total (map (seen_sentence last) sentences) ≡ sentence_sizes sentences
 total_is last [] = refl
 total_is last (sentence ∷ others) = ap₂ (λ a b. a + b) (sizes-seen last sentence.stmts) (total_is last others) ∙ sym (sum_by-cons sentence_size sentence others)
 
-module _ (told : Told) (program : Program) (range : Range) where
+module _ (told : FlowFacts) (program : Program) (range : Range) where
   abbrev ends : ℕ → End
-  ends = lower.end_leaf (place_in program) program range
+  ends = lower.paragraph_end_target (place_in program) program range
 
   within_paragraph : (number last place : ℕ) (paragraph : Paragraph) →
       Within (3 * place) (3 * (place + 1 + paragraph_size paragraph)) (nodes_of_paragraph told (place_in program) (left_at ends number) place (seen_paragraph last paragraph))
@@ -66,33 +66,33 @@ label_below a b (x ∷ xs) label h (inr later) = label_below (x.key + 1) b xs la
 -- Jumps lead to nodes.
 
 mutual
-  jump_label : (told : Told) (labels : List Node) (end : End) (label : Label) → IsWellEnd told labels end → JumpsTo label end → IsLabelOf labels label
+  jump_label : (told : FlowFacts) (labels : List Node) (end : End) (label : Label) → IsWellEnd told labels end → JumpsTo label end → IsLabelOf labels label
   jump_label told labels (Pick picker arms) label w j = arm_label told labels arms label w.1 j
   jump_label told labels (Jump to) label w j = subst (IsLabelOf labels) j w
   jump_label told labels Return label w j = absurd j
   jump_label told labels Stop label w j = absurd j
   jump_label told labels Dead label w j = absurd j
 
-  arm_label : (told : Told) (labels : List Node) (arms : Trees) (label : Label) → AreWell told labels arms → ArmsJumpTo label arms → IsLabelOf labels label
+  arm_label : (told : FlowFacts) (labels : List Node) (arms : Trees) (label : Label) → AreWell told labels arms → ArmsJumpTo label arms → IsLabelOf labels label
   arm_label told labels no_more label w j = absurd j
   arm_label told labels (more (tree body end) others) label w (inl here) = jump_label told labels end label w.1 here
   arm_label told labels (more (tree body end) others) label w (inr later) = arm_label told labels others label w.2 later
 
-tree_label : (told : Told) (labels : List Node) (t : Tree) (label : Label) → IsWellTree told labels t → JumpsTo label (end_of t) → IsLabelOf labels label
+tree_label : (told : FlowFacts) (labels : List Node) (t : Tree) (label : Label) → IsWellTree told labels t → JumpsTo label (end_of t) → IsLabelOf labels label
 tree_label told labels (tree body end) label w j = jump_label told labels end label w.1 j
 
-found_well : (told : Told) (labels xs : List Node) (label : Label) → AllAreWell told labels xs → IsWellTree told labels (find label xs)
+found_well : (told : FlowFacts) (labels xs : List Node) (label : Label) → AllAreWell told labels xs → IsWellTree told labels (find label xs)
 found_well told labels [] label w = (refl, tt)
 found_well told labels (x ∷ xs) label w = elim (eqb_tells x.key label) [
   | inl e ↦ subst (IsWellTree told labels) (sym (ap (λ b. if b then x.tree else find label xs) e.0)) w.0
   | inr e ↦ subst (IsWellTree told labels) (sym (ap (λ b. if b then x.tree else find label xs) e.0)) (found_well told labels xs label w.1)
 ]
 
-pub reached_label : (told : Told) (program : Program) (range : Range) (label : Label) → IsSource told program → IsRangeOf program range → IsReached (lowered told program) range label → IsLabelOf (nodes_of told program range) label
+pub reached_label : (told : FlowFacts) (program : Program) (range : Range) (label : Label) → IsSource told program → IsRangeOf program range → IsReached (lowered told program) range label → IsLabelOf (nodes_of told program range) label
 reached_label told program range label source lt entered = named-label told program range (entry_of range) lt
 reached_label told program range label source lt (jumped from to h j) =
     tree_label told (nodes_of told program range) (find from (nodes_of told program range)) to
     (found_well told (nodes_of told program range) (nodes_of told program range) from (all-well told program range source)) j
 
-pub nodes_within : (told : Told) (program : code.Program) (range : Range) → Within 0 (3 * end_from 0 program.paragraphs) (nodes_of told (control_of program) range)
+pub nodes_within : (told : FlowFacts) (program : code.Program) (range : Range) → Within 0 (3 * end_from 0 program.paragraphs) (nodes_of told (control_of program) range)
 nodes_within told program range = within_from told (control_of program) range 0 0 program.paragraphs

@@ -8,8 +8,8 @@ use Rattle.std.proofs.lemmas.List.Sorted.{All-permutation, IsNonDecreasingBy-fro
 use Rattle.std.proofs.lemmas.Option.{slice_get-get_or}
 use Rattle.cob_tree.specs.declared.program.Range as code
 use Rattle.branch_tree.specs.declared.graph.Node.{Node}
-use Rattle.statement_lowering.specs.declared.telling.Telling.{Telling}
-use Rattle.statement_lowering.specs.declared.continuations.spot.Spot.{Spot}
+use Rattle.statement_lowering.specs.declared.context.LoweringContext.{LoweringContext}
+use Rattle.statement_lowering.specs.declared.continuations.continuation.Continuation.{Continuation}
 use Rattle.flow_graph.specs.Lowered.{AddsNode, AreMade, AreNodesAt, IsMade}
 
 abbrev pub label_of : Node → ℕ
@@ -40,7 +40,7 @@ labels_up (one ∷ more) up =
     let ordered = up i j one le near in
     omega (arith, ordered, get_or-map label_of nodes i one 0 (omega (arith, le, near)), get_or-map label_of nodes j one 0 near))
 
-module _ (telling : Telling) (spots : List Spot) (range : code.Range) where
+module _ (telling : LoweringContext) (spots : List Continuation) (range : code.Range) where
   abbrev Made : List ℕ → List Node → Type 0
   Made labels nodes = AreMade telling spots range labels nodes
 

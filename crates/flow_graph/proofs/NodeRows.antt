@@ -11,7 +11,7 @@ use Rattle.control_flow_theory.specs.lowering.Lower.{Node}
 use Rattle.control_flow_theory.specs.lowering.Lowered.{Within}
 use Rattle.control_flow_theory.specs.lowering.Reached.{kept_nodes}
 use Rattle.control_flow_theory.specs.lowering.WellFormed.{IsLabelOf}
-use Rattle.pending_returns.specs.levels.Reaching.{Holds, IsMarked}
+use Rattle.pending_returns.specs.levels.Reach.{Holds, IsMarked}
 use Rattle.pending_returns.proofs.levels_lemmas.Searching.{distinct}
 use Rattle.flow_graph.specs.Lowered.{node_by, node_of}
 use Rattle.flow_graph.proofs.LabelRows.{label_above}

@@ -7,13 +7,13 @@ use Rattle.control_flow_theory.specs.language.Control.{control_of}
 use Rattle.control_flow_theory.specs.semantics.Graph as graph
 use Rattle.control_flow_theory.specs.lowering.Lowered.{nodes_of}
 use Rattle.control_flow_theory.specs.lowering.Reached.{entered, jumped, JumpsTo}
-use Rattle.lowering_labels.specs.points.Fall.{seen_range}
+use Rattle.lowering_labels.specs.points.FallThrough.{seen_range}
 use Rattle.lowering_labels.specs.points.Layout.{end_from}
-use Rattle.statement_lowering.specs.Along.{told_by}
-use Rattle.statement_lowering.specs.declared.telling.Telling.{Telling}
-use Rattle.statement_lowering.specs.declared.continuations.spot.Spot.{Spot}
-use Rattle.flow_graph.specs.label_trees.Nodes.{IsWhole, node_in}
-use Rattle.pending_returns.specs.levels.Reaching.{Adds, Holds, IsMarked}
+use Rattle.statement_lowering.specs.LowerList.{flow_facts_by}
+use Rattle.statement_lowering.specs.declared.context.LoweringContext.{LoweringContext}
+use Rattle.statement_lowering.specs.declared.continuations.continuation.Continuation.{Continuation}
+use Rattle.flow_graph.specs.label_trees.Node.{IsWhole, node_in}
+use Rattle.pending_returns.specs.levels.Reach.{Adds, Holds, IsMarked}
 use Rattle.pending_returns.proofs.levels_lemmas.Searching.{before-or-now}
 use Rattle.flow_graph.specs.Reaching.{AddsNodeJumps, AreReachedIn, Begins, IsRangeIn, NodeJumpsBelow, Reaches}
 use Rattle.flow_graph.proofs.LabelRows.{label_below, nodes_within, reached_label}
@@ -23,7 +23,7 @@ there [] at lt = absurd (omega (arith, lt))
 there (x ∷ xs) zero lt = (x, refl)
 there (x ∷ xs) (suc at) lt = there xs at (omega (arith, lt))
 
-module _ (telling : Telling) (spots : List Spot) (range : code.Range) where
+module _ (telling : LoweringContext) (spots : List Continuation) (range : code.Range) where
   abbrev Is : Program → Type 0
   Is program = IsRangeIn telling spots range program
 
@@ -41,7 +41,7 @@ module _ (telling : Telling) (spots : List Spot) (range : code.Range) where
 
   pub reaches_below : IsWhole telling spots → (program : Program) → Is program → (label : ℕ) → Reaches telling program range label → label < 3 * length spots
   reaches_below whole program is label h =
-      let told = told_by telling in
+      let told = flow_facts_by telling in
       let lt : label < 3 * end_from 0 program.paragraphs = label_below 0 (3 * end_from 0 program.paragraphs) (nodes_of told (control_of program) (seen_range range)) label (nodes_within told program (seen_range range))
       (reached_label told (control_of program) (seen_range range) label is.table.source is.own h) in
       omega (arith, lt, whole.count, is.table.placed.last)

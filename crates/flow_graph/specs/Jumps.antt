@@ -2,7 +2,7 @@
 use Rattle.std.specs.Prelude.{ℕ, ◌≡◌, ◌<◌, ◌⊎◌, List, Some, slice_get}
 use Rattle.control_flow_theory.specs.semantics.Graph as graph
 use Rattle.control_flow_theory.specs.lowering.Reached.{ArmsJumpTo, JumpsTo}
-use Rattle.pending_returns.specs.levels.Reaching.{Holds}
+use Rattle.pending_returns.specs.levels.Reach.{Holds}
 
 -- the list has these labels too then, and stands as it stood otherwise
 pub record AddsThose (IsNew : ℕ → Type 0) (before after : List ℕ) : Type 0 where

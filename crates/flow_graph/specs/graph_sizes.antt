@@ -1,4 +1,4 @@
 -- how large graphs are
-pub mod Sizes
+pub mod Sizing
 -- how large what stands in trees is
 pub mod Parts

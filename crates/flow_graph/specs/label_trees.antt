@@ -1,4 +1,4 @@
 -- the nodes of ranges, by a table of rests
-pub mod Nodes
+pub mod Node
 -- trees up to where they go on as others
-pub mod Runs
+pub mod Run

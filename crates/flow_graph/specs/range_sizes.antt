@@ -1,10 +1,10 @@
 -- how ranges go on from a rest
-pub mod Going
+pub mod Exits
 -- what is counted of a tree
 pub mod Parts
 -- what is known of the trees at labels
-pub mod Known
+pub mod Cache
 -- trees that run on as others
-pub mod Stretch
+pub mod Segment
 -- how large the graph of a range is
-pub mod Sizes
+pub mod Sizing

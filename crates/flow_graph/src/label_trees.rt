@@ -2,11 +2,11 @@
 //!
 //! `label_tree` gives the tree at any label in any range: it goes along the rests from there on.
 //! Hold it against `nodes_of` of `control_flow_theory/specs/lowering/Lowered`: each tree is the one
-//! that is found there. `own_run` gives the tree before a place only up to where it goes on as the
-//! tree at another place (`specs/label_trees/Runs`).
+//! that is found there. `straight_run` gives the tree before a place only up to where it goes on as
+//! the tree at another place (`specs/label_trees/Run`).
 
 mod node;
 mod run;
 
 pub use crate::label_trees::node::label_tree;
-pub use crate::label_trees::run::{OwnRun, own_run};
+pub use crate::label_trees::run::{StraightRun, straight_run};

@@ -3,9 +3,9 @@
 ghost use Rattle.std.specs.Prelude.{◌≡◌, ◌*◌, ◌<◌, ◌-◌, ◌^◌, length, IfOk};
 ghost use Rattle.cob_tree.specs.declared.program.Program.{Program};
 ghost use Rattle.control_flow_theory.specs.lowering.flow.Comes.{entry_of};
-ghost use Rattle.lowering_labels.specs.points.Fall.{seen_range};
-ghost use Rattle.pending_returns.specs.levels.Reaching.{IsMarked};
-ghost use Rattle.flow_graph.specs.label_trees.Nodes.{IsWhole};
+ghost use Rattle.lowering_labels.specs.points.FallThrough.{seen_range};
+ghost use Rattle.pending_returns.specs.levels.Reach.{IsMarked};
+ghost use Rattle.flow_graph.specs.label_trees.Node.{IsWhole};
 ghost use Rattle.flow_graph.specs.Counts.{IsLoweredWithin};
 ghost use Rattle.flow_graph.specs.Reaching.{IsRangeIn};
 
@@ -15,8 +15,8 @@ use cob_base::NoMemory;
 use cob_tree::Range;
 use lowering_labels::points::point;
 use pending_returns::levels::Reach;
-use statement_lowering::Telling;
-use statement_lowering::continuations::Spot;
+use statement_lowering::LoweringContext;
+use statement_lowering::continuations::Continuation;
 use std::alloc::Global;
 
 /// The paragraph that a range begins with.
@@ -35,9 +35,9 @@ pub fn first_of(range: Range) -> u32
 pub fn lower_within(
     alloc: Global,
     reach: &mut Reach,
-    spots: &[Spot<'_>],
+    spots: &[Continuation<'_>],
     range: Range,
-    telling: &Telling<'_>,
+    telling: &LoweringContext<'_>,
     most: u64,
 ) -> Result<Option<Graph>, NoMemory>
     requires marked { IsMarked reach.old.places.items reach.old.marks.items }

@@ -3,12 +3,12 @@
 ghost use Rattle.std.specs.Prelude.{[], ◌≡◌, ◌≤◌, ◌<◌, ◌*◌, ◌^◌, true, false, length, IfOk, OnOk};
 ghost use Rattle.cob_tree.specs.declared.program.Program.{Program};
 ghost use Rattle.control_flow_theory.specs.semantics.Graph.{end_of};
-ghost use Rattle.branch_tree.specs.Trees.{seen_tree, seen_trees};
-ghost use Rattle.pending_returns.specs.levels.Reaching.{IsMarked};
+ghost use Rattle.branch_tree.specs.Tree.{seen_tree, seen_trees};
+ghost use Rattle.pending_returns.specs.levels.Reach.{IsMarked};
 ghost use Rattle.flow_graph.specs.Counts.{CountsWithin, IsLargerIn, IsSizeAt};
 ghost use Rattle.flow_graph.specs.Jumps.{AddsArmJumps, AddsJumps, ArmsJumpBelow, JumpBelow};
 ghost use Rattle.flow_graph.specs.Lowered.{AddsNode, AreMade};
-ghost use Rattle.flow_graph.specs.label_trees.Nodes.{IsWhole};
+ghost use Rattle.flow_graph.specs.label_trees.Node.{IsWhole};
 ghost use Rattle.flow_graph.specs.Reaching.{AddsNodeJumps, AreReachedIn, Begins, IsRangeIn, NodeJumpsBelow};
 
 use crate::adding::push_node;
@@ -18,8 +18,8 @@ use branch_tree::{End, Node, Tree};
 use cob_base::NoMemory;
 use cob_tree::Range;
 use pending_returns::levels::Reach;
-use statement_lowering::Telling;
-use statement_lowering::continuations::Spot;
+use statement_lowering::LoweringContext;
+use statement_lowering::continuations::Continuation;
 use std::alloc::Global;
 
 /// Adds the labels to which a tree jumps.
@@ -64,10 +64,10 @@ fn visit_node(
     alloc: Global,
     reach: &mut Reach,
     nodes: &mut Vec<Node>,
-    spots: &[Spot<'_>],
+    spots: &[Continuation<'_>],
     label: u32,
     range: Range,
-    telling: &Telling<'_>,
+    telling: &LoweringContext<'_>,
 ) -> Result<u64, NoMemory>
     requires marked { IsMarked reach.old.places.items reach.old.marks.items }
     requires whole { IsWhole telling.now spots.now }
@@ -104,10 +104,10 @@ pub fn reach_from(
     alloc: Global,
     reach: &mut Reach,
     nodes: &mut Vec<Node>,
-    spots: &[Spot<'_>],
+    spots: &[Continuation<'_>],
     entry: u32,
     range: Range,
-    telling: &Telling<'_>,
+    telling: &LoweringContext<'_>,
     most: u64,
 ) -> Result<bool, NoMemory>
     requires marked { IsMarked reach.old.places.items reach.old.marks.items }

@@ -10,12 +10,12 @@ use Rattle.control_flow_theory.specs.semantics.Doing.{is_above}
 use Rattle.control_flow_theory.specs.semantics.Graph.{Label, Tree}
 use Rattle.control_flow_theory.specs.graph_rules.Shapes.{leaves_to}
 use Rattle.control_flow_theory.specs.graph_rules.Reduced.{Node, Graph, tree_in, has_node, without, with_tree, all_leaves_to}
-use Rattle.control_flow_theory.specs.closing.Dispatches.{Rising, labels_of}
-use Rattle.control_flow_theory.proofs.closing_lemmas.closing.Closes.{rising-above}
+use Rattle.control_flow_theory.specs.structuring.Dispatches.{Rising, labels_of}
+use Rattle.control_flow_theory.proofs.structuring_lemmas.closing.Closes.{rising-above}
 use Rattle.control_flow_theory.proofs.graph_rules_lemmas.shapes.Reducing.{with-other, without-in}
-use Rattle.branch_tree.specs.Trees.{seen_tree}
-use Rattle.graph_rewriting.specs.Sounds.{IsSound, bare, Fits}
-use Rattle.graph_rewriting.specs.Countings.{Stands, Holds, turned, Rewrites}
+use Rattle.branch_tree.specs.Tree.{seen_tree}
+use Rattle.graph_rewriting.specs.Rewriting.{IsSound, bare, Fits}
+use Rattle.graph_rewriting.specs.Counting.{Stands, Holds, turned, Rewrites}
 use Rattle.graph_rewriting.specs.declared.kept.Kept.{Kept}
 use Rattle.graph_rewriting.proofs.NodeRows.{has_with, tree_with, rising_with, with_same, leaves_with, leaves_split, none_above, has_without, leaves_without, rising_without, without_none}
 use Rattle.graph_rewriting.proofs.CountRows.{holds_as}

@@ -9,11 +9,11 @@ use Rattle.slab.specs.Slab.{Slab, get, with_value}
 use Rattle.slab.proofs.SlabLemmas.{Updates-with_value}
 use Rattle.control_flow_theory.specs.semantics.Graph.{Label, Tree}
 use Rattle.control_flow_theory.specs.graph_rules.Shapes.{leaves_to, end_leaves_to, arms_leaves_to}
-use Rattle.branch_tree.specs.Trees.{seen_tree, seen_trees, seen_end}
+use Rattle.branch_tree.specs.Tree.{seen_tree, seen_trees, seen_end}
 use Rattle.branch_tree.specs.declared.tree.Tree as code
 use Rattle.branch_tree.specs.declared.tree.End.{End}
 use Rattle.branch_tree.proofs.TreeRows.{seen_tree_is}
-use Rattle.graph_rewriting.specs.Countings.{Stands, Holds, turned, Counts, once_at, Rewrites}
+use Rattle.graph_rewriting.specs.Counting.{Stands, Holds, turned, Counts, once_at, Rewrites}
 use Rattle.graph_rewriting.specs.declared.kept.Kept.{Kept}
 
 pub turned_none : (comes : Bool) (n : ℕ) → turned comes 0 n ≡ n

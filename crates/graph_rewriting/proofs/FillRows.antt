@@ -15,16 +15,16 @@ use Rattle.control_flow_theory.specs.semantics.Doing.{is_above}
 use Rattle.control_flow_theory.specs.semantics.Graph.{Label, Tree, tree, End, Pick, Jump, Return, Stop, Dead, Trees, no_more, more}
 use Rattle.control_flow_theory.specs.graph_rules.Shapes.{leaves_to, end_leaves_to, arms_leaves_to}
 use Rattle.control_flow_theory.specs.graph_rules.Reduced.{Node, Graph, has_node, tree_in, all_leaves_to}
-use Rattle.control_flow_theory.specs.closing.Dispatches.{Rising, labels_of, Numbered, LeavesTree, LeavesEnd, LeavesTrees}
-use Rattle.control_flow_theory.specs.closing.Closes.{AllNumbered, IsClosed}
-use Rattle.control_flow_theory.proofs.closing_lemmas.closing.Closes.{AllAbove, rising-above}
-use Rattle.control_flow_theory.proofs.closing_lemmas.gathering.Targets.{numbered-cases}
-use Rattle.branch_tree.specs.Trees.{seen_tree}
-use Rattle.branch_tree.specs.Graphs.{seen_node, seen_nodes}
-use Rattle.graph_rewriting.specs.Sounds.{IsSound, bare}
-use Rattle.graph_rewriting.specs.Countings.{Stands, Holds, turned, Counts, PutsIn}
-use Rattle.graph_rewriting.specs.Fillings.{AddsBare, Emptied, FillsAt, Filled, NoneFull, Leads}
-use Rattle.graph_rewriting.specs.Works.{nodes_by, and_kept}
+use Rattle.control_flow_theory.specs.structuring.Dispatches.{Rising, labels_of, Numbered, LeavesTree, LeavesEnd, LeavesTrees}
+use Rattle.control_flow_theory.specs.structuring.Closes.{AllNumbered, IsClosed}
+use Rattle.control_flow_theory.proofs.structuring_lemmas.closing.Closes.{AllAbove, rising-above}
+use Rattle.control_flow_theory.proofs.structuring_lemmas.gathering.Targets.{numbered-cases}
+use Rattle.branch_tree.specs.Tree.{seen_tree}
+use Rattle.branch_tree.specs.Graph.{seen_node, seen_nodes}
+use Rattle.graph_rewriting.specs.Rewriting.{IsSound, bare}
+use Rattle.graph_rewriting.specs.Counting.{Stands, Holds, turned, Counts, PutsIn}
+use Rattle.graph_rewriting.specs.Filling.{AddsBare, Emptied, FillsAt, Filled, NoneFull, Leads}
+use Rattle.graph_rewriting.specs.Work.{nodes_by, and_kept}
 use Rattle.graph_rewriting.specs.declared.kept.Kept.{Kept}
 use Rattle.branch_tree.specs.declared.graph.Node as code
 use Rattle.branch_tree.specs.declared.tree.Tree as code_tree

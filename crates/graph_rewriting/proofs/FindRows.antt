@@ -6,10 +6,10 @@ use Rattle.control_flow_theory.specs.semantics.Doing.{is_above}
 use Rattle.control_flow_theory.specs.semantics.Graph.{Label}
 use Rattle.control_flow_theory.specs.graph_rules.Shapes.{leaves_to}
 use Rattle.control_flow_theory.specs.graph_rules.Reduced.{Node, size}
-use Rattle.control_flow_theory.specs.closing.Dispatches.{labels_of}
+use Rattle.control_flow_theory.specs.structuring.Dispatches.{labels_of}
 use Rattle.graph_rewriting.specs.Helds.{Held, seen_work}
-use Rattle.graph_rewriting.specs.Sounds.{Source}
-use Rattle.graph_rewriting.specs.Works.{held_of, IsWhole, JumpsFrom, AnySource}
+use Rattle.graph_rewriting.specs.Rewriting.{Source}
+use Rattle.graph_rewriting.specs.Work.{held_of, IsWhole, JumpsFrom, AnySource}
 use Rattle.graph_rewriting.specs.declared.work.Work.TheInside.{Inside}
 use Rattle.graph_rewriting.proofs.WorkRows.{labels_in, some_key, its_tree}
 

@@ -6,10 +6,10 @@ use Rattle.control_flow_theory.specs.language.Language.{none}
 use Rattle.control_flow_theory.specs.semantics.Graph.{Label, Tree, tree, Dead}
 use Rattle.control_flow_theory.specs.graph_rules.Shapes.{leaves_to}
 use Rattle.control_flow_theory.specs.graph_rules.Reduced.{Node, tree_in, has_node, without, with_tree, all_leaves_to}
-use Rattle.control_flow_theory.specs.closing.Dispatches.{Rising, labels_of}
-use Rattle.control_flow_theory.specs.closing.Targets.{RisingLabels}
-use Rattle.control_flow_theory.proofs.closing_lemmas.closing.Closes.{AllAbove, rising-above}
-use Rattle.control_flow_theory.proofs.closing_lemmas.closing.StayClosed.{with-labels, by-labels, from-labels}
+use Rattle.control_flow_theory.specs.structuring.Dispatches.{Rising, labels_of}
+use Rattle.control_flow_theory.specs.structuring.Targets.{RisingLabels}
+use Rattle.control_flow_theory.proofs.structuring_lemmas.closing.Closes.{AllAbove, rising-above}
+use Rattle.control_flow_theory.proofs.structuring_lemmas.closing.StayClosed.{with-labels, by-labels, from-labels}
 
 same : (label : Label) → (label == label) ≡ true
 same label = eq-eqb label label refl

@@ -8,16 +8,16 @@ use Rattle.slab.specs.Slab as slab
 use Rattle.control_flow_theory.specs.semantics.Graph.{Label, Tree}
 use Rattle.control_flow_theory.specs.graph_rules.Shapes.{leaves_to}
 use Rattle.control_flow_theory.specs.graph_rules.Reduced.{Node, Graph, tree_in, has_node, without, with_tree, all_leaves_to}
-use Rattle.control_flow_theory.specs.closing.Dispatches.{labels_of}
-use Rattle.control_flow_theory.proofs.closing_lemmas.closing.StayClosed.{with-labels}
-use Rattle.branch_tree.specs.Trees.{seen_tree}
+use Rattle.control_flow_theory.specs.structuring.Dispatches.{labels_of}
+use Rattle.control_flow_theory.proofs.structuring_lemmas.closing.StayClosed.{with-labels}
+use Rattle.branch_tree.specs.Tree.{seen_tree}
 use Rattle.graph_rewriting.specs.Helds.{Held, seen_work}
-use Rattle.graph_rewriting.specs.Sounds.{IsSound, bare, Fits, WithNodes}
-use Rattle.graph_rewriting.specs.Countings.{Holds, turned, Counts, TakesOut, PutsIn}
-use Rattle.control_flow_theory.specs.closing.Closes.{IsClosed}
-use Rattle.graph_rewriting.specs.Fillings.{Filled, NoneFull}
+use Rattle.graph_rewriting.specs.Rewriting.{IsSound, bare, Fits, WithNodes}
+use Rattle.graph_rewriting.specs.Counting.{Holds, turned, Counts, TakesOut, PutsIn}
+use Rattle.control_flow_theory.specs.structuring.Closes.{IsClosed}
+use Rattle.graph_rewriting.specs.Filling.{Filled, NoneFull}
 use Rattle.graph_rewriting.proofs.FillRows.{sound_filled, exact}
-use Rattle.graph_rewriting.specs.Works.{held_of, IsWhole}
+use Rattle.graph_rewriting.specs.Work.{held_of, IsWhole}
 use Rattle.graph_rewriting.specs.declared.kept.Kept.{Kept}
 use Rattle.branch_tree.specs.declared.tree.Tree as code
 use Rattle.graph_rewriting.specs.declared.work.Work.TheInside.{Inside}

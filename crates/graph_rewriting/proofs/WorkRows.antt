@@ -14,12 +14,12 @@ use Rattle.slab.specs.Slab.{Slab, get}
 use Rattle.control_flow_theory.specs.semantics.Doing.{is_above}
 use Rattle.control_flow_theory.specs.semantics.Graph.{Label, Tree}
 use Rattle.control_flow_theory.specs.graph_rules.Reduced.{Node, Graph, tree_in, has_node, all_leaves_to}
-use Rattle.control_flow_theory.specs.closing.Dispatches.{Rising, labels_of}
-use Rattle.branch_tree.specs.Trees.{seen_tree}
-use Rattle.branch_tree.specs.Graphs.{seen_nodes}
-use Rattle.graph_rewriting.specs.Sounds.{IsSound}
-use Rattle.graph_rewriting.specs.Countings.{Stands, Holds}
-use Rattle.graph_rewriting.specs.Works.{and_kept, nodes_by, IsWhole}
+use Rattle.control_flow_theory.specs.structuring.Dispatches.{Rising, labels_of}
+use Rattle.branch_tree.specs.Tree.{seen_tree}
+use Rattle.branch_tree.specs.Graph.{seen_nodes}
+use Rattle.graph_rewriting.specs.Rewriting.{IsSound}
+use Rattle.graph_rewriting.specs.Counting.{Stands, Holds}
+use Rattle.graph_rewriting.specs.Work.{and_kept, nodes_by, IsWhole}
 use Rattle.graph_rewriting.specs.declared.kept.Kept.{Kept}
 use Rattle.graph_rewriting.specs.declared.work.Work.TheInside.{Inside}
 use Rattle.graph_rewriting.proofs.NodeRows.{nodes_from, labels_from, found_again}

@@ -2,7 +2,7 @@
 use Rattle.std.specs.Prelude.{ℕ, List, map}
 use Rattle.std.specs.Global.{Vec}
 use Rattle.control_flow_theory.specs.graph_rules.Reduced as reduced
-use Rattle.branch_tree.specs.Graphs.{seen_nodes, seen_added}
+use Rattle.branch_tree.specs.Graph.{seen_nodes, seen_added}
 use Rattle.branch_tree.specs.declared.graph.Node.{Node}
 use Rattle.branch_tree.specs.declared.graph.Added.{Added}
 

@@ -1,10 +1,10 @@
 -- what a graph that is rewritten holds
 pub mod Helds
 -- what holds of it
-pub mod Sounds
+pub mod Rewriting
 -- the counts of its leaves
-pub mod Countings
+pub mod Counting
 -- how it is stored
-pub mod Works
+pub mod Work
 -- nodes into slots, and back
-pub mod Fillings
+pub mod Filling

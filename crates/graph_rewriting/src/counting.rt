@@ -2,8 +2,8 @@
 
 ghost use Rattle.std.specs.Prelude.{◌≡◌};
 ghost use Rattle.control_flow_theory.specs.graph_rules.Shapes.{leaves_to, arms_leaves_to};
-ghost use Rattle.branch_tree.specs.Trees.{seen_tree, seen_trees};
-ghost use Rattle.graph_rewriting.specs.Countings.{turned, once_at, Counts};
+ghost use Rattle.branch_tree.specs.Tree.{seen_tree, seen_trees};
+ghost use Rattle.graph_rewriting.specs.Counting.{turned, once_at, Counts};
 
 use crate::kept::Kept;
 use branch_tree::{End, Label, Tree};

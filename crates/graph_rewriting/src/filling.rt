@@ -4,11 +4,11 @@ ghost use Rattle.std.specs.Prelude.{◌≡◌, [], OnOk, IfOk};
 ghost use Rattle.std.specs.Bool.{OnTrue};
 ghost use Rattle.std.specs.Ordering.{nat_cmp};
 ghost use Rattle.std.specs.BTreeMap.{IsOrdered};
-ghost use Rattle.control_flow_theory.specs.closing.Dispatches.{Rising};
-ghost use Rattle.branch_tree.specs.Trees.{seen_tree};
-ghost use Rattle.branch_tree.specs.Graphs.{seen_nodes};
-ghost use Rattle.graph_rewriting.specs.Works.{nodes_by};
-ghost use Rattle.graph_rewriting.specs.Fillings.{AddsBare, Emptied, FillsAt, Filled, NoneFull, Leads};
+ghost use Rattle.control_flow_theory.specs.structuring.Dispatches.{Rising};
+ghost use Rattle.branch_tree.specs.Tree.{seen_tree};
+ghost use Rattle.branch_tree.specs.Graph.{seen_nodes};
+ghost use Rattle.graph_rewriting.specs.Work.{nodes_by};
+ghost use Rattle.graph_rewriting.specs.Filling.{AddsBare, Emptied, FillsAt, Filled, NoneFull, Leads};
 
 use crate::counting::count_tree;
 use crate::drops::{drop_failed, drop_slots};

@@ -3,10 +3,10 @@
 ghost use Rattle.std.specs.Prelude.{◌≡◌, length, IfOk, IfSome};
 ghost use Rattle.std.specs.Map.{keys_of};
 ghost use Rattle.control_flow_theory.specs.graph_rules.Reduced.{size};
-ghost use Rattle.control_flow_theory.specs.closing.Dispatches.{labels_of};
-ghost use Rattle.branch_tree.specs.Graphs.{seen_nodes};
-ghost use Rattle.graph_rewriting.specs.Sounds.{Source};
-ghost use Rattle.graph_rewriting.specs.Works.{JumpsFrom, AnySource};
+ghost use Rattle.control_flow_theory.specs.structuring.Dispatches.{labels_of};
+ghost use Rattle.branch_tree.specs.Graph.{seen_nodes};
+ghost use Rattle.graph_rewriting.specs.Rewriting.{Source};
+ghost use Rattle.graph_rewriting.specs.Work.{JumpsFrom, AnySource};
 
 use crate::kept::Kept;
 use crate::work::Work;

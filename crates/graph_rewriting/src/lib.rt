@@ -2,8 +2,8 @@
 //!
 //! `Work` keeps the trees of a graph in slots, and of each node how many leaves jump to it: so a
 //! rule sees at once whether it applies, and no tree is copied. Contracts see its graph, as the
-//! graph of the theory of control (`specs/Helds.antt`); `specs/Sounds.antt` says what holds of it
-//! between calls, and `specs/Works.antt` how it is stored.
+//! graph of the theory of control (`specs/Helds.antt`); `specs/Rewriting.antt` says what holds of
+//! it between calls, and `specs/Work.antt` how it is stored.
 #![tactic(auto)]
 
 mod counting;

@@ -3,10 +3,10 @@
 ghost use Rattle.std.specs.Prelude.{◌≡◌, ◌≢◌, ◌<◌, ◌++◌, ◌∷◌, [], true, OnOk};
 ghost use Rattle.std.specs.Vec.{vec_len, vec_capacity};
 ghost use Rattle.control_flow_theory.specs.graph_rules.Reduced.{has_node, tree_in, without, with_tree, all_leaves_to};
-ghost use Rattle.branch_tree.specs.Trees.{seen_tree};
-ghost use Rattle.branch_tree.specs.Graphs.{seen_nodes};
+ghost use Rattle.branch_tree.specs.Tree.{seen_tree};
+ghost use Rattle.branch_tree.specs.Graph.{seen_nodes};
 ghost use Rattle.graph_rewriting.specs.Helds.{seen_work};
-ghost use Rattle.graph_rewriting.specs.Sounds.{bare, Fits, WithNodes, Takes};
+ghost use Rattle.graph_rewriting.specs.Rewriting.{bare, Fits, WithNodes, Takes};
 
 use crate::counting::count_tree;
 use crate::drops::drop_kept;

@@ -1,9 +1,9 @@
 //! Trees that come into slots and go out of them.
 
 ghost use Rattle.std.specs.Prelude.{◌≡◌};
-ghost use Rattle.branch_tree.specs.Trees.{seen_tree};
-ghost use Rattle.graph_rewriting.specs.Sounds.{bare};
-ghost use Rattle.graph_rewriting.specs.Countings.{PutsIn, TakesOut};
+ghost use Rattle.branch_tree.specs.Tree.{seen_tree};
+ghost use Rattle.graph_rewriting.specs.Rewriting.{bare};
+ghost use Rattle.graph_rewriting.specs.Counting.{PutsIn, TakesOut};
 
 use crate::kept::Kept;
 use branch_tree::{End, Tree, drop_tree};

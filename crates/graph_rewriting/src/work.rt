@@ -3,7 +3,7 @@
 ghost use Rattle.std.specs.Prelude.{◌≡◌};
 ghost use Rattle.control_flow_theory.specs.graph_rules.Reduced.{all_leaves_to};
 ghost use Rattle.graph_rewriting.specs.Helds.{seen_work};
-ghost use Rattle.graph_rewriting.specs.Sounds.{IsSound, NodeAt};
+ghost use Rattle.graph_rewriting.specs.Rewriting.{IsSound, NodeAt};
 
 use crate::kept::Kept;
 use branch_tree::{Added, Label, Node};
@@ -31,7 +31,7 @@ impl Model for Work {
 
     ghost coded = { Prim.hlevel (codes, node.the_row.coded, kind.the_row.coded) };
 
-    ghost use Rattle.graph_rewriting.specs.Works.{held_of, IsWhole};
+    ghost use Rattle.graph_rewriting.specs.Work.{held_of, IsWhole};
 
     ghost view = { held_of };
 

@@ -1,8 +1,8 @@
 //! A graph that is to be rewritten, and that was.
 
 ghost use Rattle.std.specs.Prelude.{◌≡◌, IfOk};
-ghost use Rattle.control_flow_theory.specs.closing.Closes.{IsClosed};
-ghost use Rattle.branch_tree.specs.Graphs.{seen_graph};
+ghost use Rattle.control_flow_theory.specs.structuring.Closes.{IsClosed};
+ghost use Rattle.branch_tree.specs.Graph.{seen_graph};
 ghost use Rattle.graph_rewriting.specs.Helds.{seen_work};
 
 use crate::drops::drop_slots;

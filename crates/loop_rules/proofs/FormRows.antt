@@ -6,16 +6,16 @@ use Rattle.control_flow_theory.specs.semantics.Graph.{Label, Tree, tree, End, Pi
 use Rattle.control_flow_theory.specs.graph_rules.Loops.{Flagged, Endless}
 use Rattle.control_flow_theory.specs.graph_rules.Shapes.{followed, alone, Live, ToLabel, end_at, Targets, NoTarget, Only, Several, flat, flat_end, flat_arms}
 use Rattle.control_flow_theory.specs.graph_rules.Reduced.{Form, pretest, posttest, form_two, is_bare, stays}
-use Rattle.control_flow_theory.specs.closing.Closes.{none_left_out}
-use Rattle.control_flow_theory.specs.closing.Dispatches.{stated_tree, stated_end, stated_arms, flag_jump, set_to}
+use Rattle.control_flow_theory.specs.structuring.Closes.{none_left_out}
+use Rattle.control_flow_theory.specs.structuring.Dispatches.{stated_tree, stated_end, stated_arms, flag_jump, set_to}
 use Rattle.control_flow_theory.specs.language.Language as language
-use Rattle.loop_rules.specs.declared.forms.Form as shape
-use Rattle.loop_rules.specs.declared.forms.Form.TheVariants as form
+use Rattle.loop_rules.specs.declared.forms.LoopForm as shape
+use Rattle.loop_rules.specs.declared.forms.LoopForm.TheVariants as form
 use Rattle.branch_tree.specs.declared.tree.Leaves.TheVariants as leaves
 use Rattle.loop_rules.specs.Forms.{looped_by, form_at, form_for, formed_if, end_by, is_nothing, bare_by, when_after, way, two_ways, ways}
 use Rattle.branch_tree.specs.declared.tree.Tree as code
 use Rattle.branch_tree.specs.declared.tree.Piece.{Piece}
-use Rattle.branch_tree.specs.Trees.{seen_tree, seen_trees, seen_body, seen_piece, seen_end, stated}
+use Rattle.branch_tree.specs.Tree.{seen_tree, seen_trees, seen_body, seen_piece, seen_end, stated}
 use Rattle.branch_tree.specs.Choosers.{seen_test, seen_picker}
 use Rattle.branch_tree.specs.declared.chooser.Picker as picker
 use Rattle.branch_tree.specs.declared.chooser.Picker.TheVariants as picker_is
@@ -159,17 +159,17 @@ not_two n h e = apart (n == 2) (ap (λ k. k == 2) e) h
 
 -- A form with a test of its own.
 
-abbrev turned_of : shape.Form → Bool
+abbrev turned_of : shape.LoopForm → Bool
 turned_of (form.Before turned) = turned
 turned_of (form.After turned) = turned
 turned_of form.Flag = false
 
-abbrev is_before : shape.Form → Bool
+abbrev is_before : shape.LoopForm → Bool
 is_before (form.Before turned) = true
 is_before (form.After turned) = false
 is_before form.Flag = false
 
-abbrev is_flag : shape.Form → Bool
+abbrev is_flag : shape.LoopForm → Bool
 is_flag (form.Before turned) = false
 is_flag (form.After turned) = false
 is_flag form.Flag = true
@@ -396,7 +396,7 @@ node_row t by arms test h k =
     ∙ ap (tree (seen_body t.body.items)) (seen_pick by arms)
     ∙ ap (λ p. tree (seen_body t.body.items) (Pick (seen_picker p) (seen_trees arms))) k
 
-pub ways_from : (label : Label) (targets : Targets) (t : code.Tree) (test : code_test.Test) (arms : List code.Tree) (what : shape.Form) →
+pub ways_from : (label : Label) (targets : Targets) (t : code.Tree) (test : code_test.Test) (arms : List code.Tree) (what : shape.LoopForm) →
     seen_tree t ≡ node_of (seen_body t.body.items) test (seen_trees arms) → form_at (form_for label targets (seen_tree t)) ≡ what →
     ways targets label (is_nothing (seen_body t.body.items)) (seen_trees arms) ≡ what
 ways_from label targets t test arms what row h =

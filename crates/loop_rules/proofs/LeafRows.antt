@@ -7,7 +7,7 @@ use Rattle.tree_rules.proofs.LeafRows.{weight, other_weight}
 use Rattle.cob_base.specs.declared.memory.NoMemory.{NoMemory}
 use Rattle.branch_tree.specs.declared.graph.Added as code
 use Rattle.loop_rules.specs.Forms.{form_for}
-use Rattle.loop_rules.specs.Closed.{Closes, closed, closed_by, closed_form}
+use Rattle.loop_rules.specs.Nodes.{Closes, closed, closed_by, closed_form}
 
 module _ (l label : Label) (cell : ℕ) (t : Tree) where
   -- behind the loop stands a leaf to its one target

@@ -6,8 +6,8 @@ use Rattle.control_flow_theory.specs.graph_rules.Families.{Added}
 use Rattle.control_flow_theory.specs.graph_rules.Shapes.{Live, Targets, NoTarget, Only, Several, leaves_to, other_targets}
 use Rattle.control_flow_theory.specs.graph_rules.Reduced.{Graph, Form, has_node, tree_in, count, form_of, looped_graph, close_form, close_by, close_graph, at_most_one, loops}
 use Rattle.branch_tree.specs.declared.graph.Added as code_added
-use Rattle.branch_tree.specs.Graphs.{seen_added}
-use Rattle.loop_rules.specs.Closed.{closed_form, closed_by, closed, may_loop}
+use Rattle.branch_tree.specs.Graph.{seen_added}
+use Rattle.loop_rules.specs.Nodes.{closed_form, closed_by, closed, may_loop}
 
 pub count_is : (added : List code_added.Added) → count (map seen_added added) ≡ length added
 count_is [] = refl

@@ -5,9 +5,9 @@ use Rattle.control_flow_theory.specs.semantics.Graph.{Label, Tree}
 use Rattle.control_flow_theory.specs.graph_rules.Shapes.{leaves_to}
 use Rattle.control_flow_theory.specs.graph_rules.Reduced.{has_node, tree_in, with_tree, looped_graph}
 use Rattle.branch_tree.specs.declared.graph.Added.{Added}
-use Rattle.branch_tree.specs.Graphs.{seen_nodes, seen_added}
+use Rattle.branch_tree.specs.Graph.{seen_nodes, seen_added}
 use Rattle.graph_rewriting.specs.Helds.{Held, seen_work}
-use Rattle.graph_rewriting.specs.Sounds.{IsSound, bare, Fits, WithNodes}
+use Rattle.graph_rewriting.specs.Rewriting.{IsSound, bare, Fits, WithNodes}
 use Rattle.graph_rewriting.proofs.NodeRows.{has_with, tree_with, with_twice, with_same}
 use Rattle.graph_rewriting.proofs.ChangeRows.{fits_less}
 use Rattle.tree_rules.proofs.InlineRows.{graph_same}

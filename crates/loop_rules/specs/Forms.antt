@@ -7,17 +7,17 @@ use Rattle.control_flow_theory.specs.graph_rules.Shapes.{alone, followed, Live, 
 use Rattle.control_flow_theory.specs.graph_rules.Reduced.{form_of, is_leaf, stays}
 use Rattle.control_flow_theory.specs.graph_rules.Reduced as reduced
 use Rattle.branch_tree.specs.Choosers.{seen_test}
-use Rattle.branch_tree.specs.Trees.{stated}
+use Rattle.branch_tree.specs.Tree.{stated}
 use Rattle.loop_rules.specs.declared.forms.Turning.{Turning}
-use Rattle.loop_rules.specs.declared.forms.Form.{Form}
-use Rattle.loop_rules.specs.declared.forms.Form.TheVariants as form
+use Rattle.loop_rules.specs.declared.forms.LoopForm.{LoopForm}
+use Rattle.loop_rules.specs.declared.forms.LoopForm.TheVariants as form
 
-abbrev pub when_after : Bool → Bool → Form
+abbrev pub when_after : Bool → Bool → LoopForm
 when_after true turned = form.After turned
 when_after false turned = form.Before turned
 
 -- a flag, where no test of its own fits
-abbrev pub form_at : Option reduced.Form → Form
+abbrev pub form_at : Option reduced.Form → LoopForm
 form_at None = form.Flag
 form_at (Some one) = when_after one.after one.turned
 
@@ -48,12 +48,12 @@ abbrev pub bare_by : Targets → Tree → Bool
 bare_by targets t = is_nothing (body_of t) && leaf_by targets (end_of t)
 
 -- the first arm leaves and the second stays, or the other way round
-abbrev pub way : Bool → Bool → Bool → Form
+abbrev pub way : Bool → Bool → Bool → LoopForm
 way after first second =
     if first then when_after after false else (if second then when_after after true else form.Flag)
 
 -- the form of two arms behind a body, which may be empty
-abbrev pub two_ways : Targets → Label → Bool → Tree → Tree → Form
+abbrev pub two_ways : Targets → Label → Bool → Tree → Tree → LoopForm
 two_ways targets label empty one two =
     if empty
     then way false (bare_by targets one && is_some (stays label two))
@@ -61,7 +61,7 @@ two_ways targets label empty one two =
     else way true (bare_by targets one && bare_by (Only (ToLabel label)) two)
     (bare_by targets two && bare_by (Only (ToLabel label)) one)
 
-abbrev pub ways : Targets → Label → Bool → Trees → Form
+abbrev pub ways : Targets → Label → Bool → Trees → LoopForm
 ways targets label empty no_more = form.Flag
 ways targets label empty (more one no_more) = form.Flag
 ways targets label empty (more one (more two no_more)) = two_ways targets label empty one two

@@ -1,4 +1,4 @@
 -- how a loop is tested
 pub mod Forms
 -- a node's tree as a loop
-pub mod Closed
+pub mod Nodes

@@ -8,10 +8,10 @@ ghost use Rattle.control_flow_theory.specs.language.Language.{Until, Loop, Neste
 ghost use Rattle.control_flow_theory.specs.graph_rules.Reduced.{stays};
 ghost use Rattle.tree_rules.specs.Targets.{seen_targets};
 ghost use Rattle.loop_rules.specs.Forms.{loop_by, looped_by, end_by, is_nothing, bare_by, leaf_by, way, two_ways, ways, form_at, form_for, formed_if};
-ghost use Rattle.loop_rules.specs.declared.forms.Form.TheVariants as FormIs;
+ghost use Rattle.loop_rules.specs.declared.forms.LoopForm.TheVariants as FormIs;
 ghost use Rattle.control_flow_theory.specs.graph_rules.Shapes.{followed, alone};
 ghost use Rattle.branch_tree.specs.Choosers.{seen_test};
-ghost use Rattle.branch_tree.specs.Trees.{seen_tree, seen_trees, seen_body, seen_end, stated};
+ghost use Rattle.branch_tree.specs.Tree.{seen_tree, seen_trees, seen_body, seen_end, stated};
 
 use branch_tree::{End, Label, Leaves, Picker, Piece, Test, Tree, drop_pieces, drop_trees};
 use cob_base::{Items, NoMemory};
@@ -23,7 +23,7 @@ use tree_rules::Targets;
 /// How a loop is tested: before or after its body, or by a flag. A test that is turned goes on
 /// where it holds.
 #[derive(Clone, Copy)]
-pub enum Form {
+pub enum LoopForm {
     Before { turned: bool },
     After { turned: bool },
     Flag,
@@ -124,7 +124,7 @@ fn stays(tree: &Tree, label: Label) -> bool
 }
 
 /// The form where the first arm leaves and the second stays, or the other way round.
-fn way(after: bool, first: bool, second: bool) -> Form
+fn way(after: bool, first: bool, second: bool) -> LoopForm
     ensures { result ≡ way after first second }
 {
     let turned = if first {
@@ -132,17 +132,23 @@ fn way(after: bool, first: bool, second: bool) -> Form
     } else if second {
         true
     } else {
-        return Form::Flag;
+        return LoopForm::Flag;
     };
     if after {
-        Form::After { turned }
+        LoopForm::After { turned }
     } else {
-        Form::Before { turned }
+        LoopForm::Before { turned }
     }
 }
 
 /// The form of a loop that ends in two arms by a test.
-fn form_two(body: &VecDeque<Piece>, one: &Tree, two: &Tree, label: Label, live: &Targets) -> Form
+fn form_two(
+    body: &VecDeque<Piece>,
+    one: &Tree,
+    two: &Tree,
+    label: Label,
+    live: &Targets,
+) -> LoopForm
     ensures { result ≡ two_ways (seen_targets live.now) label (is_nothing (seen_body body.now.items))
         (seen_tree one.now) (seen_tree two.now) }
 {
@@ -156,31 +162,31 @@ fn form_two(body: &VecDeque<Piece>, one: &Tree, two: &Tree, label: Label, live: 
     }
 }
 
-fn form_arms(body: &VecDeque<Piece>, arms: &[Tree], label: Label, live: &Targets) -> Form
+fn form_arms(body: &VecDeque<Piece>, arms: &[Tree], label: Label, live: &Targets) -> LoopForm
     ensures { result ≡ ways (seen_targets live.now) label (is_nothing (seen_body body.now.items))
         (seen_trees arms.now) }
 {
     if arms.len() == 2 {
         form_two(body, &arms[0], &arms[1], label, live)
     } else {
-        Form::Flag
+        LoopForm::Flag
     }
 }
 
 /// The form of the loop on the label, where its live leaves but the jumps to it have such a target.
-pub fn form_of(tree: &Tree, label: Label, live: &Targets) -> Form
+pub fn form_of(tree: &Tree, label: Label, live: &Targets) -> LoopForm
     ensures { result ≡ form_at (form_for label (seen_targets live.now) (seen_tree tree.now)) }
 {
     match &tree.end {
         End::Pick { by, arms } => match by {
             Picker::If(_) => form_arms(&tree.body, arms.as_slice(), label, live),
-            Picker::By(_) => Form::Flag,
-            Picker::ByCell { .. } => Form::Flag,
+            Picker::By(_) => LoopForm::Flag,
+            Picker::ByCell { .. } => LoopForm::Flag,
         },
-        End::Jump(_) => Form::Flag,
-        End::Return => Form::Flag,
-        End::Stop => Form::Flag,
-        End::Dead => Form::Flag,
+        End::Jump(_) => LoopForm::Flag,
+        End::Return => LoopForm::Flag,
+        End::Stop => LoopForm::Flag,
+        End::Dead => LoopForm::Flag,
     }
 }
 

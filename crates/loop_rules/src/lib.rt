@@ -10,5 +10,5 @@
 mod forms;
 mod nodes;
 
-pub use forms::{Form, Turning, form_of, looped};
+pub use forms::{LoopForm, Turning, form_of, looped};
 pub use nodes::{close_loop, close_tree, may_loop};

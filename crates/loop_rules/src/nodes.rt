@@ -7,12 +7,12 @@ ghost use Rattle.control_flow_theory.specs.graph_rules.Loops.{Flagged, Endless, 
 ghost use Rattle.control_flow_theory.specs.graph_rules.Reduced.{close_graph, at_most_one};
 ghost use Rattle.control_flow_theory.specs.graph_rules.Shapes.{flat};
 ghost use Rattle.graph_rewriting.specs.Helds.{seen_work};
-ghost use Rattle.branch_tree.specs.Trees.{seen_tree};
+ghost use Rattle.branch_tree.specs.Tree.{seen_tree};
 ghost use Rattle.tree_rules.specs.Targets.{seen_targets};
-ghost use Rattle.loop_rules.specs.Closed.{Closes, CloseLoop, closed, closed_live, may_loop, turns};
+ghost use Rattle.loop_rules.specs.Nodes.{Closes, CloseLoop, closed, closed_live, may_loop, turns};
 ghost use Rattle.loop_rules.specs.Forms.{end_by};
 
-use crate::forms::{Form, Turning, close_after, close_before, end_of, form_of, looped};
+use crate::forms::{LoopForm, Turning, close_after, close_before, end_of, form_of, looped};
 use branch_tree::{Added, Label, Leaves, Piece, Test, Tree};
 use cob_base::NoMemory;
 use graph_rewriting::Work;
@@ -75,15 +75,15 @@ fn close_live(
         (seen_tree tree.old) (seen_tree tree.new) }
 {
     match form_of(tree, label, live) {
-        Form::Before { turned } => {
+        LoopForm::Before { turned } => {
             close_before(tree, turned, label, live)?;
             Ok(None)
         }
-        Form::After { turned } => {
+        LoopForm::After { turned } => {
             close_after(alloc, tree, turned, label, live)?;
             Ok(None)
         }
-        Form::Flag => {
+        LoopForm::Flag => {
             close_flag(alloc, tree, label, cell, live)?;
             Ok(Some(Added::Flag))
         }

@@ -3,6 +3,6 @@ pub mod SizeLemmas
 -- places
 pub mod LayoutLemmas
 -- continuations
-pub mod LeafLemmas
+pub mod JumpTargetLemmas
 -- the ends of paragraphs
-pub mod FallLemmas
+pub mod FallThroughLemmas

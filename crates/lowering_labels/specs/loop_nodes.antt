@@ -1,6 +1,6 @@
 -- arms of choices
-pub mod Arms
+pub mod Ends
 -- loops
 pub mod Loops
 -- what calls make
-pub mod Made
+pub mod Nodes

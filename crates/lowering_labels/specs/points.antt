@@ -1,6 +1,6 @@
 -- the places of a program
 pub mod Layout
 -- where a rest goes on
-pub mod Leaf
+pub mod JumpTarget
 -- where a range goes on behind a paragraph
-pub mod Fall
+pub mod FallThrough

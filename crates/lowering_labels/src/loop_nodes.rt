@@ -8,6 +8,8 @@ pub mod laws;
 mod loops;
 mod nodes;
 
-pub use crate::loop_nodes::ends::{depending, end_at, only, push_only};
-pub use crate::loop_nodes::loops::{augmenting, back, by_test, head, start_loop, third};
-pub use crate::loop_nodes::nodes::{ended, head_node, leave_or, start_turn, third_node};
+pub use crate::loop_nodes::ends::{depending, end_alone, end_at, push_only};
+pub use crate::loop_nodes::loops::{
+    augmenting, by_test, loop_back_label, loop_head_label, loop_step_label, start_loop,
+};
+pub use crate::loop_nodes::nodes::{body_with_end, head_node, leave_or, start_turn, third_node};

@@ -1,17 +1,17 @@
 //! The places of a program, and where a rest of it goes on: the tables that lowering stands on.
 //!
 //! Hold `layout_of` against the numbering of places, paragraphs and behind each its statements in
-//! text order (`control_flow_theory/specs/lowering/Lowered`), `leaf_of` against what a continuation
-//! is, and `end_leaf` against the end of a paragraph in a range
+//! text order (`control_flow_theory/specs/lowering/Lowered`), `jump_target_of` against what a
+//! continuation is, and `paragraph_end_target` against the end of a paragraph in a range
 //! (`control_flow_theory/specs/lowering/Lower`). Contracts speak of any numbering that gives the
 //! places of the table, so that those of the theory are among them.
 
-mod fall;
+mod fall_through;
+mod jump_target;
 mod layout;
-mod leaf;
 mod size;
 
-pub use crate::points::fall::{end_leaf, section_last};
-pub use crate::points::layout::{Layout, layout_of};
-pub use crate::points::leaf::{Leaf, leaf_of, point};
+pub use crate::points::fall_through::{paragraph_end_target, section_last};
+pub use crate::points::jump_target::{JumpTarget, jump_target_of, point};
+pub use crate::points::layout::{PlaceTable, layout_of};
 pub use crate::points::size::{stmt_size, stmts_size};

@@ -18,11 +18,11 @@ use Rattle.control_flow_theory.proofs.language_lemmas.Rows.{seen_if_any, seen_wh
 use Rattle.program_points.specs.declared.paths.trail.Move.{Move}
 use Rattle.program_points.specs.paths.Step.{Point, at, way_at, only, first_is_barred}
 use Rattle.program_points.specs.paths.Accepted.{walk, walk_to, arm_at, by_arm, by_choice}
-use Rattle.program_points.specs.numbering.Kinds.{is_silent}
-use Rattle.program_points.specs.numbering.Building.{branches_of, branch_points, seen_maybe, seen_branches}
-use Rattle.overlap_trail.specs.declared.follow.Way.{Way}
-use Rattle.overlap_trail.specs.declared.follow.Way.TheVariants.{Through, Lost}
-use Rattle.overlap_trail.specs.Following.{Known, known_of, rests, ComesTo, Follows, FollowsBranches, FollowsArm, FollowsBoth, IsArmFirst, AreSeveral, Picks, PicksNone, first_arm}
+use Rattle.program_points.specs.numbering.Kind.{is_silent}
+use Rattle.program_points.specs.numbering.Build.{branches_of, branch_points, seen_maybe, seen_branches}
+use Rattle.overlap_trail.specs.declared.follow.Followed.{Followed}
+use Rattle.overlap_trail.specs.declared.follow.Followed.TheVariants.{Through, Lost}
+use Rattle.overlap_trail.specs.Follow.{Known, known_of, rests, ComesTo, Follows, FollowsBranches, FollowsArm, FollowsBoth, IsArmFirst, AreSeveral, Picks, PicksNone, first_arm}
 use Rattle.program_points.specs.declared.paths.trail.Lemma.{Lemma}
 use Rattle.overlap_trail.proofs.Steps.{no-first-arm, behind, one-step, choice-step, choice-stuck, first-step, second-step, neither-stuck}
 use Rattle.overlap_trail.proofs.Rows.{never, IsCounted, choose-next, if-branches, evaluate-branches, evaluate-counted, evaluate-barred, both, both_branches, both-branches, barred-arith}
@@ -42,13 +42,13 @@ way-branch paragraph rest (b ∷ bs) (suc index) = way-branch paragraph rest bs 
 module _ (known : Known) (moves : List Move) (last taken : ℕ) where
   -- one of two
 
-  pub two-first : (first second : Stmts) (way : Way) → IsArmFirst moves taken 1 → Follows known moves last (taken + 1) first way → FollowsBranches known moves last taken (first ∷ second ∷ []) way
+  pub two-first : (first second : Stmts) (way : Followed) → IsArmFirst moves taken 1 → Follows known moves last (taken + 1) first way → FollowsBranches known moves last taken (first ∷ second ∷ []) way
   two-first first second way arm follows = λ sought paragraph rest from is.
       let to = at paragraph (before first rest) in
       behind known sought last paragraph rest moves (walk from (drop taken moves)) (walk to (drop (taken + 1) moves)) way
       (first-step known sought from to (at paragraph (before second rest)) moves taken is arm) (follows sought paragraph rest)
 
-  pub two-second : (first second : Stmts) (way : Way) → IsArmFirst moves taken 2 → Follows known moves last (taken + 1) second way → FollowsBranches known moves last taken (first ∷ second ∷ []) way
+  pub two-second : (first second : Stmts) (way : Followed) → IsArmFirst moves taken 2 → Follows known moves last (taken + 1) second way → FollowsBranches known moves last taken (first ∷ second ∷ []) way
   two-second first second way arm follows = λ sought paragraph rest from is.
       let to = at paragraph (before second rest) in
       behind known sought last paragraph rest moves (walk from (drop taken moves)) (walk to (drop (taken + 1) moves)) way
@@ -64,7 +64,7 @@ module _ (known : Known) (moves : List Move) (last taken : ℕ) where
 
   -- one of several
 
-  pub picked : (branches : List Stmts) (index now : ℕ) (way : Way) → Picks moves taken branches index now → FollowsArm known moves last now (slice_get branches index) way → FollowsBranches known moves last taken branches way
+  pub picked : (branches : List Stmts) (index now : ℕ) (way : Followed) → Picks moves taken branches index now → FollowsArm known moves last now (slice_get branches index) way → FollowsBranches known moves last taken branches way
   picked branches index now way picks follows =
       (elim (slice_get branches index) as (λ o. slice_get branches index ≡ o → FollowsArm known moves last now o way → FollowsBranches known moves last taken branches way) [
         | None ↦ λ e lost sought paragraph rest from is.
@@ -83,14 +83,14 @@ module _ (known : Known) (moves : List Move) (last taken : ℕ) where
   not-picked branches picks = λ sought paragraph rest from is. choice-stuck known sought from (branch_points paragraph rest branches) (drop taken moves) is (picks paragraph rest)
 
   -- a statement that chooses among them
-  pub chosen : (stmt : Stmt) (picker : Picker) (arms : Arms) (branches : List Stmts) (way : Way) → stmt ≡ Choose picker arms → IsCounted arms → first_is_barred known.never_first (Do (Choose picker arms)) ≡ false → branches_of arms ≡ branches → FollowsBranches known moves last taken branches way →
+  pub chosen : (stmt : Stmt) (picker : Picker) (arms : Arms) (branches : List Stmts) (way : Followed) → stmt ≡ Choose picker arms → IsCounted arms → first_is_barred known.never_first (Do (Choose picker arms)) ≡ false → branches_of arms ≡ branches → FollowsBranches known moves last taken branches way →
       Follows known moves last taken (also stmt none) way
   chosen stmt picker arms branches way e some is same follows =
       subst (λ (s : Stmt). Follows known moves last taken (also s none) way) (sym e) (λ sought paragraph rest.
       follows sought paragraph rest (at paragraph (Do (Choose picker arms) ∷ rest)) (choose-next known.never_first sought.program paragraph picker rest arms false branches some is same))
 
 -- the arms as they were found
-pub both-as : (known : Known) (moves : List Move) (last taken : ℕ) (first second f s : Option (List tree.Stmt)) (silent b : Bool) (way : Way) → first ≡ f → second ≡ s → silent ≡ b → FollowsBoth known moves last taken f s b way → FollowsBoth known moves last taken first second silent way
+pub both-as : (known : Known) (moves : List Move) (last taken : ℕ) (first second f s : Option (List tree.Stmt)) (silent b : Bool) (way : Followed) → first ≡ f → second ≡ s → silent ≡ b → FollowsBoth known moves last taken f s b way → FollowsBoth known moves last taken first second silent way
 both-as known moves last taken first second f s silent b way one two three follows =
     subst (λ x. FollowsBoth known moves last taken x second silent way) (sym one) (subst (λ x. FollowsBoth known moves last taken f x silent way) (sym two) (subst (λ x. FollowsBoth known moves last taken f s x way) (sym three) follows))
 
@@ -129,13 +129,13 @@ module _ (files : List FileEntry) (lemmas : List Lemma) (moves : List Move) (las
   abbrev known : Known
   known = known_of files lemmas
 
-  pub if-followed : (cond : Cond) (met unmet : List tree.Stmt) (way : Way) → FollowsBranches known moves last taken (seen_stmts last met ∷ seen_stmts last unmet ∷ []) way →
+  pub if-followed : (cond : Cond) (met unmet : List tree.Stmt) (way : Followed) → FollowsBranches known moves last taken (seen_stmts last met ∷ seen_stmts last unmet ∷ []) way →
       Follows known moves last taken (also (Choose (If (test_of cond)) (given (seen_stmts last met) (arm_before (else_of (map (seen last) unmet)) done))) none) way
   if-followed cond met unmet way follows =
       let arms = given (seen_stmts last met) (arm_before (else_of (map (seen last) unmet)) done) in
       chosen known moves last taken (Choose (If (test_of cond)) arms) (If (test_of cond)) arms (seen_stmts last met ∷ seen_stmts last unmet ∷ []) way refl refl refl (if-branches (seen_stmts last met) (map (seen last) unmet)) follows
 
-  pub evaluate-followed : (subject : Subject) (whens : List When) (other : Option (List tree.Stmt)) (way : Way) → FollowsBranches known moves last taken (branches_with last whens other) way →
+  pub evaluate-followed : (subject : Subject) (whens : List When) (other : Option (List tree.Stmt)) (way : Followed) → FollowsBranches known moves last taken (branches_with last whens other) way →
       Follows known moves last taken (also (Choose (evaluate_of subject (tests_of (map (seen_when last) whens)) (is_some other)) (branches_before (map (seen_when last) whens) (arm_before (seen_if_any last other) done))) none) way
   evaluate-followed subject whens other way follows =
       let picker = evaluate_of subject (tests_of (map (seen_when last) whens)) (is_some other) in
@@ -143,12 +143,12 @@ module _ (files : List FileEntry) (lemmas : List Lemma) (moves : List Move) (las
       chosen known moves last taken (Choose picker arms) picker arms (branches_with last whens other) way refl (evaluate-counted files last (map (seen_when last) whens) other)
       (evaluate-barred files last subject (tests_of (map (seen_when last) whens)) (is_some other) arms) (evaluate-branches files last whens other) follows
 
-  arith-chosen : (calc : Calc) (into : List Target) (first second : Option (List tree.Stmt)) (way : Way) → arith_stmt calc into (both files last first second) ≡ Choose (By (Arith calc into)) (both_arms (both files last first second)) → IsCounted (both_arms (both files last first second)) →
+  arith-chosen : (calc : Calc) (into : List Target) (first second : Option (List tree.Stmt)) (way : Followed) → arith_stmt calc into (both files last first second) ≡ Choose (By (Arith calc into)) (both_arms (both files last first second)) → IsCounted (both_arms (both files last first second)) →
       FollowsBranches known moves last taken (both_branches files last first second) way → Follows known moves last taken (also (arith_stmt calc into (both files last first second)) none) way
   arith-chosen calc into first second way e some follows =
       chosen known moves last taken (arith_stmt calc into (both files last first second)) (By (Arith calc into)) (both_arms (both files last first second)) (both_branches files last first second) way e some (barred-arith files last calc into (both_arms (both files last first second))) (both-branches files last first second) follows
 
-  pub arith-followed : (calc : Calc) (into : List Target) (first second : Option (List tree.Stmt)) (way : Way) → FollowsBoth known moves last taken first second false way → Follows known moves last taken (also (arith_stmt calc into (both files last first second)) none) way
+  pub arith-followed : (calc : Calc) (into : List Target) (first second : Option (List tree.Stmt)) (way : Followed) → FollowsBoth known moves last taken first second false way → Follows known moves last taken (also (arith_stmt calc into (both files last first second)) none) way
   arith-followed calc into None None way is = subst (λ w. Follows known moves last taken (also (arith_stmt calc into (both files last None None)) none) w) (sym is)
       (λ sought paragraph rest. one-step known sought (at paragraph (Do (language.Do (arith_of calc into)) ∷ rest)) (at paragraph rest) (drop taken moves) refl)
   arith-followed calc into None (Some second) way follows = arith-chosen calc into None (Some second) way refl refl follows
@@ -158,12 +158,12 @@ module _ (files : List FileEntry) (lemmas : List Lemma) (moves : List Move) (las
   abbrev pub Reading : ℕ → Option places.Place → Option (List tree.Stmt) → Option (List tree.Stmt) → Stmt
   Reading file into first second = Choose (By (Read file into (is_some (seen_if_any last first)))) (both_arms (both files last first second))
 
-  read-chosen : (file : ℕ) (into : Option places.Place) (first second : Option (List tree.Stmt)) (way : Way) → IsCounted (both_arms (both files last first second)) → first_is_barred (never files last) (Do (Reading file into first second)) ≡ false →
+  read-chosen : (file : ℕ) (into : Option places.Place) (first second : Option (List tree.Stmt)) (way : Followed) → IsCounted (both_arms (both files last first second)) → first_is_barred (never files last) (Do (Reading file into first second)) ≡ false →
       FollowsBranches known moves last taken (both_branches files last first second) way → Follows known moves last taken (also (Reading file into first second) none) way
   read-chosen file into first second way some is follows =
       chosen known moves last taken (Reading file into first second) (By (Read file into (is_some (seen_if_any last first)))) (both_arms (both files last first second)) (both_branches files last first second) way refl some is (both-branches files last first second) follows
 
-  read-second : (file : ℕ) (into : Option places.Place) (second : List tree.Stmt) (silent : Bool) (way : Way) → is_silent files file ≡ silent → FollowsBoth known moves last taken None (Some second) silent way → Follows known moves last taken (also (Reading file into None (Some second)) none) way
+  read-second : (file : ℕ) (into : Option places.Place) (second : List tree.Stmt) (silent : Bool) (way : Followed) → is_silent files file ≡ silent → FollowsBoth known moves last taken None (Some second) silent way → Follows known moves last taken (also (Reading file into None (Some second)) none) way
   read-second file into second true way is follows = λ sought paragraph rest.
       let from = at paragraph (Do (Reading file into None (Some second)) ∷ rest) in
       let to = at paragraph (before (seen_stmts last second) rest) in
@@ -173,7 +173,7 @@ module _ (files : List FileEntry) (lemmas : List Lemma) (moves : List Move) (las
       (follows sought paragraph rest)
   read-second file into second false way is follows = read-chosen file into None (Some second) way refl is follows
 
-  pub read-followed : (file : ℕ) (into : Option places.Place) (first second : Option (List tree.Stmt)) (silent : Bool) (way : Way) → silent ≡ is_silent files file → FollowsBoth known moves last taken first second silent way → Follows known moves last taken (also (Reading file into first second) none) way
+  pub read-followed : (file : ℕ) (into : Option places.Place) (first second : Option (List tree.Stmt)) (silent : Bool) (way : Followed) → silent ≡ is_silent files file → FollowsBoth known moves last taken first second silent way → Follows known moves last taken (also (Reading file into first second) none) way
   read-followed file into None None silent way is told = subst (λ w. Follows known moves last taken (also (Reading file into None None) none) w) (sym told)
       (λ sought paragraph rest. one-step known sought (at paragraph (Do (Reading file into None None) ∷ rest)) (at paragraph rest) (drop taken moves) refl)
   read-followed file into None (Some second) silent way is follows = read-second file into second silent way (sym is) follows

@@ -16,9 +16,9 @@ use Rattle.program_points.specs.paths.Step.{at, start, Ends, is_present, is_para
 use Rattle.program_points.specs.paths.Flow.{is_exit}
 use Rattle.program_points.specs.paths.Accepted.{Walk, walk, past_end, Leads, here, further, Aim, Meets}
 use Rattle.program_points.proofs.table_building_lemmas.Sections.{seen-length, paragraph-at}
-use Rattle.overlap_trail.specs.declared.leg.Leg.{Leg}
-use Rattle.overlap_trail.specs.declared.leg.Leg.TheVariants.{There, Nowhere, On}
-use Rattle.overlap_trail.specs.Following.{Known, Sought, sought_of, MeetsAt, onward_at, Quietly, rests, on_to, Goes, IsStuck}
+use Rattle.overlap_trail.specs.declared.leg.ParagraphStep.{ParagraphStep}
+use Rattle.overlap_trail.specs.declared.leg.ParagraphStep.TheVariants.{There, Nowhere, On}
+use Rattle.overlap_trail.specs.Follow.{Known, Sought, sought_of, MeetsAt, onward_at, Quietly, rests, on_to, Goes, IsStuck}
 use Rattle.overlap_trail.specs.Checking.{Arrives, IsLeg}
 use Rattle.overlap_trail.proofs.Steps.{quietly-then, goes-then, then-goes, goes-quietly}
 
@@ -118,13 +118,13 @@ module _ (known : Known) (sought : Sought) where
   pub never-around : (from : Walk) → Goes known sought from from → Arrives known sought from → ⊥
   never-around from goes arrives = around from arrives.0 arrives.1 arrives.2 goes
 
-  pub leg-behind : (moves : List Move) (a b : Walk) (taken now : ℕ) (leg : Leg) → Quietly known sought a b → taken ≤ now → IsLeg known sought moves b now leg → IsLeg known sought moves a taken leg
+  pub leg-behind : (moves : List Move) (a b : Walk) (taken now : ℕ) (leg : ParagraphStep) → Quietly known sought a b → taken ≤ now → IsLeg known sought moves b now leg → IsLeg known sought moves a taken leg
   leg-behind moves a b taken now There path le leg = arrives-behind a b path leg
   leg-behind moves a b taken now Nowhere path le leg = λ arrives. leg (arrives-ahead a b path arrives)
   leg-behind moves a b taken now (On paragraph later) path le leg =
       (then-goes known sought a b (walk (start sought.program paragraph) (drop later moves)) path leg.0, (omega (arith, leg.1.0), leg.1.1))
 
-  pub leg-earlier : (moves : List Move) (a : Walk) (taken now : ℕ) (leg : Leg) → taken ≤ now → IsLeg known sought moves a now leg → IsLeg known sought moves a taken leg
+  pub leg-earlier : (moves : List Move) (a : Walk) (taken now : ℕ) (leg : ParagraphStep) → taken ≤ now → IsLeg known sought moves a now leg → IsLeg known sought moves a taken leg
   leg-earlier moves a taken now leg le is = leg-behind moves a a taken now leg (rests a) le is
 
   -- what was passed leads on to what is come to next

@@ -6,8 +6,8 @@ use Rattle.control_flow_theory.specs.semantics.Items.{way_after, to_one}
 use Rattle.program_points.specs.declared.paths.trail.Move.{Move}
 use Rattle.program_points.specs.paths.Step.{Point, at, start, by_way, led, Ways, ways_from, ways_of, next, way_at, no_way, only}
 use Rattle.program_points.specs.paths.Accepted.{walk, walk_to, arm_at, by_arm, by_choice}
-use Rattle.overlap_trail.specs.declared.follow.Way.TheVariants.{Through, To, Lost}
-use Rattle.overlap_trail.specs.Following.{Known, Sought, next_at, Follows, IsArmFirst, first_arm}
+use Rattle.overlap_trail.specs.declared.follow.Followed.TheVariants.{Through, To, Lost}
+use Rattle.overlap_trail.specs.Follow.{Known, Sought, next_at, Follows, IsArmFirst, first_arm}
 use Rattle.overlap_trail.proofs.Steps.{no-first-arm, one-step, choice-goes, choice-step, choice-stuck}
 
 -- the ways of the names, and behind them this point

@@ -11,12 +11,12 @@ use Rattle.control_flow_theory.specs.language.Language.{Picker, By, If, Holds, C
 use Rattle.control_flow_theory.specs.language.Items.{Item, Do, Turn, Steps, before, before_body, before_arm}
 use Rattle.control_flow_theory.specs.language.Control.{always, Both, both_arms, arm_before, else_of, Branch, branches_before, picker_by, evaluate_of, cell_chosen, count_from, stmts_of, perform_of, loop_of, seen_when}
 use Rattle.control_flow_theory.proofs.language_lemmas.Rows.{seen_if_any}
-use Rattle.control_flow_theory.specs.lowering.Told.{arm_count}
+use Rattle.control_flow_theory.specs.lowering.FlowFacts.{arm_count}
 use Rattle.program_points.specs.paths.Step.{Point, at, Ways, some_given, first_is_barred, without_first, ways_from, next}
-use Rattle.program_points.specs.declared.numbering.kind.Kind.{Kind}
-use Rattle.program_points.specs.declared.numbering.kind.Kind.TheVariants.{Before, Again, After}
-use Rattle.program_points.specs.numbering.Kinds.{kind_in, remainder, never_first_of}
-use Rattle.program_points.specs.numbering.Building.{branches_of, branch_points, seen_maybe, seen_branches}
+use Rattle.program_points.specs.declared.numbering.kind.LoopStart.{LoopStart}
+use Rattle.program_points.specs.declared.numbering.kind.LoopStart.TheVariants.{Before, Again, After}
+use Rattle.program_points.specs.numbering.Kind.{kind_in, remainder, never_first_of}
+use Rattle.program_points.specs.numbering.Build.{branches_of, branch_points, seen_maybe, seen_branches}
 
 -- Loops.
 
@@ -71,7 +71,7 @@ pub perform-once : (control : Option Control) (entry exit : ℕ) → None ≡ op
 perform-once None entry exit e = refl
 perform-once (Some control) entry exit e = absurd (let k : ⊥ = cc in k)
 
-pub perform-loop : (control : Option Control) (entry exit : ℕ) (kind : Kind) → Some kind ≡ option_map kind_in control → (one : Control) × (kind_in one ≡ kind) × (perform_of control entry exit ≡ Loop one (Performed entry exit))
+pub perform-loop : (control : Option Control) (entry exit : ℕ) (kind : LoopStart) → Some kind ≡ option_map kind_in control → (one : Control) × (kind_in one ≡ kind) × (perform_of control entry exit ≡ Loop one (Performed entry exit))
 perform-loop None entry exit kind e = absurd (let k : ⊥ = cc in k)
 perform-loop (Some control) entry exit kind e = (control, (let k : kind ≡ kind_in control = cc in sym k), refl)
 
@@ -79,7 +79,7 @@ pub loop-none : (control : Option Control) (body : Stmts) → None ≡ option_ma
 loop-none None body e = refl
 loop-none (Some control) body e = absurd (let k : ⊥ = cc in k)
 
-pub loop-some : (control : Option Control) (body : Stmts) (kind : Kind) → Some kind ≡ option_map kind_in control → (one : Control) × (kind_in one ≡ kind) × (loop_of control body ≡ Loop one (Nested body))
+pub loop-some : (control : Option Control) (body : Stmts) (kind : LoopStart) → Some kind ≡ option_map kind_in control → (one : Control) × (kind_in one ≡ kind) × (loop_of control body ≡ Loop one (Nested body))
 loop-some None body kind e = absurd (let k : ⊥ = cc in k)
 loop-some (Some control) body kind e = (control, (let k : kind ≡ kind_in control = cc in sym k), refl)
 

@@ -8,9 +8,9 @@ use Rattle.program_points.specs.declared.paths.trail.Move.{Move}
 use Rattle.program_points.specs.paths.Step.{at}
 use Rattle.program_points.specs.paths.Accepted.{walk}
 use Rattle.program_points.proofs.numbering_lemmas.Growing.{loop-before}
-use Rattle.overlap_trail.specs.declared.follow.Way.TheVariants as way
-use Rattle.overlap_trail.specs.declared.leg.Out.TheVariants.{ToEnd, ToSectionEnd, ToStart, Met, Lost}
-use Rattle.overlap_trail.specs.Following.{Known, Sought, Quietly, rests, Follows}
+use Rattle.overlap_trail.specs.declared.follow.Followed.TheVariants as way
+use Rattle.overlap_trail.specs.declared.leg.ParagraphOutcome.TheVariants.{ToEnd, ToSectionEnd, ToStart, Met, Lost}
+use Rattle.overlap_trail.specs.Follow.{Known, Sought, Quietly, rests, Follows}
 use Rattle.overlap_trail.specs.Checking.{FollowsSentences}
 use Rattle.overlap_trail.proofs.Steps.{quietly-then, then-goes, one-step}
 

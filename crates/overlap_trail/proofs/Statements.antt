@@ -9,9 +9,9 @@ use Rattle.program_points.specs.declared.paths.trail.Move.{Move}
 use Rattle.program_points.specs.paths.Step.{at, start}
 use Rattle.program_points.specs.paths.Accepted.{Walk, walk}
 use Rattle.program_points.proofs.numbering_lemmas.Growing.{past-before, loop-before}
-use Rattle.overlap_trail.specs.declared.follow.Way.{Way}
-use Rattle.overlap_trail.specs.declared.follow.Way.TheVariants.{Through, To, Left, Ended, SectionEnded, Broken, Cycled, Met, Lost}
-use Rattle.overlap_trail.specs.Following.{Known, Sought, Quietly, rests, ComesTo, Follows}
+use Rattle.overlap_trail.specs.declared.follow.Followed.{Followed}
+use Rattle.overlap_trail.specs.declared.follow.Followed.TheVariants.{Through, To, Left, Ended, SectionEnded, Broken, Cycled, Met, Lost}
+use Rattle.overlap_trail.specs.Follow.{Known, Sought, Quietly, rests, ComesTo, Follows}
 use Rattle.overlap_trail.proofs.Steps.{no-stop-meets, quietly-then, behind, one-goes, one-step}
 
 -- through the first of the statements, so many moves are taken
@@ -20,7 +20,7 @@ FollowsOn known moves stmts left taken now = (sought : Sought) (paragraph : ℕ)
     Quietly known sought (walk (at paragraph (before stmts rest)) (drop taken moves)) (walk (at paragraph (before left rest)) (drop now moves))
 
 -- what comes of statements with more behind them, with the rest behind those, unless they complete
-outer : (known : Known) (sought : Sought) (last paragraph : ℕ) (more : Stmts) (rest : List Item) (moves : List Move) (from : Walk) (way : Way) → ((now : ℕ) → way ≡ Through now → ⊥) → ComesTo known sought last paragraph (before more rest) moves from way → ComesTo known sought last paragraph rest moves from way
+outer : (known : Known) (sought : Sought) (last paragraph : ℕ) (more : Stmts) (rest : List Item) (moves : List Move) (from : Walk) (way : Followed) → ((now : ℕ) → way ≡ Through now → ⊥) → ComesTo known sought last paragraph (before more rest) moves from way → ComesTo known sought last paragraph rest moves from way
 outer known sought last paragraph more rest moves from (Through now) not comes = absurd (not now refl)
 outer known sought last paragraph more rest moves from (To to now) not comes = comes
 outer known sought last paragraph more rest moves from (Left now) not comes = subst (λ items. Quietly known sought from (walk (at paragraph items) (drop now moves))) (past-before more rest) comes
@@ -32,11 +32,11 @@ outer known sought last paragraph more rest moves from (Met entry exit now) not 
 outer known sought last paragraph more rest moves from Lost not comes = comes
 
 module _ (known : Known) (moves : List Move) (last taken : ℕ) where
-  pub as-seen : (stmt : tree.Stmt) (s : Stmt) (way : Way) → seen last stmt ≡ s → Follows known moves last taken (also s none) way → Follows known moves last taken (also (seen last stmt) none) way
+  pub as-seen : (stmt : tree.Stmt) (s : Stmt) (way : Followed) → seen last stmt ≡ s → Follows known moves last taken (also s none) way → Follows known moves last taken (also (seen last stmt) none) way
   as-seen stmt s way e follows = subst (λ x. Follows known moves last taken (also x none) way) (sym e) follows
 
   -- another statement that this one is
-  pub same-stmt : (s t : Stmt) (way : Way) → s ≡ t → Follows known moves last taken (also t none) way → Follows known moves last taken (also s none) way
+  pub same-stmt : (s t : Stmt) (way : Followed) → s ≡ t → Follows known moves last taken (also t none) way → Follows known moves last taken (also s none) way
   same-stmt s t way e follows = subst (λ x. Follows known moves last taken (also x none) way) (sym e) follows
 
   pub act-through : (stmt : Stmt) (act : Act) → stmt ≡ language.Do act → Follows known moves last taken (also stmt none) (Through taken)
@@ -78,7 +78,7 @@ module _ (known : Known) (moves : List Move) (last taken : ℕ) where
       quietly-then known sought (walk (at paragraph (before stmts rest)) (drop taken moves)) (walk (at paragraph (Do stmt ∷ before more rest)) (drop now moves)) (walk (at paragraph (before more rest)) (drop later moves))
       (onto stmts left more stmt now e on sought paragraph rest) (follows sought paragraph (before more rest))
 
-  pub stmts-out : (stmts left more : Stmts) (stmt : Stmt) (now : ℕ) (way : Way) → left ≡ also stmt more → FollowsOn known moves stmts left taken now → ((later : ℕ) → way ≡ Through later → ⊥) → Follows known moves last now (also stmt none) way → Follows known moves last taken stmts way
+  pub stmts-out : (stmts left more : Stmts) (stmt : Stmt) (now : ℕ) (way : Followed) → left ≡ also stmt more → FollowsOn known moves stmts left taken now → ((later : ℕ) → way ≡ Through later → ⊥) → Follows known moves last now (also stmt none) way → Follows known moves last taken stmts way
   stmts-out stmts left more stmt now way e on not follows = λ sought paragraph rest.
       let via = walk (at paragraph (Do stmt ∷ before more rest)) (drop now moves) in
       behind known sought last paragraph rest moves (walk (at paragraph (before stmts rest)) (drop taken moves)) via way (onto stmts left more stmt now e on sought paragraph rest)

@@ -6,9 +6,9 @@ use Rattle.program_points.specs.declared.paths.trail.Move.TheVariants.{Arm, Over
 use Rattle.control_flow_theory.specs.language.Items.{Item, past_sentence, from_loop}
 use Rattle.program_points.specs.paths.Step.{Point, at, start, Ways, Calls, Stops, only}
 use Rattle.program_points.specs.paths.Accepted.{Walk, walk, walk_to, arm_at, by_arm, by_choice, over_call, onward_by, Aim, Return, Enter, Fault, Meets}
-use Rattle.overlap_trail.specs.declared.follow.Way.{Way}
-use Rattle.overlap_trail.specs.declared.follow.Way.TheVariants.{Through, To, Left, Ended, SectionEnded, Broken, Cycled, Met, Lost}
-use Rattle.overlap_trail.specs.Following.{Known, Sought, next_at, onward_at, MeetsAt, Quietly, rests, on_to, Goes, IsStuck, ComesTo, IsArmFirst, IsBetween, IsTaken, first_arm, first_over, turned_way}
+use Rattle.overlap_trail.specs.declared.follow.Followed.{Followed}
+use Rattle.overlap_trail.specs.declared.follow.Followed.TheVariants.{Through, To, Left, Ended, SectionEnded, Broken, Cycled, Met, Lost}
+use Rattle.overlap_trail.specs.Follow.{Known, Sought, next_at, onward_at, MeetsAt, Quietly, rests, on_to, Goes, IsStuck, ComesTo, IsArmFirst, IsBetween, IsTaken, first_arm, first_over, turned_way}
 
 pub no-way-meets : (aim : Aim) (range : Range) (ways : List (Option Point)) (moves : List Move) → Meets aim range (Ways ways) moves → ⊥
 no-way-meets Return range ways moves h = h
@@ -62,7 +62,7 @@ module _ (known : Known) (sought : Sought) where
       (via, free, step, quietly-then via to c path (on_to to goes.0 c goes.1 goes.2 goes.3))
 
   -- what is followed behind a way that leads on
-  pub behind : (last paragraph : ℕ) (rest : List Item) (moves : List Move) (a b : Walk) (way : Way) → Quietly known sought a b → ComesTo known sought last paragraph rest moves b way → ComesTo known sought last paragraph rest moves a way
+  pub behind : (last paragraph : ℕ) (rest : List Item) (moves : List Move) (a b : Walk) (way : Followed) → Quietly known sought a b → ComesTo known sought last paragraph rest moves b way → ComesTo known sought last paragraph rest moves a way
   behind last paragraph rest moves a b (Through taken) path comes = quietly-then a b (walk (at paragraph rest) (drop taken moves)) path comes
   behind last paragraph rest moves a b (To to taken) path comes = then-goes a b (walk (start sought.program to) (drop taken moves)) path comes
   behind last paragraph rest moves a b (Left taken) path comes = quietly-then a b (walk (at paragraph (past_sentence rest)) (drop taken moves)) path comes
@@ -114,7 +114,7 @@ module _ (known : Known) (sought : Sought) where
   neither-stuck from first second moves taken e is =
       choice-stuck from (Some first ∷ Some second ∷ []) (drop taken moves) e (is (Some first) (Some second))
 
-pub taken-from : (a b most : ℕ) (way : Way) → a ≤ b → IsTaken b most way → IsTaken a most way
+pub taken-from : (a b most : ℕ) (way : Followed) → a ≤ b → IsTaken b most way → IsTaken a most way
 taken-from a b most (Through now) le is = (omega (arith, is.0), is.1)
 taken-from a b most (To to now) le is = (omega (arith, is.0), is.1)
 taken-from a b most (Left now) le is = (omega (arith, is.0), is.1)
@@ -125,7 +125,7 @@ taken-from a b most (Cycled now) le is = (omega (arith, is.0), is.1)
 taken-from a b most (Met entry exit now) le is = (omega (arith, is.0), is.1)
 taken-from a b most Lost le is = tt
 
-turned-taken : (taken most : ℕ) (way : Way) → IsTaken taken most way → IsTaken taken most (turned_way way)
+turned-taken : (taken most : ℕ) (way : Followed) → IsTaken taken most way → IsTaken taken most (turned_way way)
 turned-taken taken most (Through now) is = is
 turned-taken taken most (To to now) is = is
 turned-taken taken most (Left now) is = is
@@ -137,8 +137,8 @@ turned-taken taken most (Met entry exit now) is = is
 turned-taken taken most Lost is = is
 
 -- the same of a turn that is told
-pub as-turned : (taken most : ℕ) (way turn : Way) → turn ≡ turned_way way → IsTaken taken most way → IsTaken taken most turn
+pub as-turned : (taken most : ℕ) (way turn : Followed) → turn ≡ turned_way way → IsTaken taken most way → IsTaken taken most turn
 as-turned taken most way turn same is = subst (λ w. IsTaken taken most w) (sym same) (turned-taken taken most way is)
 
-pub cycled-taken : (taken most now : ℕ) (way : Way) → Cycled now ≡ turned_way way → IsTaken taken most way → IsBetween taken most now
+pub cycled-taken : (taken most now : ℕ) (way : Followed) → Cycled now ≡ turned_way way → IsTaken taken most way → IsBetween taken most now
 cycled-taken taken most now way same is = as-turned taken most way (Cycled now) same is

@@ -7,11 +7,11 @@ use Rattle.program_points.specs.declared.paths.trail.Move.{Move}
 use Rattle.program_points.specs.declared.paths.trail.Move.TheVariants.{Over}
 use Rattle.program_points.specs.paths.Step.{Point, at}
 use Rattle.program_points.specs.paths.Accepted.{Walk, walk, by_arm, is_range}
-use Rattle.program_points.specs.declared.numbering.kind.Kind.TheVariants.{Before, Again, After}
-use Rattle.program_points.specs.numbering.Kinds.{kind_in, remainder}
-use Rattle.overlap_trail.specs.declared.follow.Way.{Way}
-use Rattle.overlap_trail.specs.declared.follow.Way.TheVariants.{Through, To, Left, Ended, SectionEnded, Broken, Cycled, Met, Lost}
-use Rattle.overlap_trail.specs.Following.{Known, Sought, Quietly, rests, on_to, IsStuck, ComesTo, Follows, IsTurn, Turns, turned_way, IsArmFirst, IsOverFirst, first_over}
+use Rattle.program_points.specs.declared.numbering.kind.LoopStart.TheVariants.{Before, Again, After}
+use Rattle.program_points.specs.numbering.Kind.{kind_in, remainder}
+use Rattle.overlap_trail.specs.declared.follow.Followed.{Followed}
+use Rattle.overlap_trail.specs.declared.follow.Followed.TheVariants.{Through, To, Left, Ended, SectionEnded, Broken, Cycled, Met, Lost}
+use Rattle.overlap_trail.specs.Follow.{Known, Sought, Quietly, rests, on_to, IsStuck, ComesTo, Follows, IsTurn, Turns, turned_way, IsArmFirst, IsOverFirst, first_over}
 use Rattle.overlap_trail.proofs.Steps.{no-over-meets, no-first-over, quietly-then, behind, one-step, first-step, second-step, neither-stuck}
 use Rattle.overlap_trail.proofs.Rows.{body_stmts, body-before, turn-next, before-next, again-next, after-next}
 
@@ -22,7 +22,7 @@ TurnsOn known moves body taken now =
     (here : Point) × IsTurn known sought paragraph rest control body here × Quietly known sought (walk first (drop taken moves)) (walk here (drop now moves))
 
 -- what comes of a body with the loop's remainder behind it, where the loop goes on
-inner-again : (known : Known) (sought : Sought) (last paragraph : ℕ) (turning : Turning) (body : Body) (rest : List Item) (moves : List Move) (from : Walk) (way : Way) (now : ℕ) → Cycled now ≡ turned_way way → ComesTo known sought last paragraph (Turn turning body ∷ rest) moves from way →
+inner-again : (known : Known) (sought : Sought) (last paragraph : ℕ) (turning : Turning) (body : Body) (rest : List Item) (moves : List Move) (from : Walk) (way : Followed) (now : ℕ) → Cycled now ≡ turned_way way → ComesTo known sought last paragraph (Turn turning body ∷ rest) moves from way →
     Quietly known sought from (walk (at paragraph (Turn turning body ∷ rest)) (drop now moves))
 inner-again known sought last paragraph turning body rest moves from (Through later) now e comes = (let k : later ≡ now = cc in subst (λ n. Quietly known sought from (walk (at paragraph (Turn turning body ∷ rest)) (drop n moves))) k comes)
 inner-again known sought last paragraph turning body rest moves from (Cycled later) now e comes = (let k : later ≡ now = cc in subst (λ n. Quietly known sought from (walk (at paragraph (Turn turning body ∷ rest)) (drop n moves))) k comes)
@@ -35,7 +35,7 @@ inner-again known sought last paragraph turning body rest moves from (Met entry 
 inner-again known sought last paragraph turning body rest moves from Lost now e comes = absurd (let k : ⊥ = cc in k)
 
 -- and where it doesn't
-inner-out : (known : Known) (sought : Sought) (last paragraph : ℕ) (turning : Turning) (body : Body) (rest : List Item) (moves : List Move) (from : Walk) (way : Way) → ((now : ℕ) → turned_way way ≡ Cycled now → ⊥) → ComesTo known sought last paragraph (Turn turning body ∷ rest) moves from way →
+inner-out : (known : Known) (sought : Sought) (last paragraph : ℕ) (turning : Turning) (body : Body) (rest : List Item) (moves : List Move) (from : Walk) (way : Followed) → ((now : ℕ) → turned_way way ≡ Cycled now → ⊥) → ComesTo known sought last paragraph (Turn turning body ∷ rest) moves from way →
     ComesTo known sought last paragraph rest moves from (turned_way way)
 inner-out known sought last paragraph turning body rest moves from (Through now) not comes = absurd (not now refl)
 inner-out known sought last paragraph turning body rest moves from (Cycled now) not comes = absurd (not now refl)
@@ -48,7 +48,7 @@ inner-out known sought last paragraph turning body rest moves from (Met entry ex
 inner-out known sought last paragraph turning body rest moves from Lost not comes = comes
 
 -- the same of a turn that is told
-out-told : (known : Known) (sought : Sought) (last paragraph : ℕ) (turning : Turning) (body : Body) (rest : List Item) (moves : List Move) (from : Walk) (way turn : Way) → turn ≡ turned_way way → ((now : ℕ) → turn ≡ Cycled now → ⊥) → ComesTo known sought last paragraph (Turn turning body ∷ rest) moves from way →
+out-told : (known : Known) (sought : Sought) (last paragraph : ℕ) (turning : Turning) (body : Body) (rest : List Item) (moves : List Move) (from : Walk) (way turn : Followed) → turn ≡ turned_way way → ((now : ℕ) → turn ≡ Cycled now → ⊥) → ComesTo known sought last paragraph (Turn turning body ∷ rest) moves from way →
     ComesTo known sought last paragraph rest moves from turn
 out-told known sought last paragraph turning body rest moves from way turn same not comes =
     subst (λ w. ComesTo known sought last paragraph rest moves from w) (sym same) (inner-out known sought last paragraph turning body rest moves from way (λ now e. not now (same ∙ e)) comes)
@@ -94,7 +94,7 @@ module _ (known : Known) (moves : List Move) (last taken : ℕ) where
       subst (λ r. Quietly known sought (walk first (drop taken moves)) (walk (at paragraph r) (drop (taken + 1) moves))) (sym (body-before body (Turn (remainder control) body ∷ rest)))
       (second-step known sought first (at paragraph rest) (at paragraph (before_body body (Turn (remainder control) body ∷ rest))) moves taken is arm)
 
-  pub turn-on : (body : Body) (way : Way) (now : ℕ) → IsArmFirst moves taken 2 → Cycled now ≡ turned_way way → Follows known moves last (taken + 1) (body_stmts body) way → TurnsOn known moves body taken now
+  pub turn-on : (body : Body) (way : Followed) (now : ℕ) → IsArmFirst moves taken 2 → Cycled now ≡ turned_way way → Follows known moves last (taken + 1) (body_stmts body) way → TurnsOn known moves body taken now
   turn-on body way now arm same follows = λ control sought paragraph rest first is.
       let items = Turn (remainder control) body ∷ rest in
       let inside = walk (at paragraph (before (body_stmts body) items)) (drop (taken + 1) moves) in (
@@ -104,7 +104,7 @@ module _ (known : Known) (moves : List Move) (last taken : ℕ) where
             (inner-again known sought last paragraph (remainder control) body rest moves inside way now same (follows sought paragraph items)),
       )
 
-  pub turn-out : (body : Body) (way turn : Way) → IsArmFirst moves taken 2 → turn ≡ turned_way way → ((now : ℕ) → turn ≡ Cycled now → ⊥) → Follows known moves last (taken + 1) (body_stmts body) way → Turns known moves last taken body turn
+  pub turn-out : (body : Body) (way turn : Followed) → IsArmFirst moves taken 2 → turn ≡ turned_way way → ((now : ℕ) → turn ≡ Cycled now → ⊥) → Follows known moves last (taken + 1) (body_stmts body) way → Turns known moves last taken body turn
   turn-out body way turn arm same not follows = λ control sought paragraph rest first is.
       let items = Turn (remainder control) body ∷ rest in
       let inside = walk (at paragraph (before (body_stmts body) items)) (drop (taken + 1) moves) in
@@ -117,7 +117,7 @@ module _ (known : Known) (moves : List Move) (last taken : ℕ) where
 
   -- a loop
 
-  pub loop-before : (control : Control) (body : Body) (way : Way) → kind_in control ≡ Before → Turns known moves last taken body way → Follows known moves last taken (also (Loop control body) none) way
+  pub loop-before : (control : Control) (body : Body) (way : Followed) → kind_in control ≡ Before → Turns known moves last taken body way → Follows known moves last taken (also (Loop control body) none) way
   loop-before control body way e turns = λ sought paragraph rest.
       let from = at paragraph (Do (Loop control body) ∷ rest) in
       let first = at paragraph (Turn (remainder control) body ∷ rest) in
@@ -125,7 +125,7 @@ module _ (known : Known) (moves : List Move) (last taken : ℕ) where
       (one-step known sought from first (drop taken moves) (before-next known.never_first sought.program paragraph control body rest e))
       (turns control sought paragraph rest first (turn-next known.never_first sought.program paragraph control body rest))
 
-  pub loop-again : (control : Control) (body : Body) (way : Way) → kind_in control ≡ Again → Turns known moves last taken body way → Follows known moves last taken (also (Loop control body) none) way
+  pub loop-again : (control : Control) (body : Body) (way : Followed) → kind_in control ≡ Again → Turns known moves last taken body way → Follows known moves last taken (also (Loop control body) none) way
   loop-again control body way e turns = λ sought paragraph rest.
       let from = at paragraph (Do (Loop control body) ∷ rest) in
       let f = again-next known.never_first sought.program paragraph control body rest e in
@@ -139,7 +139,7 @@ module _ (known : Known) (moves : List Move) (last taken : ℕ) where
       subst (λ r. Quietly known sought (walk (at paragraph (Do (Loop control body) ∷ rest)) (drop taken moves)) (walk (at paragraph r) (drop taken moves))) (sym (body-before body (Turn (remainder control) body ∷ rest)))
       (one-step known sought (at paragraph (Do (Loop control body) ∷ rest)) (at paragraph (before_body body (Turn (remainder control) body ∷ rest))) (drop taken moves) (after-next known.never_first sought.program paragraph control body rest e))
 
-  pub loop-after : (control : Control) (body : Body) (inner way : Way) (now : ℕ) → kind_in control ≡ After → Cycled now ≡ turned_way inner → Follows known moves last taken (body_stmts body) inner → Turns known moves last now body way → Follows known moves last taken (also (Loop control body) none) way
+  pub loop-after : (control : Control) (body : Body) (inner way : Followed) (now : ℕ) → kind_in control ≡ After → Cycled now ≡ turned_way inner → Follows known moves last taken (body_stmts body) inner → Turns known moves last now body way → Follows known moves last taken (also (Loop control body) none) way
   loop-after control body inner way now e same follows turns = λ sought paragraph rest.
       let items = Turn (remainder control) body ∷ rest in
       let from = walk (at paragraph (Do (Loop control body) ∷ rest)) (drop taken moves) in
@@ -149,7 +149,7 @@ module _ (known : Known) (moves : List Move) (last taken : ℕ) where
       (quietly-then known sought from inside first (into-body control body e sought paragraph rest) (inner-again known sought last paragraph (remainder control) body rest moves inside inner now same (follows sought paragraph items)))
       (turns control sought paragraph rest (at paragraph items) (turn-next known.never_first sought.program paragraph control body rest))
 
-  pub loop-out : (control : Control) (body : Body) (inner way : Way) → kind_in control ≡ After → way ≡ turned_way inner → ((now : ℕ) → way ≡ Cycled now → ⊥) → Follows known moves last taken (body_stmts body) inner → Follows known moves last taken (also (Loop control body) none) way
+  pub loop-out : (control : Control) (body : Body) (inner way : Followed) → kind_in control ≡ After → way ≡ turned_way inner → ((now : ℕ) → way ≡ Cycled now → ⊥) → Follows known moves last taken (body_stmts body) inner → Follows known moves last taken (also (Loop control body) none) way
   loop-out control body inner way e same not follows = λ sought paragraph rest.
       let items = Turn (remainder control) body ∷ rest in
       let from = walk (at paragraph (Do (Loop control body) ∷ rest)) (drop taken moves) in
@@ -158,7 +158,7 @@ module _ (known : Known) (moves : List Move) (last taken : ℕ) where
       (out-told known sought last paragraph (remainder control) body rest moves inside inner way same not (follows sought paragraph items))
 
   -- an inline PERFORM without control
-  pub once-through : (body : Stmts) (way : Way) → Follows known moves last taken body way → Follows known moves last taken (also (Choose (If (Holds always)) (given body done)) none) way
+  pub once-through : (body : Stmts) (way : Followed) → Follows known moves last taken body way → Follows known moves last taken (also (Choose (If (Holds always)) (given body done)) none) way
   once-through body way follows = λ sought paragraph rest.
       let from = at paragraph (Do (Choose (If (Holds always)) (given body done)) ∷ rest) in
       let to = at paragraph (before body rest) in
@@ -174,7 +174,7 @@ module _ (known : Known) (moves : List Move) (body : Body) where
       let s = two control sought paragraph rest f.0 f.1 in
       (s.0, s.1, quietly-then known sought (walk first (drop a moves)) (walk f.0 (drop b moves)) (walk s.0 (drop c moves)) f.2 s.2)
 
-  pub turns-end : (last a b : ℕ) (way : Way) → TurnsOn known moves body a b → Turns known moves last b body way → Turns known moves last a body way
+  pub turns-end : (last a b : ℕ) (way : Followed) → TurnsOn known moves body a b → Turns known moves last b body way → Turns known moves last a body way
   turns-end last a b way one turns = λ control sought paragraph rest first is.
       let f = one control sought paragraph rest first is in
       behind known sought last paragraph rest moves (walk first (drop a moves)) (walk f.0 (drop b moves)) way f.2 (turns control sought paragraph rest f.0 f.1)

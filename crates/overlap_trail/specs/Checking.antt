@@ -12,11 +12,11 @@ use Rattle.program_points.specs.paths.Accepted.{Walk, walk, Leads, Aim, LeadsTo,
 use Rattle.program_points.specs.paths.Accepted as accepted
 use Rattle.overlap_trail.specs.declared.judge.Goal.{Goal}
 use Rattle.overlap_trail.specs.declared.judge.Goal.TheVariants.{Return, Enter, Fault}
-use Rattle.overlap_trail.specs.declared.leg.Leg.{Leg}
-use Rattle.overlap_trail.specs.declared.leg.Leg.TheVariants.{There, Nowhere, On}
-use Rattle.overlap_trail.specs.declared.leg.Out.{Out}
-use Rattle.overlap_trail.specs.declared.leg.Out.TheVariants.{ToEnd, ToSectionEnd, ToStart, Met, Lost}
-use Rattle.overlap_trail.specs.Following.{Known, Sought, sought_of, MeetsAt, Quietly, Goes, IsStuck, IsMet, IsBetween}
+use Rattle.overlap_trail.specs.declared.leg.ParagraphStep.{ParagraphStep}
+use Rattle.overlap_trail.specs.declared.leg.ParagraphStep.TheVariants.{There, Nowhere, On}
+use Rattle.overlap_trail.specs.declared.leg.ParagraphOutcome.{ParagraphOutcome}
+use Rattle.overlap_trail.specs.declared.leg.ParagraphOutcome.TheVariants.{ToEnd, ToSectionEnd, ToStart, Met, Lost}
+use Rattle.overlap_trail.specs.Follow.{Known, Sought, sought_of, MeetsAt, Quietly, Goes, IsStuck, IsMet, IsBetween}
 
 -- the exits of hops, the last first, behind these
 abbrev pub exits_from : List ℕ → List Hop → List ℕ
@@ -40,7 +40,7 @@ aim_of (Enter range) hops = accepted.Enter range
 aim_of (Fault fault) hops = accepted.Fault fault (exits_of hops)
 
 -- what following a paragraph comes to, in a section whose last one is this
-abbrev pub ComesOut : Known → Sought → ℕ → ℕ → List Move → Walk → Out → Type 0
+abbrev pub ComesOut : Known → Sought → ℕ → ℕ → List Move → Walk → ParagraphOutcome → Type 0
 ComesOut known sought last paragraph moves from (ToEnd taken) =
     Quietly known sought from (walk (at paragraph []) (drop taken moves))
 ComesOut known sought last paragraph moves from (ToSectionEnd taken) =
@@ -52,13 +52,13 @@ ComesOut known sought last paragraph moves from (Met entry exit taken) =
 ComesOut known sought last paragraph moves from Lost = IsStuck known sought from
 
 -- the moves were followed through the rest of a paragraph's sentences
-abbrev pub FollowsSentences : Known → List Move → ℕ → ℕ → Paragraph → Out → Type 0
+abbrev pub FollowsSentences : Known → List Move → ℕ → ℕ → Paragraph → ParagraphOutcome → Type 0
 FollowsSentences known moves last taken sentences out = (sought : Sought) (paragraph : ℕ) →
     ComesOut known sought last paragraph moves
     (walk (at paragraph (items_of sentences)) (drop taken moves)) out
 
 -- how many moves are taken, between these numbers
-abbrev pub IsTakenOut : ℕ → ℕ → Out → Type 0
+abbrev pub IsTakenOut : ℕ → ℕ → ParagraphOutcome → Type 0
 IsTakenOut taken most (ToEnd now) = IsBetween taken most now
 IsTakenOut taken most (ToSectionEnd now) = IsBetween taken most now
 IsTakenOut taken most (ToStart to now) = IsBetween taken most now
@@ -72,7 +72,7 @@ Arrives known sought from = (end : Walk)
     × MeetsAt known sought end
 
 -- what following a paragraph came to: what is sought, nothing, or the start of a paragraph
-abbrev pub IsLeg : Known → Sought → List Move → Walk → ℕ → Leg → Type 0
+abbrev pub IsLeg : Known → Sought → List Move → Walk → ℕ → ParagraphStep → Type 0
 IsLeg known sought moves from taken There = Arrives known sought from
 IsLeg known sought moves from taken Nowhere = Arrives known sought from → ⊥
 IsLeg known sought moves from taken (On paragraph now) =
@@ -80,14 +80,14 @@ IsLeg known sought moves from taken (On paragraph now) =
     × IsBetween taken (length moves) now
 
 -- what comes of a PERFORM that no move steps over
-abbrev pub IsCallLeg : Range → Aim → List Move → ℕ → ℕ → ℕ → Leg → Type 0
+abbrev pub IsCallLeg : Range → Aim → List Move → ℕ → ℕ → ℕ → ParagraphStep → Type 0
 IsCallLeg range aim moves entry exit taken leg =
     (known : Known) (program : Program) (from : Walk) →
     IsMet known (sought_of program range aim) from entry exit (drop taken moves) →
     IsLeg known (sought_of program range aim) moves from taken leg
 
 -- where it goes on, the paragraph that was followed is one of so many
-abbrev pub IsOnFrom : ℕ → ℕ → Leg → Type 0
+abbrev pub IsOnFrom : ℕ → ℕ → ParagraphStep → Type 0
 IsOnFrom paragraph count There = Unit {0}
 IsOnFrom paragraph count Nowhere = Unit {0}
 IsOnFrom paragraph count (On to now) = paragraph < count

@@ -1,5 +1,5 @@
 -- what comes of following a trail's moves
-pub mod Following
+pub mod Follow
 -- what a check of a trail looks at
 pub mod Checking
 -- A trail for a program that is faulty.

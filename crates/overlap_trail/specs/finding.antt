@@ -1,14 +1,14 @@
 -- what is found
 pub mod Finding
 -- how a level comes to its places
-pub mod Routes
+pub mod Search
 -- what a level is followed to
-pub mod Aims
+pub mod Goal
 -- lemmas of a table's ranges
-pub mod Knowing
+pub mod ReturnLemmas
 -- chains of ranges
-pub mod Chains
+pub mod Chain
 -- hops along a chain
-pub mod Hopping
+pub mod Hops
 -- a trail with fewer lemmas
-pub mod Short
+pub mod Pruning

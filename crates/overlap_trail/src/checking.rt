@@ -5,11 +5,11 @@ ghost use Rattle.control_flow_theory.specs.language.Control.{control_of};
 ghost use Rattle.program_points.specs.paths.Flow.{main_range};
 ghost use Rattle.program_points.specs.paths.Accepted.{LeadsTo, LemmasHold, IsAccepted, lemma_ranges};
 ghost use Rattle.program_points.specs.declared.paths.trail.Hop.{Hop};
-ghost use Rattle.program_points.specs.numbering.Kinds.{never_first_of};
+ghost use Rattle.program_points.specs.numbering.Kind.{never_first_of};
 ghost use Rattle.overlap_trail.specs.Checking.{aim_of, exits_of, aim_behind, HopsFrom, IsFirstMain};
 
 use crate::judge::Goal;
-use crate::leg::{Leg, one_leg};
+use crate::leg::{ParagraphStep, one_leg};
 use cob_tree::{FlowFault, Program, Range};
 use program_points::paths::{Hop, Lemma, Move, Trail};
 
@@ -34,9 +34,9 @@ pub fn leads(
     let mut quiet = 0;
     'legs: loop {
         match one_leg(program, lemmas, range, moves, goal, hops, paragraph, taken) {
-            Leg::There => return true,
-            Leg::Nowhere => return false,
-            Leg::On {
+            ParagraphStep::There => return true,
+            ParagraphStep::Nowhere => return false,
+            ParagraphStep::On {
                 paragraph: next,
                 taken: now,
             } => {

@@ -4,15 +4,15 @@ ghost use Rattle.std.specs.Prelude.{Bool, ℕ, List, ◌≡◌, ◌+◌, ◌<◌
 ghost use Rattle.control_flow_theory.specs.language.Language.{Stmts, also, none, Perform, Performed, GoDepending, Chooser};
 ghost use Rattle.control_flow_theory.specs.language.Control.{control_in, perform_of};
 ghost use Rattle.program_points.specs.paths.Accepted.{is_range, lemma_ranges};
-ghost use Rattle.overlap_trail.specs.Following.{Known, Follows, Turns, IsTaken, IsBetween, first_arm, first_over, IsArmFirst, IsOverFirst, IsSide, knowing, AreSeveral, Picks, PicksNone, turned_way};
+ghost use Rattle.overlap_trail.specs.Follow.{Known, Follows, Turns, IsTaken, IsBetween, first_arm, first_over, IsArmFirst, IsOverFirst, IsSide, knowing, AreSeveral, Picks, PicksNone, turned_way};
 
 use cob_tree::Control;
-use program_points::numbering::{Kind, kind_of};
+use program_points::numbering::{LoopStart, kind_of};
 use program_points::paths::{Lemma, Move};
 
 /// What comes of following moves through statements, with the number of moves that are taken then.
 #[derive(Debug, Clone, Copy)]
-pub enum Way {
+pub enum Followed {
     /// The statements complete.
     Through(usize),
     /// Control goes to the start of a paragraph.
@@ -35,7 +35,7 @@ pub enum Way {
 
 /// Which of two ways is taken.
 #[derive(Debug, Clone, Copy)]
-pub enum Side {
+pub enum Branch {
     First,
     Second,
     Neither,
@@ -43,7 +43,7 @@ pub enum Side {
 
 /// A branch, from 0, and the number of moves that are taken once it is chosen.
 #[derive(Debug, Clone, Copy)]
-pub struct Pick {
+pub struct BranchChoice {
     pub index: usize,
     pub taken: usize,
 }
@@ -84,26 +84,26 @@ pub fn over_move(moves: &[Move], taken: usize) -> Option<u32>
 }
 
 /// Which of two ways the move behind the taken ones names.
-pub fn side_of(moves: &[Move], taken: usize) -> Side
+pub fn side_of(moves: &[Move], taken: usize) -> Branch
     ensures { IsSide moves.now taken result }
 {
     match arm_move(moves, taken) {
         Some(number) => {
             if number == 1 {
-                return Side::First;
+                return Branch::First;
             }
             if number == 2 {
-                return Side::Second;
+                return Branch::Second;
             }
-            Side::Neither
+            Branch::Neither
         }
-        None => Side::Neither,
+        None => Branch::Neither,
     }
 }
 
 /// Which branch is taken: the only one, or of several the one that the move behind the taken ones
 /// names.
-pub fn pick_branch(moves: &[Move], taken: usize, several: bool) -> Option<Pick>
+pub fn pick_branch(moves: &[Move], taken: usize, several: bool) -> Option<BranchChoice>
     requires { taken ≤ length moves.now }
     ensures picks { (branches : List Stmts) → AreSeveral several branches → MatchOption result
         (PicksNone moves.now taken branches)
@@ -112,14 +112,14 @@ pub fn pick_branch(moves: &[Move], taken: usize, several: bool) -> Option<Pick>
         (λ pick. IsBetween taken (length moves.now) pick.taken) }
 {
     if !several {
-        return Some(Pick { index: 0, taken });
+        return Some(BranchChoice { index: 0, taken });
     }
     match arm_move(moves, taken) {
         Some(number) => {
             if number == 0 {
                 return None;
             }
-            Some(Pick {
+            Some(BranchChoice {
                 index: number as usize - 1,
                 taken: taken + 1,
             })
@@ -142,7 +142,13 @@ pub fn is_lemma(lemmas: &[Lemma], number: u32, entry: u32, exit: u32) -> bool
 }
 
 /// Through a PERFORM without loop.
-pub fn follow_call(lemmas: &[Lemma], moves: &[Move], taken: usize, entry: u32, exit: u32) -> Way
+pub fn follow_call(
+    lemmas: &[Lemma],
+    moves: &[Move],
+    taken: usize,
+    entry: u32,
+    exit: u32,
+) -> Followed
     requires { taken ≤ length moves.now }
     ensures follows { (never_first : Chooser → Bool) (last : ℕ) →
         Follows (knowing never_first lemmas.now)
@@ -152,35 +158,41 @@ pub fn follow_call(lemmas: &[Lemma], moves: &[Move], taken: usize, entry: u32, e
     match over_move(moves, taken) {
         Some(number) => {
             if is_lemma(lemmas, number, entry, exit) {
-                Way::Through(taken + 1)
+                Followed::Through(taken + 1)
             } else {
-                Way::Lost
+                Followed::Lost
             }
         }
-        None => Way::Met { entry, exit, taken },
+        None => Followed::Met { entry, exit, taken },
     }
 }
 
 /// What the body of a loop comes to, as a turn: `Cycled` where the loop goes on, and `Through`
 /// where it is left.
-pub fn turned(way: Way) -> Way
+pub fn turned(way: Followed) -> Followed
     ensures { result ≡ turned_way way }
 {
     match way {
-        Way::Through(now) => Way::Cycled(now),
-        Way::Broken(now) => Way::Through(now),
-        Way::To(to, now) => Way::To(to, now),
-        Way::Left(now) => Way::Left(now),
-        Way::Ended(now) => Way::Ended(now),
-        Way::SectionEnded(now) => Way::SectionEnded(now),
-        Way::Cycled(now) => Way::Cycled(now),
-        Way::Met { entry, exit, taken } => Way::Met { entry, exit, taken },
-        Way::Lost => Way::Lost,
+        Followed::Through(now) => Followed::Cycled(now),
+        Followed::Broken(now) => Followed::Through(now),
+        Followed::To(to, now) => Followed::To(to, now),
+        Followed::Left(now) => Followed::Left(now),
+        Followed::Ended(now) => Followed::Ended(now),
+        Followed::SectionEnded(now) => Followed::SectionEnded(now),
+        Followed::Cycled(now) => Followed::Cycled(now),
+        Followed::Met { entry, exit, taken } => Followed::Met { entry, exit, taken },
+        Followed::Lost => Followed::Lost,
     }
 }
 
 /// Through what is left of a loop over a PERFORM.
-pub fn follow_calls(lemmas: &[Lemma], moves: &[Move], taken: usize, entry: u32, exit: u32) -> Way
+pub fn follow_calls(
+    lemmas: &[Lemma],
+    moves: &[Move],
+    taken: usize,
+    entry: u32,
+    exit: u32,
+) -> Followed
     requires { taken ≤ length moves.now }
     ensures turns { (never_first : Chooser → Bool) (last : ℕ) →
         Turns (knowing never_first lemmas.now)
@@ -190,12 +202,12 @@ pub fn follow_calls(lemmas: &[Lemma], moves: &[Move], taken: usize, entry: u32, 
     let mut now = taken;
     'turns: loop {
         match side_of(moves, now) {
-            Side::First => return Way::Through(now + 1),
-            Side::Second => match turned(follow_call(lemmas, moves, now + 1, entry, exit)) {
-                Way::Cycled(behind) => now = behind,
+            Branch::First => return Followed::Through(now + 1),
+            Branch::Second => match turned(follow_call(lemmas, moves, now + 1, entry, exit)) {
+                Followed::Cycled(behind) => now = behind,
                 other => return other,
             },
-            Side::Neither => return Way::Lost,
+            Branch::Neither => return Followed::Lost,
         }
     }
 }
@@ -208,7 +220,7 @@ pub fn follow_perform(
     entry: u32,
     exit: u32,
     control: &Control,
-) -> Way
+) -> Followed
     requires { taken ≤ length moves.now }
     ensures follows { (never_first : Chooser → Bool) (last : ℕ) →
         Follows (knowing never_first lemmas.now)
@@ -220,10 +232,10 @@ pub fn follow_perform(
         Some(kind) => kind,
     };
     match kind {
-        Kind::Before => follow_calls(lemmas, moves, taken, entry, exit),
-        Kind::Again => follow_calls(lemmas, moves, taken, entry, exit),
-        Kind::After => match turned(follow_call(lemmas, moves, taken, entry, exit)) {
-            Way::Cycled(now) => follow_calls(lemmas, moves, now, entry, exit),
+        LoopStart::Before => follow_calls(lemmas, moves, taken, entry, exit),
+        LoopStart::Again => follow_calls(lemmas, moves, taken, entry, exit),
+        LoopStart::After => match turned(follow_call(lemmas, moves, taken, entry, exit)) {
+            Followed::Cycled(now) => follow_calls(lemmas, moves, now, entry, exit),
             other => other,
         },
     }
@@ -237,32 +249,32 @@ pub fn name_at(names: &[u32], index: usize) -> Option<u32>
 }
 
 /// Through a GO TO DEPENDING.
-pub fn follow_depending(moves: &[Move], taken: usize, names: &[u32]) -> Way
+pub fn follow_depending(moves: &[Move], taken: usize, names: &[u32]) -> Followed
     requires { taken ≤ length moves.now }
     ensures follows { (known : Known) (last : ℕ) (on : Chooser) → Follows known moves.now last taken
         (also (GoDepending names.now on) none) result }
     ensures taken { IsTaken taken (length moves.now) result }
 {
     if names.is_empty() {
-        return Way::Through(taken);
+        return Followed::Through(taken);
     }
     match arm_move(moves, taken) {
         Some(number) => {
             if number == 0 {
-                return Way::Lost;
+                return Followed::Lost;
             }
             let index = number as usize - 1;
             match name_at(names, index) {
-                Some(name) => Way::To(name, taken + 1),
+                Some(name) => Followed::To(name, taken + 1),
                 None => {
                     if index == names.len() {
-                        Way::Through(taken + 1)
+                        Followed::Through(taken + 1)
                     } else {
-                        Way::Lost
+                        Followed::Lost
                     }
                 }
             }
         }
-        None => Way::Lost,
+        None => Followed::Lost,
     }
 }

@@ -24,7 +24,7 @@ pub enum Goal {
 
 /// Where a paragraph stands among the exits of hops.
 #[derive(Debug, Clone, Copy)]
-pub struct Standing {
+pub struct ExitPosition {
     /// It is the last hop's exit.
     pub top: bool,
     /// It is an earlier hop's exit.
@@ -32,7 +32,7 @@ pub struct Standing {
 }
 
 /// How a paragraph stands, once a hop with this exit was added.
-pub fn pushed(standing: Standing, exit: Option<u32>, paragraph: usize) -> Standing
+pub fn pushed(standing: ExitPosition, exit: Option<u32>, paragraph: usize) -> ExitPosition
     ensures top { (ends : List ℕ) → standing.top ≡ top_is paragraph ends →
         result.top ≡ top_is paragraph (with_exit exit ends) }
     ensures below { (ends : List ℕ) → standing.top ≡ top_is paragraph ends →
@@ -40,7 +40,7 @@ pub fn pushed(standing: Standing, exit: Option<u32>, paragraph: usize) -> Standi
         ≡ below_is paragraph (with_exit exit ends) }
 {
     match exit {
-        Some(end) => Standing {
+        Some(end) => ExitPosition {
             top: end as usize == paragraph,
             below: standing.top || standing.below,
         },
@@ -49,11 +49,11 @@ pub fn pushed(standing: Standing, exit: Option<u32>, paragraph: usize) -> Standi
 }
 
 /// How a paragraph stands among the exits of hops.
-pub fn standing_of(hops: &[Hop], paragraph: usize) -> Standing
+pub fn standing_of(hops: &[Hop], paragraph: usize) -> ExitPosition
     ensures top { result.top ≡ top_is paragraph (exits_of hops.now) }
     ensures below { result.below ≡ below_is paragraph (exits_of hops.now) }
 {
-    let mut standing = Standing {
+    let mut standing = ExitPosition {
         top: false,
         below: false,
     };

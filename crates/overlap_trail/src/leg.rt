@@ -4,10 +4,10 @@ ghost use Rattle.std.specs.Prelude.{ℕ, [], suc, map, ◌≡◌, ◌≤◌, ◌
 ghost use Rattle.control_flow_theory.specs.language.Control.{control_of, section_last, seen_sentence};
 ghost use Rattle.program_points.specs.paths.Step.{at, start};
 ghost use Rattle.program_points.specs.paths.Accepted.{walk};
-ghost use Rattle.overlap_trail.specs.Following.{known_of, Known, sought_of};
+ghost use Rattle.overlap_trail.specs.Follow.{known_of, Known, sought_of};
 ghost use Rattle.overlap_trail.specs.Checking.{aim_of, FollowsSentences, IsLeg, IsOnFrom, IsCallLeg, IsTakenOut};
 
-use crate::follow::Way;
+use crate::follow::Followed;
 use crate::judge::{Goal, ends_at, meets_call, meets_end};
 use crate::through::follow_stmts;
 use cob_tree::{FileEntry, Paragraph, Program, Range, Sentence};
@@ -15,7 +15,7 @@ use program_points::paths::{Hop, Lemma, Move};
 
 /// What comes of following moves through a paragraph, with the number of moves that are taken then.
 #[derive(Debug, Clone, Copy)]
-pub enum Out {
+pub enum ParagraphOutcome {
     /// The paragraph's end.
     ToEnd(usize),
     /// The end of the section's last paragraph.
@@ -30,7 +30,7 @@ pub enum Out {
 
 /// What following a paragraph comes to.
 #[derive(Debug, Clone, Copy)]
-pub enum Leg {
+pub enum ParagraphStep {
     /// What was to be come to.
     There,
     /// Never to it.
@@ -61,7 +61,7 @@ pub fn follow_sentences(
     moves: &[Move],
     taken: usize,
     sentences: &[Sentence],
-) -> Out
+) -> ParagraphOutcome
     requires { taken ≤ length moves.now }
     ensures follows { (last : ℕ) →
         FollowsSentences (known_of files.now lemmas.now) moves.now last taken
@@ -71,28 +71,28 @@ pub fn follow_sentences(
     let mut now = taken;
     for sentence in sentences {
         match follow_stmts(files, lemmas, moves, now, &sentence.stmts) {
-            Way::Through(behind) => now = behind,
-            Way::Left(behind) => now = behind,
-            Way::To(to, behind) => return Out::ToStart(to, behind),
-            Way::Ended(behind) => return Out::ToEnd(behind),
-            Way::Broken(behind) => return Out::ToEnd(behind),
-            Way::Cycled(behind) => return Out::ToEnd(behind),
-            Way::SectionEnded(behind) => return Out::ToSectionEnd(behind),
-            Way::Met {
+            Followed::Through(behind) => now = behind,
+            Followed::Left(behind) => now = behind,
+            Followed::To(to, behind) => return ParagraphOutcome::ToStart(to, behind),
+            Followed::Ended(behind) => return ParagraphOutcome::ToEnd(behind),
+            Followed::Broken(behind) => return ParagraphOutcome::ToEnd(behind),
+            Followed::Cycled(behind) => return ParagraphOutcome::ToEnd(behind),
+            Followed::SectionEnded(behind) => return ParagraphOutcome::ToSectionEnd(behind),
+            Followed::Met {
                 entry,
                 exit,
                 taken: behind,
             } => {
-                return Out::Met {
+                return ParagraphOutcome::Met {
                     entry,
                     exit,
                     taken: behind,
                 };
             }
-            Way::Lost => return Out::Lost,
+            Followed::Lost => return ParagraphOutcome::Lost,
         }
     }
-    Out::ToEnd(now)
+    ParagraphOutcome::ToEnd(now)
 }
 
 /// What the end of a paragraph comes to.
@@ -104,7 +104,7 @@ pub fn end_leg(
     hops: &[Hop],
     paragraph: usize,
     taken: usize,
-) -> Leg
+) -> ParagraphStep
     requires { taken ≤ length moves.now }
     ensures leg { (known : Known) →
         IsLeg known (sought_of (control_of program.now) range (aim_of goal hops.now)) moves.now
@@ -112,19 +112,19 @@ pub fn end_leg(
     ensures within { IsOnFrom paragraph (length program.now.paragraphs) result }
 {
     if meets_end(goal, hops, range, paragraph, moves, taken) {
-        return Leg::There;
+        return ParagraphStep::There;
     }
     if ends_at(range.exit, paragraph) {
-        return Leg::Nowhere;
+        return ParagraphStep::Nowhere;
     }
     let behind = program.paragraphs.len().saturating_sub(paragraph);
     if behind > 1 {
-        Leg::On {
+        ParagraphStep::On {
             paragraph: paragraph + 1,
             taken,
         }
     } else {
-        Leg::Nowhere
+        ParagraphStep::Nowhere
     }
 }
 
@@ -137,15 +137,15 @@ pub fn call_leg(
     entry: u32,
     exit: u32,
     taken: usize,
-) -> Leg
+) -> ParagraphStep
     requires { taken ≤ length moves.now }
     ensures leg { IsCallLeg range (aim_of goal hops.now) moves.now entry exit taken result }
     ensures within { (paragraph count : ℕ) → IsOnFrom paragraph count result }
 {
     if meets_call(goal, hops, range, entry, exit, moves, taken) {
-        Leg::There
+        ParagraphStep::There
     } else {
-        Leg::Nowhere
+        ParagraphStep::Nowhere
     }
 }
 
@@ -159,7 +159,7 @@ pub fn one_leg(
     hops: &[Hop],
     paragraph: usize,
     taken: usize,
-) -> Leg
+) -> ParagraphStep
     requires { taken ≤ length moves.now }
     ensures leg { IsLeg (known_of program.now.files lemmas.now)
         (sought_of (control_of program.now) range (aim_of goal hops.now)) moves.now
@@ -173,20 +173,20 @@ pub fn one_leg(
     }
     let sentences = paragraphs[paragraph].sentences.as_slice();
     match follow_sentences(files, lemmas, moves, taken, sentences) {
-        Out::ToEnd(now) => end_leg(program, range, moves, goal, hops, paragraph, now),
-        Out::ToSectionEnd(now) => {
+        ParagraphOutcome::ToEnd(now) => end_leg(program, range, moves, goal, hops, paragraph, now),
+        ParagraphOutcome::ToSectionEnd(now) => {
             let last = section_last(paragraphs, paragraph);
             end_leg(program, range, moves, goal, hops, last, now)
         }
-        Out::ToStart(to, now) => Leg::On {
+        ParagraphOutcome::ToStart(to, now) => ParagraphStep::On {
             paragraph: to as usize,
             taken: now,
         },
-        Out::Met {
+        ParagraphOutcome::Met {
             entry,
             exit,
             taken: now,
         } => call_leg(moves, goal, hops, range, entry, exit, now),
-        Out::Lost => Leg::Nowhere,
+        ParagraphOutcome::Lost => ParagraphStep::Nowhere,
     }
 }

@@ -4,13 +4,15 @@ ghost use Rattle.std.specs.Prelude.{[], ◌∷◌, ℕ, ◌≤◌, length, slice
 ghost use Rattle.cob_tree.specs.declared.stmt.Arms.{out-Arms};
 ghost use Rattle.control_flow_theory.specs.language.Language.{also, none, Nested};
 ghost use Rattle.control_flow_theory.specs.language.Control.{seen, seen_stmts, control_in, loop_of};
-ghost use Rattle.program_points.specs.numbering.Building.{seen_branches};
-ghost use Rattle.overlap_trail.specs.Following.{known_of, Follows, FollowsBranches, FollowsBoth, FollowsArm, Turns, IsTaken};
+ghost use Rattle.program_points.specs.numbering.Build.{seen_branches};
+ghost use Rattle.overlap_trail.specs.Follow.{known_of, Follows, FollowsBranches, FollowsBoth, FollowsArm, Turns, IsTaken};
 
-use crate::follow::{Side, Way, follow_depending, follow_perform, pick_branch, side_of, turned};
+use crate::follow::{
+    Branch, Followed, follow_depending, follow_perform, pick_branch, side_of, turned,
+};
 use cob_base::Items;
 use cob_tree::{Arms, Control, FileEntry, Stmt, When};
-use program_points::numbering::{Kind, is_silent, kind_of};
+use program_points::numbering::{LoopStart, is_silent, kind_of};
 use program_points::paths::{Lemma, Move};
 
 /// Through a statement.
@@ -21,7 +23,7 @@ pub fn follow_stmt(
     moves: &[Move],
     taken: usize,
     stmt: &Stmt,
-) -> Way
+) -> Followed
     requires { taken ≤ length moves.now }
     ensures follows { (last : ℕ) → Follows (known_of files.now lemmas.now) moves.now last taken
         (also (seen last stmt.now) none) result }
@@ -34,9 +36,9 @@ pub fn follow_stmt(
             follow_arms(files, lemmas, moves, taken, arms, silent)
         }
         Stmt::If { yes, no, .. } => match side_of(moves, taken) {
-            Side::First => follow_stmts(files, lemmas, moves, taken + 1, yes),
-            Side::Second => follow_stmts(files, lemmas, moves, taken + 1, no),
-            Side::Neither => Way::Lost,
+            Branch::First => follow_stmts(files, lemmas, moves, taken + 1, yes),
+            Branch::Second => follow_stmts(files, lemmas, moves, taken + 1, no),
+            Branch::Neither => Followed::Lost,
         },
         Stmt::Evaluate { whens, other, .. } => {
             match pick_branch(moves, taken, whens.len() > 0) {
@@ -46,10 +48,10 @@ pub fn follow_stmt(
                     }
                     match other {
                         Some(stmts) => follow_stmts(files, lemmas, moves, pick.taken, stmts),
-                        None => Way::Through(pick.taken),
+                        None => Followed::Through(pick.taken),
                     }
                 }
-                None => Way::Lost,
+                None => Followed::Lost,
             }
         }
         Stmt::Loop { control, body } => follow_loop(files, lemmas, moves, taken, control, body),
@@ -58,28 +60,28 @@ pub fn follow_stmt(
             exit,
             control,
         } => follow_perform(lemmas, moves, taken, *entry, *exit, control),
-        Stmt::Go(to) => Way::To(*to, taken),
+        Stmt::Go(to) => Followed::To(*to, taken),
         Stmt::GoDepending { to, .. } => follow_depending(moves, taken, to.as_slice()),
-        Stmt::NextSentence => Way::Left(taken),
-        Stmt::StopRun => Way::Lost,
-        Stmt::ExitParagraph => Way::Ended(taken),
-        Stmt::ExitSection => Way::SectionEnded(taken),
+        Stmt::NextSentence => Followed::Left(taken),
+        Stmt::StopRun => Followed::Lost,
+        Stmt::ExitParagraph => Followed::Ended(taken),
+        Stmt::ExitSection => Followed::SectionEnded(taken),
         Stmt::ExitPerform { cycle } => {
             if *cycle {
-                Way::Cycled(taken)
+                Followed::Cycled(taken)
             } else {
-                Way::Broken(taken)
+                Followed::Broken(taken)
             }
         }
-        Stmt::Display { .. } => Way::Through(taken),
-        Stmt::Move { .. } => Way::Through(taken),
-        Stmt::SetTrue(_) => Way::Through(taken),
-        Stmt::Opens(_) => Way::Through(taken),
-        Stmt::Closes(_) => Way::Through(taken),
-        Stmt::Write { .. } => Way::Through(taken),
-        Stmt::Rewrite { .. } => Way::Through(taken),
-        Stmt::Exit => Way::Through(taken),
-        Stmt::Continue => Way::Through(taken),
+        Stmt::Display { .. } => Followed::Through(taken),
+        Stmt::Move { .. } => Followed::Through(taken),
+        Stmt::SetTrue(_) => Followed::Through(taken),
+        Stmt::Opens(_) => Followed::Through(taken),
+        Stmt::Closes(_) => Followed::Through(taken),
+        Stmt::Write { .. } => Followed::Through(taken),
+        Stmt::Rewrite { .. } => Followed::Through(taken),
+        Stmt::Exit => Followed::Through(taken),
+        Stmt::Continue => Followed::Through(taken),
     }
 }
 
@@ -91,7 +93,7 @@ pub fn follow_first(
     moves: &[Move],
     taken: usize,
     stmts: &Items<Stmt>,
-) -> Way
+) -> Followed
     requires { taken ≤ length moves.now }
     ensures follows { (last : ℕ) →
         FollowsBranches (known_of files.now lemmas.now) moves.now last taken
@@ -99,9 +101,9 @@ pub fn follow_first(
     ensures taken { IsTaken taken (length moves.now) result }
 {
     match side_of(moves, taken) {
-        Side::First => follow_stmts(files, lemmas, moves, taken + 1, stmts),
-        Side::Second => Way::Through(taken + 1),
-        Side::Neither => Way::Lost,
+        Branch::First => follow_stmts(files, lemmas, moves, taken + 1, stmts),
+        Branch::Second => Followed::Through(taken + 1),
+        Branch::Neither => Followed::Lost,
     }
 }
 
@@ -113,7 +115,7 @@ pub fn follow_second(
     moves: &[Move],
     taken: usize,
     stmts: &Items<Stmt>,
-) -> Way
+) -> Followed
     requires { taken ≤ length moves.now }
     ensures follows { (last : ℕ) →
         FollowsBranches (known_of files.now lemmas.now) moves.now last taken
@@ -121,9 +123,9 @@ pub fn follow_second(
     ensures taken { IsTaken taken (length moves.now) result }
 {
     match side_of(moves, taken) {
-        Side::First => Way::Through(taken + 1),
-        Side::Second => follow_stmts(files, lemmas, moves, taken + 1, stmts),
-        Side::Neither => Way::Lost,
+        Branch::First => Followed::Through(taken + 1),
+        Branch::Second => follow_stmts(files, lemmas, moves, taken + 1, stmts),
+        Branch::Neither => Followed::Lost,
     }
 }
 
@@ -136,7 +138,7 @@ pub fn follow_arms(
     taken: usize,
     arms: &Arms,
     silent: bool,
-) -> Way
+) -> Followed
     requires { taken ≤ length moves.now }
     ensures follows { (last : ℕ) → FollowsBoth (known_of files.now lemmas.now) moves.now last taken
         (out-Arms arms.now).first (out-Arms arms.now).second silent result }
@@ -144,7 +146,7 @@ pub fn follow_arms(
 {
     match &arms.first {
         None => match &arms.second {
-            None => Way::Through(taken),
+            None => Followed::Through(taken),
             Some(stmts) => {
                 if silent {
                     follow_stmts(files, lemmas, moves, taken, stmts)
@@ -156,9 +158,9 @@ pub fn follow_arms(
         Some(stmts) => match &arms.second {
             None => follow_first(files, lemmas, moves, taken, stmts),
             Some(others) => match side_of(moves, taken) {
-                Side::First => follow_stmts(files, lemmas, moves, taken + 1, stmts),
-                Side::Second => follow_stmts(files, lemmas, moves, taken + 1, others),
-                Side::Neither => Way::Lost,
+                Branch::First => follow_stmts(files, lemmas, moves, taken + 1, stmts),
+                Branch::Second => follow_stmts(files, lemmas, moves, taken + 1, others),
+                Branch::Neither => Followed::Lost,
             },
         },
     }
@@ -173,7 +175,7 @@ pub fn follow_when(
     taken: usize,
     whens: &Items<When>,
     index: usize,
-) -> Way
+) -> Followed
     requires { taken ≤ length moves.now }
     ensures follows { (last : ℕ) → FollowsArm (known_of files.now lemmas.now) moves.now last taken
         (slice_get (seen_branches last whens.now) index) result }
@@ -184,7 +186,7 @@ pub fn follow_when(
             return follow_stmts(files, lemmas, moves, taken, &when.stmts);
         }
     }
-    Way::Lost
+    Followed::Lost
 }
 
 /// Through an inline PERFORM.
@@ -196,7 +198,7 @@ pub fn follow_loop(
     taken: usize,
     control: &Control,
     body: &Items<Stmt>,
-) -> Way
+) -> Followed
     requires { taken ≤ length moves.now }
     ensures follows { (last : ℕ) → Follows (known_of files.now lemmas.now) moves.now last taken
         (also (loop_of (control_in control.now) (seen_stmts last body.now)) none) result }
@@ -207,10 +209,10 @@ pub fn follow_loop(
         Some(kind) => kind,
     };
     match kind {
-        Kind::Before => follow_turns(files, lemmas, moves, taken, body),
-        Kind::Again => follow_turns(files, lemmas, moves, taken, body),
-        Kind::After => match turned(follow_stmts(files, lemmas, moves, taken, body)) {
-            Way::Cycled(now) => follow_turns(files, lemmas, moves, now, body),
+        LoopStart::Before => follow_turns(files, lemmas, moves, taken, body),
+        LoopStart::Again => follow_turns(files, lemmas, moves, taken, body),
+        LoopStart::After => match turned(follow_stmts(files, lemmas, moves, taken, body)) {
+            Followed::Cycled(now) => follow_turns(files, lemmas, moves, now, body),
             other => other,
         },
     }
@@ -224,7 +226,7 @@ pub fn follow_turns(
     moves: &[Move],
     taken: usize,
     body: &Items<Stmt>,
-) -> Way
+) -> Followed
     requires { taken ≤ length moves.now }
     ensures turns { (last : ℕ) → Turns (known_of files.now lemmas.now) moves.now last taken
         (Nested (seen_stmts last body.now)) result }
@@ -233,12 +235,12 @@ pub fn follow_turns(
     let mut now = taken;
     'turns: loop {
         match side_of(moves, now) {
-            Side::First => return Way::Through(now + 1),
-            Side::Second => match turned(follow_stmts(files, lemmas, moves, now + 1, body)) {
-                Way::Cycled(behind) => now = behind,
+            Branch::First => return Followed::Through(now + 1),
+            Branch::Second => match turned(follow_stmts(files, lemmas, moves, now + 1, body)) {
+                Followed::Cycled(behind) => now = behind,
                 other => return other,
             },
-            Side::Neither => return Way::Lost,
+            Branch::Neither => return Followed::Lost,
         }
     }
 }
@@ -251,7 +253,7 @@ pub fn follow_stmts(
     moves: &[Move],
     taken: usize,
     stmts: &Items<Stmt>,
-) -> Way
+) -> Followed
     requires { taken ≤ length moves.now }
     ensures follows { (last : ℕ) → Follows (known_of files.now lemmas.now) moves.now last taken
         (seen_stmts last stmts.now) result }
@@ -260,9 +262,9 @@ pub fn follow_stmts(
     let mut now = taken;
     for stmt in stmts.as_slice() {
         match follow_stmt(files, lemmas, moves, now, stmt) {
-            Way::Through(behind) => now = behind,
+            Followed::Through(behind) => now = behind,
             other => return other,
         }
     }
-    Way::Through(now)
+    Followed::Through(now)
 }

@@ -1,6 +1,6 @@
 -- Flags as lists.
 use Rattle.std.proofs.Common.{◌≡◌, ◌+◌, ◌<◌, ◌≤◌, ℕ, zero, suc, Bool, true, false, List, [], ◌∷◌, ◌++◌, length, Some, slice_get, refl, ap, sym, ◌∙◌, subst, inl, inr, arith}
-use Rattle.pending_returns.specs.levels.Reaching.{Holds}
+use Rattle.pending_returns.specs.levels.Reach.{Holds}
 use Rattle.pending_returns.specs.Summary.{Rises}
 use Rattle.pending_returns.specs.Tabled.{Lists}
 use Rattle.pending_returns.proofs.Getting.{get-last, get-front, get-back, get-below, get-some, before-or-now}

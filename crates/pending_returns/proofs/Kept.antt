@@ -1,6 +1,6 @@
 -- Facts by new numbers.
 use Rattle.std.proofs.Common.{◌≡◌, ◌+◌, ◌<◌, ◌≤◌, ℕ, List, [], ◌∷◌, ◌++◌, length, Some, slice_get, ap, sym, ◌∙◌, subst, inl, inr, arith, length-append, set}
-use Rattle.pending_returns.specs.levels.Reaching.{Holds}
+use Rattle.pending_returns.specs.levels.Reach.{Holds}
 use Rattle.pending_returns.specs.declared.facts.RangeFacts.{RangeFacts}
 use Rattle.pending_returns.specs.Summary.{Rises}
 use Rattle.pending_returns.specs.Tabled.{AllBelow, CallsBelow, Ranks, Renumbers, IsRenumbered, KeepsFacts}

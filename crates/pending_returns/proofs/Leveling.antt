@@ -3,7 +3,7 @@ use Rattle.std.proofs.Common.{◌≡◌, ◌+◌, ◌<◌, ◌≤◌, ℕ, Bool,
 use Rattle.cob_tree.specs.declared.program.Range.{Range}
 use Rattle.program_points.specs.declared.point_table.table.Table.{Table}
 use Rattle.program_points.specs.point_table.Table.{IsTidy}
-use Rattle.pending_returns.specs.levels.Reaching.{Holds, IsMarked, Adds, IsReach, AllPlaces, GathersAllCalls, GathersAllEnds}
+use Rattle.pending_returns.specs.levels.Reach.{Holds, IsMarked, Adds, IsReach, AllPlaces, GathersAllCalls, GathersAllEnds}
 use Rattle.pending_returns.proofs.levels_lemmas.Searching.{comes-below}
 use Rattle.pending_returns.specs.declared.facts.RangeFacts.{RangeFacts}
 use Rattle.pending_returns.specs.Tabled.{Orders, TellsLevel, TellsLevels, LeadsTo, AddsCalls}

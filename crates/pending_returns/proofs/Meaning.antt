@@ -6,7 +6,7 @@ use Rattle.program_points.specs.paths.Step.{Point}
 use Rattle.program_points.specs.paths.Flow.{main_range, CallsIn, EndsIn, ReturnsIn, IsRange, IsReached}
 use Rattle.program_points.specs.declared.point_table.table.Table.{Table}
 use Rattle.program_points.specs.point_table.Table.{IsTable, IsTidy, IsSound, IsClosed}
-use Rattle.pending_returns.specs.levels.Reaching.{Holds, SaysSoundly}
+use Rattle.pending_returns.specs.levels.Reach.{Holds, SaysSoundly}
 use Rattle.pending_returns.proofs.levels_lemmas.Exact.{returns-found, calls-found, calls-true, ends-found, ends-true}
 use Rattle.program_points.specs.perform_ranges.Named.{is_before}
 use Rattle.program_points.proofs.perform_ranges_lemmas.Ordered.{before-far}

@@ -3,7 +3,7 @@ use Rattle.std.proofs.Common.{◌≡◌, ◌+◌, ◌<◌, ◌≤◌, ℕ, Bool,
 use Rattle.cob_tree.specs.declared.program.Range.{Range}
 use Rattle.program_points.specs.declared.point_table.table.Table.{Table}
 use Rattle.program_points.specs.point_table.Table.{ComesIn, IsTidy}
-use Rattle.pending_returns.specs.levels.Reaching.{IsReach, AllPlaces}
+use Rattle.pending_returns.specs.levels.Reach.{IsReach, AllPlaces}
 use Rattle.pending_returns.proofs.levels_lemmas.Searching.{no-mark}
 use Rattle.pending_returns.specs.Tabled.{OwnersBelow, IsOwner, MarksOwners, ComesToOwner, MarksLevels}
 use Rattle.pending_returns.proofs.Getting.{get-below, before-or-now, set-here, set-other, same-or-not}

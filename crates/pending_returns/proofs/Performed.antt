@@ -8,7 +8,7 @@ use Rattle.program_points.specs.paths.Levels.{Levels, bottom, called}
 use Rattle.program_points.proofs.paths_lemmas.Runs.{stands, levels-run}
 use Rattle.program_points.specs.declared.point_table.table.Table.{Table}
 use Rattle.program_points.specs.point_table.Table.{IsTable, IsTidy, IsSound, IsClosed}
-use Rattle.pending_returns.specs.levels.Reaching.{Holds}
+use Rattle.pending_returns.specs.levels.Reach.{Holds}
 use Rattle.pending_returns.proofs.levels_lemmas.Exact.{path-comes, comes-path, comes-in, found-in, calls-found, calls-true}
 use Rattle.pending_returns.specs.declared.facts.RangeFacts.{RangeFacts}
 use Rattle.pending_returns.specs.Tabled.{TellsLevel, TellsLevels, LeadsTo, begins, calls, ComesToOwner}

@@ -1,10 +1,10 @@
 -- The summary of a table, with the lists as they are lent.
 use Rattle.std.proofs.Common.{◌≡◌, ◌<◌, ◌↔◌, ℕ, Bool, true, List, length, Some, slice_get, ap, sym, ◌∙◌, subst, arith}
 use Rattle.program_points.specs.paths.Flow.{main_range}
-use Rattle.program_points.specs.declared.point_table.table.Place.TheVariants.{Calls}
+use Rattle.program_points.specs.declared.point_table.table.ProgramPoint.TheVariants.{Calls}
 use Rattle.program_points.specs.declared.point_table.table.Table.{Table}
 use Rattle.program_points.specs.point_table.Table.{IsTidy, IsClosed}
-use Rattle.pending_returns.specs.levels.Reaching.{Holds, SaysSoundly}
+use Rattle.pending_returns.specs.levels.Reach.{Holds, SaysSoundly}
 use Rattle.pending_returns.specs.declared.facts.RangeFacts.{RangeFacts}
 use Rattle.pending_returns.specs.declared.facts.Summary.{Summary}
 use Rattle.pending_returns.specs.Summary.{Rises}

@@ -1,5 +1,7 @@
 -- what a summary tells of a program
 pub mod Summary
+-- what restructuring asks of it
+pub mod FaultFree
 -- the same of a table of its places
 pub mod Tabled
 -- What a range's level comes to, and which ranges return.

@@ -5,7 +5,7 @@ use Rattle.control_flow_theory.specs.language.Language.{Chooser, Program}
 use Rattle.program_points.specs.paths.Step.{Point}
 use Rattle.program_points.specs.declared.point_table.table.Table.{Table}
 use Rattle.program_points.specs.point_table.Table.{ComesIn, IsTable}
-use Rattle.pending_returns.specs.levels.Reaching.{Holds, IsReach, IsCalled, IsEnded}
+use Rattle.pending_returns.specs.levels.Reach.{Holds, IsReach, IsCalled, IsEnded}
 use Rattle.program_points.specs.perform_ranges.Named.{is_before}
 use Rattle.pending_returns.specs.declared.facts.RangeFacts.{RangeFacts}
 use Rattle.pending_returns.specs.declared.facts.Summary.{Summary}

@@ -1,2 +1,2 @@
 -- pairs of ranges, of which one faults on the other's end
-pub mod Clashing
+pub mod Clash

@@ -1,3 +1,3 @@
-pub mod Reaching
+pub mod Reach
 pub mod Laws
-pub mod Fitting
+pub mod Level

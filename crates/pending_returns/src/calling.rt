@@ -1,7 +1,7 @@
 //! The ranges that main's level leads to.
 
 ghost use Rattle.std.specs.Prelude.{ℕ, ◌≡◌, ◌<◌, ◌↔◌, Some, true, length, slice_get, IfOk, OnOk};
-ghost use Rattle.pending_returns.specs.levels.Reaching.{IsMarked};
+ghost use Rattle.pending_returns.specs.levels.Reach.{IsMarked};
 ghost use Rattle.pending_returns.specs.Tabled.{AddsCalls, CallsBelow, AllBelow, LeadsTo};
 
 use crate::facts::RangeFacts;
@@ -24,7 +24,7 @@ pub fn visit_calls(reach: &mut Reach, calls: &[u32]) -> Result<(), NoMemory>
 }
 
 /// A flag for each range to which calls lead from the first, main.
-pub fn led_to(alloc: Global, levels: &[RangeFacts]) -> Result<Vec<bool>, NoMemory>
+pub fn transitive_callees(alloc: Global, levels: &[RangeFacts]) -> Result<Vec<bool>, NoMemory>
     requires main { 0 < length levels.now }
     requires known { CallsBelow (length levels.now) levels.now }
     ensures size { IfOk result (λ flags. length flags.items ≡ length levels.now) }

@@ -2,7 +2,7 @@
 
 ghost use Rattle.std.specs.Prelude.{◌≡◌, ◌≤◌, length, IfOk};
 ghost use Rattle.program_points.specs.point_table.Table.{IsTidy};
-ghost use Rattle.pending_returns.specs.levels.Fitting.{FitsTable};
+ghost use Rattle.pending_returns.specs.levels.Level.{FitsTable};
 ghost use Rattle.pending_returns.specs.Tabled.{TellsLevel, TellsLevels};
 
 use crate::levels::Level;

@@ -2,7 +2,7 @@
 //!
 //! A fault needs a range that is pending, and a range to which calls lead from it, whose level
 //! passes the pending one's end or performs a range that ends there too. `clash_in` looks for such
-//! a pair, and the program is faulty exactly where there is one. `specs/faults/Clashing.antt` says
+//! a pair, and the program is faulty exactly where there is one. `specs/faults/Clash.antt` says
 //! what a pair is.
 
 mod clash;
@@ -11,4 +11,4 @@ mod leading;
 
 pub use crate::faults::clash::{Clash, clash_below, clash_from, clash_in, clash_of};
 pub use crate::faults::fault::{ends_one, fault_at, is_among};
-pub use crate::faults::leading::led_from;
+pub use crate::faults::leading::callees_from;

@@ -1,10 +1,10 @@
 //! What a range's level comes to, and which ranges return.
 //!
-//! A level's search is `reached`, held against `ComesIn` of `program_points::point_table`; `settle`
-//! finds the ranges that return, and `calls_of` and `ends_of` tell what a level performs and whose
-//! ends it passes. Marks are made once for all ranges and cleared along the list of what they are
-//! on, so a range's search costs what its level comes to. `laws::table_is_exact` and
-//! `facts_are_exact` say that this is what the flow paths of the program do.
+//! A level's search is `reached`, held against `ComesIn` of `program_points::point_table`;
+//! `returning_ranges` finds the ranges that return, and `calls_of` and `ends_of` tell what a level
+//! performs and whose ends it passes. Marks are made once for all ranges and cleared along the list
+//! of what they are on, so a range's search costs what its level comes to. `laws::table_is_exact`
+//! and `facts_are_exact` say that this is what the flow paths of the program do.
 
 mod facts;
 pub mod laws;
@@ -16,5 +16,5 @@ mod working;
 pub use crate::levels::facts::{calls_of, ends_of};
 pub use crate::levels::level::Level;
 pub use crate::levels::reach::{Reach, ends_at, reached};
-pub use crate::levels::settling::{comes_back, has_end, round, settle};
-pub use crate::levels::working::{Wait, Work, look, look_all};
+pub use crate::levels::settling::{comes_back, has_end, recheck_all, returning_ranges};
+pub use crate::levels::working::{Waiter, Worklist, run_worklist, update_range};

@@ -14,7 +14,7 @@ mod listing;
 mod passing;
 mod summary;
 
-pub use calling::{led_to, visit_calls};
+pub use calling::{transitive_callees, visit_calls};
 pub use facts::{RangeFacts, Summary, level_of, levels_of};
 pub use keeping::{kept_facts, ranks_of, renumbered};
 pub use listing::{lists, number_of, rising};

@@ -2,7 +2,7 @@
 
 ghost use Rattle.std.specs.Prelude.{◌≡◌, ◌≤◌, length, IfOk};
 ghost use Rattle.program_points.specs.point_table.Table.{IsTidy};
-ghost use Rattle.pending_returns.specs.levels.Reaching.{AllPlaces};
+ghost use Rattle.pending_returns.specs.levels.Reach.{AllPlaces};
 ghost use Rattle.pending_returns.specs.Tabled.{AllBelow, MarksOwners, MarksLevels, OwnersBelow};
 
 use crate::levels::{Reach, reached};

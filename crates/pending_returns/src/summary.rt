@@ -4,15 +4,15 @@ ghost use Rattle.std.specs.Prelude.{◌≡◌, ◌<◌, ◌≤◌, Some, length,
 ghost use Rattle.cob_base.specs.Limit.{max_ranges};
 ghost use Rattle.control_flow_theory.specs.language.Control.{control_of};
 ghost use Rattle.program_points.specs.paths.Flow.{main_range};
-ghost use Rattle.program_points.specs.numbering.Kinds.{never_first_of};
+ghost use Rattle.program_points.specs.numbering.Kind.{never_first_of};
 ghost use Rattle.program_points.specs.point_table.Table.{IsTidy};
 ghost use Rattle.pending_returns.specs.Summary.{IsSummary, IsLimit, IsWithin, IsPast};
 ghost use Rattle.pending_returns.specs.Tabled.{RangesRise, SummarisesTable};
 
-use crate::calling::led_to;
+use crate::calling::transitive_callees;
 use crate::facts::{Summary, levels_of};
 use crate::keeping::{kept_facts, ranks_of};
-use crate::levels::settle;
+use crate::levels::returning_ranges;
 use crate::listing::lists;
 use crate::passing::marked_owners;
 use cob_base::limit::{MAX_RANGES, past};
@@ -31,9 +31,9 @@ pub fn summary_of(alloc: Global, table: &Table) -> Result<Summary, NoMemory>
     ensures summary { IfOk result (λ summary. SummarisesTable table.now summary) }
     ensures few { IfOk result (λ summary. length summary.ranges ≤ length table.now.ranges) }
 {
-    let returns = settle(alloc, table)?;
+    let returns = returning_ranges(alloc, table)?;
     let levels = levels_of(alloc, table, returns.as_slice())?;
-    let led = led_to(alloc, levels.as_slice())?;
+    let led = transitive_callees(alloc, levels.as_slice())?;
     let kept = lists(alloc, led.as_slice())?;
     let ranks = ranks_of(alloc, kept.as_slice(), levels.len())?;
     let ranges = kept_facts(alloc, levels.as_slice(), kept.as_slice(), ranks.as_slice())?;

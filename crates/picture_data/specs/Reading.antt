@@ -9,8 +9,8 @@ use Rattle.picture_data.specs.declared.fault.Flaw.TheVariants as flaws
 use Rattle.picture_data.specs.declared.symbols.Shape.{Shape}
 use Rattle.picture_data.specs.declared.symbols.Shape.TheVariants as shapes
 use Rattle.picture_data.specs.declared.symbols.Symbols.{Symbols}
-use Rattle.picture_data.specs.declared.reading.Place.{Place}
-use Rattle.picture_data.specs.declared.reading.Place.TheVariants as places
+use Rattle.picture_data.specs.declared.reading.SymbolPosition.{SymbolPosition}
+use Rattle.picture_data.specs.declared.reading.SymbolPosition.TheVariants as places
 use Rattle.picture_data.specs.declared.reading.Reading.{Reading}
 use Rattle.picture_data.specs.Fault.{fault_at}
 use Rattle.picture_data.specs.Symbols.{symbol_s, symbol_v, symbol_9, symbol_a, symbol_x, behind, added, too_many, picture}
@@ -28,7 +28,7 @@ flaw_of byte =
     || byte == symbol_x || byte == left_parenthesis || byte == right_parenthesis
     then flaws.Order else flaws.Symbol
 
-abbrev pub placed : Place → Result Symbols Flaw → Result Reading Flaw
+abbrev pub placed : SymbolPosition → Result Symbols Flaw → Result Reading Flaw
 placed place (Ok symbols) = Ok (record { symbols = symbols; place = place })
 placed place (Err flaw) = Err flaw
 
@@ -43,7 +43,7 @@ symbol_by byte (Some shape) symbols =
 abbrev pub symbol : ℕ → Reading → Result Reading Flaw
 symbol byte reading = symbol_by byte (behind byte reading.symbols.shape) reading.symbols
 
-abbrev pub kept : Place → Symbols → Result Symbols Flaw → Result Reading Flaw
+abbrev pub kept : SymbolPosition → Symbols → Result Symbols Flaw → Result Reading Flaw
 kept place symbols (Ok more) = Ok (record { symbols = symbols; place = place })
 kept place symbols (Err flaw) = Err flaw
 
@@ -65,7 +65,7 @@ in_count count byte reading =
     if nat_le digit_0 byte && nat_le byte digit_9 then digit count (byte - digit_0) reading else
     if byte == right_parenthesis then closed count reading else Err (flaw_of byte)
 
-abbrev pub step_by : Place → ℕ → Reading → Result Reading Flaw
+abbrev pub step_by : SymbolPosition → ℕ → Reading → Result Reading Flaw
 step_by places.Open byte reading = symbol byte reading
 step_by places.Behind byte reading =
     if byte == left_parenthesis then Ok (record reading { place = places.Count 0 })
@@ -76,7 +76,7 @@ step_by (places.Count count) byte reading = in_count count byte reading
 unfoldable pub step : ℕ → Reading → Result Reading Flaw
 step byte reading = step_by reading.place byte reading
 
-abbrev pub finish_by : Place → Symbols → Result Picture Flaw
+abbrev pub finish_by : SymbolPosition → Symbols → Result Picture Flaw
 finish_by (places.Count count) symbols = Err flaws.Order
 finish_by _ symbols = picture symbols
 

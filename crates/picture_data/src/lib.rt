@@ -16,7 +16,7 @@ ghost use Rattle.picture_data.specs.Reading.{picture_of};
 
 use cob_tree::Picture;
 pub use fault::PictureFault;
-pub use reading::{Place, Reading};
+pub use reading::{Reading, SymbolPosition};
 pub use symbols::{Shape, Symbols};
 
 /// The picture of this text, its letters in either case.

@@ -9,7 +9,7 @@ use cob_tree::Picture;
 
 /// Where in a run of a symbol the text stands.
 #[derive(Clone, Copy, Debug, PartialEq, Eq)]
-pub enum Place {
+pub enum SymbolPosition {
     /// Where no count may come.
     Open,
     /// Behind a symbol that may have a count.
@@ -22,7 +22,7 @@ pub enum Place {
 #[derive(Clone, Copy, Debug, PartialEq, Eq)]
 pub struct Reading {
     pub symbols: Symbols,
-    pub place: Place,
+    pub place: SymbolPosition,
 }
 
 impl Reading {
@@ -36,7 +36,7 @@ impl Reading {
                 whole: 0,
                 part: 0,
             },
-            place: Place::Open,
+            place: SymbolPosition::Open,
         }
     }
 
@@ -46,13 +46,13 @@ impl Reading {
         ensures { result ≡ readings.step byte self }
     {
         match self.place {
-            Place::Open => self.symbol(byte),
-            Place::Behind if byte == b'(' => Ok(Reading {
+            SymbolPosition::Open => self.symbol(byte),
+            SymbolPosition::Behind if byte == b'(' => Ok(Reading {
                 symbols: self.symbols,
-                place: Place::Count(0),
+                place: SymbolPosition::Count(0),
             }),
-            Place::Behind => self.symbol(byte),
-            Place::Count(count) => self.in_count(count, byte),
+            SymbolPosition::Behind => self.symbol(byte),
+            SymbolPosition::Count(count) => self.in_count(count, byte),
         }
     }
 
@@ -79,7 +79,7 @@ impl Reading {
         self.symbols.added((value as u32).saturating_sub(1))?;
         Ok(Reading {
             symbols: self.symbols,
-            place: Place::Count(value as u32),
+            place: SymbolPosition::Count(value as u32),
         })
     }
 
@@ -91,7 +91,7 @@ impl Reading {
         }
         Ok(Reading {
             symbols: self.symbols.added(count - 1)?,
-            place: Place::Open,
+            place: SymbolPosition::Open,
         })
     }
 
@@ -109,12 +109,12 @@ impl Reading {
         if byte == b'S' || byte == b'V' {
             return Ok(Reading {
                 symbols: symbols.added(0)?,
-                place: Place::Open,
+                place: SymbolPosition::Open,
             });
         }
         Ok(Reading {
             symbols: symbols.added(1)?,
-            place: Place::Behind,
+            place: SymbolPosition::Behind,
         })
     }
 
@@ -124,7 +124,7 @@ impl Reading {
         ensures { result ≡ readings.finish self }
     {
         match self.place {
-            Place::Count(_) => Err(Flaw::Order),
+            SymbolPosition::Count(_) => Err(Flaw::Order),
             _ => self.symbols.picture(),
         }
     }

@@ -38,8 +38,8 @@ fn sentence_closed(cursor: &mut Cursor<'_>, stmts: Items<Stmt>) -> Result<Senten
 fn sentence_end(cursor: &mut Cursor<'_>, found: (Items<Stmt>, bool)) -> Result<Sentence, Unread>
     ensures { Reads ((forms.sentence_end found).reads cursor.old) result cursor.new }
 {
-    let (stmts, not_read) = found;
-    if not_read {
+    let (stmts, pending_not) = found;
+    if pending_not {
         drop_stmts(stmts);
         Err(Unread::Stop(Why::Syntax))
     } else {
@@ -408,7 +408,7 @@ fn headed<P: Parts>(
 {
     match parts.header_name(cursor) {
         Ok((name, position)) => {
-            cursor.note(parts.again_fault(&name, position));
+            cursor.note(parts.duplicate_fault(&name, position));
             if cursor.sees(b"SECTION") {
                 section(parts, alloc, cursor, name, state)
             } else {

@@ -4,11 +4,11 @@ use Rattle.std.specs.Prelude.{slice_get}
 use Rattle.std.proofs.lemmas.List.{length_push}
 use Rattle.cob_tree.specs.declared.program.Paragraph.{Paragraph}
 use Rattle.cob_tree.specs.declared.program.Range.{Range}
-use Rattle.lowering_labels.specs.points.Fall.{seen_range}
-use Rattle.branch_tree.specs.Trees.{seen_tree}
-use Rattle.statement_builders.specs.declared.arms.placing.Placed.{Placed}
+use Rattle.lowering_labels.specs.points.FallThrough.{seen_range}
+use Rattle.branch_tree.specs.Tree.{seen_tree}
+use Rattle.statement_builders.specs.declared.arms.placing.ProcedurePlace.{ProcedurePlace}
 use Rattle.statement_builders.specs.declared.item_words.cells.CellItem.{CellItem}
-use Rattle.body_rendering.specs.Procedures.{is_main}
+use Rattle.body_rendering.specs.Procedure.{is_main}
 use Rattle.procedure_split.specs.declared.shaped_ranges.shaping.Closed.{Closed}
 use Rattle.procedure_split.specs.made_procedures.Made.{AreParagraphsOf, IsParagraphOf}
 
@@ -27,7 +27,7 @@ pushed-at (z ∷ zs) y (suc at) x got = elim (pushed-at zs y at x got) [
 ]
 
 module _ (order : List Range) (closed : List Closed) (cells : List (List CellItem))
-    (places : List Placed) (names : List (List ℕ)) where
+    (places : List ProcedurePlace) (names : List (List ℕ)) where
   -- those of the ranges before this place
   pub record AreDone (at : ℕ) (made : List Paragraph) : Type 0 where
     pub count : length made ≡ at

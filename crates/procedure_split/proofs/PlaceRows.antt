@@ -8,11 +8,11 @@ use Rattle.std.proofs.lemmas.List.Elements.{All-append, All-cons, All-get_or, Al
 use Rattle.std.proofs.lemmas.List.Sorted.{All-permutation}
 use Rattle.std.proofs.lemmas.Option.{get_or_from_slice_get, slice_get_within}
 use Rattle.cob_tree.specs.declared.program.Range.{Range}
-use Rattle.statement_builders.specs.declared.arms.placing.Placed.{Placed}
+use Rattle.statement_builders.specs.declared.arms.placing.ProcedurePlace.{ProcedurePlace}
 use Rattle.procedure_split.specs.made_procedures.Made.{ArePlacesIn}
-use Rattle.procedure_split.specs.Places.{placed_to, place_at, places_from}
+use Rattle.procedure_split.specs.Placing.{placed_to, place_at, places_from}
 
-abbrev IsThere : List Range → Placed → Type 0
+abbrev IsThere : List Range → ProcedurePlace → Type 0
 IsThere order placed = slice_get order placed.place
     ≡ Some (record { entry = placed.entry; exit = Some placed.exit })
 
@@ -46,7 +46,7 @@ all-there order done (range ∷ ranges) place at is =
     (all-there order (done ++ range ∷ []) ranges (suc place) (omega (arith, size, at))
     (is ∙ joined done range ranges))
 
-pub are-places : (order : List Range) (places : List Placed) →
+pub are-places : (order : List Range) (places : List ProcedurePlace) →
     IsPermutation (places_from 0 order) places → ArePlacesIn order places
 are-places order places moved = λ at placed got.
     let all = All-permutation (IsThere order) (places_from 0 order) places moved

@@ -8,23 +8,23 @@ use Rattle.cob_tree.specs.declared.program.Range as code
 use Rattle.control_flow_theory.specs.language.Control.{control_of}
 use Rattle.control_flow_theory.specs.language.Language.{Program, Range, Main, Part, same_range}
 use Rattle.control_flow_theory.proofs.semantics_lemmas.Ranges.{same-self}
-use Rattle.control_flow_theory.specs.lowering.Told.{Told}
+use Rattle.control_flow_theory.specs.lowering.FlowFacts.{FlowFacts}
 use Rattle.control_flow_theory.specs.lowering.WellFormed.{IsRangeOf}
 use Rattle.control_flow_theory.specs.graph_rules.Walked.{In, is_in}
-use Rattle.program_facts.specs.completion.Told.{told_of}
-use Rattle.procedure_split.specs.Split.{AreGraphs, IsSplitFault, Planned}
+use Rattle.program_facts.specs.completion.FlowFacts.{flow_facts_of}
+use Rattle.procedure_split.specs.Splitting.{AreGraphs, IsSplitFault, Planned}
 use Rattle.program_points.proofs.table_building_lemmas.Sections.{seen-length}
 use Rattle.pending_returns.specs.declared.facts.Summary.{Summary}
 use Rattle.procedure_split.specs.plan.Laws.{as_control, ending_at, others_of}
 use Rattle.procedure_split.specs.plan.Planned.{IsPlanOf}
 use Rattle.procedure_split.proofs.plan_lemmas.CobolPlans.{cobol-planned}
 use Rattle.branch_tree.specs.declared.graph.Graph.{Graph}
-use Rattle.lowering_labels.specs.points.Fall.{range_by, seen_range}
+use Rattle.lowering_labels.specs.points.FallThrough.{range_by, seen_range}
 use Rattle.procedure_split.specs.shaped_ranges.Graphs.{AreGraphsOf}
 use Rattle.procedure_split.specs.shaped_ranges.Laws.{HasFlow}
 use Rattle.procedure_split.specs.shaped_ranges.Limit.{IsLoweringFault}
-use Rattle.procedure_split.specs.shaped_ranges.Shaped.{AllShaped, IsTooDeep}
-use Rattle.procedure_split.specs.shaped_ranges.Steps.{AreRangesOf}
+use Rattle.procedure_split.specs.shaped_ranges.Shaping.{AllShaped, IsTooDeep}
+use Rattle.procedure_split.specs.shaped_ranges.Graphing.{AreRangesOf}
 use Rattle.procedure_split.specs.declared.shaped_ranges.shaping.Closed.{Closed}
 
 as-seen : (entry : ℕ) (exit : Option ℕ) → range_by entry exit ≡ ending_at entry exit
@@ -68,13 +68,13 @@ ranges-are program summary returning order flow by = λ at range here.
     let some : 0 < length control.paragraphs =
     subst (λ n. 0 < n) (sym (seen-length 0 program.paragraphs)) flow.some in
     let plan = cobol-planned program summary returning order flow.items flow.paragraphs some
-    flow.fair flow.is by in
+    flow.flow.never flow.flow.is by in
     begins control (Main ∷ others_of order) some
     (λ entry exit within. (plan.1.entered entry exit within).0) (seen_range range)
     (subst (λ l. In (seen_range range) l) (all-seen order ∙ plan.1.main)
     (stands-in order at range here))
 
-graphs-length : (told : Told) (program : Program) (ranges : List code.Range)
+graphs-length : (told : FlowFacts) (program : Program) (ranges : List code.Range)
     (graphs : List Graph) → AreGraphsOf told program ranges graphs →
     length graphs ≡ length ranges
 graphs-length told program [] [] are = refl
@@ -91,7 +91,7 @@ shaped-length (graph ∷ graphs) [] are = absurd are
 shaped-length (graph ∷ graphs) (one ∷ closed) are =
     ap suc (shaped-length graphs closed are.1)
 
-pub as-many : (told : Told) (program : Program) (ranges : List code.Range)
+pub as-many : (told : FlowFacts) (program : Program) (ranges : List code.Range)
     (graphs : List Graph) (closed : List Closed) → AreGraphsOf told program ranges graphs →
     AllShaped graphs closed → length closed ≡ length ranges
 as-many told program ranges graphs closed are shaped =
@@ -101,7 +101,7 @@ as-many told program ranges graphs closed are shaped =
 
 pub too-large : (program : cobol.Program) (summary : Summary) (plan : Planned program summary)
     (fault : SplitFault) →
-    IsLoweringFault (told_of program.files plan.returning) (control_of program) plan.order fault →
+    IsLoweringFault (flow_facts_of program.files plan.returning) (control_of program) plan.order fault →
     IsSplitFault program summary fault
 too-large program summary plan (faults.Limit limit) past =
     inl (record { plan = plan; past = past })

@@ -6,20 +6,20 @@ use Rattle.cob_tree.specs.declared.program.Range.{Range}
 use Rattle.cobol_theory.specs.cell_serving.Entries.{entries_of}
 use Rattle.out_names.specs.Naming.{names_of}
 use Rattle.out_names.specs.Words.{program_words, table_of}
-use Rattle.statement_builders.specs.declared.arms.placing.Placed.{Placed}
+use Rattle.statement_builders.specs.declared.arms.placing.ProcedurePlace.{ProcedurePlace}
 use Rattle.statement_builders.specs.declared.item_words.cells.CellItem.{CellItem}
-use Rattle.added_items.specs.item_table.CellItems.{AreCellItems}
-use Rattle.added_items.specs.item_table.Names.{entries_for, seen_item}
+use Rattle.added_items.specs.item_table.CellItem.{AreCellItems}
+use Rattle.added_items.specs.item_table.Naming.{entries_for, seen_item}
 use Rattle.added_items.specs.item_table.Row.{CellRange}
 use Rattle.added_items.specs.declared.item_table.naming.AddedItem.{AddedItem}
 use Rattle.procedure_split.specs.declared.shaped_ranges.shaping.Closed.{Closed}
 use Rattle.procedure_split.specs.made_procedures.Made.{AreAsMany, AreParagraphsOf, ArePlacesIn}
 use Rattle.procedure_split.specs.Rows.{rows_of}
-use Rattle.procedure_split.specs.Written.{IsWrittenFrom, with_parts}
+use Rattle.procedure_split.specs.Writing.{IsWrittenFrom, with_parts}
 
 module _ (program : Program) (order : List Range) (closed : List Closed) (added : List AddedItem)
     (words : List (List ℕ)) (rows : List CellRange) (first : ℕ) (cells : List (List CellItem))
-    (places : List Placed) (labels : List (List ℕ)) (paragraphs : List Paragraph)
+    (places : List ProcedurePlace) (labels : List (List ℕ)) (paragraphs : List Paragraph)
     (items : map seen_item added ≡ entries_for words rows)
     (all : words ≡ table_of (program_words program)) (row : rows ≡ rows_of order closed)
     (are : AreCellItems first rows cells) (begins : first ≡ length program.entries)

@@ -1,15 +1,15 @@
 -- the places of procedures
-pub mod Places
+pub mod Placing
 -- shaped ranges, as the theory has them
 pub mod Rows
 -- paragraphs of one sentence
 pub mod Paragraphs
 -- how many items of each kind are added
-pub mod Counted
+pub mod Counting
 -- what is written of shaped ranges
-pub mod Written
+pub mod Writing
 -- the structured program of a program without a fault
-pub mod Split
+pub mod Splitting
 -- The counters of graphs have items that serve.
 pub mod counter_serving
 -- The graphs of a program's ranges, and the bodies that these are shaped to.

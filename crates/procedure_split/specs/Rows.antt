@@ -1,10 +1,10 @@
 -- Shaped ranges, as the theory has them.
 use Rattle.std.specs.Prelude.{List, [], ◌∷◌, map}
 use Rattle.cob_tree.specs.declared.program.Range.{Range}
-use Rattle.lowering_labels.specs.points.Fall.{seen_range}
-use Rattle.branch_tree.specs.Graphs.{seen_added}
+use Rattle.lowering_labels.specs.points.FallThrough.{seen_range}
+use Rattle.branch_tree.specs.Graph.{seen_added}
 use Rattle.control_flow_theory.specs.semantics.Graph.{body_of}
-use Rattle.branch_tree.specs.Trees.{seen_tree}
+use Rattle.branch_tree.specs.Tree.{seen_tree}
 use Rattle.added_items.specs.item_table.Row.{CellRange}
 use Rattle.procedure_split.specs.declared.shaped_ranges.shaping.Closed.{Closed}
 

@@ -3,8 +3,8 @@ pub mod Graphs
 -- the limit of their size
 pub mod Limit
 -- what the steps of lowering give
-pub mod Steps
+pub mod Graphing
 -- what graphs are shaped to
-pub mod Shaped
+pub mod Shaping
 -- what they are by flow paths
 pub mod Laws

@@ -2,9 +2,9 @@
 
 ghost use Rattle.std.specs.Prelude.{◌≡◌, ◌+◌, map, IfOk, OnOk};
 ghost use Rattle.cob_base.specs.Answers.{Makes};
-ghost use Rattle.branch_tree.specs.Graphs.{seen_added};
-ghost use Rattle.added_items.specs.item_table.Names.{item_kind};
-ghost use Rattle.procedure_split.specs.Counted.{counts_of, none_added, with_one};
+ghost use Rattle.branch_tree.specs.Graph.{seen_added};
+ghost use Rattle.added_items.specs.item_table.Naming.{item_kind};
+ghost use Rattle.procedure_split.specs.Counting.{counts_of, none_added, with_one};
 
 use crate::report::AddedCounts;
 use added_items::item_table::AddedItem;

@@ -3,7 +3,7 @@
 ghost use Rattle.std.specs.Prelude.{◌++◌, map};
 ghost use Rattle.cob_base.specs.Answers.{Makes};
 ghost use Rattle.cobol_theory.specs.cell_serving.Entries.{entries_of};
-ghost use Rattle.added_items.specs.item_table.Names.{seen_item};
+ghost use Rattle.added_items.specs.item_table.Naming.{seen_item};
 
 use added_items::entries::add_entries;
 use added_items::item_table::AddedItem;

@@ -2,8 +2,8 @@
 //! paragraph of one sentence, and behind its own entries those of the added items.
 //!
 //! `split` makes it of a program and the summary of its ranges, which say that no flow path faults
-//! (`specs/Split.antt`), and counts the items that are added (`specs/Counted.antt`).
-//! `specs/Written.antt` says what is written of shaped ranges.
+//! (`specs/Splitting.antt`), and counts the items that are added (`specs/Counting.antt`).
+//! `specs/Writing.antt` says what is written of shaped ranges.
 #![tactic(auto)]
 
 pub mod counter_serving;

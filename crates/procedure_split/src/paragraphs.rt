@@ -2,9 +2,9 @@
 
 ghost use Rattle.std.specs.Prelude.{◌≡◌, IfOk};
 ghost use Rattle.cob_base.specs.Answers.{Makes};
-ghost use Rattle.lowering_labels.specs.points.Fall.{seen_range};
-ghost use Rattle.branch_tree.specs.Trees.{seen_tree};
-ghost use Rattle.body_rendering.specs.Procedures.{is_main};
+ghost use Rattle.lowering_labels.specs.points.FallThrough.{seen_range};
+ghost use Rattle.branch_tree.specs.Tree.{seen_tree};
+ghost use Rattle.body_rendering.specs.Procedure.{is_main};
 ghost use Rattle.procedure_split.specs.made_procedures.Made.{AreAsMany, AreParagraphsOf, IsParagraphOf};
 ghost use Rattle.procedure_split.specs.Paragraphs.{paragraph_named};
 
@@ -13,7 +13,7 @@ use body_rendering::write_procedure;
 use branch_tree::{End, Tree};
 use cob_base::{Items, NoMemory, Word};
 use cob_tree::{Paragraph, Range, Sentence};
-use statement_builders::arms::Placed;
+use statement_builders::arms::ProcedurePlace;
 use statement_builders::item_words::CellItem;
 use std::alloc::Global;
 use std::collections::VecDeque;
@@ -52,7 +52,7 @@ fn paragraph_of(
     range: Range,
     tree: Tree,
     cells: &[CellItem],
-    places: &[Placed],
+    places: &[ProcedurePlace],
     name: Word,
 ) -> Result<Paragraph, NoMemory>
     ensures { IfOk result (λ made. IsParagraphOf cells.now places.now (is_main (seen_range range))
@@ -82,7 +82,7 @@ pub fn paragraphs_of(
     order: &[Range],
     closed: &mut [Closed],
     cells: &[Items<CellItem>],
-    places: &[Placed],
+    places: &[ProcedurePlace],
     names: &[Word],
 ) -> Result<Items<Paragraph>, NoMemory>
     requires { AreAsMany order.now closed.old cells.now names.now }

@@ -3,28 +3,28 @@
 ghost use Rattle.std.specs.Prelude.{◌≡◌, ◌++◌, ◌*◌, ◌+◌, IfOk, OnOk};
 ghost use Rattle.std.specs.List.Sorted.{IsNonDecreasingBy, IsPermutation};
 ghost use Rattle.procedure_split.specs.made_procedures.Made.{ArePlacesIn};
-ghost use Rattle.procedure_split.specs.Places.{key_of, place_at, places_from};
+ghost use Rattle.procedure_split.specs.Placing.{key_of, place_at, places_from};
 
 use cob_base::NoMemory;
 use cob_tree::Range;
-use statement_builders::arms::Placed;
+use statement_builders::arms::ProcedurePlace;
 use std::alloc::Global;
 
 /// A number that is less for a smaller entry, and for a smaller exit at the same entry.
-fn key_of(placed: Placed) -> u64
+fn key_of(placed: ProcedurePlace) -> u64
     ensures { result ≡ key_of placed }
 {
     placed.entry as u64 * (1 << 32) + placed.exit as u64
 }
 
 /// Adds the place of the range's procedure, unless it is main.
-fn add_place(places: &mut Vec<Placed>, range: Range, place: u32) -> Result<(), NoMemory>
+fn add_place(places: &mut Vec<ProcedurePlace>, range: Range, place: u32) -> Result<(), NoMemory>
     ensures { OnOk result (places.new.items ≡ places.old.items ++ place_at range place) }
 {
     match range.exit {
         None => Ok(()),
         Some(exit) => {
-            places.push(Placed {
+            places.push(ProcedurePlace {
                 entry: range.entry,
                 exit,
                 place,
@@ -35,7 +35,7 @@ fn add_place(places: &mut Vec<Placed>, range: Range, place: u32) -> Result<(), N
 }
 
 /// The places in the order of the procedures.
-fn places_from(alloc: Global, order: &[Range]) -> Result<Vec<Placed>, NoMemory>
+fn places_from(alloc: Global, order: &[Range]) -> Result<Vec<ProcedurePlace>, NoMemory>
     ensures { IfOk result (λ places. places.items ≡ places_from 0 order.now) }
 {
     let mut places = Vec::new(alloc);
@@ -52,12 +52,12 @@ fn places_from(alloc: Global, order: &[Range]) -> Result<Vec<Placed>, NoMemory>
 
 /// The places of the procedures of these ranges, but main's, by entry and then by exit. Err where
 /// memory is wanted, or the ranges have no numbers of 32 bits.
-pub fn places_of(alloc: Global, order: &[Range]) -> Result<Vec<Placed>, NoMemory>
+pub fn places_of(alloc: Global, order: &[Range]) -> Result<Vec<ProcedurePlace>, NoMemory>
     ensures places { IfOk result (λ places. ArePlacesIn order.now places.items) }
     ensures all { IfOk result (λ places. IsPermutation (places_from 0 order.now) places.items) }
     ensures sorted { IfOk result (λ places. IsNonDecreasingBy key_of places.items) }
 {
     let mut places = places_from(alloc, order)?;
-    places.sort_unstable_by_key(|placed: &Placed| key_of(*placed));
+    places.sort_unstable_by_key(|placed: &ProcedurePlace| key_of(*placed));
     Ok(places)
 }

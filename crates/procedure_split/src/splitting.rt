@@ -2,7 +2,7 @@
 
 ghost use Rattle.std.specs.Prelude.{MatchResult};
 ghost use Rattle.procedure_split.specs.shaped_ranges.Laws.{HasFlow};
-ghost use Rattle.procedure_split.specs.Split.{IsSplitFault, IsSplitWith};
+ghost use Rattle.procedure_split.specs.Splitting.{IsSplitFault, IsSplitWith};
 
 use crate::plan::plan_of;
 use crate::shaped_ranges::{lower_ranges, shape_all};

@@ -3,9 +3,9 @@
 ghost use Rattle.std.specs.Prelude.{◌≡◌, ◌++◌, ◌+◌, ◌<◌, ◌^◌, length, map, IfOk, IsTrue};
 ghost use Rattle.cob_base.specs.Answers.{Makes};
 ghost use Rattle.cobol_theory.specs.cell_serving.Entries.{entries_of};
-ghost use Rattle.added_items.specs.item_table.Names.{seen_item};
+ghost use Rattle.added_items.specs.item_table.Naming.{seen_item};
 ghost use Rattle.out_names.specs.Words.{program_words};
-ghost use Rattle.procedure_split.specs.Written.{IsWrittenWith, split_of, with_parts};
+ghost use Rattle.procedure_split.specs.Writing.{IsWrittenWith, split_of, with_parts};
 
 use crate::counting::counts_of;
 use crate::entries::entries_with;

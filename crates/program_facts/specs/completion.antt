@@ -1,5 +1,5 @@
 -- what lowering is told
-pub mod Told
+pub mod FlowFacts
 -- what a statement is after cutting
 pub mod Facts
 -- the same of what the tree is seen as

@@ -1,7 +1,7 @@
 //! Which statements can't complete, and lists that are cut behind them.
 //!
 //! Lowering is told which ranges return and which files have no status item
-//! (`specs/completion/Told`). What a statement is then, when it is cut, is
+//! (`specs/completion/FlowFacts`). What a statement is then, when it is cut, is
 //! `specs/completion/Facts`: hold it against the rule that a list ends behind its first statement
 //! that can't complete, nested ones too (`control_flow_theory/specs/lowering/Completes`).
 

@@ -4,7 +4,7 @@ ghost use Rattle.std.specs.Prelude.{◌≡◌, ◌≤◌};
 ghost use Rattle.cob_base.specs.Answers.{Makes};
 ghost use Rattle.program_gen.specs.Generated.{perform_group, performs_of, main_of};
 
-use crate::parts::{counter, only, sentence};
+use crate::parts::{counter, sentence, single};
 use cob_base::{Items, NoMemory};
 use cob_tree::{Control, Operand, Paragraph, Sentence, Stmt};
 use cob_words::numbered::capital_word;
@@ -41,7 +41,7 @@ pub fn main_of(alloc: Global, n: u32) -> Result<Paragraph, NoMemory>
     ensures { Makes (main_of n) result }
 {
     let mut sentences = performs_of(alloc, n)?;
-    let items = only(alloc, Operand::Place(counter(alloc)))?;
+    let items = single(alloc, Operand::Place(counter(alloc)))?;
     let display = Stmt::Display {
         items,
         advance: true,

@@ -13,7 +13,7 @@ use cob_words::numbered::{capital_word, numbered, numbered_text};
 use std::alloc::Global;
 
 /// A list of this item alone.
-pub fn only<T: Drop>(alloc: Global, item: T) -> Result<Items<T>, NoMemory>
+pub fn single<T: Drop>(alloc: Global, item: T) -> Result<Items<T>, NoMemory>
     ensures { Makes (item ∷ []) result }
 {
     let mut items = Items::new(alloc);
@@ -72,12 +72,12 @@ fn count_one(alloc: Global) -> Result<Stmt, NoMemory>
     ensures { Makes count_one result }
 {
     let one = whole(alloc, 1)?;
-    let parts = only(alloc, Operand::Number(one))?;
+    let parts = single(alloc, Operand::Number(one))?;
     let target = Target {
         place: counter(alloc),
         rounded: false,
     };
-    let into = only(alloc, target)?;
+    let into = single(alloc, target)?;
     Ok(Stmt::Arith {
         calc: Calc::Add(parts),
         into,
@@ -95,7 +95,7 @@ fn jump_below(alloc: Global, bound: u32, to: u32) -> Result<Stmt, NoMemory>
     let left = Expr::Leaf(Operand::Place(counter(alloc)));
     let bound = whole(alloc, bound)?;
     let right = Expr::Leaf(Operand::Number(bound));
-    let yes = only(alloc, Stmt::Go(to))?;
+    let yes = single(alloc, Stmt::Go(to))?;
     Ok(Stmt::If {
         cond: Cond::Relation(left, Rel::Less, right),
         yes,
@@ -107,7 +107,7 @@ fn jump_below(alloc: Global, bound: u32, to: u32) -> Result<Stmt, NoMemory>
 pub fn sentence(alloc: Global, stmt: Stmt) -> Result<Sentence, NoMemory>
     ensures { Makes (sentence stmt) result }
 {
-    let stmts = only(alloc, stmt)?;
+    let stmts = single(alloc, stmt)?;
     Ok(Sentence { stmts })
 }
 
@@ -128,7 +128,7 @@ pub fn jumping(alloc: Global, group: u32, number: u32, x: u32) -> Result<Paragra
     ensures { Makes (jumping group number x) result }
 {
     let name = group_word(alloc, group, number)?;
-    let mut sentences = only(alloc, sentence(alloc, count_one(alloc)?)?)?;
+    let mut sentences = single(alloc, sentence(alloc, count_one(alloc)?)?)?;
     let picked = 1 + (x / 65536) % 4;
     let jump = jump_below(alloc, 10 * group, 4 * group - 4 + picked)?;
     sentences.push(sentence(alloc, jump)?)?;
@@ -145,7 +145,7 @@ pub fn leaving(alloc: Global, group: u32) -> Result<Paragraph, NoMemory>
     ensures { Makes (leaving group) result }
 {
     let name = group_word(alloc, group, 4)?;
-    let sentences = only(alloc, sentence(alloc, Stmt::Exit)?)?;
+    let sentences = single(alloc, sentence(alloc, Stmt::Exit)?)?;
     Ok(Paragraph {
         name: Some(name),
         section: None,

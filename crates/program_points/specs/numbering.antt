@@ -1,4 +1,4 @@
 -- what of loops and files control depends on
-pub mod Kinds
+pub mod Kind
 -- how places are added
-pub mod Building
+pub mod Build

@@ -2,11 +2,11 @@
 //!
 //! The first places are the starts of the paragraphs, and those behind them their ends; lists are
 //! numbered from their last statement back, so that each place behind is known.
-//! `specs/numbering/Building.antt` says what the places that are added have to be.
+//! `specs/numbering/Build.antt` says what the places that are added have to be.
 
 mod build;
 mod kind;
 mod paragraph;
 
 pub use crate::numbering::build::{Builder, Exits, Here};
-pub use crate::numbering::kind::{Kind, is_silent, kind_of};
+pub use crate::numbering::kind::{LoopStart, is_silent, kind_of};

@@ -5,4 +5,4 @@
 
 mod table;
 
-pub use crate::point_table::table::{Place, Table};
+pub use crate::point_table::table::{ProgramPoint, Table};

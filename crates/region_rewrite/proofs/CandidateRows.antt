@@ -7,16 +7,16 @@ use Rattle.control_flow_theory.specs.semantics.Doing.{is_above}
 use Rattle.control_flow_theory.specs.semantics.Graph.{Label, Tree}
 use Rattle.control_flow_theory.specs.graph_rules.Shapes.{joined, inlined, leaves_to, other_targets}
 use Rattle.control_flow_theory.specs.graph_rules.Reduced.{Node, Graph, tree_in, has_node, each_tree, without, with_tree, all_leaves_to, join_graph, inline_graph, close_graph, inlines, loops, at_most_one, inline_step, loop_step, rule_step}
-use Rattle.control_flow_theory.specs.closing.Closes.{are_several, has_exits, exits_graph, exits_step, or_exits}
-use Rattle.control_flow_theory.specs.closing.Dispatches.{Rising}
-use Rattle.tree_rules.specs.Inlines.{may_inline}
+use Rattle.control_flow_theory.specs.structuring.Closes.{are_several, has_exits, exits_graph, exits_step, or_exits}
+use Rattle.control_flow_theory.specs.structuring.Dispatches.{Rising}
+use Rattle.tree_rules.specs.Inlining.{may_inline}
 use Rattle.tree_rules.proofs.InlineRows.{graph_with, graph_same}
 use Rattle.tree_rules.proofs.ByLabel.{without_with, first_alone, rising_tail, lowest_is, lowest_none}
 use Rattle.tree_rules.proofs.MoveRows.{both, apart, inline_is, has_inline, tree_inline, count_inline}
 use Rattle.control_flow_theory.proofs.graph_rules_lemmas.shapes.Reducing.{with-other}
-use Rattle.graph_rewriting.specs.Sounds.{IsSound}
+use Rattle.graph_rewriting.specs.Rewriting.{IsSound}
 use Rattle.graph_rewriting.proofs.NodeRows.{has_with, with_none, without_none, has_not_without, leaves_with, leaves_split}
-use Rattle.loop_rules.specs.Closed.{may_loop}
+use Rattle.loop_rules.specs.Nodes.{may_loop}
 use Rattle.region_rewrite.specs.exit_rule.Exits.{may_exit}
 use Rattle.region_rewrite.specs.Candidates.{AllIn, AllInBut, TargetsIn, Grows, Enters, Fixed, Holds, HoldsBut}
 

@@ -4,7 +4,7 @@ use Rattle.control_flow_theory.specs.language.Language.{Picker, Stmts}
 use Rattle.control_flow_theory.specs.semantics.Graph.{Label, Tree, tree, End, Pick, Jump, Return, Stop, Dead, Trees, no_more, more}
 use Rattle.control_flow_theory.specs.graph_rules.Shapes.{Live, ToLabel, Back, end_at, Targets, NoTarget, Only, Several, arms_targets, join_by, joined, join_end, joined_arms}
 use Rattle.control_flow_theory.specs.graph_rules.Reduced.{Node, Form, each_tree, form_of, at_most_one}
-use Rattle.loop_rules.specs.Closed.{closed_form, closed_by}
+use Rattle.loop_rules.specs.Nodes.{closed_form, closed_by}
 use Rattle.region_rewrite.specs.Candidates.{Fixed}
 
 -- Join once more changes nothing.

@@ -5,14 +5,14 @@ use Rattle.control_flow_theory.specs.semantics.Doing.{is_above}
 use Rattle.control_flow_theory.specs.semantics.Graph.{Label, Tree}
 use Rattle.control_flow_theory.specs.graph_rules.Shapes.{joined, leaves_to, other_targets}
 use Rattle.control_flow_theory.specs.graph_rules.Reduced.{Graph, tree_in, has_node, count, loops, close_graph, looped_graph, at_most_one, join_graph}
-use Rattle.control_flow_theory.specs.closing.Closes.{none_left_out, has_exits, exits_graph}
-use Rattle.control_flow_theory.specs.closing.Dispatches.{Rising}
-use Rattle.control_flow_theory.specs.closing.Targets.{with_exits}
+use Rattle.control_flow_theory.specs.structuring.Closes.{none_left_out, has_exits, exits_graph}
+use Rattle.control_flow_theory.specs.structuring.Dispatches.{Rising}
+use Rattle.control_flow_theory.specs.structuring.Targets.{with_exits}
 use Rattle.graph_rewriting.proofs.NodeRows.{has_with, rising_with, tree_with}
-use Rattle.tree_rules.specs.Joins.{joined_at}
+use Rattle.tree_rules.specs.Joining.{joined_at}
 use Rattle.tree_rules.proofs.LeafRows.{joined_leaves}
 use Rattle.tree_rules.proofs.MoveRows.{both}
-use Rattle.loop_rules.specs.Closed.{closed, may_loop}
+use Rattle.loop_rules.specs.Nodes.{closed, may_loop}
 use Rattle.loop_rules.proofs.NodeRows.{close_row}
 use Rattle.loop_rules.proofs.LeafRows.{closed_leaves}
 use Rattle.region_rewrite.specs.exit_rule.Exits.{may_exit}

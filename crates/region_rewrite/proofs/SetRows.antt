@@ -10,8 +10,8 @@ use Rattle.control_flow_theory.specs.graph_rules.Shapes.{leaves_to, arms_leaves_
 use Rattle.control_flow_theory.specs.graph_rules.Reduced.{Node, tree_in, has_node}
 use Rattle.branch_tree.specs.declared.graph.Node as code
 use Rattle.branch_tree.specs.declared.tree.Tree as code_tree
-use Rattle.branch_tree.specs.Graphs.{seen_nodes}
-use Rattle.branch_tree.specs.Trees.{seen_tree, seen_trees}
+use Rattle.branch_tree.specs.Graph.{seen_nodes}
+use Rattle.branch_tree.specs.Tree.{seen_tree, seen_trees}
 use Rattle.graph_rewriting.proofs.CountRows.{arm_next, arms_end}
 use Rattle.region_rewrite.specs.Candidates.{AllIn, AllInBut, ArmTargetsIn, Grows, TargetsIn}
 

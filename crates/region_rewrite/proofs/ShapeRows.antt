@@ -5,17 +5,17 @@ use Rattle.std.proofs.lemmas.List.{length-map}
 use Rattle.cob_tree.specs.declared.fault.SplitFault.{SplitFault}
 use Rattle.control_flow_theory.specs.semantics.Graph.{tree, body_of, end_of}
 use Rattle.control_flow_theory.specs.graph_rules.Reduced.{Node, Graph}
-use Rattle.control_flow_theory.specs.closing.Closes.{IsClosed, closed_graph}
-use Rattle.control_flow_theory.specs.closing.Laws.{PlainEnd}
-use Rattle.control_flow_theory.proofs.closing_lemmas.closing.ClosedEnding.{closed-ends}
+use Rattle.control_flow_theory.specs.structuring.Closes.{IsClosed, closed_graph}
+use Rattle.control_flow_theory.specs.structuring.Laws.{PlainEnd}
+use Rattle.control_flow_theory.proofs.structuring_lemmas.closing.ClosedEnding.{closed-ends}
 use Rattle.branch_tree.specs.declared.graph.Node as code
-use Rattle.branch_tree.specs.Graphs.{seen_node, seen_nodes}
-use Rattle.branch_tree.specs.Trees.{seen_tree, seen_body, seen_end}
+use Rattle.branch_tree.specs.Graph.{seen_node, seen_nodes}
+use Rattle.branch_tree.specs.Tree.{seen_tree, seen_body, seen_end}
 use Rattle.branch_tree.proofs.TreeRows.{seen_tree_is}
 use Rattle.region_rewrite.specs.written_nesting.Nesting.{nesting}
 use Rattle.region_rewrite.specs.declared.shaping.Shaped.{Shaped}
 use Rattle.cob_base.specs.Limit.{max_nesting}
-use Rattle.region_rewrite.specs.Shape.{first_tree, Shapes}
+use Rattle.region_rewrite.specs.Shaping.{first_tree, Shapes}
 
 -- the last of one node is that node
 pub one_is : (nodes rest : List code.Node) (node : code.Node) → length nodes ≡ 1 → nodes ≡ rest ++ node ∷ [] →

@@ -5,13 +5,13 @@ use Rattle.control_flow_theory.specs.semantics.Doing.{is_above}
 use Rattle.control_flow_theory.specs.semantics.Graph.{Label, Tree}
 use Rattle.control_flow_theory.specs.graph_rules.Shapes.{joined}
 use Rattle.control_flow_theory.specs.graph_rules.Reduced.{Node, Graph, each_tree, join_graph, close_graph, size, rule_step, stepped, reduced}
-use Rattle.control_flow_theory.specs.closing.Closes.{IsClosed, dispatch_graph, dispatch_rest, any_step, or_exits, exits_graph, reduced_by_all}
+use Rattle.control_flow_theory.specs.structuring.Closes.{IsClosed, dispatch_graph, dispatch_rest, any_step, or_exits, exits_graph, reduced_by_all}
 use Rattle.std.specs.Prelude.{OnOk}
-use Rattle.loop_rules.specs.Closed.{may_loop, CloseLoop}
+use Rattle.loop_rules.specs.Nodes.{may_loop, CloseLoop}
 use Rattle.region_rewrite.specs.exit_rule.Exits.{may_exit, CloseExits}
-use Rattle.control_flow_theory.proofs.closing_lemmas.closing.RulesStayClosed.{join-closed}
+use Rattle.control_flow_theory.proofs.structuring_lemmas.closing.RulesStayClosed.{join-closed}
 use Rattle.branch_tree.specs.declared.graph.Node as code
-use Rattle.branch_tree.specs.Graphs.{seen_node, seen_nodes}
+use Rattle.branch_tree.specs.Graph.{seen_node, seen_nodes}
 use Rattle.region_rewrite.specs.Candidates.{Fixed}
 use Rattle.region_rewrite.specs.Steps.{Steps, LoopSteps}
 use Rattle.region_rewrite.proofs.JoinedRows.{each_joined}

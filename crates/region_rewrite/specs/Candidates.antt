@@ -6,8 +6,8 @@ use Rattle.control_flow_theory.specs.semantics.Doing.{is_above}
 use Rattle.control_flow_theory.specs.semantics.Graph.{Label, Tree, Trees}
 use Rattle.control_flow_theory.specs.graph_rules.Shapes.{joined, leaves_to, arms_leaves_to}
 use Rattle.control_flow_theory.specs.graph_rules.Reduced.{Node, Graph, without}
-use Rattle.tree_rules.specs.Inlines.{may_inline}
-use Rattle.loop_rules.specs.Closed.{may_loop}
+use Rattle.tree_rules.specs.Inlining.{may_inline}
+use Rattle.loop_rules.specs.Nodes.{may_loop}
 use Rattle.region_rewrite.specs.exit_rule.Exits.{may_exit}
 
 -- each label on which the rule applies is in the set

@@ -2,8 +2,8 @@
 use Rattle.std.specs.Prelude.{Bool}
 use Rattle.control_flow_theory.specs.semantics.Graph.{Label}
 use Rattle.control_flow_theory.specs.graph_rules.Reduced.{Graph}
-use Rattle.tree_rules.specs.Inlines.{may_inline}
-use Rattle.loop_rules.specs.Closed.{may_loop}
+use Rattle.tree_rules.specs.Inlining.{may_inline}
+use Rattle.loop_rules.specs.Nodes.{may_loop}
 use Rattle.region_rewrite.specs.exit_rule.Exits.{may_exit}
 use Rattle.region_rewrite.specs.declared.candidates.Rule.{Rule}
 use Rattle.region_rewrite.specs.declared.candidates.Rule.TheVariants as rule

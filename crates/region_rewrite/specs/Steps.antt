@@ -3,7 +3,7 @@ use Rattle.std.specs.Prelude.{◌≡◌, Bool, true, false, Option, Some, None, 
 use Rattle.cob_base.specs.declared.memory.NoMemory.{NoMemory}
 use Rattle.control_flow_theory.specs.semantics.Graph.{Label}
 use Rattle.control_flow_theory.specs.graph_rules.Reduced.{Graph, rule_step}
-use Rattle.loop_rules.specs.Closed.{may_loop}
+use Rattle.loop_rules.specs.Nodes.{may_loop}
 
 -- true with the graph after the step, false where no rule applies
 abbrev pub Steps : Result Bool NoMemory → Option Graph → Graph → Graph → Type 0

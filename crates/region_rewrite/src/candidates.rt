@@ -2,7 +2,7 @@
 
 ghost use Rattle.std.specs.Prelude.{◌≡◌, OnOk};
 ghost use Rattle.control_flow_theory.specs.graph_rules.Reduced.{tree_in};
-ghost use Rattle.branch_tree.specs.Trees.{seen_tree, seen_trees};
+ghost use Rattle.branch_tree.specs.Tree.{seen_tree, seen_trees};
 ghost use Rattle.graph_rewriting.specs.Helds.{seen_work};
 ghost use Rattle.region_rewrite.specs.Candidates.{AllIn, ArmTargetsIn, Grows, IsLowest, TargetsIn};
 ghost use Rattle.region_rewrite.specs.Rules.{applies};

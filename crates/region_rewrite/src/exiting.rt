@@ -1,10 +1,10 @@
 //! Exits, where neither Loop nor Inline applies, and all rules in their order.
 
 ghost use Rattle.std.specs.Prelude.{◌≡◌, true, None, OnOk};
-ghost use Rattle.control_flow_theory.specs.closing.Closes.{any_step, exits_graph, or_exits, reduced_by_all};
+ghost use Rattle.control_flow_theory.specs.structuring.Closes.{any_step, exits_graph, or_exits, reduced_by_all};
 ghost use Rattle.control_flow_theory.specs.graph_rules.Reduced.{join_graph};
 ghost use Rattle.region_rewrite.specs.exit_rule.Exits.{may_exit};
-ghost use Rattle.region_rewrite.specs.Reducings.{StateHolds, StateHoldsBut, graph_in};
+ghost use Rattle.region_rewrite.specs.Reducing.{StateHolds, StateHoldsBut, graph_in};
 ghost use Rattle.region_rewrite.specs.Steps.{Steps};
 
 use crate::candidates::{Rule, next, put_node_targets};

@@ -3,7 +3,7 @@
 ghost use Rattle.std.specs.Prelude.{◌≡◌, ◌*◌, IfOk, OnOk};
 ghost use Rattle.control_flow_theory.specs.graph_rules.Reduced.{each_tree, join_graph, size};
 ghost use Rattle.control_flow_theory.specs.graph_rules.Shapes.{joined};
-ghost use Rattle.branch_tree.specs.Graphs.{seen_graph, seen_nodes};
+ghost use Rattle.branch_tree.specs.Graph.{seen_graph, seen_nodes};
 
 use branch_tree::{Graph, Node};
 use cob_base::NoMemory;

@@ -5,9 +5,9 @@
 //! Each rule is tried on the labels of an ordered set alone, in which all labels are on which it
 //! applies; so a step takes about the time of what it changes. The definitions are those of the
 //! theory of control, `shaped` in `control_flow_theory/specs/graph_rules/Reduced.antt` and
-//! `closed_graph` in `control_flow_theory/specs/closing/Closes.antt`; its laws say that a closed
-//! graph does what the graph did, that the rules end, and that a dispatch stands only where no
-//! other rule applies.
+//! `closed_graph` in `control_flow_theory/specs/structuring/Closes.antt`; its laws say that a
+//! closed graph does what the graph did, that the rules end, and that a dispatch stands only where
+//! no other rule applies.
 #![tactic(auto)]
 
 mod candidates;

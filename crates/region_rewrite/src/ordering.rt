@@ -4,13 +4,13 @@ ghost use Rattle.std.specs.Prelude.{◌≡◌, ◌*◌, true, IfOk, OnOk};
 ghost use Rattle.std.specs.BTreeSet.{contains};
 ghost use Rattle.std.specs.Ordering.{nat_cmp};
 ghost use Rattle.control_flow_theory.specs.semantics.Graph.{Label};
-ghost use Rattle.control_flow_theory.specs.closing.Closes.{IsClosed, closed_graph, dispatch_rest, reduced_by_all};
+ghost use Rattle.control_flow_theory.specs.structuring.Closes.{IsClosed, closed_graph, dispatch_rest, reduced_by_all};
 ghost use Rattle.control_flow_theory.specs.graph_rules.Reduced.{has_node, join_graph, reduced, size};
 ghost use Rattle.control_flow_theory.specs.graph_rules.Shapes.{joined};
-ghost use Rattle.branch_tree.specs.Graphs.{seen_graph, seen_nodes};
+ghost use Rattle.branch_tree.specs.Graph.{seen_graph, seen_nodes};
 ghost use Rattle.graph_rewriting.specs.Helds.{seen_work};
 ghost use Rattle.region_rewrite.specs.Candidates.{Fixed};
-ghost use Rattle.region_rewrite.specs.Reducings.{StateHolds, graph_in};
+ghost use Rattle.region_rewrite.specs.Reducing.{StateHolds, graph_in};
 
 use crate::exiting::all_steps;
 use crate::joining::{enough_steps, join_graph};

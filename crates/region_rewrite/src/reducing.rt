@@ -3,10 +3,10 @@
 ghost use Rattle.std.specs.Prelude.{◌≡◌, true, false, OnOk};
 ghost use Rattle.control_flow_theory.specs.semantics.Graph.{Label};
 ghost use Rattle.control_flow_theory.specs.graph_rules.Reduced.{close_graph, has_node, inline_graph, join_graph, reduced, rule_step};
-ghost use Rattle.loop_rules.specs.Closed.{may_loop};
-ghost use Rattle.tree_rules.specs.Inlines.{may_inline};
+ghost use Rattle.loop_rules.specs.Nodes.{may_loop};
+ghost use Rattle.tree_rules.specs.Inlining.{may_inline};
 ghost use Rattle.region_rewrite.specs.Candidates.{Enters};
-ghost use Rattle.region_rewrite.specs.Reducings.{StateHolds, StateHoldsBut, graph_in};
+ghost use Rattle.region_rewrite.specs.Reducing.{StateHolds, StateHoldsBut, graph_in};
 ghost use Rattle.region_rewrite.specs.Steps.{LoopSteps, Steps};
 
 use crate::candidates::{Rule, next, put_node_targets};

@@ -1,11 +1,11 @@
 //! A graph as one body.
 
 ghost use Rattle.std.specs.Prelude.{◌≡◌, length, IfOk};
-ghost use Rattle.control_flow_theory.specs.closing.Closes.{IsClosed, closed_graph};
-ghost use Rattle.control_flow_theory.specs.closing.Laws.{PlainEnd};
-ghost use Rattle.branch_tree.specs.Graphs.{seen_graph};
-ghost use Rattle.branch_tree.specs.Trees.{seen_end};
-ghost use Rattle.region_rewrite.specs.Shape.{Shapes, nesting_passed};
+ghost use Rattle.control_flow_theory.specs.structuring.Closes.{IsClosed, closed_graph};
+ghost use Rattle.control_flow_theory.specs.structuring.Laws.{PlainEnd};
+ghost use Rattle.branch_tree.specs.Graph.{seen_graph};
+ghost use Rattle.branch_tree.specs.Tree.{seen_end};
+ghost use Rattle.region_rewrite.specs.Shaping.{Shapes, nesting_passed};
 
 use crate::ordering::close;
 use crate::written_nesting::body_nesting;

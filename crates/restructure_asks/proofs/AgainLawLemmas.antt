@@ -7,7 +7,7 @@ use Rattle.fixed_point_laws.specs.Results.{ResultsAreFixed}
 use Rattle.restructure_core.specs.declared.fault.Refused.{Refused}
 use Rattle.restructure_core.specs.declared.fault.Refused.TheVariants as refused
 use Rattle.restructure_core.specs.declared.pipeline.Done.{Done}
-use Rattle.restructure_core.specs.Answers.{IsRestructured, HasCause, IsResultText}
+use Rattle.restructure_core.specs.Pipeline.{IsRestructured, HasCause, IsResultText}
 use Rattle.restructure_core.proofs.OneAnswer.{comes-again}
 use Rattle.restructure_asks.specs.declared.ask.Ask.TheVariants.{Restructure}
 use Rattle.restructure_asks.specs.declared.refusal.Refusal.{Refusal}

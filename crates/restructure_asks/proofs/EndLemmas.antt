@@ -13,8 +13,8 @@ use Rattle.cobol_read.specs.declared.refusal.ReadRefusal.TheVariants as rd
 use Rattle.cobol_read.specs.Reading.{Reads}
 use Rattle.cob_base.specs.Limit.{max_source}
 use Rattle.cobol_read.specs.Limit.{past_source}
-use Rattle.restructure_core.specs.Refusals.{of_read_refusal}
-use Rattle.restructure_core.specs.Answers.{IsUnread, IsFaultySourceBy, IsPastRanges, IsPastLimit, IsRestructured, HasCause}
+use Rattle.restructure_core.specs.Fault.{of_read_refusal}
+use Rattle.restructure_core.specs.Pipeline.{IsUnread, IsFaultySourceBy, IsPastRanges, IsPastLimit, IsRestructured, HasCause}
 use Rattle.restructure_asks.proofs.LengthLemmas.{short-read, short-either}
 use Rattle.restructure_asks.specs.declared.ask.Ask.{Ask}
 use Rattle.restructure_asks.specs.declared.ask.Ask.TheVariants.{Restructure, Report, Check, Run, Generate, Trial}

@@ -11,7 +11,7 @@ use Rattle.restructure_core.specs.declared.fault.Refused.{Refused}
 use Rattle.restructure_core.specs.declared.fault.Refused.TheVariants as refused
 use Rattle.restructure_core.specs.declared.pipeline.Done.{Done}
 use Rattle.program_points.specs.declared.paths.trail.Trail.{Trail}
-use Rattle.restructure_core.specs.Answers.{IsRestructured, IsFaultySource, IsAccepted, IsRefusedByTrail, HasCause}
+use Rattle.restructure_core.specs.Pipeline.{IsRestructured, IsFaultySource, IsAccepted, IsRefusedByTrail, HasCause}
 use Rattle.restructure_core.proofs.OneAnswer.{Outcome, IsAlike, IsDueTo, alike, done-due, cause-due, comes-faulty, comes-done}
 use Rattle.restructure_asks.specs.declared.ask.Ask.{Ask}
 use Rattle.restructure_asks.specs.declared.ask.Ask.TheVariants.{Restructure, Report, Check, Run, Generate, Trial}

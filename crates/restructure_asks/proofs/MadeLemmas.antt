@@ -2,7 +2,7 @@
 use Rattle.std.proofs.Common.{◌≡◌, ℕ, List, Some, Err, refl, sym, subst, inl, inr}
 use Rattle.restructure_core.specs.declared.fault.Refused.{Refused}
 use Rattle.restructure_core.specs.declared.fault.Refused.TheVariants as refused
-use Rattle.restructure_core.specs.Answers.{HasCause}
+use Rattle.restructure_core.specs.Pipeline.{HasCause}
 use Rattle.restructure_asks.specs.declared.ask.Ask.TheVariants.{Restructure}
 use Rattle.restructure_asks.specs.declared.refusal.Refusal.{Refusal}
 use Rattle.restructure_asks.specs.Refusal.{of_refused}

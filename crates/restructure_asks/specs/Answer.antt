@@ -7,7 +7,7 @@ use Rattle.procedure_split.specs.declared.report.report.Report as reports
 use Rattle.procedure_split.specs.report.Lines.{report_text}
 use Rattle.restructure_core.specs.declared.fault.Refused.TheVariants as refused
 use Rattle.restructure_core.specs.declared.pipeline.Done.{Done}
-use Rattle.restructure_core.specs.Answers.{IsRestructured, IsReported, HasCause}
+use Rattle.restructure_core.specs.Pipeline.{IsRestructured, IsReported, HasCause}
 use Rattle.restructure_asks.specs.declared.ask.Ask.{Ask}
 use Rattle.restructure_asks.specs.declared.ask.Ask.TheVariants.{Restructure, Report, Check, Run, Generate, Trial}
 use Rattle.restructure_asks.specs.declared.texts.Texts.{Texts}

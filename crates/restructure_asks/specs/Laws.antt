@@ -10,7 +10,7 @@ use Rattle.cobol_run.specs.Over.{TellFiles}
 use Rattle.cob_base.specs.Limit.{max_source}
 use Rattle.cobol_read.specs.Reading.{Reads}
 use Rattle.restructure_core.specs.declared.fault.Refused.TheVariants as refused
-use Rattle.restructure_core.specs.Answers.{IsAccepted, IsFaultySource, IsResultText}
+use Rattle.restructure_core.specs.Pipeline.{IsAccepted, IsFaultySource, IsResultText}
 use Rattle.restructure_asks.specs.declared.ask.Ask.{Ask}
 use Rattle.restructure_asks.specs.declared.ask.Ask.TheVariants.{Restructure, Report, Check, Run, Generate, Trial}
 use Rattle.restructure_asks.specs.declared.refusal.Refusal.{Refusal}

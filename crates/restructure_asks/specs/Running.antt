@@ -18,8 +18,8 @@ use Rattle.cobol_run.specs.declared.running.Ran.TheVariants as ran
 use Rattle.cobol_run.specs.Falling.{FellNamed}
 use Rattle.cobol_run.specs.Machine.{ending_seen}
 use Rattle.cobol_run.specs.PlainTests.{is_plain}
-use Rattle.restructure_core.specs.Answers.{IsUnread}
-use Rattle.restructure_core.specs.Refusals.{of_read_refusal}
+use Rattle.restructure_core.specs.Pipeline.{IsUnread}
+use Rattle.restructure_core.specs.Fault.{of_read_refusal}
 use Rattle.restructure_core.specs.declared.run.Came.{Came}
 use Rattle.restructure_core.specs.declared.run.Came.TheVariants as came
 use Rattle.restructure_core.specs.run.Answers.{Comes, ComesOver, IsWriteFault}

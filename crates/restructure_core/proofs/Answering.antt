@@ -7,7 +7,7 @@ use Rattle.cob_tree.specs.declared.program.Program.{Program}
 use Rattle.program_points.specs.declared.paths.trail.Trail.{Trail}
 use Rattle.pending_returns.specs.declared.facts.Summary.{Summary}
 use Rattle.procedure_split.specs.declared.writing.Split.{Split}
-use Rattle.procedure_split.specs.Split.{IsSplitFault, IsSplitWith}
+use Rattle.procedure_split.specs.Splitting.{IsSplitFault, IsSplitWith}
 use Rattle.procedure_split.specs.report.Report.{IsReportOf}
 use Rattle.procedure_split.specs.declared.report.report.Report.{Report}
 use Rattle.cobol_read.specs.declared.refusal.ReadRefusal.{ReadRefusal}
@@ -17,10 +17,10 @@ use Rattle.cobol_read.specs.Reading.{Reads}
 use Rattle.restructure_core.specs.declared.fault.Refused.{Refused}
 use Rattle.restructure_core.specs.declared.fault.Refused.TheVariants as refused
 use Rattle.restructure_core.specs.declared.pipeline.Done.{Done}
-use Rattle.restructure_core.specs.Refusals.{of_read_refusal, of_split_fault}
+use Rattle.restructure_core.specs.Fault.{of_read_refusal, of_split_fault}
 use Rattle.restructure_core.specs.Flow.{IsFaultyBy, IsFlowRefusal}
 use Rattle.restructure_core.specs.Made.{IsClear, IsMadeOf}
-use Rattle.restructure_core.specs.Answers.{IsResultOf, IsPrinted, IsRestructured, IsReported, IsAnswerTo, HasCause}
+use Rattle.restructure_core.specs.Pipeline.{IsResultOf, IsPrinted, IsRestructured, IsReported, IsAnswerTo, HasCause}
 use Rattle.restructure_core.specs.Results.{ResultsReadBack}
 use Rattle.restructure_core.proofs.Behaving.{made-behaves, made-structured}
 
@@ -128,4 +128,5 @@ refused_unread bytes why refusal is h =
 
 -- lemmas that are named together
 pub ruleset refusals_answer = (refused_unread, refused_flow, refused_by_trail, refused_later)
+
 pub ruleset splits_answer = (split_answer, past_answer, unsplit_answer)

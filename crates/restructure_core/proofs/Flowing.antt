@@ -7,19 +7,19 @@ use Rattle.cob_tree.specs.declared.program.Program.{Program}
 use Rattle.control_flow_theory.specs.language.Control.{control_of}
 use Rattle.program_points.specs.declared.paths.trail.Trail.{Trail}
 use Rattle.program_points.proofs.paths_lemmas.Showing.{accepted-faulty}
-use Rattle.program_points.specs.numbering.Kinds.{never_first_of}
+use Rattle.program_points.specs.numbering.Kind.{never_first_of}
 use Rattle.pending_returns.specs.declared.facts.Summary.{Summary}
 use Rattle.pending_returns.specs.Summary.{IsSummary, IsWithin, IsPast}
 use Rattle.restructure_core.specs.declared.fault.Refused.{Refused}
 use Rattle.restructure_core.specs.Flow.{HasFlowFault, IsTrailOf, IsFaultyBy, IsFlowRefusal}
 use Rattle.restructure_core.specs.Made.{IsClear}
-use Rattle.restructure_core.specs.Refusals.{of_split_fault}
+use Rattle.restructure_core.specs.Fault.{of_split_fault}
 
 pub clear_flow : (program : Program) (summary : Summary) → IsWithin program →
     IsSummary (never_first_of program.files) (control_of program) summary →
     length summary.ranges ≤ max_ranges → (HasFlowFault program → ⊥) → IsClear program summary
 clear_flow program summary within is few never =
-    record { faultless = record { within = within; never = never }; is = is; few = few }
+    record { within = within; flow = record { never = never; is = is }; few = few }
 
 pub faulty_flow : (program : Program) (trail : Trail) → IsWithin program →
     IsTrailOf program trail → IsFaultyBy program trail

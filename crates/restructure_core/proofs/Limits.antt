@@ -4,7 +4,7 @@ use Rattle.cob_base.specs.declared.limit.Limit.{Limit}
 use Rattle.cob_tree.specs.declared.program.Program.{Program}
 use Rattle.restructure_core.specs.declared.fault.Refused.{Refused}
 use Rattle.restructure_core.specs.declared.fault.Refused.TheVariants as refused
-use Rattle.restructure_core.specs.Answers.{IsPrinted, IsText}
+use Rattle.restructure_core.specs.Pipeline.{IsPrinted, IsText}
 use Rattle.restructure_core.specs.Limit.{else_limit, part_limit, text_limit}
 
 pub first_limits : (program : Program) (limit : Limit) → Some limit ≡ part_limit program →

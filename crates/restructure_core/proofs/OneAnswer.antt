@@ -15,8 +15,8 @@ use Rattle.restructure_core.specs.declared.pipeline.Done.{Done}
 use Rattle.restructure_core.specs.Flow.{PassesRanges, HasFlowFault, IsFaultless}
 use Rattle.restructure_core.specs.Limit.{result_limit}
 use Rattle.restructure_core.specs.Made.{IsMadeOf}
-use Rattle.restructure_core.specs.Refusals.{of_read_refusal}
-use Rattle.restructure_core.specs.Answers.{IsUnread, IsPastRanges, IsFaultySource, PassesLimit, IsPastLimit, IsResultOf, IsRestructured, IsAccepted, HasCause, IsRefusedBy, IsRefusedByTrail, IsDoneWith, IsResultText}
+use Rattle.restructure_core.specs.Fault.{of_read_refusal}
+use Rattle.restructure_core.specs.Pipeline.{IsUnread, IsPastRanges, IsFaultySource, PassesLimit, IsPastLimit, IsResultOf, IsRestructured, IsAccepted, HasCause, IsRefusedBy, IsRefusedByTrail, IsDoneWith, IsResultText}
 use Rattle.restructure_core.proofs.Ranges.{limits-same, within-past}
 use Rattle.restructure_core.proofs.ReadWell.{clear-flow}
 use Rattle.restructure_core.proofs.ReadingBack.{within-limits}

@@ -16,18 +16,17 @@ use Rattle.restructure_core.specs.Flow.{IsFaultless}
 use Rattle.pending_returns.specs.declared.facts.Summary.{Summary}
 use Rattle.restructure_core.specs.Made.{IsClear, IsMadeOf, PassesBefore}
 use Rattle.restructure_core.specs.Limit.{result_limit}
-use Rattle.restructure_core.specs.Answers.{PassesAsResult, PassesLimit, IsResultOf}
+use Rattle.restructure_core.specs.Pipeline.{PassesAsResult, PassesLimit, IsResultOf}
 use Rattle.end_to_end_laws.proofs.results_lemmas.read_headline_lemmas.WellMade.{well-made}
-use Rattle.restructure_core.proofs.ReadWell.{clear-flow}
 
 pub limited-faultless : (program : Program) (limit : Limit) → PassesLimit program limit →
     IsFaultless program
-limited-faultless program limit (inl before) = before.clear.faultless
-limited-faultless program limit (inr long) = long.is.clear.faultless
+limited-faultless program limit (inl before) = record { within = before.clear.within; never = before.clear.flow.never }
+limited-faultless program limit (inr long) = record { within = long.is.clear.within; never = long.is.clear.flow.never }
 
 pub done-faultless : (program : Program) (done : Done) → IsResultOf program done →
     IsFaultless program
-done-faultless program done h = h.is.clear.faultless
+done-faultless program done h = record { within = h.is.clear.within; never = h.is.clear.flow.never }
 
 some-same : (a b : Limit) → Some a ≡ Some b → a ≡ b
 some-same a b e = cc
@@ -36,8 +35,8 @@ module _ (bytes : List ℕ) (program : Program) (reads : Reads bytes program) wh
   once : (one other : Summary) → IsClear program one → IsClear program other →
       IsSplitOnce program one other
   once one other is also_is =
-      one-split program one other (well-made bytes program reads) (clear-flow program one is)
-      (clear-flow program other also_is)
+      one-split program one other (well-made bytes program reads) is.flow
+      also_is.flow
 
   made-same : (one other : Split) → IsMadeOf program one → IsMadeOf program other → one ≡ other
   made-same one other h g =
@@ -87,6 +86,6 @@ module _ (bytes : List ℕ) (program : Program) (reads : Reads bytes program) wh
       done-same one other
       (h.written ∙ ap (λ (m : Split). printed m.program) made ∙ sym g.written)
       (one-report program h.is.summary g.is.summary h.made.added one.report other.report
-      h.is.clear.is g.is.clear.is h.reported
+      h.is.clear.flow.is g.is.clear.flow.is h.reported
       (subst (λ (m : Split). IsReportOf program g.is.summary m.added other.report) (sym made)
       g.reported))

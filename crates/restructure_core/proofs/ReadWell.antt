@@ -4,14 +4,9 @@ use Rattle.cob_tree.specs.declared.program.Program.{Program}
 use Rattle.pending_returns.specs.declared.facts.Summary.{Summary}
 use Rattle.cobol_read.specs.Reading.{Reads}
 use Rattle.procedure_split.specs.shaped_ranges.Laws.{HasFlow}
-use Rattle.procedure_split.specs.split_behaviour.Alike.{FlowsSo}
 use Rattle.end_to_end_laws.proofs.results_lemmas.read_headline_lemmas.WellMade.{well-made}
 use Rattle.restructure_core.specs.Made.{IsClear}
 use Rattle.restructure_core.proofs.ReadSome.{read_some}
-
-pub clear-flow : (program : Program) (summary : Summary) → IsClear program summary →
-    FlowsSo program summary
-clear-flow program summary clear = record { fair = clear.faultless.never; is = clear.is }
 
 pub read_flow : (bytes : List ℕ) (program : Program) (summary : Summary) → Reads bytes program →
     IsClear program summary → HasFlow program summary
@@ -21,6 +16,5 @@ read_flow bytes program summary reads clear =
       items = proper.own_items;
       paragraphs = proper.own_paragraphs;
       some = read_some bytes program reads;
-      fair = clear.faultless.never;
-      is = clear.is;
+      flow = clear.flow;
     }

@@ -10,14 +10,13 @@ use Rattle.procedure_split.specs.plan.Planned.{calls_of, range_at}
 use Rattle.pending_returns.specs.declared.facts.RangeFacts.{RangeFacts}
 use Rattle.pending_returns.specs.declared.facts.Summary.{Summary}
 use Rattle.procedure_split.specs.declared.writing.Split.{Split}
-use Rattle.procedure_split.specs.Split.{IsSplit}
+use Rattle.procedure_split.specs.Splitting.{IsSplit}
 use Rattle.cob_base.specs.Limit.{max_paragraphs, max_ranges, max_terms, passed}
 use Rattle.cob_base.proofs.LimitLemmas.{within, within-either}
 use Rattle.end_to_end_laws.specs.results.readable_results.Laws.{IsWithinLimits, SplitProgramsReadBack}
 use Rattle.restructure_core.specs.Limit.{byte_count, token_count, else_limit, text_limit, part_limit, result_limit}
 use Rattle.restructure_core.specs.Made.{IsMadeOf}
 use Rattle.restructure_core.specs.Results.{ResultsReadBack}
-use Rattle.restructure_core.proofs.ReadWell.{clear-flow}
 
 -- ---- limits that aren't passed
 
@@ -97,4 +96,4 @@ within-limits program made is none =
 pub results-read-back : SplitProgramsReadBack → ResultsReadBack
 results-read-back read_back bytes program made reads is none =
     read_back bytes program made.program is.summary reads
-    (clear-flow program is.summary is.clear) is.split.is (within-limits program made is none)
+    is.clear.flow is.split.is (within-limits program made is none)

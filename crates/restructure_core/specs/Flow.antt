@@ -5,7 +5,7 @@ use Rattle.cob_tree.specs.declared.program.Program.{Program}
 use Rattle.control_flow_theory.specs.language.Control.{control_of}
 use Rattle.program_points.specs.paths.Flow.{IsFaulty}
 use Rattle.program_points.specs.declared.paths.trail.Trail.{Trail}
-use Rattle.program_points.specs.numbering.Kinds.{never_first_of}
+use Rattle.program_points.specs.numbering.Kind.{never_first_of}
 use Rattle.pending_returns.specs.Summary.{IsWithin, IsPast}
 use Rattle.overlap_trail.specs.finding.Finding.{IsFound}
 use Rattle.restructure_core.specs.declared.fault.Refused.{Refused}

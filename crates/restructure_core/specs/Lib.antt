@@ -6,8 +6,8 @@ pub mod Made
 -- the limits of the result
 pub mod Limit
 -- what each answer says of the bytes
-pub mod Refusals
-pub mod Answers
+pub mod Fault
+pub mod Pipeline
 -- what is printed of results
 pub mod Results
 -- A source to what comes of its run.

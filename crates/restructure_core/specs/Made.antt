@@ -4,20 +4,19 @@ use Rattle.cob_base.specs.Limit.{max_ranges}
 use Rattle.cob_base.specs.declared.limit.Limit.{Limit}
 use Rattle.cob_tree.specs.declared.fault.SplitFault.TheVariants as split
 use Rattle.cob_tree.specs.declared.program.Program.{Program}
-use Rattle.control_flow_theory.specs.language.Control.{control_of}
-use Rattle.program_points.specs.numbering.Kinds.{never_first_of}
 use Rattle.pending_returns.specs.declared.facts.Summary.{Summary}
-use Rattle.pending_returns.specs.Summary.{IsSummary}
+use Rattle.pending_returns.specs.FaultFree.{IsFaultFree}
+use Rattle.pending_returns.specs.Summary.{IsWithin}
 use Rattle.procedure_split.specs.declared.writing.Split.{Split}
-use Rattle.procedure_split.specs.Split.{IsSplitFault, IsSplitWith}
+use Rattle.procedure_split.specs.Splitting.{IsSplitFault, IsSplitWith}
 use Rattle.restructure_core.specs.declared.flow.Flow.{Flow}
 use Rattle.restructure_core.specs.declared.flow.Flow.TheVariants as flow
-use Rattle.restructure_core.specs.Flow.{IsFaultless, IsFaultyBy}
+use Rattle.restructure_core.specs.Flow.{IsFaultyBy}
 
--- no flow path comes to a fault, and this is the summary of the ranges that they perform
+-- the flow of a program that is within the limits on ranges
 pub record IsClear (program : Program) (summary : Summary) : Type 0 where
-  pub faultless : IsFaultless program
-  pub is : IsSummary (never_first_of program.files) (control_of program) summary
+  pub within : IsWithin program
+  pub flow : IsFaultFree program summary
   -- no more than a text may name
   pub few : length summary.ranges ≤ max_ranges
 

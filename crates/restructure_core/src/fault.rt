@@ -34,7 +34,7 @@ impl From<NoMemory> for Refused {
 
 impl From<ReadRefusal> for Refused {
     ghost use Rattle.std.specs.Prelude.{◌≡◌};
-    ghost use Rattle.restructure_core.specs.Refusals.{of_read_refusal};
+    ghost use Rattle.restructure_core.specs.Fault.{of_read_refusal};
 
     ghost from_gives = { λ refusal e. e ≡ of_read_refusal refusal };
 
@@ -49,7 +49,7 @@ impl From<ReadRefusal> for Refused {
 
 impl From<SplitFault> for Refused {
     ghost use Rattle.std.specs.Prelude.{◌≡◌};
-    ghost use Rattle.restructure_core.specs.Refusals.{of_split_fault};
+    ghost use Rattle.restructure_core.specs.Fault.{of_split_fault};
 
     ghost from_gives = { λ fault e. e ≡ of_split_fault fault };
 

@@ -1,7 +1,7 @@
 //! Bytes of a source to bytes of the result.
 //!
 //! `restructure` reads a source, asks whether a flow path of its program comes to a fault, splits
-//! it into procedures, and prints these, within the limits. Hold `specs/Answers` against what each
+//! it into procedures, and prints these, within the limits. Hold `specs/Pipeline` against what each
 //! answer tells: that the result is structured, behaves as the source and is read back is a clause
 //! of it.
 #![tactic(auto)]

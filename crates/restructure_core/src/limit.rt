@@ -4,7 +4,7 @@ ghost use Rattle.std.specs.Prelude.{◌≡◌, length};
 ghost use Rattle.cob_base.specs.Answers.{Makes};
 ghost use Rattle.cobol_print.specs.Unit.{all_tokens};
 ghost use Rattle.restructure_core.specs.Limit as limits;
-ghost use Rattle.restructure_core.specs.Answers.{IsPrinted, IsText};
+ghost use Rattle.restructure_core.specs.Pipeline.{IsPrinted, IsText};
 
 use crate::fault::Refused;
 use cob_base::limit::passed;

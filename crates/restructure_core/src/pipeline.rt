@@ -6,10 +6,10 @@ ghost use Rattle.cob_tree.specs.declared.program.Program as tree;
 ghost use Rattle.procedure_split.specs.shaped_ranges.Laws.{HasFlow};
 ghost use Rattle.restructure_core.specs.declared.fault.Refused as answers;
 ghost use Rattle.restructure_core.specs.Made.{IsClear};
-ghost use Rattle.restructure_core.specs.Answers.{IsUnread, IsPastRanges, IsFaultySource, IsPastLimit};
-ghost use Rattle.restructure_core.specs.Answers.{IsAccepted, IsRestructured, IsReported, IsAnswerTo};
-ghost use Rattle.restructure_core.specs.Answers.{HasCause, IsRefusedBy, IsRefusedByTrail};
-ghost use Rattle.restructure_core.specs.Answers.{IsDoneWith, IsResultText};
+ghost use Rattle.restructure_core.specs.Pipeline.{IsUnread, IsPastRanges, IsFaultySource, IsPastLimit};
+ghost use Rattle.restructure_core.specs.Pipeline.{IsAccepted, IsRestructured, IsReported, IsAnswerTo};
+ghost use Rattle.restructure_core.specs.Pipeline.{HasCause, IsRefusedBy, IsRefusedByTrail};
+ghost use Rattle.restructure_core.specs.Pipeline.{IsDoneWith, IsResultText};
 
 use crate::fault::Refused;
 use crate::flow::{Flow, flow_of};

@@ -7,5 +7,5 @@
 mod arithmetic;
 mod work;
 
-pub use crate::arithmetic::arithmetic::Work;
+pub use crate::arithmetic::arithmetic::ArithmeticWork;
 pub use crate::arithmetic::work::{Worked, arithmetic_work};

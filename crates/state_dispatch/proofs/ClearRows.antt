@@ -5,14 +5,14 @@ use Rattle.std.proofs.lemmas.Bool.{eq-eqb}
 use Rattle.std.proofs.lemmas.Bool.Decides.{eqb_tells}
 use Rattle.control_flow_theory.specs.semantics.Graph.{Label, Tree}
 use Rattle.control_flow_theory.specs.graph_rules.Reduced.{Node, has_node, tree_in, with_tree, without, all_leaves_to}
-use Rattle.control_flow_theory.specs.closing.Dispatches.{Rising, labels_of}
-use Rattle.control_flow_theory.proofs.closing_lemmas.closing.Closes.{AllAbove, rising-above}
+use Rattle.control_flow_theory.specs.structuring.Dispatches.{Rising, labels_of}
+use Rattle.control_flow_theory.proofs.structuring_lemmas.closing.Closes.{AllAbove, rising-above}
 use Rattle.branch_tree.specs.declared.tree.Tree as code
-use Rattle.branch_tree.specs.Trees.{seen_tree}
-use Rattle.graph_rewriting.specs.Sounds.{bare}
+use Rattle.branch_tree.specs.Tree.{seen_tree}
+use Rattle.graph_rewriting.specs.Rewriting.{bare}
 use Rattle.graph_rewriting.proofs.NodeRows.{none_above, with_none, without_none}
 use Rattle.state_dispatch.specs.Trees.{node_trees}
-use Rattle.state_dispatch.specs.Clearing.{one_node, all_taken, taken_trees, MayGo, Clears}
+use Rattle.state_dispatch.specs.Dispatching.{one_node, all_taken, taken_trees, MayGo, Clears}
 
 same : (label : Label) → (label == label) ≡ true
 same label = eq-eqb label label refl

@@ -5,20 +5,20 @@ use Rattle.control_flow_theory.specs.semantics.Doing.{is_above}
 use Rattle.control_flow_theory.specs.semantics.Graph.{Label, tree}
 use Rattle.control_flow_theory.specs.graph_rules.Shapes.{leaves_to, end_leaves_to}
 use Rattle.control_flow_theory.specs.graph_rules.Reduced.{Node}
-use Rattle.control_flow_theory.specs.closing.Closes.{none_left_out}
-use Rattle.control_flow_theory.specs.closing.Dispatches.{stated_tree, stated_arms, state_jump, set_to, node_arms, dispatched, labels_of, number_in, return_if, trees_return, some_returns, either, tree_returns}
+use Rattle.control_flow_theory.specs.structuring.Closes.{none_left_out}
+use Rattle.control_flow_theory.specs.structuring.Dispatches.{stated_tree, stated_arms, state_jump, set_to, node_arms, dispatched, labels_of, number_in, return_if, trees_return, some_returns, either, tree_returns}
 use Rattle.control_flow_theory.specs.semantics.Graph as graph
 use Rattle.branch_tree.specs.declared.graph.Node as code
 use Rattle.branch_tree.specs.declared.tree.Tree as code_tree
-use Rattle.branch_tree.specs.Graphs.{seen_nodes}
+use Rattle.branch_tree.specs.Graph.{seen_nodes}
 use Rattle.branch_tree.specs.declared.chooser.Picker.TheVariants as picker
 use Rattle.branch_tree.specs.declared.tree.End.TheVariants as end
-use Rattle.graph_rewriting.specs.Sounds.{bare, Fits}
-use Rattle.branch_tree.specs.Trees.{seen_tree, seen_trees, seen_body, seen_end, trees_of}
+use Rattle.graph_rewriting.specs.Rewriting.{bare, Fits}
+use Rattle.branch_tree.specs.Tree.{seen_tree, seen_trees, seen_body, seen_end, trees_of}
 use Rattle.branch_tree.proofs.TreeRows.{seen_tree_is, seen_pick}
 use Rattle.loop_rules.specs.Forms.{looped_by}
 use Rattle.state_dispatch.specs.Trees.{node_trees, choice_of, state_loop}
-use Rattle.state_dispatch.specs.Clearing.{one_node}
+use Rattle.state_dispatch.specs.Dispatching.{one_node}
 
 -- the arms of the choice are those of the dispatch
 arms_are : (picker : Picker) (state : ℕ) (labels : List ℕ) (k : ℕ) (nodes : List Node) →

@@ -1,4 +1,4 @@
 -- the trees of nodes
 pub mod Trees
 -- how all nodes but one go
-pub mod Clearing
+pub mod Dispatching

@@ -2,14 +2,14 @@
 
 ghost use Rattle.std.specs.Prelude.{◌≡◌, ◌<◌, ◌≤◌, ◌^◌, suc, length, map, OnOk, OnErr};
 ghost use Rattle.std.specs.Vec.{vec_len, vec_capacity};
-ghost use Rattle.control_flow_theory.specs.closing.Closes.{dispatch_graph, none_left_out};
-ghost use Rattle.control_flow_theory.specs.closing.Dispatches.{dispatched, labels_of, number_in, return_if, set_to};
-ghost use Rattle.branch_tree.specs.Graphs.{seen_nodes};
+ghost use Rattle.control_flow_theory.specs.structuring.Closes.{dispatch_graph, none_left_out};
+ghost use Rattle.control_flow_theory.specs.structuring.Dispatches.{dispatched, labels_of, number_in, return_if, set_to};
+ghost use Rattle.branch_tree.specs.Graph.{seen_nodes};
 ghost use Rattle.graph_rewriting.specs.Helds.{seen_work};
-ghost use Rattle.graph_rewriting.specs.Sounds.{bare, WithNodes};
-ghost use Rattle.branch_tree.specs.Trees.{seen_tree, seen_trees, seen_end, seen_body};
+ghost use Rattle.graph_rewriting.specs.Rewriting.{bare, WithNodes};
+ghost use Rattle.branch_tree.specs.Tree.{seen_tree, seen_trees, seen_end, seen_body};
 ghost use Rattle.loop_rules.specs.Forms.{looped_by};
-ghost use Rattle.state_dispatch.specs.Clearing.{taken_trees, all_taken, Clears, one_node};
+ghost use Rattle.state_dispatch.specs.Dispatching.{taken_trees, all_taken, Clears, one_node};
 ghost use Rattle.state_dispatch.specs.Trees.{state_loop, choice_of};
 
 use crate::numbers::number_in;

@@ -1,7 +1,7 @@
 //! Numbers of labels.
 
 ghost use Rattle.std.specs.Prelude.{◌≡◌, ◌<◌, ◌^◌, suc, length};
-ghost use Rattle.control_flow_theory.specs.closing.Dispatches.{number_in, one_further};
+ghost use Rattle.control_flow_theory.specs.structuring.Dispatches.{number_in, one_further};
 
 use branch_tree::Label;
 

@@ -1,8 +1,8 @@
 //! Whether some leaf returns.
 
 ghost use Rattle.std.specs.Prelude.{◌≡◌};
-ghost use Rattle.control_flow_theory.specs.closing.Dispatches.{tree_returns, trees_return};
-ghost use Rattle.branch_tree.specs.Trees.{seen_tree, seen_trees};
+ghost use Rattle.control_flow_theory.specs.structuring.Dispatches.{tree_returns, trees_return};
+ghost use Rattle.branch_tree.specs.Tree.{seen_tree, seen_trees};
 
 use branch_tree::{End, Tree};
 

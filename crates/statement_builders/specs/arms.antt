@@ -1,8 +1,8 @@
 -- where the procedures of ranges stand
-pub mod Places
+pub mod Placing
 -- what becomes of empty arms
-pub mod Empties
+pub mod EmptyArms
 -- statements with arms, by what their arms hold
-pub mod Choices
+pub mod Choosing
 -- what is written of statements
 pub mod Written

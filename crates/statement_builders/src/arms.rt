@@ -1,16 +1,16 @@
 //! Statements with arms, by the lists that their arms hold, as they stand in a structured program:
 //! an empty list that is required holds CONTINUE, and other empty arms are left out.
 //!
-//! `specs/arms/Empties.antt` says which arms continue and which go. `specs/arms/Written.antt` names
-//! what is written of statements, whatever the items of cells: it is the theory's `written_stmt`,
-//! in `control_flow_theory/specs/rendering/Rendering.antt`.
+//! `specs/arms/EmptyArms.antt` says which arms continue and which go. `specs/arms/Written.antt`
+//! names what is written of statements, whatever the items of cells: it is the theory's
+//! `written_stmt`, in `control_flow_theory/specs/rendering/Rendering.antt`.
 
 mod choosing;
-mod empties;
+mod empty_arms;
 mod placing;
 
 pub use crate::arms::choosing::{
     arith_stmt, evaluate_stmt, if_stmt, loop_stmt, perform_stmt, read_stmt,
 };
-pub use crate::arms::empties::{kept, or_continue};
-pub use crate::arms::placing::{Placed, place_of};
+pub use crate::arms::empty_arms::{arm_unless_empty, or_continue};
+pub use crate::arms::placing::{ProcedurePlace, place_of};

@@ -13,6 +13,6 @@ mod tests;
 mod whens;
 
 pub use crate::item_words::cells::{CellItem, item_of, lower_cell, set_cell, take_cell};
-pub use crate::item_words::choices::{choose, drop_lists, drop_stmts};
+pub use crate::item_words::choices::{BothArms, choose, drop_lists, drop_stmts};
 pub use crate::item_words::numbers::whole_literal;
 pub use crate::item_words::tests::{loop_until, written_test};

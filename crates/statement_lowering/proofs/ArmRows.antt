@@ -8,12 +8,12 @@ use Rattle.control_flow_theory.specs.language.Control.{arm_before, Branch, else_
 use Rattle.control_flow_theory.specs.language.Language as language
 use Rattle.control_flow_theory.proofs.language_lemmas.Rows.{seen_when_is}
 use Rattle.control_flow_theory.specs.semantics.Graph as graph
-use Rattle.control_flow_theory.specs.lowering.Told.{Told}
+use Rattle.control_flow_theory.specs.lowering.FlowFacts.{FlowFacts}
 use Rattle.control_flow_theory.specs.lowering.Completes.{sizes}
 use Rattle.control_flow_theory.specs.lowering.Lower as lower
-use Rattle.branch_tree.specs.Trees.{seen_tree, seen_trees, trees_of}
+use Rattle.branch_tree.specs.Tree.{seen_tree, seen_trees, trees_of}
 use Rattle.branch_tree.specs.declared.tree.Tree as code
-use Rattle.lowering_labels.specs.loop_nodes.Arms.{AddsArm}
+use Rattle.lowering_labels.specs.loop_nodes.Ends.{AddsArm}
 use Rattle.statement_lowering.specs.Arms.{if_arms, seen_phrase, when_arms}
 
 -- trees before others
@@ -48,9 +48,9 @@ two_alone old mid new t u none h k =
     arm_last mid new u k ∙ arm_more old mid t (graph.more u graph.no_more) h
     ∙ ap (λ l. trees_before (map seen_tree l) (graph.more t (graph.more u graph.no_more))) none
 
-module _ (told : Told) (place_of : ℕ → ℕ) (last : ℕ) (leaving : lower.Leaving) (after : graph.End) where
+module _ (told : FlowFacts) (place_of : ℕ → ℕ) (last : ℕ) (leaving : lower.EscapeTargets) (after : graph.End) where
   abbrev pub arm_at : language.Stmts → ℕ → graph.Tree
-  arm_at stmts place = lower.build told place_of stmts place leaving after (lower.only after)
+  arm_at stmts place = lower.build told place_of stmts place leaving after (lower.end_alone after)
 
   abbrev pub arms_at : Bool → language.Arms → ℕ → graph.Trees
   arms_at first arms place = lower.build_arms told place_of first arms place leaving after
@@ -67,7 +67,7 @@ module _ (told : Told) (place_of : ℕ → ℕ) (last : ℕ) (leaving : lower.Le
 
   -- of one arm that may be missing
   abbrev pub phrase_at : Option (List Stmt) → ℕ → graph.Tree
-  phrase_at None place = lower.only after
+  phrase_at None place = lower.end_alone after
   phrase_at (Some stmts) place = arm_at (seen_stmts last stmts) place
 
   pub phrase_alone : (phrase : Option (List Stmt)) (place : ℕ) → arms_at false (arm_before (seen_phrase last phrase) language.done) place ≡ graph.more (phrase_at phrase place) graph.no_more
@@ -77,10 +77,10 @@ module _ (told : Told) (place_of : ℕ → ℕ) (last : ℕ) (leaving : lower.Le
   -- of two
   pub first_missing : (is_dead : Bool) (first second : Option (List Stmt)) (place : ℕ) → first ≡ None →
       arms_at is_dead (arm_before (seen_phrase last first) (arm_before (seen_phrase last second) language.done)) place
-      ≡ graph.more (lower.only (if is_dead then graph.Dead else after)) (graph.more (phrase_at second place) graph.no_more)
+      ≡ graph.more (lower.end_alone (if is_dead then graph.Dead else after)) (graph.more (phrase_at second place) graph.no_more)
   first_missing is_dead first second place h =
       ap (λ f. arms_at is_dead (arm_before (seen_phrase last f) (arm_before (seen_phrase last second) language.done)) place) h
-      ∙ ap (graph.more (lower.only (if is_dead then graph.Dead else after))) (phrase_alone second place)
+      ∙ ap (graph.more (lower.end_alone (if is_dead then graph.Dead else after))) (phrase_alone second place)
 
   pub first_stands : (is_dead : Bool) (first second : Option (List Stmt)) (stmts : List Stmt) (place next : ℕ) → first ≡ Some stmts → next ≡ place + sizes (seen_stmts last stmts) →
       arms_at is_dead (arm_before (seen_phrase last first) (arm_before (seen_phrase last second) language.done)) place

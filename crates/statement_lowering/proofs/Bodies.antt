@@ -3,7 +3,7 @@ use Rattle.std.proofs.Common.{◌≡◌, refl, ap, sym, ◌∙◌}
 use Rattle.control_flow_theory.specs.language.Language.{Stmt, Stmts, none, also}
 use Rattle.control_flow_theory.specs.semantics.Graph.{Tree, tree, End, Dead, body_of, end_of}
 use Rattle.control_flow_theory.specs.graph_rules.Shapes.{followed, alone}
-use Rattle.control_flow_theory.specs.lowering.Lower.{only, with_first}
+use Rattle.control_flow_theory.specs.lowering.Lower.{end_alone, with_first}
 use Rattle.lowering_labels.specs.loop_nodes.Loops.{before}
 use Rattle.lowering_labels.proofs.loop_nodes_lemmas.StartRows.{followed_none}
 
@@ -21,7 +21,7 @@ pub dead_cut : (old new : Stmts) (stmt : Stmt) → new ≡ followed old (alone s
 dead_cut old new stmt h = ap (λ b. tree b Dead) (sym h)
 
 -- where a tree is only an end
-pub ends_by : (old : Stmts) (made : Tree) (end other : End) → made ≡ only end → other ≡ end → before old made ≡ tree old other
+pub ends_by : (old : Stmts) (made : Tree) (end other : End) → made ≡ end_alone end → other ≡ end → before old made ≡ tree old other
 ends_by old made end other h is = ap (before old) h ∙ ap (λ b. tree b end) (sym (followed_none old)) ∙ ap (tree old) (sym is)
 
 -- where statements stand before it

@@ -1,7 +1,7 @@
 -- bodies that go on
 pub mod Bodies
 -- statements without an escape
-pub mod WholeRows
+pub mod EscapeFreeRows
 -- statements that hold one
 pub mod EscapeRows
 -- the arms of choices
@@ -13,7 +13,7 @@ pub mod ListRows
 -- what holds of the parts of a statement
 pub mod PartRows
 -- the turns of a loop
-pub mod TurnRows
+pub mod LoopPartRows
 -- The rests of a program by place: the statements from there to the end of their list, and where
 -- control goes on behind them.
 pub mod continuations_lemmas

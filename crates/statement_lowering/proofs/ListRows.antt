@@ -6,12 +6,12 @@ use Rattle.cob_tree.specs.Places.{stmt_places}
 use Rattle.cob_tree.specs.declared.stmt.Stmt.{Stmt}
 use Rattle.control_flow_theory.specs.language.Control.{seen, seen_stmts}
 use Rattle.control_flow_theory.specs.semantics.Graph as graph
-use Rattle.control_flow_theory.specs.lowering.Told.{Told}
+use Rattle.control_flow_theory.specs.lowering.FlowFacts.{FlowFacts}
 use Rattle.control_flow_theory.specs.lowering.Completes.{size}
 use Rattle.control_flow_theory.specs.lowering.Lower as lower
 use Rattle.lowering_labels.proofs.points_lemmas.SizeLemmas.{size-seen}
 
-module _ (told : Told) (place_of : ℕ → ℕ) (last : ℕ) (leaving : lower.Leaving) (after : graph.End) (behind : graph.Tree) where
+module _ (told : FlowFacts) (place_of : ℕ → ℕ) (last : ℕ) (leaving : lower.EscapeTargets) (after : graph.End) (behind : graph.Tree) where
   abbrev pub rest_built : List Stmt → ℕ → graph.Tree
   rest_built stmts place = lower.build told place_of (seen_stmts last stmts) place leaving after behind
 

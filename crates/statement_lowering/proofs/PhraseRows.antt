@@ -5,27 +5,27 @@ use Rattle.cob_tree.specs.declared.stmt.Arms.{Arms, out-Arms}
 use Rattle.cob_tree.specs.declared.stmt.Stmt.{Stmt}
 use Rattle.control_flow_theory.specs.language.Control.{seen_stmts}
 use Rattle.control_flow_theory.specs.semantics.Graph as graph
-use Rattle.control_flow_theory.specs.lowering.Told.{Told}
+use Rattle.control_flow_theory.specs.lowering.FlowFacts.{FlowFacts}
 use Rattle.control_flow_theory.specs.lowering.Completes.{sizes}
 use Rattle.control_flow_theory.specs.lowering.Lower as lower
-use Rattle.branch_tree.specs.Trees.{seen_trees}
+use Rattle.branch_tree.specs.Tree.{seen_trees}
 use Rattle.branch_tree.specs.declared.tree.Tree as code
-use Rattle.lowering_labels.specs.loop_nodes.Arms.{AddsArm}
+use Rattle.lowering_labels.specs.loop_nodes.Ends.{AddsArm}
 use Rattle.statement_lowering.specs.Arms.{phrase_arms, phrase_places}
 use Rattle.statement_lowering.proofs.ArmRows.{arm_at, arms_at, first_missing, first_stands, phrase_at, two_alone}
 use Rattle.statement_lowering.proofs.EscapeRows.{both_seen}
 use Rattle.statement_lowering.proofs.PartRows.{phrases_places}
 
-module _ (told : Told) (place_of : ℕ → ℕ) (last : ℕ) (leaving : lower.Leaving) (after : graph.End) where
+module _ (told : FlowFacts) (place_of : ℕ → ℕ) (last : ℕ) (leaving : lower.EscapeTargets) (after : graph.End) where
   -- the first is missing
   pub second_alone : (is_dead : Bool) (arms : Arms) (place : ℕ) (stmts slice : List Stmt) (end : graph.End) (old mid new : List code.Tree) → old ≡ [] →
       (out-Arms arms).first ≡ None → (out-Arms arms).second ≡ Some stmts → slice ≡ stmts → end ≡ (if is_dead then graph.Dead else after) →
-      AddsArm (lower.only end) old mid → AddsArm (arm_at told place_of last leaving after (seen_stmts last slice) place) mid new →
+      AddsArm (lower.end_alone end) old mid → AddsArm (arm_at told place_of last leaving after (seen_stmts last slice) place) mid new →
       seen_trees new ≡ arms_at told place_of last leaving after is_dead (phrase_arms arms last) place
   second_alone is_dead arms place stmts slice end old mid new none first second is dead h k =
-      two_alone old mid new (lower.only end) (arm_at told place_of last leaving after (seen_stmts last slice) place) none h k
-      ∙ ap₂ (λ e l. graph.more (lower.only e) (graph.more (arm_at told place_of last leaving after (seen_stmts last l) place) graph.no_more)) dead is
-      ∙ ap (λ p. graph.more (lower.only (if is_dead then graph.Dead else after)) (graph.more (phrase_at told place_of last leaving after p place) graph.no_more)) (sym second)
+      two_alone old mid new (lower.end_alone end) (arm_at told place_of last leaving after (seen_stmts last slice) place) none h k
+      ∙ ap₂ (λ e l. graph.more (lower.end_alone e) (graph.more (arm_at told place_of last leaving after (seen_stmts last l) place) graph.no_more)) dead is
+      ∙ ap (λ p. graph.more (lower.end_alone (if is_dead then graph.Dead else after)) (graph.more (phrase_at told place_of last leaving after p place) graph.no_more)) (sym second)
       ∙ sym (ap (λ a. arms_at told place_of last leaving after is_dead a place) (both_seen last arms)
       ∙ first_missing told place_of last leaving after is_dead (out-Arms arms).first (out-Arms arms).second place first)
 

@@ -9,14 +9,14 @@ pub mod Leaves
 -- rests of a list, one statement further
 pub mod Steps
 -- rests of arms
-pub mod ArmSpots
+pub mod ArmContinuations
 -- rests of the bodies of loops
-pub mod LoopSpots
+pub mod LoopContinuations
 -- where sentences begin
 pub mod Begins
 -- begins, one sentence back
 pub mod BeginSteps
 -- rests of a paragraph
-pub mod ParagraphSpots
+pub mod ParagraphContinuations
 -- rests of paragraphs
-pub mod ProgramSpots
+pub mod ProgramContinuations

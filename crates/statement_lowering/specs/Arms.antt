@@ -10,15 +10,15 @@ use Rattle.control_flow_theory.specs.language.Language as language
 use Rattle.control_flow_theory.specs.language.OwnItems.{stmts_own}
 use Rattle.control_flow_theory.specs.semantics.Graph as graph
 use Rattle.control_flow_theory.specs.lowering.Lower as lower
-use Rattle.branch_tree.specs.Trees.{seen_end, seen_trees}
+use Rattle.branch_tree.specs.Tree.{seen_end, seen_trees}
 use Rattle.branch_tree.specs.declared.tree.End.{End}
 use Rattle.branch_tree.specs.declared.tree.Tree as code
-use Rattle.lowering_labels.specs.points.Leaf.{seen_leaf}
-use Rattle.lowering_labels.specs.declared.points.leaf.Leaf.{Leaf}
-use Rattle.lowering_labels.specs.loop_nodes.Arms.{AddsArm}
-use Rattle.statement_lowering.specs.declared.telling.Telling.{Telling}
-use Rattle.statement_lowering.specs.declared.telling.Leaving.{Leaving}
-use Rattle.statement_lowering.specs.Along.{Setting, told_by}
+use Rattle.lowering_labels.specs.points.JumpTarget.{seen_target}
+use Rattle.lowering_labels.specs.declared.points.jump_target.JumpTarget.{JumpTarget}
+use Rattle.lowering_labels.specs.loop_nodes.Ends.{AddsArm}
+use Rattle.statement_lowering.specs.declared.context.LoweringContext.{LoweringContext}
+use Rattle.statement_lowering.specs.declared.context.EscapeTargets.{EscapeTargets}
+use Rattle.statement_lowering.specs.LowerList.{Setting, flow_facts_by}
 
 -- the arms as the theory has them, in a section with this last paragraph
 
@@ -46,50 +46,51 @@ one_arm stmts last = language.given (seen_stmts last stmts) language.done
 abbrev pub when_tests : List When → List (List Test)
 when_tests whens = map (λ when. (out-When when).tests) whens
 
-module _ (telling : Telling) (leaving : Leaving) where
+module _ (telling : LoweringContext) (leaving : EscapeTargets) where
   -- the tree of an arm from a place on, before that continuation
-  abbrev pub arm_tree : Setting telling leaving → List Stmt → ℕ → Leaf → graph.Tree
+  abbrev pub arm_tree : Setting telling leaving → List Stmt → ℕ → JumpTarget → graph.Tree
   arm_tree s stmts place after =
-      lower.build (told_by telling) s.place_of (seen_stmts s.last stmts) place s.theirs
-      (seen_leaf after) (lower.only (seen_leaf after))
+      lower.build (flow_facts_by telling) s.place_of (seen_stmts s.last stmts) place s.theirs
+      (seen_target after) (lower.end_alone (seen_target after))
 
   -- of one that may be missing
-  abbrev pub phrase_tree : Setting telling leaving → Option (List Stmt) → ℕ → Leaf → graph.Tree
-  phrase_tree s None place after = lower.only (seen_leaf after)
+  abbrev pub phrase_tree : Setting telling leaving → Option (List Stmt) → ℕ → JumpTarget →
+      graph.Tree
+  phrase_tree s None place after = lower.end_alone (seen_target after)
   phrase_tree s (Some stmts) place after = arm_tree s stmts place after
 
   -- one arm more, which has these statements
-  abbrev pub AddsArmOf : List Stmt → ℕ → Leaf → (old new : List code.Tree) → Type 0
+  abbrev pub AddsArmOf : List Stmt → ℕ → JumpTarget → (old new : List code.Tree) → Type 0
   AddsArmOf stmts place after old new =
       (s : Setting telling leaving) → AddsArm (arm_tree s stmts place after) old new
 
-  abbrev pub AddsPhrase : Option (List Stmt) → ℕ → Leaf → (old new : List code.Tree) → Type 0
+  abbrev pub AddsPhrase : Option (List Stmt) → ℕ → JumpTarget → (old new : List code.Tree) → Type 0
   AddsPhrase stmts place after old new =
       (s : Setting telling leaving) → AddsArm (phrase_tree s stmts place after) old new
 
   -- the arms from a place on; where the first is missing, it may be dead
-  abbrev pub AreArms : Bool → (ℕ → language.Arms) → ℕ → Leaf → List code.Tree → Type 0
+  abbrev pub AreArms : Bool → (ℕ → language.Arms) → ℕ → JumpTarget → List code.Tree → Type 0
   AreArms is_dead arms place after made =
       (s : Setting telling leaving) →
       seen_trees made
-      ≡ lower.build_arms (told_by telling) s.place_of is_dead (arms s.last) place s.theirs
-      (seen_leaf after)
+      ≡ lower.build_arms (flow_facts_by telling) s.place_of is_dead (arms s.last) place s.theirs
+      (seen_target after)
 
   -- and the choice among them
-  abbrev pub IsChoice : language.Picker → Bool → (ℕ → language.Arms) → ℕ → Leaf → End → Type 0
+  abbrev pub IsChoice : language.Picker → Bool → (ℕ → language.Arms) → ℕ → JumpTarget → End → Type 0
   IsChoice picker is_dead arms place after made =
       (s : Setting telling leaving) →
       seen_end made
       ≡ graph.Pick picker
-      (lower.build_arms (told_by telling) s.place_of is_dead (arms s.last) place s.theirs
-      (seen_leaf after))
+      (lower.build_arms (flow_facts_by telling) s.place_of is_dead (arms s.last) place s.theirs
+      (seen_target after))
 
 -- the end of a first arm that is missing
-abbrev pub missing_end : Bool → Leaf → graph.End
-missing_end is_dead after = if is_dead then graph.Dead else seen_leaf after
+abbrev pub missing_end : Bool → JumpTarget → graph.End
+missing_end is_dead after = if is_dead then graph.Dead else seen_target after
 
 -- where EXIT PERFORM leads
-abbrev pub left_by : Bool → Leaving → Leaf
+abbrev pub left_by : Bool → EscapeTargets → JumpTarget
 left_by false leaving = leaving.behind_loop
 left_by true leaving = leaving.cycle
 

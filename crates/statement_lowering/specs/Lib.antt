@@ -1,11 +1,11 @@
 -- going along statements
-pub mod Along
+pub mod LowerList
 -- statements without an escape
-pub mod Whole
+pub mod EscapeFree
 -- the arms of choices
 pub mod Arms
 -- the trees at the labels of a loop
-pub mod Turns
+pub mod LoopParts
 -- The rests of a program by place: the statements from there to the end of their list, and where
 -- control goes on behind them.
 pub mod continuations

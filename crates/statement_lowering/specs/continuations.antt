@@ -1,6 +1,6 @@
 -- where control goes on from a rest
-pub mod Onward
+pub mod Successors
 -- what a table of rests says of graphs
-pub mod Spots
+pub mod Statements
 -- and of paragraphs
 pub mod Paragraphs

@@ -5,7 +5,7 @@ ghost use Rattle.control_flow_theory.specs.language.Control.{always, test_of};
 ghost use Rattle.control_flow_theory.specs.language.Language.{Arith, By, Evaluate, Holds, If, Read};
 ghost use Rattle.control_flow_theory.specs.semantics.Graph.{Pick};
 ghost use Rattle.branch_tree.specs.Choosers.{seen_chooser, seen_picker};
-ghost use Rattle.branch_tree.specs.Trees.{seen_end, seen_trees};
+ghost use Rattle.branch_tree.specs.Tree.{seen_end, seen_trees};
 ghost use Rattle.statement_lowering.specs.Arms.{when_tests};
 
 use branch_tree::{Chooser, End, Picker, Test, Tree, drop_trees};

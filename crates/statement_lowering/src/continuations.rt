@@ -4,9 +4,9 @@
 //! One table serves all ranges: in it a paragraph's end is a return, in whose place a range puts
 //! where it goes on there.
 
+mod continuation;
 mod paragraphs;
-mod spot;
 mod statements;
 
-pub use crate::continuations::paragraphs::spots_of;
-pub use crate::continuations::spot::{Onward, Spot, ended_by};
+pub use crate::continuations::continuation::{Continuation, Successors, ended_by};
+pub use crate::continuations::paragraphs::continuations_of;

@@ -1,18 +1,18 @@
 //! The trees of rests: going along statements from a place on.
 //!
-//! `run_on` goes along a list and adds to a body; it answers how the tree ends, or none where it
-//! comes to the list's end, behind which the caller goes on. Hold it against `build` of
+//! `lower_rest` goes along a list and adds to a body; it answers how the tree ends, or none where
+//! it comes to the list's end, behind which the caller goes on. Hold it against `build` of
 //! `control_flow_theory/specs/lowering/Lower`, and `turn_tree` and `loop_tree` against
 //! `loop_nodes`.
 #![tactic(auto)]
 
-mod along;
 mod choices;
+mod context;
 pub mod continuations;
-mod telling;
-mod turns;
-mod whole;
+mod escape_free;
+mod loop_parts;
+mod lower_list;
 
-pub use along::run_on;
-pub use telling::{Leaving, RestContext, Telling, rest_at};
-pub use turns::{loop_tree, turn_leaf, within_loop};
+pub use context::{EscapeTargets, LoweringContext, RestContext, rest_at};
+pub use loop_parts::{loop_tree, turn_leaf, within_loop};
+pub use lower_list::lower_rest;

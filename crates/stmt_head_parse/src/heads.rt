@@ -9,6 +9,6 @@ mod arms;
 mod choice;
 mod read;
 
-pub use crate::heads::arms::{end_word, end_work, enter, first_phrase, not_phrase};
+pub use crate::heads::arms::{end_word, end_work, enter_level, first_phrase, not_phrase};
 pub use crate::heads::choice::{at_thru, evaluate_head, first_tests, if_head, thru, when_head};
 pub use crate::heads::read::read_head;

@@ -18,6 +18,6 @@ mod table;
 pub use crate::data_names::grouping::{
     bound_of, has_items, holds, is_numbered, repeats, same_file,
 };
-pub use crate::data_names::name::{Found, Kind, Name};
+pub use crate::data_names::name::{ItemKind, Name, Referent};
 pub use crate::data_names::nesting::{Nesting, nesting_at, nestings_of};
 pub use crate::data_names::table::{NameTable, is_group};

@@ -4,7 +4,7 @@ use Rattle.std.proofs.Math.ListN.{get_or-map}
 use Rattle.control_flow_theory.specs.semantics.Graph.{Tree, more}
 use Rattle.control_flow_theory.specs.graph_rules.Shapes.{joined, joined_arms}
 use Rattle.branch_tree.specs.declared.tree.Tree as tree
-use Rattle.branch_tree.specs.Trees.{seen_tree, trees_of}
+use Rattle.branch_tree.specs.Tree.{seen_tree, trees_of}
 
 abbrev pub changed_to : (Tree → Tree) → ℕ → List Tree → List Tree
 changed_to f at ts = map f (take at ts) ++ drop at ts

@@ -5,8 +5,8 @@ use Rattle.std.proofs.lemmas.Bool.Decides.{eqb_tells}
 use Rattle.control_flow_theory.specs.semantics.Graph.{Label, Tree}
 use Rattle.control_flow_theory.specs.graph_rules.Shapes.{inlined, leaves_to}
 use Rattle.control_flow_theory.specs.graph_rules.Reduced.{Node, tree_in, each_tree, without, with_tree, all_leaves_to, has_node, lowest}
-use Rattle.control_flow_theory.specs.closing.Dispatches.{Rising}
-use Rattle.control_flow_theory.proofs.closing_lemmas.closing.Closes.{AllAbove, rising-above}
+use Rattle.control_flow_theory.specs.structuring.Dispatches.{Rising}
+use Rattle.control_flow_theory.proofs.structuring_lemmas.closing.Closes.{AllAbove, rising-above}
 use Rattle.graph_rewriting.proofs.NodeRows.{none_above, with_none}
 use Rattle.tree_rules.proofs.OneJump.{tree_absent}
 

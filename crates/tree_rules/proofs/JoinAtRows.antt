@@ -6,14 +6,14 @@ use Rattle.control_flow_theory.specs.language.Language.{none}
 use Rattle.control_flow_theory.specs.semantics.Graph.{Label, Tree, tree, Dead}
 use Rattle.control_flow_theory.specs.graph_rules.Shapes.{joined, leaves_to}
 use Rattle.control_flow_theory.specs.graph_rules.Reduced.{Node, Graph, tree_in, has_node, with_tree}
-use Rattle.branch_tree.specs.Graphs.{seen_nodes, seen_added}
+use Rattle.branch_tree.specs.Graph.{seen_nodes, seen_added}
 use Rattle.graph_rewriting.specs.Helds.{Held, seen_work}
-use Rattle.graph_rewriting.specs.Sounds.{IsSound, Fits, bare, Takes, WithNodes}
-use Rattle.branch_tree.specs.Trees.{seen_tree}
+use Rattle.graph_rewriting.specs.Rewriting.{IsSound, Fits, bare, Takes, WithNodes}
+use Rattle.branch_tree.specs.Tree.{seen_tree}
 use Rattle.branch_tree.specs.declared.tree.Tree as code
 use Rattle.graph_rewriting.proofs.ChangeRows.{fits_less}
 use Rattle.graph_rewriting.proofs.NodeRows.{has_with, tree_with, with_twice, with_same, with_none}
-use Rattle.tree_rules.specs.Joins.{JoinsAll, JoinsAt, joined_at, may_join}
+use Rattle.tree_rules.specs.Joining.{JoinsAll, JoinsAt, joined_at, may_join}
 use Rattle.tree_rules.proofs.JoinRows.{none_joined}
 use Rattle.tree_rules.proofs.LeafRows.{joined_leaves}
 use Rattle.tree_rules.proofs.WorkRows.{same_work}

@@ -6,12 +6,12 @@ use Rattle.control_flow_theory.specs.graph_rules.Shapes.{Targets, NoTarget, Only
 use Rattle.control_flow_theory.specs.graph_rules.Reduced.{at_most_one}
 use Rattle.control_flow_theory.proofs.graph_rules_lemmas.shapes.Once.{no-join-is-left}
 use Rattle.branch_tree.specs.Choosers.{seen_picker}
-use Rattle.branch_tree.specs.Trees.{seen_tree, seen_body, seen_end, seen_trees, trees_of}
+use Rattle.branch_tree.specs.Tree.{seen_tree, seen_body, seen_end, seen_trees, trees_of}
 use Rattle.branch_tree.specs.declared.chooser.Picker as code_picker
 use Rattle.branch_tree.specs.declared.tree.Tree as code
 use Rattle.branch_tree.specs.declared.tree.End.TheVariants as end
 use Rattle.branch_tree.proofs.TreeRows.{seen_tree_is, seen_pick}
-use Rattle.tree_rules.specs.Joins.{may_join, arms_may_join, JoinsAll}
+use Rattle.tree_rules.specs.Joining.{may_join, arms_may_join, JoinsAll}
 
 not_some : {A : Type 0} (o : Option A) → is_some o ≡ false → o ≡ None
 not_some None h = refl

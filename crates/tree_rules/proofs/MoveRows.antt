@@ -7,12 +7,12 @@ use Rattle.control_flow_theory.specs.semantics.Graph.{Label, Tree}
 use Rattle.control_flow_theory.specs.graph_rules.Shapes.{inlined, leaves_to}
 use Rattle.control_flow_theory.specs.graph_rules.Reduced.{Node, Graph, tree_in, has_node, without, with_tree, all_leaves_to, inlines, inline_graph}
 use Rattle.control_flow_theory.proofs.graph_rules_lemmas.shapes.Reducing.{without-in, with-other}
-use Rattle.graph_rewriting.specs.Sounds.{IsSound, Fits, bare}
+use Rattle.graph_rewriting.specs.Rewriting.{IsSound, Fits, bare}
 use Rattle.branch_tree.specs.declared.tree.Tree as code
 use Rattle.graph_rewriting.proofs.ChangeRows.{fits_less}
 use Rattle.graph_rewriting.proofs.NodeRows.{has_with, tree_with, with_twice, with_same, rising_with, leaves_with, leaves_split, leaves_without, has_without, rising_without}
-use Rattle.tree_rules.specs.Inlines.{may_inline}
-use Rattle.tree_rules.specs.Puts.{Puts}
+use Rattle.tree_rules.specs.Inlining.{may_inline}
+use Rattle.tree_rules.specs.Putting.{Puts}
 use Rattle.tree_rules.proofs.OneJump.{above_one}
 use Rattle.tree_rules.proofs.LeafRows.{own, inlined_leaves}
 use Rattle.tree_rules.proofs.ByLabel.{alike, unlike, without_with, without_beside, one_most, inlined_in}

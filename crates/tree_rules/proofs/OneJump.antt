@@ -5,7 +5,7 @@ use Rattle.control_flow_theory.specs.semantics.Doing.{is_above}
 use Rattle.control_flow_theory.specs.semantics.Graph.{Label, Tree, tree, End, Pick, Jump, Return, Stop, Dead, Trees, no_more, more}
 use Rattle.control_flow_theory.specs.graph_rules.Shapes.{inlined, inline_end, inlined_arms, leaves_to, end_leaves_to, arms_leaves_to}
 use Rattle.branch_tree.specs.Changes.{gone_on}
-use Rattle.branch_tree.specs.Trees.{trees_of}
+use Rattle.branch_tree.specs.Tree.{trees_of}
 
 abbrev once_if : Bool → ℕ
 once_if z = if z then 1 else 0

@@ -1,7 +1,7 @@
 -- Graphs that are rewritten, from what they hold.
 use Rattle.std.proofs.Common.{◌≡◌, ◌∷◌, List, map, ap, refl, ◌∙◌}
 use Rattle.control_flow_theory.specs.graph_rules.Reduced.{Node, Graph}
-use Rattle.branch_tree.specs.Graphs.{seen_nodes, seen_added}
+use Rattle.branch_tree.specs.Graph.{seen_nodes, seen_added}
 use Rattle.graph_rewriting.specs.Helds.{Held, seen_work}
 use Rattle.tree_rules.proofs.InlineRows.{graph_with, graph_same}
 

@@ -5,7 +5,7 @@ ghost use Rattle.control_flow_theory.specs.semantics.Doing.{is_above};
 ghost use Rattle.control_flow_theory.specs.graph_rules.Reduced.{has_node, inline_graph, tree_in};
 ghost use Rattle.control_flow_theory.specs.graph_rules.Shapes.{leaves_to};
 ghost use Rattle.graph_rewriting.specs.Helds.{seen_work};
-ghost use Rattle.tree_rules.specs.Inlines.{Inlines, InlinesInto, may_inline};
+ghost use Rattle.tree_rules.specs.Inlining.{Inlines, InlinesInto, may_inline};
 
 use crate::putting::put;
 use branch_tree::Label;

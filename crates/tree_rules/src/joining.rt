@@ -4,11 +4,11 @@ ghost use Rattle.std.specs.Prelude.{◌≡◌, ◌<◌, ◌||◌, All, OnOk};
 ghost use Rattle.std.specs.VecDeque.{deque_len, deque_capacity};
 ghost use Rattle.control_flow_theory.specs.graph_rules.Shapes.{join_by, joined, joined_arms, arms_targets};
 ghost use Rattle.control_flow_theory.specs.graph_rules.Reduced.{at_most_one};
-ghost use Rattle.tree_rules.specs.Joins.{choice_then, may_join, arms_may_join, JoinsAll, JoinsAt};
+ghost use Rattle.tree_rules.specs.Joining.{choice_then, may_join, arms_may_join, JoinsAll, JoinsAt};
 ghost use Rattle.tree_rules.specs.Rooms.{HasRoom};
 ghost use Rattle.branch_tree.specs.Choosers.{seen_picker};
 ghost use Rattle.graph_rewriting.specs.Helds.{seen_work};
-ghost use Rattle.branch_tree.specs.Trees.{seen_tree, seen_body, seen_end, seen_trees};
+ghost use Rattle.branch_tree.specs.Tree.{seen_tree, seen_body, seen_end, seen_trees};
 
 use crate::targets::{Targets, arms_targets};
 use branch_tree::{End, Label, Picker, Piece, Tree};

@@ -1,7 +1,7 @@
 //! Where the live leaves of trees lead.
 
 ghost use Rattle.std.specs.Prelude.{◌≡◌};
-ghost use Rattle.branch_tree.specs.Trees.{seen_tree, seen_end, seen_trees};
+ghost use Rattle.branch_tree.specs.Tree.{seen_tree, seen_end, seen_trees};
 ghost use Rattle.control_flow_theory.specs.graph_rules.Shapes.{both_targets, leaf_targets, arms_targets, other_targets, other_arms_targets};
 ghost use Rattle.tree_rules.specs.Targets.{seen_targets};
 

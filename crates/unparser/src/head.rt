@@ -78,7 +78,7 @@ impl Tokens {
     }
 
     /// Adds the first line of a statement.
-    pub fn head(&mut self, program: &Program, stmt: &Stmt) -> Result<(), NoMemory>
+    pub fn statement_first_line(&mut self, program: &Program, stmt: &Stmt) -> Result<(), NoMemory>
         ensures { OnOk result (self.new ≡ self.old ++ head_step program.now (out-Stmt stmt.now)) }
     {
         match stmt {

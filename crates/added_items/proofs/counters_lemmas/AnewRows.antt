@@ -10,8 +10,8 @@ use Rattle.control_flow_theory.specs.semantics.Graph.{Label, Tree, tree, End, Pi
 use Rattle.control_flow_theory.specs.graph_rules.Loops.{turned_test}
 use Rattle.control_flow_theory.specs.graph_rules.Reduced.{Node, each_tree}
 use Rattle.control_flow_theory.specs.graph_rules.Shapes.{followed, last_stmts, arms_stmts}
-use Rattle.control_flow_theory.specs.closing.Closes.{none_left_out}
-use Rattle.control_flow_theory.specs.closing.Dispatches.{stated_end, stated_arms, number_in}
+use Rattle.control_flow_theory.specs.structuring.Closes.{none_left_out}
+use Rattle.control_flow_theory.specs.structuring.Dispatches.{stated_end, stated_arms, number_in}
 use Rattle.control_flow_theory.specs.lowering.Renamed.{act_anew, test_anew, picker_anew, control_anew, stmt_anew, stmts_anew, arms_anew, body_anew, end_anew, trees_anew, tree_anew}
 use Rattle.branch_tree.specs.declared.chooser.Picker as chosen
 use Rattle.branch_tree.specs.declared.chooser.Test as asked
@@ -22,7 +22,7 @@ use Rattle.branch_tree.specs.declared.tree.Piece.{out-Piece, out-roll-Piece, fol
 use Rattle.branch_tree.specs.declared.tree.Piece.TheVariants as piece
 use Rattle.branch_tree.specs.declared.tree.End.TheOpen.{Piece-F}
 use Rattle.branch_tree.specs.Choosers.{seen_test, seen_picker}
-use Rattle.branch_tree.specs.Trees.{jump_within, return_within, stated, trees_of, seen_piece, seen_tree, seen_trees, end_step, piece_step, tree_step}
+use Rattle.branch_tree.specs.Tree.{jump_within, return_within, stated, trees_of, seen_piece, seen_tree, seen_trees, end_step, piece_step, tree_step}
 use Rattle.branch_tree.proofs.TreeRows.{seen_own, seen_set, seen_choose, seen_loop}
 use Rattle.added_items.specs.counters.Anew.{NamesNoCell, leaves_anew, node_anew}
 

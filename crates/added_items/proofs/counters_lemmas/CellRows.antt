@@ -6,8 +6,8 @@ use Rattle.std.specs.Ordering.{nat_cmp}
 use Rattle.std.proofs.lemmas.Bool.Decides.{eqb_tells, leb_tells}
 use Rattle.std.proofs.lemmas.List.Sorted.{searched}
 use Rattle.control_flow_theory.specs.graph_rules.Reduced.{Node}
-use Rattle.control_flow_theory.specs.headline.Numbering.{place_among}
-use Rattle.added_items.specs.counters.Counters.{head_cell, if_above, counter_at, counters_from, Rises}
+use Rattle.control_flow_theory.specs.main_theorem.Numbering.{place_among}
+use Rattle.added_items.specs.counters.Counting.{head_cell, if_above, counter_at, counters_from, Rises}
 
 -- each is at least the first number
 risen : (least : ℕ) (cells : List ℕ) → Rises least cells → (at : ℕ) → at < length cells → least ≤ get_or cells at 0

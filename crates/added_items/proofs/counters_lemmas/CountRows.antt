@@ -1,9 +1,9 @@
 -- Counts that are made one after the other.
 use Rattle.std.proofs.Common.{◌≡◌, ◌+◌, ◌<◌, ℕ, List, [], ◌∷◌, ◌++◌, map, length, drop, ap, sym, ◌∙◌, add-one, append_assoc, drop-cons}
 use Rattle.std.proofs.lemmas.List.{map-append}
-use Rattle.control_flow_theory.specs.headline.Numbering.{counts}
+use Rattle.control_flow_theory.specs.main_theorem.Numbering.{counts}
 use Rattle.control_flow_theory.specs.graph_rules.Families as families
-use Rattle.branch_tree.specs.Graphs.{seen_added}
+use Rattle.branch_tree.specs.Graph.{seen_added}
 use Rattle.branch_tree.specs.declared.graph.Added.{Added}
 use Rattle.branch_tree.specs.declared.graph.Added.TheVariants as added
 

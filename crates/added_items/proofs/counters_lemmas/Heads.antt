@@ -7,13 +7,13 @@ use Rattle.control_flow_theory.specs.language.Language.{Test, Holds, Not, Is, Ab
 use Rattle.control_flow_theory.specs.language.Language as language
 use Rattle.control_flow_theory.specs.language.Own.{OwnTest, OwnControl}
 use Rattle.control_flow_theory.specs.semantics.Graph.{Label, Tree, tree, End, Pick, Jump, Return, Dead, no_more, more, end_of}
-use Rattle.control_flow_theory.specs.lowering.Told.{Told, IsSource, OwnPicker, OwnStmt, OwnStmts, OwnArms, OwnParagraph, OwnParagraphs, arm_count}
+use Rattle.control_flow_theory.specs.lowering.FlowFacts.{FlowFacts, IsSource, OwnPicker, OwnStmt, OwnStmts, OwnArms, OwnParagraph, OwnParagraphs, arm_count}
 use Rattle.control_flow_theory.specs.lowering.Completes.{completes, cut, cuts, whole, wholes, leave_sentence, size, sizes, skips, first_is_dead}
-use Rattle.control_flow_theory.specs.lowering.Lower.{point, head, third, only, with_first, push, back, leaf, build, build_stmt, build_arms, loop_start, Node, loop_nodes, nodes, nodes_in, nodes_of_arms, fall_leaf, end_leaf, Leaving, leaving_at, within_loop}
+use Rattle.control_flow_theory.specs.lowering.Lower.{point, loop_head_label, loop_step_label, end_alone, with_first, push, loop_back_label, leaf, build, build_stmt, build_arms, loop_start, Node, loop_nodes, nodes, nodes_in, nodes_of_arms, fall_leaf, paragraph_end_target, EscapeTargets, leaving_at, within_loop}
 use Rattle.control_flow_theory.specs.lowering.Lowered.{total, place_in, nodes_left, nodes_from, nodes_of}
 use Rattle.control_flow_theory.specs.lowering.Rests.{Sent, rest_from, leaf_of, leaving_of, tree_of, after_loop, at_loop}
-use Rattle.control_flow_theory.specs.headline.Numbering.{control_counters, stmt_counters, stmts_counters, arms_counters, paragraph_counters, paragraphs_counters, counters_of}
-use Rattle.added_items.specs.counters.Counters.{tested_cell, picked_cell, ended_cell, if_head}
+use Rattle.control_flow_theory.specs.main_theorem.Numbering.{control_counters, stmt_counters, stmts_counters, arms_counters, paragraph_counters, paragraphs_counters, counters_of}
+use Rattle.added_items.specs.counters.Counting.{tested_cell, picked_cell, ended_cell, if_head}
 
 abbrev pub listed : Option ℕ → List ℕ
 listed None = []
@@ -25,26 +25,26 @@ Calm end = ended_cell end ≡ None
 
 -- no end at such a label does
 abbrev Apart : Label → Type 0
-Apart label = (cell : ℕ) → (label == head cell) ≡ false
+Apart label = (cell : ℕ) → (label == loop_head_label cell) ≡ false
 
 apart-none : (label : Label) (cell : Option ℕ) → Apart label → if_head label cell ≡ None
 apart-none label None h = refl
 apart-none label (Some cell) h = ap (λ b. if b then Some cell else None) (h cell)
 
 at-point : (n : ℕ) → Apart (point n)
-at-point n cell = elim (eqb_tells (point n) (head cell)) [
+at-point n cell = elim (eqb_tells (point n) (loop_head_label cell)) [
   | inl e ↦ absurd (let k = e.1 in omega (arith, k))
   | inr e ↦ e.0
 ]
 
-at-third : (n : ℕ) → Apart (third n)
-at-third n cell = elim (eqb_tells (third n) (head cell)) [
+at-third : (n : ℕ) → Apart (loop_step_label n)
+at-third n cell = elim (eqb_tells (loop_step_label n) (loop_head_label cell)) [
   | inl e ↦ absurd (let k = e.1 in omega (arith, k))
   | inr e ↦ e.0
 ]
 
-at-head : (n : ℕ) → (head n == head n) ≡ true
-at-head n = elim (eqb_tells (head n) (head n)) [ inl e ↦ e.0 | inr e ↦ absurd (e.1 refl) ]
+at-head : (n : ℕ) → (loop_head_label n == loop_head_label n) ≡ true
+at-head n = elim (eqb_tells (loop_head_label n) (loop_head_label n)) [ inl e ↦ e.0 | inr e ↦ absurd (e.1 refl) ]
 
 own-calm : (test : Test) → OwnTest test → tested_cell test ≡ None
 own-calm (Holds cond) own = refl
@@ -52,7 +52,7 @@ own-calm (Not test) own = refl
 own-calm (Is cell value) own = absurd own
 own-calm (Above cell) own = absurd own
 
-picker-calm : (told : Told) (picker : Picker) (arms : ℕ) → OwnPicker told picker arms → picked_cell picker ≡ None
+picker-calm : (told : FlowFacts) (picker : Picker) (arms : ℕ) → OwnPicker told picker arms → picked_cell picker ≡ None
 picker-calm told (If test) arms own = own-calm test own.0
 picker-calm told (By chooser) arms own = refl
 picker-calm told (ByCell cell) arms own = absurd own
@@ -91,35 +91,35 @@ module _ (keep : Label → Bool) where
   calm-head : (label : Label) (end : End) → Calm end → head_at label end ≡ []
   calm-head label end h = no-head label end (ap (if_head label) h)
 
-  third-head : (n : ℕ) (end : End) → head_at (third n) end ++ [] ≡ []
-  third-head n end = ap (λ xs. xs ++ []) (apart-head (third n) end (at-third n))
+  third-head : (n : ℕ) (end : End) → head_at (loop_step_label n) end ++ [] ≡ []
+  third-head n end = ap (λ xs. xs ++ []) (apart-head (loop_step_label n) end (at-third n))
 
   -- a loop by TIMES has its counter at its head, and no other loop has one
   loop-heads : (control : Control) (n : ℕ) (body : Tree) (after : End) → OwnControl control → Calm (end_of body) →
       heads (loop_nodes control n body after) ≡ control_counters keep control n
   loop-heads (Times amount) n body after own h =
-      elim (keep (head n)) as (λ b. (if b then listed (if head n == head n then Some n else None) else []) ++ [] ≡ (if b then n ∷ [] else [])) [
+      elim (keep (loop_head_label n)) as (λ b. (if b then listed (if loop_head_label n == loop_head_label n then Some n else None) else []) ++ [] ≡ (if b then n ∷ [] else [])) [
         | true ↦ ap (λ b. listed (if b then Some n else None) ++ []) (at-head n)
         | false ↦ refl
       ]
   loop-heads (Until false test) n body after own h =
-      ap (λ xs. xs ++ []) (calm-head (head n) (test_end test (only after) body) (own-calm test own))
+      ap (λ xs. xs ++ []) (calm-head (loop_head_label n) (test_end test (end_alone after) body) (own-calm test own))
   loop-heads (Until true test) n body after own h =
-      both (head_at (head n) (end_of body)) (head_at (third n) (test_end test (only after) (only (Jump (head n)))) ++ []) [] []
-      (calm-head (head n) (end_of body) h) (third-head n (test_end test (only after) (only (Jump (head n)))))
+      both (head_at (loop_head_label n) (end_of body)) (head_at (loop_step_label n) (test_end test (end_alone after) (end_alone (Jump (loop_head_label n)))) ++ []) [] []
+      (calm-head (loop_head_label n) (end_of body) h) (third-head n (test_end test (end_alone after) (end_alone (Jump (loop_head_label n)))))
   loop-heads (Varying false set step test) n body after own h =
-      both (head_at (head n) (test_end test (only after) body)) (head_at (third n) (Jump (head n)) ++ []) [] []
-      (calm-head (head n) (test_end test (only after) body) (own-calm test own.2)) (third-head n (Jump (head n)))
+      both (head_at (loop_head_label n) (test_end test (end_alone after) body)) (head_at (loop_step_label n) (Jump (loop_head_label n)) ++ []) [] []
+      (calm-head (loop_head_label n) (test_end test (end_alone after) body) (own-calm test own.2)) (third-head n (Jump (loop_head_label n)))
   loop-heads (Varying true set step test) n body after own h =
-      let stepped = tree (also (language.Do step) none) (Jump (head n)) in
-      both (head_at (head n) (end_of body)) (head_at (third n) (test_end test (only after) stepped) ++ []) [] []
-      (calm-head (head n) (end_of body) h) (third-head n (test_end test (only after) stepped))
+      let stepped = tree (also (language.Do step) none) (Jump (loop_head_label n)) in
+      both (head_at (loop_head_label n) (end_of body)) (head_at (loop_step_label n) (test_end test (end_alone after) stepped) ++ []) [] []
+      (calm-head (loop_head_label n) (end_of body) h) (third-head n (test_end test (end_alone after) stepped))
 
 -- Wherever what leaves goes on, no cell is asked for.
-abbrev CalmLeaving : Leaving → Type 0
+abbrev CalmLeaving : EscapeTargets → Type 0
 CalmLeaving leaving = Calm leaving.sentence × Calm leaving.paragraph × ((last : ℕ) → Calm (leaving.section last)) × Calm leaving.loop × Calm leaving.cycle
 
-module _ (told : Told) (place_of : ℕ → ℕ) (paragraphs : ℕ) where
+module _ (told : FlowFacts) (place_of : ℕ → ℕ) (paragraphs : ℕ) where
   leaf-calm : (ss : Stmts) (n : ℕ) (after : End) → Calm after → Calm (leaf told place_of ss n after)
   leaf-calm none n after w = w
   leaf-calm (also (language.Do act) ss) n after w =
@@ -144,13 +144,13 @@ module _ (told : Told) (place_of : ℕ → ℕ) (paragraphs : ℕ) where
   start-calm (Varying after set step test) n = refl
 
   mutual
-    build-stmt-calm : (s : Stmt) (n : ℕ) (leaving : Leaving) (after : End) (behind : Tree) → OwnStmt told paragraphs s →
+    build-stmt-calm : (s : Stmt) (n : ℕ) (leaving : EscapeTargets) (after : End) (behind : Tree) → OwnStmt told paragraphs s →
         CalmLeaving leaving → Calm (end_of behind) → Calm (end_of (build_stmt told place_of s n leaving after behind))
     build-stmt-calm (language.Do act) n leaving after behind own ws h =
         elim (skips told act) as (λ b. Calm (end_of (if b then behind else push told place_of (language.Do act) behind))) [ true ↦ h | false ↦ push-calm (language.Do act) behind h ]
     build-stmt-calm (Choose picker arms) n leaving after behind own ws h =
         let trees = build_arms told place_of (first_is_dead told picker) arms (n + 1) leaving after in
-        elim (whole (cut told (Choose picker arms))) as (λ b. Calm (end_of (if b then push told place_of (Choose picker arms) behind else only (Pick picker trees)))) [
+        elim (whole (cut told (Choose picker arms))) as (λ b. Calm (end_of (if b then push told place_of (Choose picker arms) behind else end_alone (Pick picker trees)))) [
           | true ↦ push-calm (Choose picker arms) behind h
           | false ↦ picker-calm told picker (arm_count arms) own.0
         ]
@@ -170,7 +170,7 @@ module _ (told : Told) (place_of : ℕ → ℕ) (paragraphs : ℕ) where
     build-stmt-calm (ExitPerform true) n leaving after behind own ws h = ws.4
     build-stmt-calm StopRun n leaving after behind own ws h = refl
 
-    build-calm : (ss : Stmts) (n : ℕ) (leaving : Leaving) (after : End) (behind : Tree) → OwnStmts told paragraphs ss →
+    build-calm : (ss : Stmts) (n : ℕ) (leaving : EscapeTargets) (after : End) (behind : Tree) → OwnStmts told paragraphs ss →
         CalmLeaving leaving → Calm (end_of behind) → Calm (end_of (build told place_of ss n leaving after behind))
     build-calm none n leaving after behind own ws h = h
     build-calm (also s ss) n leaving after behind own ws h =
@@ -179,20 +179,20 @@ module _ (told : Told) (place_of : ℕ → ℕ) (paragraphs : ℕ) where
 
   module _ (keep : Label → Bool) where
     mutual
-      in-heads : (s : Stmt) (n : ℕ) (leaving : Leaving) (after : End) (behind : Tree) → OwnStmt told paragraphs s →
+      in-heads : (s : Stmt) (n : ℕ) (leaving : EscapeTargets) (after : End) (behind : Tree) → OwnStmt told paragraphs s →
           CalmLeaving leaving → Calm after → heads keep (nodes_in told place_of s n leaving after behind) ≡ stmt_counters keep s n
       in-heads (language.Do act) n leaving after behind own ws wa = refl
       in-heads (Choose picker arms) n leaving after behind own ws wa = arms-heads arms (n + 1) leaving after behind own.1 ws wa
       in-heads (Loop control (Nested body)) n leaving after behind own ws wa =
-          let turn = Jump (back control n) in
+          let turn = Jump (loop_back_label control n) in
           let inner = within_loop leaving after turn in
           let wl : CalmLeaving inner = (ws.0, ws.1, ws.2, wa, refl) in
-          let built = build told place_of body (n + 1) inner turn (only turn) in
-          let inside = nodes told place_of body (n + 1) inner turn (only turn) in
+          let built = build told place_of body (n + 1) inner turn (end_alone turn) in
+          let inside = nodes told place_of body (n + 1) inner turn (end_alone turn) in
           heads-append keep (loop_nodes control n built after) inside
           ∙ both keep (heads keep (loop_nodes control n built after)) (heads keep inside) (control_counters keep control n) (stmts_counters keep body (n + 1))
-          (loop-heads keep control n built after own.0 (build-calm body (n + 1) inner turn (only turn) own.1 wl refl))
-          (stmts-heads body (n + 1) inner turn (only turn) own.1 wl refl)
+          (loop-heads keep control n built after own.0 (build-calm body (n + 1) inner turn (end_alone turn) own.1 wl refl))
+          (stmts-heads body (n + 1) inner turn (end_alone turn) own.1 wl refl)
       in-heads (Loop control (Performed e x)) n leaving after behind own ws wa = refl
       in-heads (Perform e x) n leaving after behind own ws wa = refl
       in-heads (Go to) n leaving after behind own ws wa = refl
@@ -203,7 +203,7 @@ module _ (told : Told) (place_of : ℕ → ℕ) (paragraphs : ℕ) where
       in-heads (ExitPerform cycle) n leaving after behind own ws wa = refl
       in-heads StopRun n leaving after behind own ws wa = refl
 
-      stmts-heads : (ss : Stmts) (n : ℕ) (leaving : Leaving) (after : End) (behind : Tree) → OwnStmts told paragraphs ss →
+      stmts-heads : (ss : Stmts) (n : ℕ) (leaving : EscapeTargets) (after : End) (behind : Tree) → OwnStmts told paragraphs ss →
           CalmLeaving leaving → Calm after → heads keep (nodes told place_of ss n leaving after behind) ≡ stmts_counters keep ss n
       stmts-heads none n leaving after behind own ws wa = refl
       stmts-heads (also s ss) n leaving after behind own ws wa =
@@ -217,7 +217,7 @@ module _ (told : Told) (place_of : ℕ → ℕ) (paragraphs : ℕ) where
           (in-heads s n leaving lf bt own.0 ws (leaf-calm ss (n + size s) after wa))
           (stmts-heads ss (n + size s) leaving after behind own.1 ws wa)
 
-      arms-heads : (arms : Arms) (n : ℕ) (leaving : Leaving) (after : End) (behind : Tree) → OwnArms told paragraphs arms →
+      arms-heads : (arms : Arms) (n : ℕ) (leaving : EscapeTargets) (after : End) (behind : Tree) → OwnArms told paragraphs arms →
           CalmLeaving leaving → Calm after → heads keep (nodes_of_arms told place_of arms n leaving after behind) ≡ arms_counters keep arms n
       arms-heads done n leaving after behind own ws wa = refl
       arms-heads (given arm others) n leaving after behind own ws wa =
@@ -229,7 +229,7 @@ module _ (told : Told) (place_of : ℕ → ℕ) (paragraphs : ℕ) where
           (arms-heads others (n + sizes arm) leaving after behind own.1 ws wa)
       arms-heads (missing others) n leaving after behind own ws wa = arms-heads others n leaving after behind own ws wa
 
-module _ (told : Told) (program : Program) (range : Range) (keep : Label → Bool) where
+module _ (told : FlowFacts) (program : Program) (range : Range) (keep : Label → Bool) where
   abbrev places : ℕ → ℕ
   places q = place_in program q
 
@@ -237,22 +237,22 @@ module _ (told : Told) (program : Program) (range : Range) (keep : Label → Boo
   count = length program.paragraphs
 
   -- the ends of a paragraph ask for no cell
-  abbrev CalmParagraph : Leaving → Type 0
+  abbrev CalmParagraph : EscapeTargets → Type 0
   CalmParagraph end = Calm end.paragraph × ((last : ℕ) → Calm (end.section last))
 
-  left-leaf-calm : (end : Leaving) (n : ℕ) (ss : Paragraph) → CalmParagraph end → Calm (leaf_of told places end (rest_from told n ss))
+  left-leaf-calm : (end : EscapeTargets) (n : ℕ) (ss : Paragraph) → CalmParagraph end → Calm (leaf_of told places end (rest_from told n ss))
   left-leaf-calm end n [] w = w.0
   left-leaf-calm end n (s ∷ ss) w = leaf-calm told places count s n (leaf_of told places end (rest_from told (n + sizes s) ss)) (left-leaf-calm end (n + sizes s) ss w)
 
-  left-loop-calm : (end : Leaving) (n : ℕ) (ss : Paragraph) → Calm end.paragraph → Calm (leaf_of told places end (after_loop (rest_from told n ss)))
+  left-loop-calm : (end : EscapeTargets) (n : ℕ) (ss : Paragraph) → Calm end.paragraph → Calm (leaf_of told places end (after_loop (rest_from told n ss)))
   left-loop-calm end n [] w = w
   left-loop-calm end n (s ∷ ss) w = left-loop-calm end (n + sizes s) ss w
 
-  left-turn-calm : (end : Leaving) (n : ℕ) (ss : Paragraph) → Calm end.paragraph → Calm (leaf_of told places end (at_loop (rest_from told n ss)))
+  left-turn-calm : (end : EscapeTargets) (n : ℕ) (ss : Paragraph) → Calm end.paragraph → Calm (leaf_of told places end (at_loop (rest_from told n ss)))
   left-turn-calm end n [] w = w
   left-turn-calm end n (s ∷ ss) w = left-turn-calm end (n + sizes s) ss w
 
-  left-heads : (end : Leaving) (n : ℕ) (ss : Paragraph) → OwnParagraph told count ss → CalmParagraph end →
+  left-heads : (end : EscapeTargets) (n : ℕ) (ss : Paragraph) → OwnParagraph told count ss → CalmParagraph end →
       heads keep (nodes_left told program end (rest_from told n ss)) ≡ paragraph_counters keep ss n
   left-heads end n [] own w = refl
   left-heads end n (s ∷ ss) own w =
@@ -271,7 +271,7 @@ module _ (told : Told) (program : Program) (range : Range) (keep : Label → Boo
   fall-calm q None = refl
   fall-calm q (Some next) = refl
 
-  end-calm : (r : Range) (q : ℕ) → Calm (end_leaf places program r q)
+  end-calm : (r : Range) (q : ℕ) → Calm (paragraph_end_target places program r q)
   end-calm Main q = fall-calm q (slice_get program.paragraphs (suc q))
   end-calm (Part e x) q = elim (nat_eq x q) as (λ b. Calm (if b then Return else fall_leaf places q (slice_get program.paragraphs (suc q)))) [ true ↦ refl | false ↦ fall-calm q (slice_get program.paragraphs (suc q)) ]
 

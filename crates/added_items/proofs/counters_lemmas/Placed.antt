@@ -6,28 +6,28 @@ use Rattle.control_flow_theory.specs.language.Language.{Program, Range}
 use Rattle.control_flow_theory.specs.semantics.Graph.{Label, end_of}
 use Rattle.control_flow_theory.specs.graph_rules.Reduced.{Graph, each_tree}
 use Rattle.control_flow_theory.specs.graph_rules.Reduced as reduced
-use Rattle.control_flow_theory.specs.closing.Closes.{IsClosed}
-use Rattle.control_flow_theory.specs.lowering.Told.{Told, IsSource}
-use Rattle.control_flow_theory.specs.lowering.Lower.{Node, head}
+use Rattle.control_flow_theory.specs.structuring.Closes.{IsClosed}
+use Rattle.control_flow_theory.specs.lowering.FlowFacts.{FlowFacts, IsSource}
+use Rattle.control_flow_theory.specs.lowering.Lower.{Node, loop_head_label}
 use Rattle.control_flow_theory.specs.lowering.Lowered.{nodes_of, lowered, Within}
 use Rattle.control_flow_theory.specs.lowering.Reached.{kept_nodes}
 use Rattle.control_flow_theory.specs.lowering.Renamed.{tree_anew}
 use Rattle.control_flow_theory.proofs.lowering_lemmas.graphs.Families.{within-program}
-use Rattle.control_flow_theory.specs.headline.Chain.{graph_nodes}
-use Rattle.control_flow_theory.specs.headline.Numbering.{place_among, counters_of, counts, numbers_by, added_by}
-use Rattle.control_flow_theory.proofs.headline_lemmas.graphs.LoweredGraphs.{graphs-closed}
-use Rattle.added_items.specs.counters.Counters.{if_head, if_above, ended_cell, counters_from, counters_in, numbered_graph}
+use Rattle.control_flow_theory.specs.main_theorem.Chain.{graph_nodes}
+use Rattle.control_flow_theory.specs.main_theorem.Numbering.{place_among, counters_of, counts, numbers_by, added_by}
+use Rattle.control_flow_theory.proofs.main_theorem_lemmas.graphs.LoweredGraphs.{graphs-closed}
+use Rattle.added_items.specs.counters.Counting.{if_head, if_above, ended_cell, counters_from, counters_in, numbered_graph}
 use Rattle.added_items.specs.counters.Placed.{placed_node, placed_graph, NumbersPlaced, ClosesPlaced}
 use Rattle.added_items.proofs.counters_lemmas.Heads.{listed, heads, heads-count}
 
 -- a counter stands at its loop's head
-head-is : (label : Label) (found : Option ℕ) (cell : ℕ) → if_head label found ≡ Some cell → label ≡ head cell
+head-is : (label : Label) (found : Option ℕ) (cell : ℕ) → if_head label found ≡ Some cell → label ≡ loop_head_label cell
 head-is label None cell h = absurd (let k : None ≡ Some cell = h in cc)
-head-is label (Some other) cell h = elim (eqb_tells label (head other)) [
+head-is label (Some other) cell h = elim (eqb_tells label (loop_head_label other)) [
   | inl e ↦ (
       let k : Some other ≡ Some cell = sym (ap (λ b. if b then Some other else None) e.0) ∙ h in
       let s : other ≡ cell = cc in
-      e.1 ∙ ap head s
+      e.1 ∙ ap loop_head_label s
       )
   | inr e ↦ absurd (let k : None ≡ Some cell = sym (ap (λ b. if b then Some other else None) e.0) ∙ h in cc)
 ]
@@ -57,7 +57,7 @@ module _ (keep : Label → Bool) where
             elim found as (λ o. found ≡ o → taken least xs o ≡ listed o ++ heads keep xs) [
               | None ↦ λ is. found-all least (x.key + 1) high xs later w.1
               | Some cell ↦ λ is. (
-                  let at : x.key ≡ head cell = head-is x.key (ended_cell (end_of x.tree)) cell is in
+                  let at : x.key ≡ loop_head_label cell = head-is x.key (ended_cell (end_of x.tree)) cell is in
                   let above : nat_le least cell ≡ true = (let k = w.0 in at-least least cell (omega (arith, k, le, at))) in
                   ap (λ b. elim (if b then Some cell else None) [
                     | None ↦ counters_from least (map placed_node (kept_nodes keep xs))
@@ -74,7 +74,7 @@ nodes-anew : (number : ℕ → ℕ) (xs : List Node) → each_tree (tree_anew nu
 nodes-anew number [] = refl
 nodes-anew number (x ∷ xs) = ap (λ ys. record { label = x.key; tree = tree_anew number x.tree } ∷ ys) (nodes-anew number xs)
 
-module _ (told : Told) (program : Program) (range : Range) (keep : Label → Bool) where
+module _ (told : FlowFacts) (program : Program) (range : Range) (keep : Label → Bool) where
   abbrev all : List Node
   all = nodes_of told program range
 

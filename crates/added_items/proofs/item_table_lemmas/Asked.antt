@@ -2,14 +2,14 @@
 use Rattle.std.proofs.Common.{◌≡◌, ℕ, ◌+◌, List, [], ◌∷◌, ◌++◌, length, map, take, Option, Some, ap, sym, ◌∙◌, subst, inl, inr}
 use Rattle.std.specs.Prelude.{slice_get}
 use Rattle.control_flow_theory.proofs.rendering_lemmas.Written.{map-get}
-use Rattle.control_flow_theory.specs.headline.Chain.{stmts_arms}
-use Rattle.branch_tree.specs.Graphs.{seen_added}
-use Rattle.branch_tree.specs.Trees.{seen_body}
-use Rattle.added_items.specs.mentions.Mentions.{mentions, first_arms}
-use Rattle.added_items.specs.declared.mentions.mention.Mention.{Mention}
+use Rattle.control_flow_theory.specs.main_theorem.Chain.{stmts_arms}
+use Rattle.branch_tree.specs.Graph.{seen_added}
+use Rattle.branch_tree.specs.Tree.{seen_body}
+use Rattle.added_items.specs.mentions.CellUse.{cell_uses, first_arms}
+use Rattle.added_items.specs.declared.mentions.cell_use.CellUse.{CellUse}
 use Rattle.control_flow_theory.specs.graph_rules.Families.{Added}
-use Rattle.added_items.specs.item_table.CellItems.{IsAsked, AreAsked}
-use Rattle.added_items.specs.item_table.Items.{kind_in}
+use Rattle.added_items.specs.item_table.CellItem.{IsAsked, AreAsked}
+use Rattle.added_items.specs.item_table.Owners.{kind_in}
 use Rattle.added_items.specs.item_table.Row.{CellRange, kinds_of_row}
 use Rattle.added_items.specs.item_table.Seen.{seen_cells, seen_ranges}
 use Rattle.added_items.specs.item_table.Tables.{ends_in_other, most_by}
@@ -43,7 +43,7 @@ by-arms number first before added arms others items same are = record {
 }
 
 pub all-more : (number : ℕ → ℕ) (first : ℕ) (ranges : List ShapedRange) (lists : List (List CellItem)) (made : List CellItem) (at : ℕ)
-    (one : ShapedRange) (told : List Mention) → slice_get ranges at ≡ Some one → told ≡ mentions (seen_body one.body.now.items) →
+    (one : ShapedRange) (told : List CellUse) → slice_get ranges at ≡ Some one → told ≡ cell_uses (seen_body one.body.now.items) →
     length lists ≡ at → EachAsked number first ranges lists →
     AreAsked number first (length (kinds_of_row (take at (seen_ranges ranges)))) (map seen_added one.added.now) (λ cell. first_arms cell told) made →
     EachAsked number first ranges (lists ++ made ∷ [])

@@ -3,12 +3,12 @@ use Rattle.std.proofs.Common.{◌≡◌, ℕ, Bool, true, false, if◌then◌els
 use Rattle.control_flow_theory.specs.language.Language as language
 use Rattle.control_flow_theory.specs.language.Language.{none, also, done, given, missing, Nested, Performed, Stmts, Arms}
 use Rattle.control_flow_theory.specs.rendering.Rendering.{count_arms}
-use Rattle.control_flow_theory.specs.headline.Chain.{or_first, picker_arms, stmt_arms, stmts_arms, arms_arms, body_arms}
-use Rattle.added_items.specs.mentions.Mentions.{mention, act_mentions, test_mentions, picker_mentions, control_mentions, stmt_mentions, mentions, arms_mentions, body_mentions, arms_or, first_arms}
-use Rattle.added_items.specs.declared.mentions.mention.Mention.{Mention}
+use Rattle.control_flow_theory.specs.main_theorem.Chain.{or_first, picker_arms, stmt_arms, stmts_arms, arms_arms, body_arms}
+use Rattle.added_items.specs.mentions.CellUse.{mention, act_mentions, test_mentions, picker_mentions, control_mentions, stmt_mentions, cell_uses, arms_mentions, body_mentions, arms_or, first_arms}
+use Rattle.added_items.specs.declared.mentions.cell_use.CellUse.{CellUse}
 
 module _ (cell : ℕ) where
-  abbrev first : List Mention → Option ℕ
+  abbrev first : List CellUse → Option ℕ
   first told = first_arms cell told
 
   by-one : (here : Bool) (arms rest more : Option ℕ) →
@@ -18,7 +18,7 @@ module _ (cell : ℕ) where
   by-one true (Some arms) rest more = refl
   by-one false arms rest more = refl
 
-  first-append : (one other : List Mention) → first (one ++ other) ≡ or_first (first one) (first other)
+  first-append : (one other : List CellUse) → first (one ++ other) ≡ or_first (first one) (first other)
   first-append [] other = refl
   first-append (m ∷ one) other =
       ap (λ rest. if m.cell == cell then arms_or rest m.arms else rest) (first-append one other)
@@ -43,7 +43,7 @@ module _ (cell : ℕ) where
   quiet-test (language.Is other value) = quiet other
   quiet-test (language.Above other) = quiet other
 
-  quiet-both : (one other : List Mention) → first one ≡ None → first other ≡ None → first (one ++ other) ≡ None
+  quiet-both : (one other : List CellUse) → first one ≡ None → first other ≡ None → first (one ++ other) ≡ None
   quiet-both one other h k = first-append one other ∙ ap₂ or_first h k
 
   quiet-control : (control : language.Control) → first (control_mentions control) ≡ None
@@ -76,15 +76,15 @@ module _ (cell : ℕ) where
     stmt-first (language.ExitPerform cycle) = refl
     stmt-first language.StopRun = refl
 
-    pub choices-agree : (stmts : Stmts) → first (mentions stmts) ≡ stmts_arms cell stmts
+    pub choices-agree : (stmts : Stmts) → first (cell_uses stmts) ≡ stmts_arms cell stmts
     choices-agree none = refl
     choices-agree (also stmt stmts) =
-        first-append (stmt_mentions stmt) (mentions stmts) ∙ ap₂ or_first (stmt-first stmt) (choices-agree stmts)
+        first-append (stmt_mentions stmt) (cell_uses stmts) ∙ ap₂ or_first (stmt-first stmt) (choices-agree stmts)
 
     arms-first : (arms : Arms) → first (arms_mentions arms) ≡ arms_arms cell arms
     arms-first done = refl
     arms-first (given arm others) =
-        first-append (mentions arm) (arms_mentions others) ∙ ap₂ or_first (choices-agree arm) (arms-first others)
+        first-append (cell_uses arm) (arms_mentions others) ∙ ap₂ or_first (choices-agree arm) (arms-first others)
     arms-first (missing others) = arms-first others
 
     body-first : (body : language.Body) → first (body_mentions body) ≡ body_arms cell body

@@ -5,12 +5,12 @@ use Rattle.std.specs.Fmt.{decimal}
 use Rattle.control_flow_theory.specs.language.Language.{Range}
 use Rattle.control_flow_theory.specs.graph_rules.Families.{Added, Never, Flag, Count, State, Exit}
 use Rattle.control_flow_theory.specs.graph_rules.Reduced.{kind_at}
-use Rattle.control_flow_theory.specs.headline.Chain.{stmts_arms}
+use Rattle.control_flow_theory.specs.main_theorem.Chain.{stmts_arms}
 use Rattle.out_names.specs.FreshWords.{fresh_number}
 use Rattle.cobol_theory.specs.cell_serving.Entries.{AreSized, AreEntries}
 use Rattle.control_flow_theory.proofs.rendering_lemmas.Written.{map-get}
-use Rattle.added_items.specs.item_table.Items.{is_never, or_never, kind_in, first_never, holder, place_in, counted_on, holders_of, item_kinds}
-use Rattle.added_items.specs.item_table.Names.{stem_of, digits_of, next_of, with_next, all_from_one, entry_named, entries_from, entries_for}
+use Rattle.added_items.specs.item_table.Owners.{is_never, or_never, kind_in, first_constant_cell, owner_of, place_in, counted_on, holders_of, item_kinds}
+use Rattle.added_items.specs.item_table.Naming.{stem_of, digits_of, next_of, with_next, all_from_one, entry_named, entries_from, entries_for}
 use Rattle.added_items.specs.declared.item_table.naming.NextNumbers.{NextNumbers}
 use Rattle.added_items.specs.item_table.Row.{CellRange, of_range, cells_before, kinds_of_row, named_behind}
 use Rattle.added_items.specs.item_table.Tables.{or_zero, most_by, kind_of, table_of_cells}
@@ -76,20 +76,20 @@ module _ (words : List (List ℕ)) (ranges : List CellRange) where
   in-row range cell kind is = ap or_never (row-kind ranges range cell kind is)
 
   -- its holder stands among those that have items
-  stands-there : (range : Range) (cell : ℕ) (kind : Added) → IsFor range cell kind → Stands (holders_of ranges) (holder kinds (place range cell))
+  stands-there : (range : Range) (cell : ℕ) (kind : Added) → IsFor range cell kind → Stands (holders_of ranges) (owner_of kinds (place range cell))
   stands-there range cell kind is =
       let at = place range cell in
       let within : at < length kinds = kind-within kinds at kind (row-kind ranges range cell kind is) in
       let named = named_behind 0 ranges in
-      once-stands (map (holder kinds) (named ++ counted_on 0 (length kinds))) (holder kinds at)
-      (among-map (holder kinds) at (named ++ counted_on 0 (length kinds))
+      once-stands (map (owner_of kinds) (named ++ counted_on 0 (length kinds))) (owner_of kinds at)
+      (among-map (owner_of kinds) at (named ++ counted_on 0 (length kinds))
       (among-later at named (counted_on 0 (length kinds)) (counted-has (length kinds) 0 at (omega arith) (omega (arith, within)))))
 
   abbrev number : Range → ℕ → ℕ
   number range cell = (table_of_cells ranges).item range cell
 
   at-number : (range : Range) (cell : ℕ) (kind : Added) → IsFor range cell kind →
-      place_in (holders_of ranges) (holder kinds (place range cell)) ≡ Some (number range cell)
+      place_in (holders_of ranges) (owner_of kinds (place range cell)) ≡ Some (number range cell)
   at-number range cell kind is =
       let at = stands-there range cell kind is in
       at.1 ∙ ap Some (sym (ap or_zero at.1))
@@ -97,7 +97,7 @@ module _ (words : List (List ℕ)) (ranges : List CellRange) where
   entry-of : (range : Range) (cell : ℕ) (kind : Added) → IsFor range cell kind →
       (name : List ℕ) × (slice_get (entries_for words ranges) (number range cell) ≡ Some (entry_named name kind))
   entry-of range cell kind is =
-      let held = holder kinds (place range cell) in
+      let held = owner_of kinds (place range cell) in
       let holds = place-holds (holders_of ranges) held (number range cell) (at-number range cell kind is) in
       let kind_is : kind_in kinds held ≡ kind = holder-kind kinds (place range cell) ∙ in-row range cell kind is in
       let got : slice_get (item_kinds ranges) (number range cell) ≡ Some kind =
@@ -111,13 +111,13 @@ module _ (words : List (List ℕ)) (ranges : List CellRange) where
       let at = place range cell in
       let at_other = place other other_cell in
       let mine = at-number range cell kind is in
-      let its : place_in (holders_of ranges) (holder kinds at_other) ≡ Some (number range cell) =
+      let its : place_in (holders_of ranges) (owner_of kinds at_other) ≡ Some (number range cell) =
       at-number other other_cell other_kind also_is ∙ ap Some same in
-      let held : holder kinds at ≡ holder kinds at_other = place-apart (holders_of ranges) _ _ _ mine its in
-      let own : holder kinds at ≡ at = holder-own kinds at (ap is_never (in-row range cell kind is) ∙ changes) in
+      let held : owner_of kinds at ≡ owner_of kinds at_other = place-apart (holders_of ranges) _ _ _ mine its in
+      let own : owner_of kinds at ≡ at = holder-own kinds at (ap is_never (in-row range cell kind is) ∙ changes) in
       elim (is_never (kind_in kinds at_other)) as (λ b. is_never (kind_in kinds at_other) ≡ b → (other ≡ range) × (other_cell ≡ cell)) [
         | true ↦ λ e.
-            let first : at ≡ first_never kinds = sym own ∙ held ∙ holder-shared kinds at_other e in
+            let first : at ≡ first_constant_cell kinds = sym own ∙ held ∙ holder-shared kinds at_other e in
             let never : kind ≡ Never = sym (in-row range cell kind is) ∙ ap (kind_in kinds) first ∙ first-never kinds in
             let no : true ≡ false = sym (ap is_never never) ∙ changes in
             absurd (cc)

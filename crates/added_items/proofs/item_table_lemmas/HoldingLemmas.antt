@@ -4,11 +4,11 @@ use Rattle.std.specs.Prelude.{is_some, slice_get}
 use Rattle.std.proofs.lemmas.Bool.{cases_Bool, cases_eq}
 use Rattle.std.proofs.lemmas.List.{length-set, get_or-set_same, get_or-set_other, get_or_default}
 use Rattle.control_flow_theory.proofs.semantics_lemmas.Ranges.{eq-self}
-use Rattle.added_items.specs.mentions.Mentions.{arms_or}
-use Rattle.added_items.specs.declared.mentions.mention.Mention.{Mention}
+use Rattle.added_items.specs.mentions.CellUse.{arms_or}
+use Rattle.added_items.specs.declared.mentions.cell_use.CellUse.{CellUse}
 use Rattle.added_items.specs.item_table.Choices.{AreFirst, IsPut}
-use Rattle.added_items.specs.item_table.Holding.{AreHeld, AreWithin}
-use Rattle.added_items.specs.item_table.Items.{place_in, with_number}
+use Rattle.added_items.specs.item_table.Assignment.{AreHeld, AreWithin}
+use Rattle.added_items.specs.item_table.Owners.{place_in, with_number}
 use Rattle.added_items.specs.item_table.Tables.{or_zero}
 use Rattle.added_items.proofs.item_table_lemmas.Places.{place-kept, place-new, place-other, with-there, with-new}
 
@@ -67,10 +67,10 @@ put-value : (here : Bool) (arms before : Option ℕ) → arms ≡ None → befor
 put-value true arms before none = sym (ap (arms_or before) none)
 put-value false arms before none = refl
 
-pub put-none : (before : List (Option ℕ)) (mention : Mention) → mention.arms ≡ None → IsPut before mention before
+pub put-none : (before : List (Option ℕ)) (mention : CellUse) → mention.arms ≡ None → IsPut before mention before
 put-none before mention none = λ cell within. put-value (mention.cell == cell) mention.arms (get_or before cell None) none
 
-pub put-past : (before : List (Option ℕ)) (mention : Mention) → length before ≤ mention.cell → IsPut before mention before
+pub put-past : (before : List (Option ℕ)) (mention : CellUse) → length before ≤ mention.cell → IsPut before mention before
 put-past before mention past = λ cell within.
     let apart : cell ≡ mention.cell → ⊥ = λ e. omega (arith, e, within, past) in
     sym (ap (λ b. if b then arms_or (get_or before cell None) mention.arms else get_or before cell None) (other-number mention.cell cell apart))
@@ -79,7 +79,7 @@ some-arms : (arms before : Option ℕ) → is_some arms ≡ true → arms ≡ ar
 some-arms None before is = cc
 some-arms (Some n) before is = refl
 
-pub put-some : (before : List (Option ℕ)) (mention : Mention) → mention.cell < length before → is_some mention.arms ≡ true →
+pub put-some : (before : List (Option ℕ)) (mention : CellUse) → mention.cell < length before → is_some mention.arms ≡ true →
     IsPut before mention (set before mention.cell mention.arms)
 put-some before mention within is = λ cell inside.
     let old = get_or before cell None in
@@ -97,7 +97,7 @@ put-some before mention within is = λ cell inside.
           ∙ sym (ap (λ b. if b then arms_or old mention.arms else old) e)
     ]
 
-pub first-more : (mention : Mention) (told : List Mention) (before after : List (Option ℕ)) → length after ≡ length before →
+pub first-more : (mention : CellUse) (told : List CellUse) (before after : List (Option ℕ)) → length after ≡ length before →
     AreFirst told before → IsPut before mention after → AreFirst (mention ∷ told) after
 first-more mention told before after size are put = λ cell within.
     let inside : cell < length before = omega (arith, within, size) in

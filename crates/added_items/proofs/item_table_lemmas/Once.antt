@@ -5,12 +5,12 @@ use Rattle.std.proofs.lemmas.List.{length-append}
 use Rattle.control_flow_theory.specs.language.Language.{Range, same_range}
 use Rattle.control_flow_theory.proofs.semantics_lemmas.Ranges.{same-range, same-self}
 use Rattle.control_flow_theory.specs.graph_rules.Walked.{is_in}
-use Rattle.control_flow_theory.specs.headline.Chain.{stmts_arms}
-use Rattle.added_items.specs.item_table.CellItems.{IsAsked, AreAsked, AreAllAsked, StandOnce, AreCellItems}
-use Rattle.branch_tree.specs.Graphs.{seen_added}
-use Rattle.added_items.specs.item_table.Items.{kind_in, holder, holders_of, place_in}
+use Rattle.control_flow_theory.specs.main_theorem.Chain.{stmts_arms}
+use Rattle.added_items.specs.item_table.CellItem.{IsAsked, AreAsked, AreAllAsked, StandOnce, AreCellItems}
+use Rattle.branch_tree.specs.Graph.{seen_added}
+use Rattle.added_items.specs.item_table.Owners.{kind_in, owner_of, holders_of, place_in}
 use Rattle.added_items.specs.item_table.Numbering.{IsNumbering, number_at}
-use Rattle.added_items.specs.declared.item_table.numbering.Numbering.{Numbering}
+use Rattle.added_items.specs.declared.item_table.numbering.CellNumbering.{CellNumbering}
 use Rattle.added_items.specs.item_table.Row.{CellRange, of_range, cells_before, kinds_of_row}
 use Rattle.added_items.specs.item_table.Tables.{or_zero, ends_in_other, most_by, item_at, table_of_cells}
 use Rattle.statement_builders.specs.declared.item_words.cells.CellItem.{CellItem}
@@ -101,7 +101,7 @@ cell-items number first ranges lists same all = (
       ),
 )
 
-pub number-same : (ranges : List CellRange) (numbering : Numbering) → IsNumbering ranges numbering → (place : ℕ) → number_at numbering place ≡ item_at ranges place
+pub number-same : (ranges : List CellRange) (numbering : CellNumbering) → IsNumbering ranges numbering → (place : ℕ) → number_at numbering place ≡ item_at ranges place
 number-same ranges numbering is place =
-    ap (λ held. or_zero (place_in held (holder (map seen_added numbering.kinds) place))) is.held
-    ∙ ap (λ kinds. or_zero (place_in (holders_of ranges) (holder kinds place))) is.row
+    ap (λ held. or_zero (place_in held (owner_of (map seen_added numbering.kinds) place))) is.held
+    ∙ ap (λ kinds. or_zero (place_in (holders_of ranges) (owner_of kinds place))) is.row

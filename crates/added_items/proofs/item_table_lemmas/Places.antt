@@ -4,7 +4,7 @@ use Rattle.std.specs.Prelude.{is_some, slice_get}
 use Rattle.std.proofs.Common.{eqb-true}
 use Rattle.std.proofs.lemmas.Bool.{cases_Bool, cases_lt}
 use Rattle.control_flow_theory.proofs.semantics_lemmas.Ranges.{eq-self}
-use Rattle.added_items.specs.item_table.Items.{further, place_in, with_number, each_once, counted_on}
+use Rattle.added_items.specs.item_table.Owners.{further, place_in, with_number, each_once, counted_on}
 
 some-same : {X : Type 0} (x y : X) → Some x ≡ Some y → x ≡ y
 some-same x y e = cc

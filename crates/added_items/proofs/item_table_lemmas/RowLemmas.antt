@@ -2,19 +2,19 @@
 use Rattle.std.proofs.Common.{◌≡◌, ℕ, zero, suc, ◌+◌, ◌<◌, ◌≤◌, true, false, if◌then◌else◌, List, [], ◌∷◌, ◌++◌, length, map, take, get_or, Some, refl, ap, sym, ◌∙◌, arith}
 use Rattle.std.specs.Prelude.{slice_get}
 use Rattle.std.proofs.lemmas.List.{length-append, length-map}
-use Rattle.branch_tree.specs.Trees.{seen_body}
-use Rattle.added_items.specs.mentions.Mentions.{mentions}
-use Rattle.added_items.specs.declared.mentions.mention.Mention.{Mention}
-use Rattle.added_items.specs.item_table.Seen.{seen_ranges, told_of}
+use Rattle.branch_tree.specs.Tree.{seen_body}
+use Rattle.added_items.specs.mentions.CellUse.{cell_uses}
+use Rattle.added_items.specs.declared.mentions.cell_use.CellUse.{CellUse}
+use Rattle.added_items.specs.item_table.Seen.{seen_ranges, cell_uses_of}
 use Rattle.added_items.specs.declared.item_table.row.ShapedRange.{ShapedRange}
 use Rattle.control_flow_theory.specs.language.Language.{Range, same_range}
 use Rattle.control_flow_theory.proofs.semantics_lemmas.Ranges.{same-range}
 use Rattle.control_flow_theory.specs.graph_rules.Families.{Added, Never, Flag, Count, State, Exit}
 use Rattle.control_flow_theory.specs.graph_rules.Reduced.{kind_at}
 use Rattle.control_flow_theory.proofs.graph_rules_lemmas.shapes.Reducing.{kind-before}
-use Rattle.branch_tree.specs.Graphs.{seen_added}
+use Rattle.branch_tree.specs.Graph.{seen_added}
 use Rattle.branch_tree.specs.declared.graph.Added as code
-use Rattle.added_items.specs.item_table.Items.{is_never, kind_in, first_never, holder}
+use Rattle.added_items.specs.item_table.Owners.{is_never, kind_in, first_constant_cell, owner_of}
 use Rattle.added_items.specs.item_table.Row.{CellRange, of_range, cells_before, kinds_of_row}
 
 -- ---- lists of kinds
@@ -43,7 +43,7 @@ never-is State is = cc
 never-is Exit is = cc
 
 -- at the first place of one that never changes, or past the last cell
-pub first-never : (kinds : List Added) → kind_in kinds (first_never kinds) ≡ Never
+pub first-never : (kinds : List Added) → kind_in kinds (first_constant_cell kinds) ≡ Never
 first-never [] = refl
 first-never (Never ∷ kinds) = refl
 first-never (Flag ∷ kinds) = first-never kinds
@@ -52,7 +52,7 @@ first-never (State ∷ kinds) = first-never kinds
 first-never (Exit ∷ kinds) = first-never kinds
 
 -- it comes no later than any that never changes
-pub never-within : (kinds : List Added) (place : ℕ) → place < length kinds → kind_in kinds place ≡ Never → first_never kinds < length kinds
+pub never-within : (kinds : List Added) (place : ℕ) → place < length kinds → kind_in kinds place ≡ Never → first_constant_cell kinds < length kinds
 never-within [] place within is = absurd (omega (arith, within))
 never-within (Never ∷ kinds) place within is = omega arith
 never-within (Flag ∷ kinds) zero within is = cc
@@ -66,23 +66,23 @@ never-within (Exit ∷ kinds) (suc place) within is = let less = never-within ki
 
 -- ---- whose item a cell has
 
-pub holder-own : (kinds : List Added) (place : ℕ) → is_never (kind_in kinds place) ≡ false → holder kinds place ≡ place
-holder-own kinds place e = ap (λ b. if b then first_never kinds else place) e
+pub holder-own : (kinds : List Added) (place : ℕ) → is_never (kind_in kinds place) ≡ false → owner_of kinds place ≡ place
+holder-own kinds place e = ap (λ b. if b then first_constant_cell kinds else place) e
 
-pub holder-shared : (kinds : List Added) (place : ℕ) → is_never (kind_in kinds place) ≡ true → holder kinds place ≡ first_never kinds
-holder-shared kinds place e = ap (λ b. if b then first_never kinds else place) e
+pub holder-shared : (kinds : List Added) (place : ℕ) → is_never (kind_in kinds place) ≡ true → owner_of kinds place ≡ first_constant_cell kinds
+holder-shared kinds place e = ap (λ b. if b then first_constant_cell kinds else place) e
 
 -- its item is for the same
-pub holder-kind : (kinds : List Added) (place : ℕ) → kind_in kinds (holder kinds place) ≡ kind_in kinds place
+pub holder-kind : (kinds : List Added) (place : ℕ) → kind_in kinds (owner_of kinds place) ≡ kind_in kinds place
 holder-kind kinds place =
-    elim (is_never (kind_in kinds place)) as (λ b. is_never (kind_in kinds place) ≡ b → kind_in kinds (if b then first_never kinds else place) ≡ kind_in kinds place) [
+    elim (is_never (kind_in kinds place)) as (λ b. is_never (kind_in kinds place) ≡ b → kind_in kinds (if b then first_constant_cell kinds else place) ≡ kind_in kinds place) [
       | true ↦ λ e. first-never kinds ∙ sym (never-is (kind_in kinds place) e)
       | false ↦ λ e. refl
     ] refl
 
-pub holder-within : (kinds : List Added) (place : ℕ) → place < length kinds → holder kinds place < length kinds
+pub holder-within : (kinds : List Added) (place : ℕ) → place < length kinds → owner_of kinds place < length kinds
 holder-within kinds place within =
-    elim (is_never (kind_in kinds place)) as (λ b. is_never (kind_in kinds place) ≡ b → (if b then first_never kinds else place) < length kinds) [
+    elim (is_never (kind_in kinds place)) as (λ b. is_never (kind_in kinds place) ≡ b → (if b then first_constant_cell kinds else place) < length kinds) [
       | true ↦ λ e. never-within kinds place within (never-is (kind_in kinds place) e)
       | false ↦ λ e. within
     ] refl
@@ -200,8 +200,8 @@ range-at [] at d within = absurd (omega (arith, within))
 range-at (first ∷ ranges) zero d within = refl
 range-at (first ∷ ranges) (suc at) d within = range-at ranges at d (omega (arith, within))
 
-pub told-at : (ranges : List ShapedRange) (at : ℕ) (d : ShapedRange) (told : List Mention) → at < length ranges →
-    get_or (told_of ranges) at told ≡ mentions (seen_body (get_or ranges at d).body.now.items)
+pub told-at : (ranges : List ShapedRange) (at : ℕ) (d : ShapedRange) (told : List CellUse) → at < length ranges →
+    get_or (cell_uses_of ranges) at told ≡ cell_uses (seen_body (get_or ranges at d).body.now.items)
 told-at [] at d told within = absurd (omega (arith, within))
 told-at (first ∷ ranges) zero d told within = refl
 told-at (first ∷ ranges) (suc at) d told within = told-at ranges at d told (omega (arith, within))

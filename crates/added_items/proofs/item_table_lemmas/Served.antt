@@ -7,16 +7,16 @@ use Rattle.control_flow_theory.proofs.semantics_lemmas.Ranges.{same-range}
 use Rattle.control_flow_theory.specs.graph_rules.Families.{Added, Never, Flag, Count, State, Exit}
 use Rattle.control_flow_theory.specs.graph_rules.Reduced.{Graphs, kind_at, tree_in, size}
 use Rattle.control_flow_theory.specs.graph_rules.Walked.{is_in, In}
-use Rattle.control_flow_theory.specs.closing.Closes.{closed_graph}
+use Rattle.control_flow_theory.specs.structuring.Closes.{closed_graph}
 use Rattle.control_flow_theory.specs.rendering.Procedures.{Writable}
 use Rattle.meanings.specs.statements.Filing.{Declared}
 use Rattle.cobol_theory.specs.added_items.Widened.{AddedItems}
 use Rattle.cobol_theory.specs.cell_serving.Table.{CellTable}
 use Rattle.cobol_theory.specs.cell_serving.Tested.{kinds_of, is_plain}
-use Rattle.control_flow_theory.specs.headline.Chain.{stmts_arms, ChoiceServed, KindServed}
-use Rattle.added_items.specs.item_table.Items.{is_never, or_never, kind_in}
+use Rattle.control_flow_theory.specs.main_theorem.Chain.{stmts_arms, ChoiceServed, KindServed}
+use Rattle.added_items.specs.item_table.Owners.{is_never, or_never, kind_in}
 use Rattle.added_items.specs.item_table.Laws.{cell_range, closed_ranges, ClosedCellsAreServed}
-use Rattle.added_items.specs.item_table.Names.{digits_of, is_signed}
+use Rattle.added_items.specs.item_table.Naming.{digits_of, is_signed}
 use Rattle.added_items.specs.item_table.Row.{CellRange, of_range}
 use Rattle.added_items.specs.item_table.Tables.{most_arms, few_arms, most_by, table_of_cells}
 

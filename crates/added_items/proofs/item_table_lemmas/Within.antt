@@ -1,9 +1,9 @@
 -- The places that are named are within the row.
 use Rattle.std.proofs.Common.{◌≡◌, ℕ, zero, suc, ◌+◌, ◌<◌, ◌≤◌, nat_lt, true, false, if◌then◌else◌, List, [], ◌∷◌, ◌++◌, length, refl, sym, ap, ◌∙◌, subst, arith, ltb-true}
 use Rattle.std.proofs.lemmas.List.{length-append}
-use Rattle.added_items.specs.mentions.Mentions.{cells_named}
-use Rattle.added_items.specs.item_table.Holding.{AreWithin}
-use Rattle.added_items.specs.item_table.Items.{counted_on}
+use Rattle.added_items.specs.mentions.CellUse.{cells_named}
+use Rattle.added_items.specs.item_table.Assignment.{AreWithin}
+use Rattle.added_items.specs.item_table.Owners.{counted_on}
 use Rattle.added_items.specs.item_table.Row.{CellRange, kinds_of_row, in_row, named_behind}
 
 within-both : (count : ℕ) (one other : List ℕ) → AreWithin count one → AreWithin count other → AreWithin count (one ++ other)

@@ -5,11 +5,11 @@ use Rattle.meanings.specs.statements.Filing.{Declared}
 use Rattle.cobol_theory.specs.added_items.Widened.{AddedItems}
 use Rattle.control_flow_theory.specs.graph_rules.Reduced.{Graph, Graphs, size}
 use Rattle.control_flow_theory.specs.graph_rules.Walked.{In}
-use Rattle.control_flow_theory.specs.closing.Closes.{closed_graph}
+use Rattle.control_flow_theory.specs.structuring.Closes.{closed_graph}
 use Rattle.cobol_theory.specs.cell_serving.Entries.{AreEntries}
 use Rattle.cobol_theory.specs.cell_serving.Tested.{kinds_of}
-use Rattle.control_flow_theory.specs.headline.Chain.{procedure_of, EachCellServed}
-use Rattle.added_items.specs.item_table.Names.{entries_for}
+use Rattle.control_flow_theory.specs.main_theorem.Chain.{procedure_of, EachCellServed}
+use Rattle.added_items.specs.item_table.Naming.{entries_for}
 use Rattle.added_items.specs.item_table.Row.{CellRange}
 use Rattle.added_items.specs.item_table.Tables.{most_arms, table_of_cells}
 

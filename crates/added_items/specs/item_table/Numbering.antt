@@ -1,26 +1,26 @@
 -- The numbers of items, by the places of cells in the row.
 use Rattle.std.specs.Prelude.{ℕ, ◌≡◌, ◌<◌, ◌^◌, List, length, map}
-use Rattle.branch_tree.specs.Graphs.{seen_added}
-use Rattle.added_items.specs.item_table.Holding.{AreHeld}
-use Rattle.added_items.specs.item_table.Items.{first_never, holder, holders_of, place_in}
+use Rattle.branch_tree.specs.Graph.{seen_added}
+use Rattle.added_items.specs.item_table.Assignment.{AreHeld}
+use Rattle.added_items.specs.item_table.Owners.{first_constant_cell, owner_of, holders_of, place_in}
 use Rattle.added_items.specs.item_table.Row.{CellRange, kinds_of_row}
 use Rattle.added_items.specs.item_table.Tables.{or_zero}
-use Rattle.added_items.specs.declared.item_table.numbering.Numbering.{Numbering}
+use Rattle.added_items.specs.declared.item_table.numbering.CellNumbering.{CellNumbering}
 
 -- its parts fit each other
-pub record IsWhole (numbering : Numbering) : Type 0 where
+pub record IsWhole (numbering : CellNumbering) : Type 0 where
   pub few : length numbering.kinds < 2 ^ 32
-  pub never : numbering.never ≡ first_never (map seen_added numbering.kinds)
+  pub never : numbering.never ≡ first_constant_cell (map seen_added numbering.kinds)
   pub size : length numbering.holding.numbers.items ≡ length numbering.kinds
   pub held : AreHeld numbering.holding.held numbering.holding.numbers.items
 
 -- the number of the item of the cell at this place
-abbrev pub number_at : Numbering → ℕ → ℕ
+abbrev pub number_at : CellNumbering → ℕ → ℕ
 number_at numbering place =
-    or_zero (place_in numbering.holding.held (holder (map seen_added numbering.kinds) place))
+    or_zero (place_in numbering.holding.held (owner_of (map seen_added numbering.kinds) place))
 
 -- it is that of these ranges
-pub record IsNumbering (ranges : List CellRange) (numbering : Numbering) : Type 0 where
+pub record IsNumbering (ranges : List CellRange) (numbering : CellNumbering) : Type 0 where
   pub whole : IsWhole numbering
   pub row : map seen_added numbering.kinds ≡ kinds_of_row ranges
   pub held : numbering.holding.held ≡ holders_of ranges

@@ -2,7 +2,7 @@
 use Rattle.std.specs.Prelude.{ℕ, ◌+◌, nat_lt, if◌then◌else◌, List, [], ◌∷◌, ◌++◌, length}
 use Rattle.control_flow_theory.specs.language.Language.{Stmts, none, Range, same_range}
 use Rattle.control_flow_theory.specs.graph_rules.Families.{Added}
-use Rattle.added_items.specs.mentions.Mentions.{cells_named}
+use Rattle.added_items.specs.mentions.CellUse.{cells_named}
 
 -- a range that was shaped: what its cells are for, and its body
 pub record CellRange : Type 0 where

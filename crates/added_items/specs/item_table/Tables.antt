@@ -4,9 +4,9 @@ use Rattle.control_flow_theory.specs.language.Language.{Range}
 use Rattle.control_flow_theory.specs.graph_rules.Families.{Added, Never, Flag, Count, State, Exit}
 use Rattle.control_flow_theory.specs.graph_rules.Reduced.{kind_at}
 use Rattle.cobol_theory.specs.cell_serving.Table.{CellTable}
-use Rattle.control_flow_theory.specs.headline.Chain.{stmts_arms}
-use Rattle.added_items.specs.item_table.Items.{is_never, holder, holders_of, kind_in, place_in}
-use Rattle.added_items.specs.item_table.Names.{digits_of, is_signed}
+use Rattle.control_flow_theory.specs.main_theorem.Chain.{stmts_arms}
+use Rattle.added_items.specs.item_table.Owners.{is_never, owner_of, holders_of, kind_in, place_in}
+use Rattle.added_items.specs.item_table.Naming.{digits_of, is_signed}
 use Rattle.added_items.specs.item_table.Row.{CellRange, of_range, cells_before, kinds_of_row}
 
 -- the largest number of six digits
@@ -43,7 +43,7 @@ module _ (ranges : List CellRange) where
 
   -- the item's number, from 0, by the cell's place in the row
   abbrev pub item_at : ℕ → ℕ
-  item_at place = or_zero (place_in (holders_of ranges) (holder (kinds_of_row ranges) place))
+  item_at place = or_zero (place_in (holders_of ranges) (owner_of (kinds_of_row ranges) place))
 
   abbrev pub table_of_cells : CellTable
   table_of_cells = record {

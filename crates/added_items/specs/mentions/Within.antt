@@ -2,18 +2,18 @@
 use Rattle.std.specs.Prelude.{List, [], ◌++◌}
 use Rattle.control_flow_theory.specs.language.Language.{Stmts}
 use Rattle.control_flow_theory.specs.semantics.Graph.{End, Trees, no_more, more}
-use Rattle.control_flow_theory.specs.closing.Closes.{none_left_out}
-use Rattle.control_flow_theory.specs.closing.Dispatches.{stated_end}
+use Rattle.control_flow_theory.specs.structuring.Closes.{none_left_out}
+use Rattle.control_flow_theory.specs.structuring.Dispatches.{stated_end}
 use Rattle.branch_tree.specs.declared.tree.Leaves.{Leaves}
-use Rattle.branch_tree.specs.Trees.{jump_within, return_within, stated}
-use Rattle.added_items.specs.mentions.Mentions.{mentions}
-use Rattle.added_items.specs.declared.mentions.mention.Mention.{Mention}
+use Rattle.branch_tree.specs.Tree.{jump_within, return_within, stated}
+use Rattle.added_items.specs.mentions.CellUse.{cell_uses}
+use Rattle.added_items.specs.declared.mentions.cell_use.CellUse.{CellUse}
 
 abbrev pub end_within : Leaves → End → Stmts
 end_within leaves end = stated_end none_left_out (jump_within leaves) (return_within leaves) end
 
 -- tree after tree
-abbrev pub trees_within : Leaves → Trees → List Mention
+abbrev pub trees_within : Leaves → Trees → List CellUse
 trees_within leaves no_more = []
 trees_within leaves (more first others) =
-    mentions (stated leaves first) ++ trees_within leaves others
+    cell_uses (stated leaves first) ++ trees_within leaves others

@@ -1,8 +1,8 @@
 //! The numbers of cells.
 
 ghost use Rattle.std.specs.Prelude.{◌≡◌, ◌+◌, length, IfOk, OnOk};
-ghost use Rattle.control_flow_theory.specs.headline.Numbering.{place_among};
-ghost use Rattle.added_items.specs.counters.Counters.{Rises};
+ghost use Rattle.control_flow_theory.specs.main_theorem.Numbering.{place_among};
+ghost use Rattle.added_items.specs.counters.Counting.{Rises};
 
 use cob_base::NoMemory;
 

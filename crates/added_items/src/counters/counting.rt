@@ -1,11 +1,11 @@
 //! The counters of a graph's loops.
 
 ghost use Rattle.std.specs.Prelude.{◌≡◌, IfOk, map};
-ghost use Rattle.control_flow_theory.specs.headline.Numbering.{counts};
+ghost use Rattle.control_flow_theory.specs.main_theorem.Numbering.{counts};
 ghost use Rattle.branch_tree.specs.Choosers.{seen_test, seen_picker};
-ghost use Rattle.branch_tree.specs.Graphs.{seen_added, seen_node, seen_nodes};
-ghost use Rattle.branch_tree.specs.Trees.{seen_end};
-ghost use Rattle.added_items.specs.counters.Counters.{tested_cell, picked_cell, ended_cell, head_cell, counter_at, counters_in};
+ghost use Rattle.branch_tree.specs.Graph.{seen_added, seen_node, seen_nodes};
+ghost use Rattle.branch_tree.specs.Tree.{seen_end};
+ghost use Rattle.added_items.specs.counters.Counting.{tested_cell, picked_cell, ended_cell, head_cell, counter_at, counters_in};
 
 use branch_tree::{Added, End, Node, Picker, Test};
 use cob_base::NoMemory;

@@ -1,8 +1,8 @@
 //! The counters of a graph, numbered.
 
 ghost use Rattle.std.specs.Prelude.{◌≡◌, OnOk};
-ghost use Rattle.branch_tree.specs.Graphs.{seen_graph};
-ghost use Rattle.added_items.specs.counters.Counters.{numbered_graph};
+ghost use Rattle.branch_tree.specs.Graph.{seen_graph};
+ghost use Rattle.added_items.specs.counters.Counting.{numbered_graph};
 ghost use Rattle.added_items.specs.counters.Placed.{NumbersPlaced, ClosesPlaced};
 
 use crate::counters::counting::{counters_in, counts};

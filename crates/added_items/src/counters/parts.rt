@@ -2,10 +2,10 @@
 
 ghost use Rattle.std.specs.Prelude.{◌≡◌, OnOk};
 ghost use Rattle.control_flow_theory.specs.lowering.Renamed.{test_anew, picker_anew};
-ghost use Rattle.control_flow_theory.specs.headline.Numbering.{place_among};
+ghost use Rattle.control_flow_theory.specs.main_theorem.Numbering.{place_among};
 ghost use Rattle.branch_tree.specs.Choosers.{seen_test, seen_picker};
 ghost use Rattle.added_items.specs.counters.Anew.{leaves_anew};
-ghost use Rattle.added_items.specs.counters.Counters.{Rises};
+ghost use Rattle.added_items.specs.counters.Counting.{Rises};
 
 use crate::counters::cells::number_cell;
 use branch_tree::{Leaves, Picker, Test};

@@ -3,11 +3,11 @@
 ghost use Rattle.std.specs.Prelude.{◌≡◌, OnOk};
 ghost use Rattle.control_flow_theory.specs.graph_rules.Reduced.{each_tree};
 ghost use Rattle.control_flow_theory.specs.lowering.Renamed.{stmt_anew, stmts_anew, tree_anew, trees_anew};
-ghost use Rattle.control_flow_theory.specs.headline.Numbering.{place_among};
-ghost use Rattle.branch_tree.specs.Graphs.{seen_node, seen_nodes};
-ghost use Rattle.branch_tree.specs.Trees.{seen_piece, seen_body, seen_tree, seen_trees};
+ghost use Rattle.control_flow_theory.specs.main_theorem.Numbering.{place_among};
+ghost use Rattle.branch_tree.specs.Graph.{seen_node, seen_nodes};
+ghost use Rattle.branch_tree.specs.Tree.{seen_piece, seen_body, seen_tree, seen_trees};
 ghost use Rattle.added_items.specs.counters.Anew.{NamesNoCell, node_anew};
-ghost use Rattle.added_items.specs.counters.Counters.{Rises};
+ghost use Rattle.added_items.specs.counters.Counting.{Rises};
 
 use crate::counters::cells::number_cell;
 use crate::counters::parts::{number_leaves, number_picker, number_test};

@@ -4,8 +4,8 @@ ghost use Rattle.std.specs.Prelude.{◌≡◌, ◌++◌, map, OnOk};
 ghost use Rattle.cob_base.specs.Answers.{Makes};
 ghost use Rattle.cobol_theory.specs.cell_items.Cell.{number_operand};
 ghost use Rattle.cobol_theory.specs.cell_serving.Entries.{cell_entry, entries_of, whole_literal};
-ghost use Rattle.branch_tree.specs.Graphs.{seen_added};
-ghost use Rattle.added_items.specs.item_table.Names.{digits_of, is_signed, seen_item};
+ghost use Rattle.branch_tree.specs.Graph.{seen_added};
+ghost use Rattle.added_items.specs.item_table.Naming.{digits_of, is_signed, seen_item};
 
 use crate::item_table::AddedItem;
 use branch_tree::Added;

@@ -1,20 +1,20 @@
 //! What writing asks of the cells of a range.
 
 ghost use Rattle.std.specs.Prelude.{◌≡◌, ◌+◌, ◌<◌, ◌≤◌, ◌^◌, length, map, IfOk};
-ghost use Rattle.branch_tree.specs.Graphs.{seen_added};
-ghost use Rattle.added_items.specs.mentions.Mentions.{first_arms};
-ghost use Rattle.added_items.specs.item_table.CellItems.{IsAsked, AreAsked, AreAllAsked};
-ghost use Rattle.added_items.specs.item_table.Items.{kind_in};
+ghost use Rattle.branch_tree.specs.Graph.{seen_added};
+ghost use Rattle.added_items.specs.mentions.CellUse.{first_arms};
+ghost use Rattle.added_items.specs.item_table.CellItem.{IsAsked, AreAsked, AreAllAsked};
+ghost use Rattle.added_items.specs.item_table.Owners.{kind_in};
 ghost use Rattle.added_items.specs.item_table.Numbering.{IsWhole, number_at};
 ghost use Rattle.added_items.specs.item_table.Row.{kinds_of_row};
-ghost use Rattle.added_items.specs.item_table.Seen.{seen_ranges, told_of};
+ghost use Rattle.added_items.specs.item_table.Seen.{seen_ranges, cell_uses_of};
 ghost use Rattle.added_items.specs.item_table.Tables.{ends_in_other, few_arms, most_by};
 
+use crate::item_table::assignment::kind_in;
 use crate::item_table::choices::first_choices;
-use crate::item_table::holding::kind_in;
-use crate::item_table::numbering::{Numbering, number_at};
+use crate::item_table::numbering::{CellNumbering, number_at};
 use crate::item_table::row::ShapedRange;
-use crate::mentions::Mention;
+use crate::mentions::CellUse;
 use branch_tree::Added;
 use cob_base::{Items, NoMemory};
 use statement_builders::item_words::CellItem;
@@ -66,7 +66,7 @@ fn item_behind(first: u32, number: u32) -> Result<u32, NoMemory>
 
 /// What writing asks of the cell at this place.
 fn cell_item(
-    numbering: &Numbering,
+    numbering: &CellNumbering,
     first: u32,
     place: u32,
     arms: Option<usize>,
@@ -88,11 +88,11 @@ fn cell_item(
 /// What writing asks of each cell of a range, of which so many stand before.
 fn range_items(
     alloc: Global,
-    numbering: &Numbering,
+    numbering: &CellNumbering,
     first: u32,
     before: usize,
     added: &[Added],
-    told: &[Mention],
+    told: &[CellUse],
 ) -> Result<Items<CellItem>, NoMemory>
     requires whole { IsWhole numbering.now }
     requires within { before + length added.now ≤ length numbering.now.kinds }
@@ -112,14 +112,14 @@ fn range_items(
 /// What writing asks of the cells of each range.
 pub fn all_items(
     alloc: Global,
-    numbering: &Numbering,
+    numbering: &CellNumbering,
     first: u32,
     ranges: &[ShapedRange<'_>],
-    told: &[Items<Mention>],
+    told: &[Items<CellUse>],
 ) -> Result<Items<Items<CellItem>>, NoMemory>
     requires whole { IsWhole numbering.now }
     requires row { map seen_added numbering.now.kinds ≡ kinds_of_row (seen_ranges ranges.now) }
-    requires told { told.now ≡ told_of ranges.now }
+    requires told { told.now ≡ cell_uses_of ranges.now }
     ensures { IfOk result (AreAllAsked (number_at numbering.now) first (seen_ranges ranges.now)) }
 {
     let mut lists = Items::new(alloc);

@@ -3,12 +3,12 @@
 ghost use Rattle.std.specs.Prelude.{◌≡◌, ◌<◌, length, None, IfOk};
 ghost use Rattle.added_items.specs.item_table.Choices.{AreFirst, IsPut};
 
-use crate::mentions::Mention;
+use crate::mentions::CellUse;
 use cob_base::NoMemory;
 use std::alloc::Global;
 
 /// Puts down that a choice stands there, before all that were put down.
-fn put_first(arms: &mut Vec<Option<usize>>, mention: &Mention)
+fn put_first(arms: &mut Vec<Option<usize>>, mention: &CellUse)
     ensures size { length arms.new.items ≡ length arms.old.items }
     ensures value { IsPut arms.old.items mention.now arms.new.items }
 {
@@ -20,7 +20,7 @@ fn put_first(arms: &mut Vec<Option<usize>>, mention: &Mention)
 /// For each of so many cells how many arms the first choice by it has, where there is one.
 pub fn first_choices(
     alloc: Global,
-    told: &[Mention],
+    told: &[CellUse],
     count: usize,
 ) -> Result<Vec<Option<usize>>, NoMemory>
     ensures size { IfOk result (λ arms. length arms.items ≡ count) }

@@ -4,11 +4,11 @@ ghost use Rattle.std.specs.Prelude.{◌≡◌, ◌++◌, ◌+◌, ◌<◌, ◌^�
 ghost use Rattle.std.specs.Fmt.{decimal};
 ghost use Rattle.cob_base.specs.Answers.{Makes};
 ghost use Rattle.out_names.specs.FreshWords.{fresh_number, fresh_word};
-ghost use Rattle.branch_tree.specs.Graphs.{seen_added};
-ghost use Rattle.added_items.specs.item_table.Items.{kind_in};
-ghost use Rattle.added_items.specs.item_table.Names.{stem_of, next_of, with_next, all_from_one, entry_named, entries_from, seen_item, item_kind};
+ghost use Rattle.branch_tree.specs.Graph.{seen_added};
+ghost use Rattle.added_items.specs.item_table.Owners.{kind_in};
+ghost use Rattle.added_items.specs.item_table.Naming.{stem_of, next_of, with_next, all_from_one, entry_named, entries_from, seen_item, item_kind};
 
-use crate::item_table::holding::kind_in;
+use crate::item_table::assignment::kind_in;
 use branch_tree::Added;
 use cob_base::{Items, NoMemory, Word};
 use cob_words::WordTable;

@@ -2,12 +2,12 @@
 
 ghost use Rattle.std.specs.Prelude.{◌≡◌, ◌++◌, ◌+◌, ◌<◌, ◌^◌, length, map, IfOk, OnOk};
 ghost use Rattle.cob_base.specs.Answers.{Makes};
-ghost use Rattle.branch_tree.specs.Graphs.{seen_added};
-ghost use Rattle.added_items.specs.item_table.Items.{counted_on};
+ghost use Rattle.branch_tree.specs.Graph.{seen_added};
+ghost use Rattle.added_items.specs.item_table.Owners.{counted_on};
 ghost use Rattle.added_items.specs.item_table.Row.{kinds_of_row, in_row, named_behind};
-ghost use Rattle.added_items.specs.item_table.Seen.{seen_ranges, cells_of, told_of};
+ghost use Rattle.added_items.specs.item_table.Seen.{seen_ranges, cells_of, cell_uses_of};
 
-use crate::mentions::{Mention, mentions};
+use crate::mentions::{CellUse, cell_uses};
 use branch_tree::{Added, Piece};
 use cob_base::{Items, NoMemory};
 use cob_tree::Range;
@@ -43,12 +43,15 @@ pub fn kinds_of_row(alloc: Global, ranges: &[ShapedRange<'_>]) -> Result<Items<A
 }
 
 /// Where each body names cells.
-pub fn told_of(alloc: Global, ranges: &[ShapedRange<'_>]) -> Result<Items<Items<Mention>>, NoMemory>
-    ensures { Makes (told_of ranges.now) result }
+pub fn cell_uses_of(
+    alloc: Global,
+    ranges: &[ShapedRange<'_>],
+) -> Result<Items<Items<CellUse>>, NoMemory>
+    ensures { Makes (cell_uses_of ranges.now) result }
 {
     let mut told = Items::new(alloc);
     for at in 0..ranges.len() {
-        told.push(mentions(alloc, ranges[at].body)?)?;
+        told.push(cell_uses(alloc, ranges[at].body)?)?;
     }
     Ok(told)
 }
@@ -58,7 +61,7 @@ fn add_named(
     named: &mut Items<u32>,
     before: usize,
     count: usize,
-    told: &[Mention],
+    told: &[CellUse],
 ) -> Result<(), NoMemory>
     requires { before + count < 2 ^ 32 }
     ensures { OnOk result (named.new ≡ named.old ++ in_row before count (cells_of told.now)) }
@@ -74,10 +77,10 @@ fn add_named(
 fn add_all_named(
     named: &mut Items<u32>,
     ranges: &[ShapedRange<'_>],
-    told: &[Items<Mention>],
+    told: &[Items<CellUse>],
 ) -> Result<(), NoMemory>
     requires few { length (kinds_of_row (seen_ranges ranges.now)) < 2 ^ 32 }
-    requires told { told.now ≡ told_of ranges.now }
+    requires told { told.now ≡ cell_uses_of ranges.now }
     ensures { OnOk result (named.new ≡ named.old ++ named_behind 0 (seen_ranges ranges.now)) }
 {
     let mut before = 0usize;
@@ -93,11 +96,11 @@ fn add_all_named(
 pub fn places_named(
     alloc: Global,
     ranges: &[ShapedRange<'_>],
-    told: &[Items<Mention>],
+    told: &[Items<CellUse>],
     count: u32,
 ) -> Result<Items<u32>, NoMemory>
     requires count { count ≡ length (kinds_of_row (seen_ranges ranges.now)) }
-    requires told { told.now ≡ told_of ranges.now }
+    requires told { told.now ≡ cell_uses_of ranges.now }
     ensures { Makes (named_behind 0 (seen_ranges ranges.now) ++ counted_on 0 count) result }
 {
     let mut named = Items::new(alloc);

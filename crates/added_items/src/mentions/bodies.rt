@@ -4,11 +4,11 @@ ghost use Rattle.std.specs.Prelude.{◌≡◌, ◌++◌, [], OnOk};
 ghost use Rattle.cob_base.specs.Answers.{Makes};
 ghost use Rattle.control_flow_theory.specs.graph_rules.Shapes.{arms_stmts, arm_stmts};
 ghost use Rattle.control_flow_theory.specs.language.Control.{seen};
-ghost use Rattle.branch_tree.specs.Trees.{seen_piece, seen_body, seen_end, seen_tree, seen_trees, stated};
-ghost use Rattle.added_items.specs.mentions.Mentions.{mentions, stmt_mentions, arms_mentions};
+ghost use Rattle.branch_tree.specs.Tree.{seen_piece, seen_body, seen_end, seen_tree, seen_trees, stated};
+ghost use Rattle.added_items.specs.mentions.CellUse.{cell_uses, stmt_mentions, arms_mentions};
 ghost use Rattle.added_items.specs.mentions.Within.{end_within, trees_within};
 
-use crate::mentions::mention::{Mention, add_jump, add_picker, add_return, add_test, named};
+use crate::mentions::cell_use::{CellUse, add_jump, add_picker, add_return, add_test, named};
 use branch_tree::{End, Leaves, Piece, Tree};
 use cob_base::{Items, NoMemory};
 use cob_tree::Stmt;
@@ -30,7 +30,7 @@ fn own_names_none(stmt: &Stmt) -> Result<(), NoMemory>
 
 #[cycle(add)]
 #[tactic(auto, using(crate::proofs::mentions_lemmas::MentionRows::own_added))]
-fn add_piece(made: &mut Items<Mention>, piece: &Piece) -> Result<(), NoMemory>
+fn add_piece(made: &mut Items<CellUse>, piece: &Piece) -> Result<(), NoMemory>
     ensures { OnOk result (made.new ≡ made.old ++ stmt_mentions (seen_piece piece.now)) }
 {
     match piece {
@@ -57,8 +57,8 @@ fn add_piece(made: &mut Items<Mention>, piece: &Piece) -> Result<(), NoMemory>
 
 /// Adds what the pieces of a body name.
 #[cycle(add)]
-fn add_body(made: &mut Items<Mention>, body: &VecDeque<Piece>) -> Result<(), NoMemory>
-    ensures { OnOk result (made.new ≡ made.old ++ mentions (seen_body body.now.items)) }
+fn add_body(made: &mut Items<CellUse>, body: &VecDeque<Piece>) -> Result<(), NoMemory>
+    ensures { OnOk result (made.new ≡ made.old ++ cell_uses (seen_body body.now.items)) }
 {
     for at in 0..body.len() {
         add_piece(made, &body[at])?;
@@ -68,7 +68,7 @@ fn add_body(made: &mut Items<Mention>, body: &VecDeque<Piece>) -> Result<(), NoM
 
 /// Adds what the arms of a choice name that is a statement.
 #[cycle(add)]
-fn add_arms(made: &mut Items<Mention>, arms: &[Tree]) -> Result<(), NoMemory>
+fn add_arms(made: &mut Items<CellUse>, arms: &[Tree]) -> Result<(), NoMemory>
     ensures { OnOk result
         (made.new ≡ made.old ++ arms_mentions (arms_stmts (seen_trees arms.now))) }
 {
@@ -80,8 +80,8 @@ fn add_arms(made: &mut Items<Mention>, arms: &[Tree]) -> Result<(), NoMemory>
 
 #[cycle(add)]
 #[tactic(auto, using(crate::proofs::mentions_lemmas::MentionRows::arm_names))]
-fn add_arm(made: &mut Items<Mention>, arm: &Tree) -> Result<(), NoMemory>
-    ensures { OnOk result (made.new ≡ made.old ++ mentions (arm_stmts (seen_tree arm.now))) }
+fn add_arm(made: &mut Items<CellUse>, arm: &Tree) -> Result<(), NoMemory>
+    ensures { OnOk result (made.new ≡ made.old ++ cell_uses (arm_stmts (seen_tree arm.now))) }
 {
     add_body(made, &arm.body)
 }
@@ -89,9 +89,9 @@ fn add_arm(made: &mut Items<Mention>, arm: &Tree) -> Result<(), NoMemory>
 /// Adds what a tree within a loop names.
 #[cycle(add)]
 #[tactic(auto, using(crate::proofs::mentions_lemmas::MentionRows::tree_names))]
-fn add_tree(made: &mut Items<Mention>, leaves: &Leaves, tree: &Tree) -> Result<(), NoMemory>
+fn add_tree(made: &mut Items<CellUse>, leaves: &Leaves, tree: &Tree) -> Result<(), NoMemory>
     ensures { OnOk result
-        (made.new ≡ made.old ++ mentions (stated leaves.now (seen_tree tree.now))) }
+        (made.new ≡ made.old ++ cell_uses (stated leaves.now (seen_tree tree.now))) }
 {
     add_body(made, &tree.body)?;
     add_end(made, leaves, &tree.end)
@@ -99,9 +99,9 @@ fn add_tree(made: &mut Items<Mention>, leaves: &Leaves, tree: &Tree) -> Result<(
 
 #[cycle(add)]
 #[tactic(auto, using(crate::proofs::mentions_lemmas::MentionRows::pick_names))]
-fn add_end(made: &mut Items<Mention>, leaves: &Leaves, end: &End) -> Result<(), NoMemory>
+fn add_end(made: &mut Items<CellUse>, leaves: &Leaves, end: &End) -> Result<(), NoMemory>
     ensures { OnOk result
-        (made.new ≡ made.old ++ mentions (end_within leaves.now (seen_end end.now))) }
+        (made.new ≡ made.old ++ cell_uses (end_within leaves.now (seen_end end.now))) }
 {
     match end {
         End::Pick { by, arms } => {
@@ -117,7 +117,7 @@ fn add_end(made: &mut Items<Mention>, leaves: &Leaves, end: &End) -> Result<(), 
 
 /// Adds what the arms of a choice within a loop name.
 #[cycle(add)]
-fn add_within(made: &mut Items<Mention>, leaves: &Leaves, arms: &[Tree]) -> Result<(), NoMemory>
+fn add_within(made: &mut Items<CellUse>, leaves: &Leaves, arms: &[Tree]) -> Result<(), NoMemory>
     ensures { OnOk result (made.new ≡ made.old ++ trees_within leaves.now (seen_trees arms.now)) }
 {
     for arm in arms {
@@ -128,8 +128,8 @@ fn add_within(made: &mut Items<Mention>, leaves: &Leaves, arms: &[Tree]) -> Resu
 
 /// Where the body names cells, in the order of its text. Err where memory is wanted, and where a
 /// statement of the program has a word on an added item.
-pub fn mentions(alloc: Global, body: &VecDeque<Piece>) -> Result<Items<Mention>, NoMemory>
-    ensures { Makes (mentions (seen_body body.now.items)) result }
+pub fn cell_uses(alloc: Global, body: &VecDeque<Piece>) -> Result<Items<CellUse>, NoMemory>
+    ensures { Makes (cell_uses (seen_body body.now.items)) result }
 {
     let mut made = Items::new(alloc);
     match add_body(&mut made, body) {

@@ -13,8 +13,8 @@ use Rattle.control_flow_theory.specs.language.Control.{always, test_of, arm_befo
 use Rattle.control_flow_theory.specs.language.Own.{OwnAct, OwnTest, OwnControl}
 use Rattle.control_flow_theory.proofs.language_lemmas.Rows.{seen_if_any, seen_if, seen_loop, seen_perform, seen_arith, seen_read, seen_both_is}
 use Rattle.control_flow_theory.specs.rendering.Rendering.{Empty, Continues, Goes, standing, arm_stands, written_act, written_test, written_control, written_arms, written_arm}
-use Rattle.statement_builders.specs.arms.Empties.{if_had, put_arm, stands_so}
-use Rattle.statement_builders.specs.arms.Choices.{IsIf, IsRead, IsArith}
+use Rattle.statement_builders.specs.arms.EmptyArms.{if_had, put_arm, stands_so}
+use Rattle.statement_builders.specs.arms.Choosing.{IsIf, IsRead, IsArith}
 use Rattle.program_facts.specs.own_items.Owning.{OwnTurns}
 use Rattle.cobol_theory.specs.cell_serving.Naming.{first_stands}
 use Rattle.statement_builders.specs.arms.Written.{Way, naming_in, written, all_written, or_nothing, written_if_any}

@@ -11,8 +11,8 @@ use Rattle.control_flow_theory.specs.language.Control.{arm_before, stmts_of, eva
 use Rattle.control_flow_theory.proofs.language_lemmas.Rows.{seen_if_any, seen_evaluate}
 use Rattle.control_flow_theory.specs.rendering.Rendering.{Empty, Continues, standing, arm_stands, written_arm}
 use Rattle.cobol_theory.specs.cell_serving.Naming.{last_stands}
-use Rattle.statement_builders.specs.arms.Empties.{if_had, of_whens, put_arm, stands_so}
-use Rattle.statement_builders.specs.arms.Choices.{IsEvaluate}
+use Rattle.statement_builders.specs.arms.EmptyArms.{if_had, of_whens, put_arm, stands_so}
+use Rattle.statement_builders.specs.arms.Choosing.{IsEvaluate}
 use Rattle.statement_builders.specs.arms.Written.{Way, written, all_written, or_nothing, written_if_any, written_branch}
 use Rattle.statement_builders.proofs.arms_lemmas.ChoiceRows.{continues_is}
 use Rattle.body_rendering.proofs.own_statements_lemmas.OwnRows.{arms_are, arm_is, any_is, arm_row}

@@ -4,29 +4,23 @@ ghost use Rattle.std.specs.Prelude.{◌≡◌, Ok, IfOk, OnOk};
 ghost use Rattle.cob_tree.specs.declared.stmt.Stmt.TheVariants as stmts_as;
 ghost use Rattle.control_flow_theory.specs.language.Control.{arith_alone};
 ghost use Rattle.statement_builders.specs.arms.Written.{IsWritten, AreWritten, AreRequired, IsArmWritten, AreWhensWritten, IsWrittenAlike};
-ghost use Rattle.body_rendering.specs.own_statements.Arms.{IsWhenWritten, ArePairWritten, IsOwnIf, IsTestIf, IsOwnEvaluate, IsBySubject, HasPhrases, has_phrases, has_first};
+ghost use Rattle.body_rendering.specs.own_statements.Writing.{IsWhenWritten, ArePairWritten, IsOwnIf, IsTestIf, IsOwnEvaluate, IsBySubject, HasPhrases, has_phrases, has_first};
 
 use cob_base::{Items, NoMemory};
 use cob_tree::{Arms, Calc, Cond, Control, Operand, Place, Stmt, Subject, Target, When};
 use program_facts::own_items::{is_own_arith, is_own_move, is_own_subject, is_own_test};
 use statement_builders::arms::{
-    Placed, arith_stmt, evaluate_stmt, if_stmt, loop_stmt, or_continue, perform_stmt, place_of,
-    read_stmt,
+    ProcedurePlace, arith_stmt, evaluate_stmt, if_stmt, loop_stmt, or_continue, perform_stmt,
+    place_of, read_stmt,
 };
+use statement_builders::item_words::BothArms;
 use std::alloc::Global;
 use std::mem;
-
-/// What the two arms of READ or of arithmetic hold.
-#[derive(Drop)]
-pub struct Pair {
-    pub first: Items<Stmt>,
-    pub second: Items<Stmt>,
-}
 
 /// The statement as it is written. Err where memory is wanted, where a range has no place, and
 /// where it has a word on an added item.
 #[cycle(write)]
-pub fn write_stmt(alloc: Global, stmt: Stmt, places: &[Placed]) -> Result<Stmt, NoMemory>
+pub fn write_stmt(alloc: Global, stmt: Stmt, places: &[ProcedurePlace]) -> Result<Stmt, NoMemory>
     ensures { IfOk result (λ made. IsWritten places.now stmt made) }
 {
     match stmt {
@@ -86,7 +80,7 @@ fn write_perform(
     entry: u32,
     exit: u32,
     control: Control,
-    places: &[Placed],
+    places: &[ProcedurePlace],
 ) -> Result<Stmt, NoMemory>
     ensures { IfOk result
         (λ made. IsWritten places.now (stmts_as.Perform entry exit control) made) }
@@ -102,7 +96,7 @@ fn write_perform(
 fn write_required(
     alloc: Global,
     stmts: Items<Stmt>,
-    places: &[Placed],
+    places: &[ProcedurePlace],
 ) -> Result<Items<Stmt>, NoMemory>
     ensures { IfOk result (λ made. AreRequired places.now stmts made) }
 {
@@ -117,7 +111,7 @@ fn write_required(
 fn write_arm(
     alloc: Global,
     arm: Option<Items<Stmt>>,
-    places: &[Placed],
+    places: &[ProcedurePlace],
 ) -> Result<Items<Stmt>, NoMemory>
     ensures { IfOk result (λ made. IsArmWritten places.now arm made) }
 {
@@ -191,7 +185,7 @@ fn write_loop(
     alloc: Global,
     control: Control,
     body: Items<Stmt>,
-    places: &[Placed],
+    places: &[ProcedurePlace],
 ) -> Result<Stmt, NoMemory>
     ensures { IfOk result (λ made. IsWritten places.now (stmts_as.Loop control body) made) }
 {
@@ -216,7 +210,7 @@ fn write_arith(
     calc: Calc,
     into: Items<Target>,
     arms: Arms,
-    places: &[Placed],
+    places: &[ProcedurePlace],
 ) -> Result<Stmt, NoMemory>
     ensures { IfOk result (λ made. IsWritten places.now (stmts_as.Arith calc into arms) made) }
 {
@@ -245,7 +239,7 @@ fn write_bare(calc: Calc, into: Items<Target>) -> Result<Stmt, NoMemory>
 
 /// Puts what is written of the statement in its place.
 #[cycle(write)]
-fn write_in(alloc: Global, stmt: &mut Stmt, places: &[Placed]) -> Result<(), NoMemory>
+fn write_in(alloc: Global, stmt: &mut Stmt, places: &[ProcedurePlace]) -> Result<(), NoMemory>
     ensures { OnOk result (IsWritten places.now stmt.old stmt.new) }
 {
     match write_stmt(alloc, mem::replace(stmt, Stmt::Continue), places) {
@@ -258,7 +252,7 @@ fn write_in(alloc: Global, stmt: &mut Stmt, places: &[Placed]) -> Result<(), NoM
 }
 
 #[cycle(write)]
-fn write_each(alloc: Global, stmts: &mut [Stmt], places: &[Placed]) -> Result<(), NoMemory>
+fn write_each(alloc: Global, stmts: &mut [Stmt], places: &[ProcedurePlace]) -> Result<(), NoMemory>
     ensures { OnOk result (AreWritten places.now stmts.old stmts.new) }
 {
     for at in 0..stmts.len() {
@@ -272,7 +266,7 @@ fn write_each(alloc: Global, stmts: &mut [Stmt], places: &[Placed]) -> Result<()
 pub fn write_stmts(
     alloc: Global,
     stmts: Items<Stmt>,
-    places: &[Placed],
+    places: &[ProcedurePlace],
 ) -> Result<Items<Stmt>, NoMemory>
     ensures { IfOk result (λ made. AreWritten places.now stmts made) }
 {
@@ -285,7 +279,7 @@ pub fn write_stmts(
 
 /// Puts what is written of the WHEN in its place.
 #[cycle(write)]
-fn write_when(alloc: Global, when: &mut When, places: &[Placed]) -> Result<(), NoMemory>
+fn write_when(alloc: Global, when: &mut When, places: &[ProcedurePlace]) -> Result<(), NoMemory>
     ensures { OnOk result (IsWhenWritten places.now when.old when.new) }
 {
     let stmts = mem::replace(&mut when.stmts, Items::new(alloc));
@@ -299,7 +293,11 @@ fn write_when(alloc: Global, when: &mut When, places: &[Placed]) -> Result<(), N
 }
 
 #[cycle(write)]
-fn write_each_when(alloc: Global, whens: &mut [When], places: &[Placed]) -> Result<(), NoMemory>
+fn write_each_when(
+    alloc: Global,
+    whens: &mut [When],
+    places: &[ProcedurePlace],
+) -> Result<(), NoMemory>
     ensures { OnOk result (AreWhensWritten places.now whens.old whens.new) }
 {
     for at in 0..whens.len() {
@@ -312,7 +310,7 @@ fn write_each_when(alloc: Global, whens: &mut [When], places: &[Placed]) -> Resu
 fn write_whens(
     alloc: Global,
     whens: Items<When>,
-    places: &[Placed],
+    places: &[ProcedurePlace],
 ) -> Result<Items<When>, NoMemory>
     ensures { IfOk result (λ made. AreWhensWritten places.now whens made) }
 {
@@ -327,12 +325,12 @@ fn write_whens(
 fn pair_of(
     first: Result<Items<Stmt>, NoMemory>,
     second: Result<Items<Stmt>, NoMemory>,
-) -> Result<Pair, NoMemory>
+) -> Result<BothArms, NoMemory>
     ensures { IfOk result (λ pair. (first ≡ Ok pair.first) × (second ≡ Ok pair.second)) }
 {
     match first {
         Ok(first) => match second {
-            Ok(second) => Ok(Pair { first, second }),
+            Ok(second) => Ok(BothArms { first, second }),
             Err(fault) => {
                 drop(first);
                 Err(fault)
@@ -347,7 +345,7 @@ fn pair_of(
 
 /// What the two arms hold.
 #[cycle(write)]
-fn write_pair(alloc: Global, arms: Arms, places: &[Placed]) -> Result<Pair, NoMemory>
+fn write_pair(alloc: Global, arms: Arms, places: &[ProcedurePlace]) -> Result<BothArms, NoMemory>
     ensures { IfOk result (λ pair. ArePairWritten places.now arms pair) }
 {
     let Arms { first, second } = arms;
@@ -356,11 +354,11 @@ fn write_pair(alloc: Global, arms: Arms, places: &[Placed]) -> Result<Pair, NoMe
     pair_of(first, second)
 }
 
-fn own_if(cond: Cond, arms: Result<Pair, NoMemory>) -> Result<Stmt, NoMemory>
+fn own_if(cond: Cond, arms: Result<BothArms, NoMemory>) -> Result<Stmt, NoMemory>
     ensures { IfOk result (λ made. IsOwnIf cond arms made) }
 {
     match arms {
-        Ok(Pair { first, second }) => test_if(cond, first, second),
+        Ok(BothArms { first, second }) => test_if(cond, first, second),
         Err(fault) => {
             drop(cond);
             Err(fault)
@@ -390,13 +388,13 @@ fn write_read(
     file: u32,
     into: Option<Place>,
     arms: Arms,
-    places: &[Placed],
+    places: &[ProcedurePlace],
 ) -> Result<Stmt, NoMemory>
     ensures { IfOk result (λ made. IsWritten places.now (stmts_as.Read file into arms) made) }
 {
     let stands = has_first(&arms);
     match write_pair(alloc, arms, places) {
-        Ok(Pair { first, second }) => read_stmt(file, into, first, second, stands),
+        Ok(BothArms { first, second }) => read_stmt(file, into, first, second, stands),
         Err(fault) => {
             drop(into);
             Err(fault)
@@ -410,14 +408,14 @@ fn write_phrases(
     calc: Calc,
     into: Items<Target>,
     arms: Arms,
-    places: &[Placed],
+    places: &[ProcedurePlace],
 ) -> Result<Stmt, NoMemory>
     ensures { IfOk result
         (λ made. HasPhrases arms → IsWritten places.now (stmts_as.Arith calc into arms) made) }
 {
     let stands = has_first(&arms);
     match write_pair(alloc, arms, places) {
-        Ok(Pair { first, second }) => arith_stmt(calc, into, first, second, stands),
+        Ok(BothArms { first, second }) => arith_stmt(calc, into, first, second, stands),
         Err(fault) => {
             drop(calc);
             drop(into);

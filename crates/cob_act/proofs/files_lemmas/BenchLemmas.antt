@@ -11,10 +11,10 @@ use Rattle.file_model.specs.operations.Seen.{Seen}
 use Rattle.file_model.proofs.operations_lemmas.FallLemmas.{Named, left_leaves, left_same, left_then, named_at, off_named, used_at}
 use Rattle.file_model.proofs.operations_lemmas.ShutLemmas.{notes_shut, nothing_shut}
 use Rattle.cob_act.specs.files.Ends.{BrokeOver, DoneOver, answered}
-use Rattle.cob_act.specs.declared.files.fault.Fault.{Fault}
-use Rattle.cob_act.specs.declared.files.fault.Fault.TheVariants as faults
+use Rattle.cob_act.specs.declared.files.fault.FileFault.{FileFault}
+use Rattle.cob_act.specs.declared.files.fault.FileFault.TheVariants as faults
 
-pub broke_after : (fault : Fault) (files : List FileEntry) (left mid now : ℕ) (old between new : List Seen) (table : List FileRow) → LeftOf (is_used (addresses_of files)) [] left mid old between → BrokeOver fault files mid now between new table → BrokeOver fault files left now old new table
+pub broke_after : (fault : FileFault) (files : List FileEntry) (left mid now : ℕ) (old between new : List Seen) (table : List FileRow) → LeftOf (is_used (addresses_of files)) [] left mid old between → BrokeOver fault files mid now between new table → BrokeOver fault files left now old new table
 broke_after fault files left mid now old between new table one two = (left_then (is_used (addresses_of files)) _ left mid now old between new one two.0, two.1)
 
 -- one operation
@@ -35,12 +35,12 @@ module _ (files : List FileEntry) (address : Address) (file left left_now : ℕ)
       subst (λ (name : List ℕ). LeftOf used (name ∷ []) left left_now old new × AreShut (name ∷ []) (addresses_of files) now) (sym named) (leaves tried.Failed l, apart tried.Failed n)
   done_by tried.NoMemory l n = (leaves tried.NoMemory l, apart tried.NoMemory n)
 
-pub done_over : (files : List FileEntry) (file : ℕ) (result : Result ℕ Fault) (answer : Tried) (left left_now : ℕ) (old new : List Seen) (table now : List FileRow) → file < length files → result ≡ answered answer →
+pub done_over : (files : List FileEntry) (file : ℕ) (result : Result ℕ FileFault) (answer : Tried) (left left_now : ℕ) (old new : List Seen) (table now : List FileRow) → file < length files → result ≡ answered answer →
     ((address : Address) → slice_get (addresses_of files) file ≡ Some address → Leaves answer address.device left left_now old new) →
     ((address : Address) → slice_get (addresses_of files) file ≡ Some address → Notes answer file address.device (addresses_of files) table now) → DoneOver result files left left_now old new now
 done_over files file result answer left left_now old new table now within is leaves notes =
     let n : Named files file = named_at files file within in
-    subst (λ (r : Result ℕ Fault). DoneOver r files left left_now old new now) (sym is)
+    subst (λ (r : Result ℕ FileFault). DoneOver r files left left_now old new now) (sym is)
     (done_by files n.address file left left_now old new table now n.here answer (leaves n.address n.here) (notes n.address n.here))
 
 -- where no device is asked
@@ -51,7 +51,7 @@ pub wanted_memory : (files : List FileEntry) (left : ℕ) (devices : List Seen) 
 wanted_memory files left devices table = (left_same (is_used (addresses_of files)) left devices, nothing_shut (addresses_of files) table)
 
 -- the files as they were asked for
-pub done_listed : {A : Type 0} (result : Result A Fault) (listed program : List FileEntry) (left left_now : ℕ) (old new : List Seen) (table : List FileRow) → listed ≡ program → DoneOver result listed left left_now old new table → DoneOver result program left left_now old new table
+pub done_listed : {A : Type 0} (result : Result A FileFault) (listed program : List FileEntry) (left left_now : ℕ) (old new : List Seen) (table : List FileRow) → listed ≡ program → DoneOver result listed left left_now old new table → DoneOver result program left left_now old new table
 done_listed result listed program left left_now old new table is done = subst (λ (l : List FileEntry). DoneOver result l left left_now old new table) is done
 
 -- memory is wanted behind operations of which none failed

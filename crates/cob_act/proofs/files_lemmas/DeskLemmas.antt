@@ -19,8 +19,8 @@ use Rattle.file_model.specs.operations.Shutting.{StandsLeft}
 use Rattle.file_model.proofs.operations_lemmas.FallLemmas.{off_named}
 use Rattle.file_model.proofs.operations_lemmas.ShutLemmas.{left_standing, left_without}
 use Rattle.file_model.proofs.operations_lemmas.TellLemmas.{kept_told}
-use Rattle.cob_act.specs.declared.files.fault.Fault.{Fault}
-use Rattle.cob_act.specs.declared.files.fault.Fault.TheVariants as faults
+use Rattle.cob_act.specs.declared.files.fault.FileFault.{FileFault}
+use Rattle.cob_act.specs.declared.files.fault.FileFault.TheVariants as faults
 use Rattle.cob_act.specs.files.Ends.{answered}
 use Rattle.cob_act.specs.files.Over.{BrokeIn, IsOver, Stays, Tries}
 
@@ -46,14 +46,14 @@ comes_tries files tried.Failed name left left_now old new table now world attemp
 comes_tries files tried.NoMemory name left left_now old new table now world attempt many over leaves comes = tt
 
 -- what such an operation comes to, by what the devices say of it
-pub tried_over : (files : List FileEntry) (file : ℕ) (result : Result ℕ Fault) (answer : Tried) (left left_now : ℕ) (old new : List Seen) (table now : List FileRow) (world : World) (attempt : Address → Attempt) → file < length files → result ≡ answered answer → length now ≡ length table →
+pub tried_over : (files : List FileEntry) (file : ℕ) (result : Result ℕ FileFault) (answer : Tried) (left left_now : ℕ) (old new : List Seen) (table now : List FileRow) (world : World) (attempt : Address → Attempt) → file < length files → result ≡ answered answer → length now ≡ length table →
     ((address : Address) → slice_get (addresses_of files) file ≡ Some address → Leaves answer address.device left left_now old new) →
     ((address : Address) → slice_get (addresses_of files) file ≡ Some address → Stands (addresses_of files) (take left old) table world → IsTold (device_found address.device (take left old)) → Comes answer (addresses_of files) address.device (take left_now new) now world (attempt address)) →
     IsOver files (take left old) table world → Tries files result (attempt (address_by (slice_get files file))) (take left_now new) now
 tried_over files file result answer left left_now old new table now world attempt within is many leaves comes over =
     let address : Address = address_by (slice_get files file) in
     let here : slice_get (addresses_of files) file ≡ Some address = file_address files file within in
-    subst (λ (r : Result ℕ Fault). Tries files r (attempt address) (take left_now new) now) (sym is)
+    subst (λ (r : Result ℕ FileFault). Tries files r (attempt address) (take left_now new) now) (sym is)
     (comes_tries files answer address.device left left_now old new table now world (attempt address) many over (leaves address here) (comes address here over.stands (over.told file address here)))
 
 status_came : (answer : Tried) → Ok 0 ≡ answered answer → answer ≡ tried.Status 0
@@ -62,7 +62,7 @@ status_came (tried.Status status) e = cc
 status_came tried.NoMemory e = cc
 
 -- the record that came
-pub record_came : (files : List FileEntry) (file : ℕ) (result : Result ℕ Fault) (answer : Tried) (left : ℕ) (old : List Seen) (table : List FileRow) (world : World) (into : List ℕ) (attempt : Address → Attempt) → file < length files → result ≡ answered answer →
+pub record_came : (files : List FileEntry) (file : ℕ) (result : Result ℕ FileFault) (answer : Tried) (left : ℕ) (old : List Seen) (table : List FileRow) (world : World) (into : List ℕ) (attempt : Address → Attempt) → file < length files → result ≡ answered answer →
     ((address : Address) → slice_get (addresses_of files) file ≡ Some address → Stands (addresses_of files) (take left old) table world → IsTold (device_found address.device (take left old)) → answer ≡ tried.Status 0 → into ≡ (attempt address).bytes) →
     IsOver files (take left old) table world → result ≡ Ok 0 → into ≡ (attempt (address_by (slice_get files file))).bytes
 record_came files file result answer left old table world into attempt within is given over came =
@@ -146,7 +146,7 @@ comes_stays files address tried.Failed file left left_now old new table now worl
 comes_stays files address tried.NoMemory file left left_now old new table now world attempt over leaves notes comes =
     left_standing (addresses_of files) (take left_now new) now world (ap length notes ∙ over.rows ∙ sym (many_addresses files)) comes
 
-pub stays_over : (files : List FileEntry) (file : ℕ) (result : Result ℕ Fault) (answer : Tried) (left left_now : ℕ) (old new : List Seen) (table now : List FileRow) (world : World) (attempt : Address → Attempt) → file < length files → result ≡ answered answer →
+pub stays_over : (files : List FileEntry) (file : ℕ) (result : Result ℕ FileFault) (answer : Tried) (left left_now : ℕ) (old new : List Seen) (table now : List FileRow) (world : World) (attempt : Address → Attempt) → file < length files → result ≡ answered answer →
     ((address : Address) → slice_get (addresses_of files) file ≡ Some address → Leaves answer address.device left left_now old new) →
     ((address : Address) → slice_get (addresses_of files) file ≡ Some address → Notes answer file address.device (addresses_of files) table now) →
     ((address : Address) → slice_get (addresses_of files) file ≡ Some address → Stands (addresses_of files) (take left old) table world → IsTold (device_found address.device (take left old)) → Comes answer (addresses_of files) address.device (take left_now new) now world (attempt address)) →
@@ -154,11 +154,11 @@ pub stays_over : (files : List FileEntry) (file : ℕ) (result : Result ℕ Faul
 stays_over files file result answer left left_now old new table now world attempt within is leaves notes comes over =
     let address : Address = address_by (slice_get files file) in
     let here : slice_get (addresses_of files) file ≡ Some address = file_address files file within in
-    subst (λ (r : Result ℕ Fault). Stays r files world left_now new now) (sym is)
+    subst (λ (r : Result ℕ FileFault). Stays r files world left_now new now) (sym is)
     (comes_stays files address answer file left left_now old new table now world (attempt address) over (leaves address here) (notes address here) (comes address here over.stands (over.told file address here)))
 
 -- as it was asked for
-pub stays_listed : {A : Type 0} (result : Result A Fault) (listed program : List FileEntry) (devices : List Seen) (table : List FileRow) (world : World) (left : ℕ) (new : List Seen) (now : List FileRow) → listed ≡ program →
+pub stays_listed : {A : Type 0} (result : Result A FileFault) (listed program : List FileEntry) (devices : List Seen) (table : List FileRow) (world : World) (left : ℕ) (new : List Seen) (now : List FileRow) → listed ≡ program →
     (IsOver listed devices table world → Stays result listed world left new now) → IsOver program devices table world → Stays result program world left new now
 stays_listed result listed program devices table world left new now is stays over =
     subst (λ (l : List FileEntry). IsOver l devices table world → Stays result l world left new now) is stays over

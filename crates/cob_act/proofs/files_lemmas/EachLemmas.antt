@@ -7,10 +7,10 @@ use Rattle.cob_store.specs.Store.{Roots}
 use Rattle.file_model.specs.declared.table.FileRow.{FileRow}
 use Rattle.file_model.specs.World.{World}
 use Rattle.meanings.specs.statements.Filing.{Effect, Operation, after, each_file, last_world}
-use Rattle.cob_act.specs.declared.acting.Done.{Done}
-use Rattle.cob_act.specs.declared.acting.Done.TheVariants.{Went, Abended}
+use Rattle.cob_act.specs.declared.acting.ActOutcome.{ActOutcome}
+use Rattle.cob_act.specs.declared.acting.ActOutcome.TheVariants.{Went, Abended}
 use Rattle.file_model.specs.operations.Seen.{Seen}
-use Rattle.cob_act.specs.declared.files.fault.Fault.{Fault}
+use Rattle.cob_act.specs.declared.files.fault.FileFault.{FileFault}
 use Rattle.cob_act.specs.files.Over.{BreaksIn, BrokeIn, Did, IsOver, world_behind}
 use Rattle.cob_act.proofs.files_lemmas.EffectLemmas.{WentOn, goes_on, last_after, stops}
 
@@ -25,7 +25,7 @@ pub begun : {A : Type 0} (does : Roots → World → A → Effect) (program : Li
 begun does program world items store devices table over = record { operations = []; same = refl; over = over }
 
 -- one more
-begun_next : {A : Type 0} (does : Roots → World → A → Effect) (program : List FileEntry) (whole : Effect) (world : World) (left : List A) (item : A) (others : List A) (store : Roots) (devices : List Seen) (table : List FileRow) (done : Done) (store_now : Roots) (devices_now : List Seen) (table_now : List FileRow) →
+begun_next : {A : Type 0} (does : Roots → World → A → Effect) (program : List FileEntry) (whole : Effect) (world : World) (left : List A) (item : A) (others : List A) (store : Roots) (devices : List Seen) (table : List FileRow) (done : ActOutcome) (store_now : Roots) (devices_now : List Seen) (table_now : List FileRow) →
     (so : Begun does program whole world left store devices table) → left ≡ item ∷ others → WentOn done → Did program (Ok done) (last_world world so.operations) (does store (last_world world so.operations) item) store_now devices_now table_now →
     Begun does program whole world others store_now devices_now table_now
 begun_next does program whole world left item others store devices table done store_now devices_now table_now so is other did =
@@ -72,19 +72,19 @@ begun_ends does program whole world left store devices table so is =
 
 -- ---- by the place in the list
 
-pub each_next : {A : Type 0} (does : Roots → World → A → Effect) (program : List FileEntry) (whole : Effect) (world : World) (items : List A) (at : ℕ) (item : A) (store : Roots) (devices : List Seen) (table : List FileRow) (done : Done) (store_now : Roots) (devices_now : List Seen) (table_now : List FileRow) →
+pub each_next : {A : Type 0} (does : Roots → World → A → Effect) (program : List FileEntry) (whole : Effect) (world : World) (items : List A) (at : ℕ) (item : A) (store : Roots) (devices : List Seen) (table : List FileRow) (done : ActOutcome) (store_now : Roots) (devices_now : List Seen) (table_now : List FileRow) →
     at < length items → (so : Begun does program whole world (drop at items) store devices table) → WentOn done → Did program (Ok done) (last_world world so.operations) (does store (last_world world so.operations) (get_or items at item)) store_now devices_now table_now →
     Begun does program whole world (drop (at + 1) items) store_now devices_now table_now
 each_next does program whole world items at item store devices table done store_now devices_now table_now within so other did =
     subst (λ (n : ℕ). Begun does program whole world (drop n items) store_now devices_now table_now) (let e : suc at ≡ at + 1 = omega arith in e)
     (begun_next does program whole world (drop at items) (get_or items at item) (drop (suc at) items) store devices table done store_now devices_now table_now so (drop-cons items at item within) other did)
 
-pub each_stops : {A : Type 0} (does : Roots → World → A → Effect) (program : List FileEntry) (whole : Effect) (world : World) (items : List A) (at : ℕ) (item : A) (store : Roots) (devices : List Seen) (table : List FileRow) (done : Done) (abend : Abend) (store_now : Roots) (devices_now : List Seen) (table_now : List FileRow) →
+pub each_stops : {A : Type 0} (does : Roots → World → A → Effect) (program : List FileEntry) (whole : Effect) (world : World) (items : List A) (at : ℕ) (item : A) (store : Roots) (devices : List Seen) (table : List FileRow) (done : ActOutcome) (abend : Abend) (store_now : Roots) (devices_now : List Seen) (table_now : List FileRow) →
     at < length items → (so : Begun does program whole world (drop at items) store devices table) → done ≡ Abended abend → Did program (Ok done) (last_world world so.operations) (does store (last_world world so.operations) (get_or items at item)) store_now devices_now table_now →
     Did program (Ok (Abended abend)) world whole store_now devices_now table_now
 each_stops does program whole world items at item store devices table done abend store_now devices_now table_now within so is did =
     begun_stops does program whole world (drop at items) (get_or items at item) (drop (suc at) items) store devices table abend store_now devices_now table_now so (drop-cons items at item within)
-    (subst (λ (d : Done). Did program (Ok d) (last_world world so.operations) (does store (last_world world so.operations) (get_or items at item)) store_now devices_now table_now) is did)
+    (subst (λ (d : ActOutcome). Did program (Ok d) (last_world world so.operations) (does store (last_world world so.operations) (get_or items at item)) store_now devices_now table_now) is did)
 
 -- ---- one that broke off
 
@@ -94,8 +94,8 @@ front [] (y ∷ ys) = refl
 front (x ∷ xs) ys = ap (λ l. x ∷ l) (front xs ys)
 
 -- behind those that were done
-pub each_breaks : {A : Type 0} (does : Roots → World → A → Effect) (program : List FileEntry) (whole : Effect) (world : World) (items : List A) (store : Roots) (devices : List Seen) (table : List FileRow) (fault : Fault) (left_now : ℕ) (devices_now : List Seen) (table_now : List FileRow) →
-    (so : Begun does program whole world items store devices table) → BrokeIn fault program (last_world world so.operations) left_now devices_now table_now → BreaksIn {A = Done} (Err fault) program world whole left_now devices_now table_now
+pub each_breaks : {A : Type 0} (does : Roots → World → A → Effect) (program : List FileEntry) (whole : Effect) (world : World) (items : List A) (store : Roots) (devices : List Seen) (table : List FileRow) (fault : FileFault) (left_now : ℕ) (devices_now : List Seen) (table_now : List FileRow) →
+    (so : Begun does program whole world items store devices table) → BrokeIn fault program (last_world world so.operations) left_now devices_now table_now → BreaksIn {A = ActOutcome} (Err fault) program world whole left_now devices_now table_now
 each_breaks does program whole world items store devices table fault left_now devices_now table_now so broke = (
   length so.operations,
   subst (λ (w : World). BrokeIn fault program w left_now devices_now table_now)

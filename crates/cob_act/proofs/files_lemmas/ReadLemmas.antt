@@ -11,11 +11,11 @@ use Rattle.file_model.specs.Attempts.{Attempt, read_at}
 use Rattle.file_model.specs.World.{Read, World}
 use Rattle.meanings.specs.statements.Filing.{Declared, Effect, address_at, address_by, Operation, after, into, last_world, no_effect, read_by, read_end, record_put, record_spot, settled, status_place, status_spot, then_do, with_status}
 use Rattle.meanings.specs.statements.Filing as files
-use Rattle.cob_act.specs.declared.acting.Done.{Done}
-use Rattle.cob_act.specs.declared.acting.Done.TheVariants.{Abended}
+use Rattle.cob_act.specs.declared.acting.ActOutcome.{ActOutcome}
+use Rattle.cob_act.specs.declared.acting.ActOutcome.TheVariants.{Abended}
 use Rattle.file_model.specs.operations.Seen.{Seen}
-use Rattle.cob_act.specs.declared.files.fault.Fault.{Fault}
-use Rattle.cob_act.specs.declared.files.fault.Fault.TheVariants as faults
+use Rattle.cob_act.specs.declared.files.fault.FileFault.{FileFault}
+use Rattle.cob_act.specs.declared.files.fault.FileFault.TheVariants as faults
 use Rattle.cob_act.specs.files.Ends.{ended_as}
 use Rattle.cob_act.specs.files.Over.{BreaksIn, BrokeIn, Did, EndsAs, IsOver, Tries, read_then, world_behind}
 use Rattle.cob_act.proofs.files_lemmas.DeskLemmas.{over_left}
@@ -38,7 +38,7 @@ put_record declared file before store spot attempt status bytes at is given many
 
 -- the operation as it was asked for, and the record that was put
 pub read_came : (declared : Declared) (listed : List FileEntry) (file : ℕ) (before mid : Roots) (spot : Spot) (status : ℕ) (given sent : List ℕ) (old new : List Seen) (table now : List FileRow) (world : World) → spot ≡ record_spot declared file → listed ≡ declared.files → sent ≡ given → length given ≡ spot.length →
-    (IsOver listed old table world → Tries listed (Ok status) (read_at world file (address_by (slice_get listed file)) spot.length) new now) → (IsOver listed old table world → ◌≡◌ {A = Result ℕ Fault} (Ok status) (Ok 0) → given ≡ (read_at world file (address_by (slice_get listed file)) spot.length).bytes) →
+    (IsOver listed old table world → Tries listed (Ok status) (read_at world file (address_by (slice_get listed file)) spot.length) new now) → (IsOver listed old table world → ◌≡◌ {A = Result ℕ FileFault} (Ok status) (Ok 0) → given ≡ (read_at world file (address_by (slice_get listed file)) spot.length).bytes) →
     mid ≡ (if status == 0 then put_at before spot (fitted spot.length sent) else before) → IsOver declared.files old table world →
     Tries declared.files (Ok status) (read_at world file (address_at declared file) (record_spot declared file).length) new now × (mid ≡ record_put declared file before (read_at world file (address_at declared file) (record_spot declared file).length))
 read_came declared listed file before mid spot status given sent old new table now world at is same many does came put over =
@@ -50,10 +50,10 @@ read_came declared listed file before mid spot status given sent old new table n
     tries : Tries declared.files (Ok status) attempt new now
     tries = tried_at (read_at world) declared.files listed (Ok status) file file (record_spot declared file).length spot.length old new table now world is refl (ap (λ (s : Spot). s.length) at) does over
 
-    bytes : ◌≡◌ {A = Result ℕ Fault} (Ok status) (Ok 0) → given ≡ attempt.bytes
+    bytes : ◌≡◌ {A = Result ℕ FileFault} (Ok status) (Ok 0) → given ≡ attempt.bytes
     bytes =
-        subst (λ (n : ℕ). ◌≡◌ {A = Result ℕ Fault} (Ok status) (Ok 0) → given ≡ (read_at world file (address_at declared file) n).bytes) (ap (λ (s : Spot). s.length) at)
-        (subst (λ (l : List FileEntry). IsOver l old table world → ◌≡◌ {A = Result ℕ Fault} (Ok status) (Ok 0) → given ≡ (read_at world file (address_by (slice_get l file)) spot.length).bytes) is came over)
+        subst (λ (n : ℕ). ◌≡◌ {A = Result ℕ FileFault} (Ok status) (Ok 0) → given ≡ (read_at world file (address_at declared file) n).bytes) (ap (λ (s : Spot). s.length) at)
+        (subst (λ (l : List FileEntry). IsOver l old table world → ◌≡◌ {A = Result ℕ FileFault} (Ok status) (Ok 0) → given ≡ (read_at world file (address_by (slice_get l file)) spot.length).bytes) is came over)
 
 -- ---- the ends
 
@@ -62,7 +62,7 @@ both_stop : (b : Bool) (abend : Abend) (world : World) (effect : Effect) (some n
 both_stop true abend world effect some none is = stops abend world effect (λ store later. some store) is
 both_stop false abend world effect some none is = stops abend world effect (λ store later. none store) is
 
-both_go : (b : Bool) (done : Done) (world : World) (effect : Effect) (some none : Roots → Effect) → WentOn done → ended_as done ≡ effect.end →
+both_go : (b : Bool) (done : ActOutcome) (world : World) (effect : Effect) (some none : Roots → Effect) → WentOn done → ended_as done ≡ effect.end →
     (if b then then_do world effect (λ store later. some store) else then_do world effect (λ store later. none store)) ≡ after effect.operations (if b then some effect.store else none effect.store)
 both_go true done world effect some none other is = goes_on done world effect (λ store later. some store) other is
 both_go false done world effect some none other is = goes_on done world effect (λ store later. none store) other is
@@ -93,7 +93,7 @@ read_is : (declared : Declared) (file : ℕ) (place : Option Place) (at_end arms
     read_by declared before file place at_end arms attempt ≡ read_end declared file place arms attempt.status attempt.world (settled_with declared file at_end before attempt item)
 read_is declared file place at_end arms before attempt item is = ap (read_end declared file place arms attempt.status attempt.world) (reached_to declared Read file (at_end && attempt.status == 10) before (record_put declared file before attempt) attempt item is)
 
-first_did : (declared : Declared) (program : List FileEntry) (file : ℕ) (at_end : Bool) (before mid store : Roots) (attempt : Attempt) (item : Option Spot) (status : ℕ) (done : Done) (world : World) (devices : List Seen) (table : List FileRow) →
+first_did : (declared : Declared) (program : List FileEntry) (file : ℕ) (at_end : Bool) (before mid store : Roots) (attempt : Attempt) (item : Option Spot) (status : ℕ) (done : ActOutcome) (world : World) (devices : List Seen) (table : List FileRow) →
     Tries program (Ok status) attempt devices table → mid ≡ record_put declared file before attempt → ended_as done ≡ ended_by (at_end && status == 10) item status → store ≡ with_status mid item status →
     Did program (Ok done) world (settled_with declared file at_end before attempt item) store devices table
 first_did declared program file at_end before mid store attempt item status done world devices table tries put ends same =
@@ -111,7 +111,7 @@ read_stopped declared program file place at_end arms before mid store attempt it
     did
 
 -- it went on
-pub read_went : (declared : Declared) (program : List FileEntry) (file : ℕ) (place : Option Place) (at_end arms : Bool) (before mid between store : Roots) (attempt : Attempt) (item : Option Spot) (status : ℕ) (first done : Done) (world : World) (devices : List Seen) (table : List FileRow) →
+pub read_went : (declared : Declared) (program : List FileEntry) (file : ℕ) (place : Option Place) (at_end arms : Bool) (before mid between store : Roots) (attempt : Attempt) (item : Option Spot) (status : ℕ) (first done : ActOutcome) (world : World) (devices : List Seen) (table : List FileRow) →
     Ok item ≡ status_spot declared before (status_place declared file) → Tries program (Ok status) attempt devices table → mid ≡ record_put declared file before attempt → ended_as first ≡ ended_by (at_end && status == 10) item status → between ≡ with_status mid item status →
     WentOn first → EndsAs done store (read_then declared file place arms status between) → Did program (Ok done) world (read_by declared before file place at_end arms attempt) store devices table
 read_went declared program file place at_end arms before mid between store attempt item status first done world devices table is tries put ends same other last =
@@ -129,14 +129,14 @@ behind_none world [] = refl
 behind_none world (operation ∷ operations) = refl
 
 -- nothing was done
-pub nothing_done : (fault : Fault) (program : List FileEntry) (world : World) (effect : Effect) (left : ℕ) (devices : List Seen) (table : List FileRow) → BrokeIn fault program world left devices table → BreaksIn {A = Done} (Err fault) program world effect left devices table
+pub nothing_done : (fault : FileFault) (program : List FileEntry) (world : World) (effect : Effect) (left : ℕ) (devices : List Seen) (table : List FileRow) → BrokeIn fault program world left devices table → BreaksIn {A = ActOutcome} (Err fault) program world effect left devices table
 nothing_done fault program world effect left devices table broke =
     (0, subst (λ (w : World). BrokeIn fault program w left devices table) (sym (behind_none world effect.operations)) broke)
 
 -- the record came, and what follows the status wanted memory
-pub record_came_first : (declared : Declared) (program : List FileEntry) (file : ℕ) (place : Option Place) (at_end arms : Bool) (before mid between : Roots) (attempt : Attempt) (item : Option Spot) (status : ℕ) (first : Done) (world : World) (left : ℕ) (devices : List Seen) (table : List FileRow) →
+pub record_came_first : (declared : Declared) (program : List FileEntry) (file : ℕ) (place : Option Place) (at_end arms : Bool) (before mid between : Roots) (attempt : Attempt) (item : Option Spot) (status : ℕ) (first : ActOutcome) (world : World) (left : ℕ) (devices : List Seen) (table : List FileRow) →
     Ok item ≡ status_spot declared before (status_place declared file) → Tries program (Ok status) attempt (take left devices) table → mid ≡ record_put declared file before attempt → ended_as first ≡ ended_by (at_end && status == 10) item status → between ≡ with_status mid item status →
-    WentOn first → BreaksIn {A = Done} (Err faults.NoMemory) program world (read_by declared before file place at_end arms attempt) left devices table
+    WentOn first → BreaksIn {A = ActOutcome} (Err faults.NoMemory) program world (read_by declared before file place at_end arms attempt) left devices table
 record_came_first declared program file place at_end arms before mid between attempt item status first world left devices table is tries put ends same other =
     let effect : Effect = settled_with declared file at_end before attempt item in
     let did : Did program (Ok first) world effect between (take left devices) table = first_did declared program file at_end before mid between attempt item status first world (take left devices) table tries put ends same in

@@ -5,24 +5,24 @@ use Rattle.file_model.specs.declared.table.FileRow.{FileRow}
 use Rattle.file_model.specs.operations.Calls.{addresses_of}
 use Rattle.meanings.specs.statements.Filing.{Ended}
 use Rattle.meanings.specs.statements.Filing as files
-use Rattle.cob_act.specs.declared.acting.Done.{Done}
-use Rattle.cob_act.specs.declared.acting.Done.TheVariants.{Went, Shown, Chose, Abended}
+use Rattle.cob_act.specs.declared.acting.ActOutcome.{ActOutcome}
+use Rattle.cob_act.specs.declared.acting.ActOutcome.TheVariants.{Went, Shown, Chose, Abended}
 use Rattle.file_model.specs.declared.operations.tried.Tried.{Tried}
 use Rattle.file_model.specs.declared.operations.tried.Tried.TheVariants as tried
 use Rattle.file_model.specs.operations.Seen.{Seen}
 use Rattle.file_model.specs.operations.Falling.{AreShut, LeftOf, is_used, name_behind}
-use Rattle.cob_act.specs.declared.files.fault.Fault.{Fault}
-use Rattle.cob_act.specs.declared.files.fault.Fault.TheVariants as faults
+use Rattle.cob_act.specs.declared.files.fault.FileFault.{FileFault}
+use Rattle.cob_act.specs.declared.files.fault.FileFault.TheVariants as faults
 
 -- no statement on files shows bytes
-abbrev pub ended_as : Done → Ended
+abbrev pub ended_as : ActOutcome → Ended
 ended_as Went = files.Went
 ended_as Shown = files.Went
 ended_as (Chose arm) = files.Chose arm
 ended_as (Abended abend) = files.Abended abend
 
 -- what an operation comes to, as the status of a statement or why it broke off
-abbrev pub answered : Tried → Result ℕ Fault
+abbrev pub answered : Tried → Result ℕ FileFault
 answered (tried.Status status) = Ok status
 answered tried.Failed = Err faults.Device
 answered tried.NoMemory = Err faults.NoMemory
@@ -30,19 +30,19 @@ answered tried.NoMemory = Err faults.NoMemory
 -- ---- the bench then
 
 -- the names of the devices that failed: the one that stands right behind the bench, or none
-abbrev pub gone_by : Fault → ℕ → List Seen → List (List ℕ)
+abbrev pub gone_by : FileFault → ℕ → List Seen → List (List ℕ)
 gone_by faults.Device left devices = name_behind left devices ∷ []
 gone_by faults.NoMemory left devices = []
 
 -- it broke off: a device failed, on which no file is open now, or none did
-abbrev pub BrokeOver : Fault → List FileEntry → (left left_now : ℕ) → (old new : List Seen) →
+abbrev pub BrokeOver : FileFault → List FileEntry → (left left_now : ℕ) → (old new : List Seen) →
     List FileRow → Type 0
 BrokeOver fault files left left_now old new table =
     LeftOf (is_used (addresses_of files)) (gone_by fault left_now new) left left_now old new
     × AreShut (gone_by fault left_now new) (addresses_of files) table
 
 -- where it was done no device failed
-abbrev pub DoneOver : {A : Type 0} → Result A Fault → List FileEntry → (left left_now : ℕ) →
+abbrev pub DoneOver : {A : Type 0} → Result A FileFault → List FileEntry → (left left_now : ℕ) →
     (old new : List Seen) → List FileRow → Type 0
 DoneOver (Ok a) files left left_now old new table =
     LeftOf (is_used (addresses_of files)) [] left left_now old new

@@ -11,13 +11,13 @@ use Rattle.file_model.specs.Attempts.{Attempt}
 use Rattle.file_model.specs.World.{World}
 use Rattle.meanings.specs.statements.Filing.{Chose, Declared, Effect, Operation, Went, entry_bytes, file_of, into, last_world, no_effect, status_place, status_spot}
 use Rattle.meanings.specs.statements.Outcome.{Outcome}
-use Rattle.cob_act.specs.declared.acting.Done.{Done}
+use Rattle.cob_act.specs.declared.acting.ActOutcome.{ActOutcome}
 use Rattle.file_model.specs.operations.Calls.{addresses_of}
 use Rattle.file_model.specs.operations.Seen.{Seen}
 use Rattle.file_model.specs.operations.Standing.{Stands, TellUsed}
 use Rattle.file_model.specs.operations.Shutting.{StandsLeft}
 use Rattle.cob_act.specs.files.Ends.{ended_as, gone_by}
-use Rattle.cob_act.specs.declared.files.fault.Fault.{Fault}
+use Rattle.cob_act.specs.declared.files.fault.FileFault.{FileFault}
 
 -- the devices that the files of a program use tell their files, and the files of the program stand
 -- over them in a world
@@ -29,13 +29,13 @@ pub record IsOver (files : List FileEntry) (devices : List Seen) (table : List F
   pub stands : Stands (addresses_of files) devices table world
 
 -- an operation has the status of the attempt, in its world
-abbrev pub Tries : List FileEntry → Result ℕ Fault → Attempt → List Seen → List FileRow → Type 0
+abbrev pub Tries : List FileEntry → Result ℕ FileFault → Attempt → List Seen → List FileRow → Type 0
 Tries files (Ok status) attempt devices table =
     (status ≡ attempt.status) × IsOver files devices table attempt.world
 Tries files (Err fault) attempt devices table = Unit {0}
 
 -- a statement had that effect in a world
-abbrev pub Did : List FileEntry → Result Done Fault → World → Effect → Roots → List Seen →
+abbrev pub Did : List FileEntry → Result ActOutcome FileFault → World → Effect → Roots → List Seen →
     List FileRow → Type 0
 Did files (Ok done) world effect store devices table =
     (ended_as done ≡ effect.end) × (store ≡ effect.store)
@@ -45,12 +45,13 @@ Did files (Err fault) world effect store devices table = Unit {0}
 -- ---- what breaks off
 
 -- the devices that are left have the files of the world, and what is open in it still is
-abbrev pub BrokeIn : Fault → List FileEntry → World → (left : ℕ) → List Seen → List FileRow → Type 0
+abbrev pub BrokeIn : FileFault → List FileEntry → World → (left : ℕ) → List Seen → List FileRow →
+    Type 0
 BrokeIn fault files world left devices table =
     StandsLeft (addresses_of files) (gone_by fault left devices) (take left devices) table world
 
 -- an operation that breaks off leaves the world as it was
-abbrev pub Stays : {A : Type 0} → Result A Fault → List FileEntry → World → (left : ℕ) →
+abbrev pub Stays : {A : Type 0} → Result A FileFault → List FileEntry → World → (left : ℕ) →
     List Seen → List FileRow → Type 0
 Stays (Ok a) files world left devices table = Unit {0}
 Stays (Err fault) files world left devices table = BrokeIn fault files world left devices table
@@ -60,7 +61,7 @@ abbrev pub world_behind : ℕ → World → List Operation → World
 world_behind some world operations = last_world world (take some operations)
 
 -- a statement that breaks off leaves the world after its first operations, so many
-abbrev pub BreaksIn : {A : Type 0} → Result A Fault → List FileEntry → World → Effect →
+abbrev pub BreaksIn : {A : Type 0} → Result A FileFault → List FileEntry → World → Effect →
     (left : ℕ) → List Seen → List FileRow → Type 0
 BreaksIn (Ok a) files world effect left devices table = Unit {0}
 BreaksIn (Err fault) files world effect left devices table = (some : ℕ)
@@ -69,7 +70,7 @@ BreaksIn (Err fault) files world effect left devices table = (some : ℕ)
 -- ---- parts that ask no device
 
 -- it ended so in a store, without an operation
-pub record EndsAs (done : Done) (store : Roots) (effect : Effect) : Type 0 where
+pub record EndsAs (done : ActOutcome) (store : Roots) (effect : Effect) : Type 0 where
   pub end : ended_as done ≡ effect.end
   pub same : store ≡ effect.store
   pub none : effect.operations ≡ []

@@ -9,9 +9,9 @@ ghost use Rattle.meanings.specs.statements.Filing.{Chose, Went, address_by, each
 ghost use Rattle.cob_act.specs.files.Ends.{DoneOver, ended_as};
 ghost use Rattle.cob_act.specs.files.Over.{BreaksIn, Did, EndsAs, IsOver, PutsOut, Stays, Tries, read_then};
 
-use crate::Done;
+use crate::ActOutcome;
 use crate::files::desk::{close, open, read, rewrite, write};
-use crate::files::fault::Fault;
+use crate::files::fault::FileFault;
 use crate::files::record::{file_of, moved_into, moved_out, record_spot, take_record};
 use crate::files::status::{settled, status_spot};
 use cob_base::NoMemory;
@@ -29,7 +29,7 @@ fn opened(
     bench: &mut Bench,
     table: &mut FileTable,
     opening: Opening,
-) -> Result<Done, Fault>
+) -> Result<ActOutcome, FileFault>
     ensures bench { DoneOver result program.now.files bench.old.left bench.new.left
         (map ⟦<Box<dyn Device> as Watched>⟧.seen bench.old.devices.items)
         (map ⟦<Box<dyn Device> as Watched>⟧.seen bench.new.devices.items) table.new.rows }
@@ -48,7 +48,7 @@ fn opened(
         (map ⟦<Box<dyn Device> as Watched>⟧.seen bench.new.devices.items) table.new.rows }
 {
     match status_spot(program, areas, store, opening.file) {
-        Err(abend) => Ok(Done::Abended(abend)),
+        Err(abend) => Ok(ActOutcome::Abended(abend)),
         Ok(item) => {
             let status = open(bench, table, program.files.as_slice(), opening)?;
             Ok(settled(store, item, false, status))
@@ -64,7 +64,7 @@ pub fn all_opened(
     bench: &mut Bench,
     table: &mut FileTable,
     openings: &[Opening],
-) -> Result<Done, Fault>
+) -> Result<ActOutcome, FileFault>
     requires within { bench.old.left ≤ vec_len bench.old.devices }
     ensures bench { DoneOver result program.now.files bench.old.left bench.new.left
         (map ⟦<Box<dyn Device> as Watched>⟧.seen bench.old.devices.items)
@@ -86,11 +86,11 @@ pub fn all_opened(
         (map ⟦<Box<dyn Device> as Watched>⟧.seen bench.new.devices.items) table.new.rows }
 {
     for opening in openings {
-        if let Done::Abended(abend) = opened(program, areas, store, bench, table, *opening)? {
-            return Ok(Done::Abended(abend));
+        if let ActOutcome::Abended(abend) = opened(program, areas, store, bench, table, *opening)? {
+            return Ok(ActOutcome::Abended(abend));
         }
     }
-    Ok(Done::Went)
+    Ok(ActOutcome::Went)
 }
 
 // CLOSE of one file.
@@ -102,7 +102,7 @@ fn shut(
     bench: &mut Bench,
     table: &mut FileTable,
     file: u32,
-) -> Result<Done, Fault>
+) -> Result<ActOutcome, FileFault>
     ensures bench { DoneOver result program.now.files bench.old.left bench.new.left
         (map ⟦<Box<dyn Device> as Watched>⟧.seen bench.old.devices.items)
         (map ⟦<Box<dyn Device> as Watched>⟧.seen bench.new.devices.items) table.new.rows }
@@ -121,7 +121,7 @@ fn shut(
         (map ⟦<Box<dyn Device> as Watched>⟧.seen bench.new.devices.items) table.new.rows }
 {
     match status_spot(program, areas, store, file) {
-        Err(abend) => Ok(Done::Abended(abend)),
+        Err(abend) => Ok(ActOutcome::Abended(abend)),
         Ok(item) => {
             let status = close(bench, table, program.files.as_slice(), file)?;
             Ok(settled(store, item, false, status))
@@ -137,7 +137,7 @@ pub fn all_shut(
     bench: &mut Bench,
     table: &mut FileTable,
     files: &[u32],
-) -> Result<Done, Fault>
+) -> Result<ActOutcome, FileFault>
     requires within { bench.old.left ≤ vec_len bench.old.devices }
     ensures bench { DoneOver result program.now.files bench.old.left bench.new.left
         (map ⟦<Box<dyn Device> as Watched>⟧.seen bench.old.devices.items)
@@ -159,11 +159,11 @@ pub fn all_shut(
         (map ⟦<Box<dyn Device> as Watched>⟧.seen bench.new.devices.items) table.new.rows }
 {
     for file in files {
-        if let Done::Abended(abend) = shut(program, areas, store, bench, table, *file)? {
-            return Ok(Done::Abended(abend));
+        if let ActOutcome::Abended(abend) = shut(program, areas, store, bench, table, *file)? {
+            return Ok(ActOutcome::Abended(abend));
         }
     }
-    Ok(Done::Went)
+    Ok(ActOutcome::Went)
 }
 
 fn make_room(scratch: &mut Vec<u8>, size: usize) -> Result<(), NoMemory>
@@ -176,7 +176,7 @@ fn make_room(scratch: &mut Vec<u8>, size: usize) -> Result<(), NoMemory>
 
 /// READ, as its program has it.
 #[derive(Clone, Copy)]
-pub struct Reading<'a> {
+pub struct ReadRequest<'a> {
     pub file: u32,
     pub into: Option<&'a Place>,
     /// It has AT END.
@@ -195,10 +195,14 @@ fn record_put(store: &mut Store, spot: Spot, status: u8, bytes: &[u8])
     }
 }
 
-fn chosen(arms: bool, arm: usize) -> Done
+fn chosen(arms: bool, arm: usize) -> ActOutcome
     ensures { ended_as result ≡ (if arms then Chose arm else Went) }
 {
-    if arms { Done::Chose(arm) } else { Done::Went }
+    if arms {
+        ActOutcome::Chose(arm)
+    } else {
+        ActOutcome::Went
+    }
 }
 
 // What follows the status: INTO where a record came, and an arm where there are arms.
@@ -207,9 +211,9 @@ fn read_end(
     areas: &Areas,
     store: &mut Store,
     scratch: &mut Vec<u8>,
-    reading: Reading,
+    reading: ReadRequest,
     status: u8,
-) -> Result<Done, NoMemory>
+) -> Result<ActOutcome, NoMemory>
     ensures { IfOk result (λ done. EndsAs done store.new
         (read_then (declared_with program.now areas.now) reading.entry.file
         (option_copied reading.entry.into) reading.entry.arms status store.old)) }
@@ -218,7 +222,7 @@ fn read_end(
         return Ok(chosen(reading.arms, 1));
     }
     match moved_into(program, areas, store, scratch, reading.file, reading.into)? {
-        Err(abend) => Ok(Done::Abended(abend)),
+        Err(abend) => Ok(ActOutcome::Abended(abend)),
         Ok(()) => Ok(chosen(reading.arms, 2)),
     }
 }
@@ -231,7 +235,7 @@ fn next_record(
     file: u32,
     scratch: &mut Vec<u8>,
     size: usize,
-) -> Result<u8, Fault>
+) -> Result<u8, FileFault>
     ensures bench { DoneOver result files.now bench.old.left bench.new.left
         (map ⟦<Box<dyn Device> as Watched>⟧.seen bench.old.devices.items)
         (map ⟦<Box<dyn Device> as Watched>⟧.seen bench.new.devices.items) table.new.rows }
@@ -274,8 +278,8 @@ pub fn read_one(
     scratch: &mut Vec<u8>,
     bench: &mut Bench,
     table: &mut FileTable,
-    reading: Reading,
-) -> Result<Done, Fault>
+    reading: ReadRequest,
+) -> Result<ActOutcome, FileFault>
     requires within { bench.old.left ≤ vec_len bench.old.devices }
     ensures bench { DoneOver result program.now.files bench.old.left bench.new.left
         (map ⟦<Box<dyn Device> as Watched>⟧.seen bench.old.devices.items)
@@ -299,7 +303,7 @@ pub fn read_one(
         (map ⟦<Box<dyn Device> as Watched>⟧.seen bench.new.devices.items) table.new.rows }
 {
     let item = match status_spot(program, areas, store, reading.file) {
-        Err(abend) => return Ok(Done::Abended(abend)),
+        Err(abend) => return Ok(ActOutcome::Abended(abend)),
         Ok(item) => item,
     };
     let spot = record_spot(program, areas, reading.file);
@@ -315,7 +319,7 @@ pub fn read_one(
     record_put(store, spot, status, scratch.as_slice());
     let cared = is_cared(reading.at_end, status);
     match settled(store, item, cared, status) {
-        Done::Abended(abend) => Ok(Done::Abended(abend)),
+        ActOutcome::Abended(abend) => Ok(ActOutcome::Abended(abend)),
         _ => Ok(read_end(program, areas, store, scratch, reading, status)?),
     }
 }
@@ -353,7 +357,7 @@ pub fn written(
     table: &mut FileTable,
     entry: u32,
     from: Option<&Operand>,
-) -> Result<Done, Fault>
+) -> Result<ActOutcome, FileFault>
     requires within { bench.old.left ≤ vec_len bench.old.devices }
     ensures bench { DoneOver result program.now.files bench.old.left bench.new.left
         (map ⟦<Box<dyn Device> as Watched>⟧.seen bench.old.devices.items)
@@ -377,7 +381,7 @@ pub fn written(
         (map ⟦<Box<dyn Device> as Watched>⟧.seen bench.new.devices.items) table.new.rows }
 {
     match put_out(program, areas, store, scratch, entry, from)? {
-        Err(abend) => Ok(Done::Abended(abend)),
+        Err(abend) => Ok(ActOutcome::Abended(abend)),
         Ok(item) => {
             let file = file_of(program, areas, entry);
             let files = program.files.as_slice();
@@ -398,7 +402,7 @@ pub fn rewritten(
     table: &mut FileTable,
     entry: u32,
     from: Option<&Operand>,
-) -> Result<Done, Fault>
+) -> Result<ActOutcome, FileFault>
     requires within { bench.old.left ≤ vec_len bench.old.devices }
     ensures bench { DoneOver result program.now.files bench.old.left bench.new.left
         (map ⟦<Box<dyn Device> as Watched>⟧.seen bench.old.devices.items)
@@ -422,7 +426,7 @@ pub fn rewritten(
         (map ⟦<Box<dyn Device> as Watched>⟧.seen bench.new.devices.items) table.new.rows }
 {
     match put_out(program, areas, store, scratch, entry, from)? {
-        Err(abend) => Ok(Done::Abended(abend)),
+        Err(abend) => Ok(ActOutcome::Abended(abend)),
         Ok(item) => {
             let file = file_of(program, areas, entry);
             let files = program.files.as_slice();

@@ -11,18 +11,18 @@ ghost use Rattle.meanings.specs.statements.Filing.{address_by};
 ghost use Rattle.cob_act.specs.files.Ends.{DoneOver, answered};
 ghost use Rattle.cob_act.specs.files.Over.{IsOver, Stays, Tries};
 
-use crate::files::fault::Fault;
+use crate::files::fault::FileFault;
 use cob_tree::{FileEntry, Opening};
 use file_model::operations::{Tried, Watched};
 use file_model::{Bench, Device, FileTable};
 
-fn status_of(tried: Tried) -> Result<u8, Fault>
+fn status_of(tried: Tried) -> Result<u8, FileFault>
     ensures { result ≡ answered tried }
 {
     match tried {
         Tried::Status(status) => Ok(status),
-        Tried::Failed => Err(Fault::Device),
-        Tried::NoMemory => Err(Fault::NoMemory),
+        Tried::Failed => Err(FileFault::Device),
+        Tried::NoMemory => Err(FileFault::NoMemory),
     }
 }
 
@@ -52,7 +52,7 @@ pub fn open(
     table: &mut FileTable,
     files: &[FileEntry],
     opening: Opening,
-) -> Result<u8, Fault>
+) -> Result<u8, FileFault>
     ensures bench { DoneOver result files.now bench.old.left bench.new.left
         (map ⟦<Box<dyn Device> as Watched>⟧.seen bench.old.devices.items)
         (map ⟦<Box<dyn Device> as Watched>⟧.seen bench.new.devices.items) table.new.rows }
@@ -81,7 +81,7 @@ pub fn close(
     table: &mut FileTable,
     files: &[FileEntry],
     file: u32,
-) -> Result<u8, Fault>
+) -> Result<u8, FileFault>
     ensures bench { DoneOver result files.now bench.old.left bench.new.left
         (map ⟦<Box<dyn Device> as Watched>⟧.seen bench.old.devices.items)
         (map ⟦<Box<dyn Device> as Watched>⟧.seen bench.new.devices.items) table.new.rows }
@@ -110,7 +110,7 @@ pub fn read(
     files: &[FileEntry],
     file: u32,
     into: &mut [u8],
-) -> Result<u8, Fault>
+) -> Result<u8, FileFault>
     ensures bench { DoneOver result files.now bench.old.left bench.new.left
         (map ⟦<Box<dyn Device> as Watched>⟧.seen bench.old.devices.items)
         (map ⟦<Box<dyn Device> as Watched>⟧.seen bench.new.devices.items) table.new.rows }
@@ -145,7 +145,7 @@ pub fn write(
     files: &[FileEntry],
     file: u32,
     bytes: &[u8],
-) -> Result<u8, Fault>
+) -> Result<u8, FileFault>
     ensures bench { DoneOver result files.now bench.old.left bench.new.left
         (map ⟦<Box<dyn Device> as Watched>⟧.seen bench.old.devices.items)
         (map ⟦<Box<dyn Device> as Watched>⟧.seen bench.new.devices.items) table.new.rows }
@@ -175,7 +175,7 @@ pub fn rewrite(
     files: &[FileEntry],
     file: u32,
     bytes: &[u8],
-) -> Result<u8, Fault>
+) -> Result<u8, FileFault>
     ensures bench { DoneOver result files.now bench.old.left bench.new.left
         (map ⟦<Box<dyn Device> as Watched>⟧.seen bench.old.devices.items)
         (map ⟦<Box<dyn Device> as Watched>⟧.seen bench.new.devices.items) table.new.rows }

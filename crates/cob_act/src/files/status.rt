@@ -5,7 +5,7 @@ ghost use Rattle.meanings.specs.statements.Does.{declared_with};
 ghost use Rattle.meanings.specs.statements.Filing.{always_ends, end_by, status_bytes, status_by, status_place, status_spot, with_status};
 ghost use Rattle.cob_act.specs.files.Ends.{ended_as};
 
-use crate::Done;
+use crate::ActOutcome;
 use cob_store::{Areas, Spot, Store};
 use cob_tree::{Abend, FileEntry, Place, Program};
 
@@ -69,18 +69,18 @@ fn always_ends(status: u8) -> bool
 }
 
 // A status other than 00 that nothing takes care of ends the run.
-fn end_by(cared: bool, status: u8) -> Done
+fn end_by(cared: bool, status: u8) -> ActOutcome
     ensures { ended_as result ≡ end_by cared status }
 {
     if status == 0 || cared {
-        Done::Went
+        ActOutcome::Went
     } else {
-        Done::Abended(Abend::Io(status))
+        ActOutcome::Abended(Abend::Io(status))
     }
 }
 
 /// The status is stored, and then it ends so.
-pub fn settled(store: &mut Store, item: Option<Spot>, cared: bool, status: u8) -> Done
+pub fn settled(store: &mut Store, item: Option<Spot>, cared: bool, status: u8) -> ActOutcome
     ensures end { ended_as result
         ≡ end_by ((is_some item || cared) && not (always_ends status)) status }
     ensures store { store.new ≡ with_status store.old item status }

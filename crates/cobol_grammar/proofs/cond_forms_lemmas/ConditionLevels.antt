@@ -20,7 +20,7 @@ use Rattle.cobol_grammar.proofs.expr_forms_lemmas.ExpressionLaws as expr_law
 use Rattle.cobol_grammar.proofs.expr_forms_lemmas.ExpressionLevels as level
 use Rattle.cobol_grammar.proofs.expr_forms_lemmas.ExpressionLevels.{InnerDeepens, eased, one_more}
 use Rattle.cobol_grammar.specs.declared.cond_forms.part.Joined.{Joined}
-use Rattle.cobol_grammar.specs.declared.cond_forms.part.Part.{Part}
+use Rattle.cobol_grammar.specs.declared.cond_forms.part.SimpleCond.{SimpleCond}
 use Rattle.cobol_grammar.specs.declared.cond_forms.test.Primary.{Primary}
 use Rattle.cobol_grammar.specs.declared.cond_forms.test.Primary.TheVariants as prims
 use Rattle.cobol_grammar.specs.declared.cond_forms.test.Read.{Read}
@@ -133,7 +133,7 @@ module _ (names : Names) {less more : Inner} (I : InnerDeepens less more) where
         (negs.prim_part names more d negated setting count)
     unfolding negs.prim_part
     prim_part negated setting count = prim count >>=
-        (λ read. same (law.part_by negated setting read.prim read.count read.not_read))
+        (λ read. same (law.part_by negated setting read.prim read.count read.pending_not))
 
     behind_not : (setting : Option Setting) (count : ℕ) →
         Deepens (levels_of Parens) true (negs.behind_not names less c setting count)
@@ -176,11 +176,11 @@ module _ (names : Names) {less more : Inner} (I : InnerDeepens less more) where
     join : (state : Joined) → Deepens (levels_of Parens) true (conditions.join names less c state)
         (conditions.join names more d state)
     unfolding conditions.join
-    join state = chosen state.part.not_read (same refuse)
+    join state = chosen state.part.pending_not (same refuse)
         (where_next (and_part _ _ state.part.setting state.part.count)
         (or_part _ _ state.part.setting state.part.count))
 
-    conds_from : (first : Part) →
+    conds_from : (first : SimpleCond) →
         Deepens (levels_of Parens) false (conditions.conds_from names less c first)
         (conditions.conds_from names more d first)
     unfolding conditions.conds_from
@@ -192,29 +192,29 @@ module _ (names : Names) {less more : Inner} (I : InnerDeepens less more) where
     unfolding conditions.cond_with
     cond_with count = neg None count >>= conds_from
 
-    content_from : (first : Part) →
+    content_from : (first : SimpleCond) →
         Deepens (levels_of Parens) true (conditions.content_from names less c first)
         (conditions.content_from names more d first)
     unfolding conditions.content_from
     content_from first = conds_from first >>= (λ part. same (law.close_cond part))
 
-    alone_content : (side : Side) (count : ℕ) (not_read : Bool) →
+    alone_content : (side : Side) (count : ℕ) (pending_not : Bool) →
         Deepens (levels_of Parens) true
-        (conditions.alone_content names less c side count not_read)
-        (conditions.alone_content names more d side count not_read)
+        (conditions.alone_content names less c side count pending_not)
+        (conditions.alone_content names more d side count pending_not)
     unfolding conditions.alone_content
-    alone_content side count not_read = same
-        (law.alone_part false None side count not_read) >>= content_from
+    alone_content side count pending_not = same
+        (law.alone_part false None side count pending_not) >>= content_from
 
-    content_by : (position : Position) (prim : Primary) (count : ℕ) (not_read : Bool) →
+    content_by : (position : Position) (prim : Primary) (count : ℕ) (pending_not : Bool) →
         Deepens (levels_of Parens) true
-        (conditions.content_by names less c position prim count not_read)
-        (conditions.content_by names more d position prim count not_read)
+        (conditions.content_by names less c position prim count pending_not)
+        (conditions.content_by names more d position prim count pending_not)
     unfolding conditions.content_by
     content_by position (prims.Alone side) count false = where_next (same
         (law.close_side position side count)) (alone_content side count false)
     content_by position (prims.Alone side) count true = alone_content side count true
-    content_by position (prims.Test cond after) count not_read = content_from _
+    content_by position (prims.Test cond after) count pending_not = content_from _
 
     neg_content : (count : ℕ) →
         Deepens (levels_of Parens) true (conditions.neg_content names less c count)
@@ -227,7 +227,7 @@ module _ (names : Names) {less more : Inner} (I : InnerDeepens less more) where
         (conditions.prim_content names more d position count)
     unfolding conditions.prim_content
     prim_content position count = prim count >>=
-        (λ read. content_by position read.prim read.count read.not_read)
+        (λ read. content_by position read.prim read.count read.pending_not)
 
     in_content : (count : ℕ) →
         Deepens (levels_of Parens) true (conditions.in_content names less c count)

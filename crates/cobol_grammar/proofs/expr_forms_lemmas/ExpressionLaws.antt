@@ -8,12 +8,12 @@ use Rattle.parser_combinators.specs.declared.note.Position.{Position}
 use Rattle.parser_combinators.specs.declared.why.Why.TheVariants.{Terms}
 use Rattle.parser_combinators.proofs.MakerLaws.{Law, pure, refuse, note, one, key, mark, digits, chosen, where_next, loop, many, added, loose, too_deep, unless, ◌>>=◌, ◌>>◌}
 use Rattle.parser_combinators.proofs.words_lemmas.WordLaws.{name, literal}
-use Rattle.symbol_tables.specs.declared.data_names.name.Found.{Found}
+use Rattle.symbol_tables.specs.declared.data_names.name.Referent.{Referent}
 use Rattle.symbol_tables.specs.data_names.Names.{Names}
 use Rattle.cobol_grammar.specs.declared.expr_forms.chain.Chain.{Chain}
-use Rattle.cobol_grammar.specs.declared.expr_forms.either.Either.{Either}
-use Rattle.cobol_grammar.specs.declared.expr_forms.front.Front.{Front}
-use Rattle.cobol_grammar.specs.declared.expr_forms.front.Front.TheVariants as fronts
+use Rattle.cobol_grammar.specs.declared.expr_forms.either.MaybeSubscripts.{MaybeSubscripts}
+use Rattle.cobol_grammar.specs.declared.expr_forms.front.FirstInParens.{FirstInParens}
+use Rattle.cobol_grammar.specs.declared.expr_forms.front.FirstInParens.TheVariants as fronts
 use Rattle.cobol_grammar.specs.declared.expr_forms.side.Side.{Side}
 use Rattle.cobol_grammar.specs.declared.expr_forms.reference.Suffix.{Suffix}
 use Rattle.cobol_grammar.specs.declared.expr_forms.reference.Suffix.TheVariants as suffixes
@@ -34,7 +34,7 @@ pub record InnerLaw (inner : Inner) : Type 0 where
   pub suffix : (count : ℕ) → Law true (inner.suffix count)
   pub window : (count : ℕ) → Law true (inner.window count)
 
-pub tally : (count more : ℕ) → Law false (limits.tally count more)
+pub tally : (count more : ℕ) → Law false (limits.count_terms count more)
 tally count more = unless Terms (nat_lt max_terms (count + more)) (count + more)
 
 pub operator : Law true expressions.operator
@@ -64,7 +64,7 @@ behind I count =
     where_next (loose (I.suffix count >>= (λ suffix. more_behind I suffix.0 suffix.1))) pure
 
 pub ref_behind : {inner : Inner} → InnerLaw inner →
-    (found : Found) (of : List (List ℕ)) (position : Position) (count : ℕ) →
+    (found : Referent) (of : List (List ℕ)) (position : Position) (count : ℕ) →
     Law false (references.ref_behind inner found of position count)
 unfolding references.ref_behind
 ref_behind I found of position count = do
@@ -269,48 +269,48 @@ first_front names I count =
     where_next (plus_front names I count) (where_next digits_front (other_front names I count))
 
 pub decided : (names : Names) {inner : Inner} → InnerLaw inner →
-    (count : ℕ) (e : Either) (op : Op) → Law true (front_forms.decided names inner count e op)
+    (count : ℕ) (e : MaybeSubscripts) (op : Op) → Law true (front_forms.decided names inner count e op)
 unfolding front_forms.decided
 decided names I count e op = do
   more ← tally count e.leaves
   state ← operated names I op e.chain more
   pure
 
-pub number_turn : (op : Op) (negative : Bool) (e : Either) →
+pub number_turn : (op : Op) (negative : Bool) (e : MaybeSubscripts) →
     Law true (front_forms.number_turn op negative e)
 unfolding front_forms.number_turn
 number_turn op negative e = digits >>= (λ found. note >> pure)
 
 pub number_or_decided : (names : Names) {inner : Inner} → InnerLaw inner →
-    (count : ℕ) (e : Either) (op : Op) (negative : Bool) →
+    (count : ℕ) (e : MaybeSubscripts) (op : Op) (negative : Bool) →
     Law true (front_forms.number_or_decided names inner count e op negative)
 unfolding front_forms.number_or_decided
 number_or_decided names I count e op negative =
     where_next (number_turn op negative e) (decided names I count e op)
 
-pub plus_turn : (names : Names) {inner : Inner} → InnerLaw inner → (count : ℕ) (e : Either) →
+pub plus_turn : (names : Names) {inner : Inner} → InnerLaw inner → (count : ℕ) (e : MaybeSubscripts) →
     Law true (front_forms.plus_turn names inner count e)
 unfolding front_forms.plus_turn
 plus_turn names I count e = mark plus_sign >> number_or_decided names I count e _ false
 
-pub minus_behind : (names : Names) {inner : Inner} → InnerLaw inner → (count : ℕ) (e : Either) →
+pub minus_behind : (names : Names) {inner : Inner} → InnerLaw inner → (count : ℕ) (e : MaybeSubscripts) →
     Law true (front_forms.minus_behind names inner count e)
 unfolding front_forms.minus_behind
 minus_behind names I count e =
     chosen (front_forms.takes_minus e) (number_or_decided names I count e _ true)
     (decided names I count e _)
 
-pub minus_turn : (names : Names) {inner : Inner} → InnerLaw inner → (count : ℕ) (e : Either) →
+pub minus_turn : (names : Names) {inner : Inner} → InnerLaw inner → (count : ℕ) (e : MaybeSubscripts) →
     Law true (front_forms.minus_turn names inner count e)
 unfolding front_forms.minus_turn
 minus_turn names I count e = mark hyphen >> minus_behind names I count e
 
-pub factor_turn : (names : Names) {inner : Inner} → InnerLaw inner → (count : ℕ) (e : Either) →
+pub factor_turn : (names : Names) {inner : Inner} → InnerLaw inner → (count : ℕ) (e : MaybeSubscripts) →
     Law true (front_forms.factor_turn names inner count e)
 unfolding front_forms.factor_turn
 factor_turn names I count e = operator >>= (λ op. decided names I count e op)
 
-pub front_turn : (names : Names) {inner : Inner} → InnerLaw inner → (count : ℕ) (front : Front) →
+pub front_turn : (names : Names) {inner : Inner} → InnerLaw inner → (count : ℕ) (front : FirstInParens) →
     Law true (front_forms.front_turn names inner count front)
 unfolding front_forms.front_turn
 front_turn names I count (fronts.Sum chain more) = turn names I (chain, more) >>= (λ state. pure)
@@ -324,7 +324,7 @@ pub window_suffix : (names : Names) {inner : Inner} → InnerLaw inner →
 window_suffix names I alone first count =
     window_behind names I alone first count >>= (λ window. pure)
 
-pub subs_suffix : (names : Names) (count : ℕ) (e : Either) →
+pub subs_suffix : (names : Names) (count : ℕ) (e : MaybeSubscripts) →
     Law true (front_forms.subs_suffix names count e)
 unfolding front_forms.subs_suffix
 subs_suffix names count e = do
@@ -334,7 +334,7 @@ subs_suffix names count e = do
   pure
 
 pub front_end : (names : Names) {inner : Inner} → InnerLaw inner →
-    (alone : Bool) (count : ℕ) (front : Front) →
+    (alone : Bool) (count : ℕ) (front : FirstInParens) →
     Law true (front_forms.front_end names inner alone count front)
 unfolding front_forms.front_end
 front_end names I alone count (fronts.Sum chain more) = window_suffix names I alone _ more

@@ -16,12 +16,12 @@ use Rattle.parser_combinators.proofs.MakerLaws as laws
 use Rattle.parser_combinators.proofs.MakerLaws.{Law, pure, refuse, note, mark, too_deep}
 use Rattle.parser_combinators.proofs.Deeper.{Deepens, same, chosen, where_next, loop, shorter, ◌>>=◌, ◌>>◌}
 use Rattle.parser_combinators.proofs.words_lemmas.WordLaws.{name}
-use Rattle.symbol_tables.specs.declared.data_names.name.Found.{Found}
+use Rattle.symbol_tables.specs.declared.data_names.name.Referent.{Referent}
 use Rattle.symbol_tables.specs.data_names.Names.{Names}
 use Rattle.cobol_grammar.specs.declared.expr_forms.chain.Chain.{Chain}
-use Rattle.cobol_grammar.specs.declared.expr_forms.either.Either.{Either}
-use Rattle.cobol_grammar.specs.declared.expr_forms.front.Front.{Front}
-use Rattle.cobol_grammar.specs.declared.expr_forms.front.Front.TheVariants as fronts
+use Rattle.cobol_grammar.specs.declared.expr_forms.either.MaybeSubscripts.{MaybeSubscripts}
+use Rattle.cobol_grammar.specs.declared.expr_forms.front.FirstInParens.{FirstInParens}
+use Rattle.cobol_grammar.specs.declared.expr_forms.front.FirstInParens.TheVariants as fronts
 use Rattle.cobol_grammar.specs.declared.expr_forms.side.Side.{Side}
 use Rattle.cobol_grammar.specs.declared.expr_forms.reference.Suffix.{Suffix}
 use Rattle.cobol_grammar.specs.declared.expr_forms.reference.Suffix.TheVariants as suffixes
@@ -89,7 +89,7 @@ module _ (names : Names) {less more : Inner} (I : InnerDeepens less more) where
   behind count = where_next (eased (I.suffix count >>=
       (λ suffix. more_behind suffix.0 suffix.1))) (same pure)
 
-  ref_behind : (found : Found) (of : List (List ℕ)) (position : Position) (count : ℕ) →
+  ref_behind : (found : Referent) (of : List (List ℕ)) (position : Position) (count : ℕ) →
       Deepens (levels_of Parens) false (references.ref_behind less found of position count)
       (references.ref_behind more found of position count)
   unfolding references.ref_behind
@@ -253,7 +253,7 @@ module _ (names : Names) {less more : Inner} (I : InnerDeepens less more) where
   first_front count = where_next (plus_front count) (where_next (same law.digits_front)
       (other_front count))
 
-  decided : (count : ℕ) (e : Either) (op : Op) →
+  decided : (count : ℕ) (e : MaybeSubscripts) (op : Op) →
       Deepens (levels_of Parens) true (front_forms.decided names less count e op)
       (front_forms.decided names more count e op)
   unfolding front_forms.decided
@@ -262,7 +262,7 @@ module _ (names : Names) {less more : Inner} (I : InnerDeepens less more) where
     state ← operated op e.chain sum
     same pure
 
-  number_or_decided : (count : ℕ) (e : Either) (op : Op) (negative : Bool) →
+  number_or_decided : (count : ℕ) (e : MaybeSubscripts) (op : Op) (negative : Bool) →
       Deepens (levels_of Parens) true
       (front_forms.number_or_decided names less count e op negative)
       (front_forms.number_or_decided names more count e op negative)
@@ -270,32 +270,32 @@ module _ (names : Names) {less more : Inner} (I : InnerDeepens less more) where
   number_or_decided count e op negative = where_next (same (law.number_turn op negative e))
       (decided count e op)
 
-  plus_turn : (count : ℕ) (e : Either) →
+  plus_turn : (count : ℕ) (e : MaybeSubscripts) →
       Deepens (levels_of Parens) true (front_forms.plus_turn names less count e)
       (front_forms.plus_turn names more count e)
   unfolding front_forms.plus_turn
   plus_turn count e = same (mark plus_sign) >> number_or_decided count e _ false
 
-  minus_behind : (count : ℕ) (e : Either) →
+  minus_behind : (count : ℕ) (e : MaybeSubscripts) →
       Deepens (levels_of Parens) true (front_forms.minus_behind names less count e)
       (front_forms.minus_behind names more count e)
   unfolding front_forms.minus_behind
   minus_behind count e = chosen (front_forms.takes_minus e) (number_or_decided count e _ true)
       (decided count e _)
 
-  minus_turn : (count : ℕ) (e : Either) →
+  minus_turn : (count : ℕ) (e : MaybeSubscripts) →
       Deepens (levels_of Parens) true (front_forms.minus_turn names less count e)
       (front_forms.minus_turn names more count e)
   unfolding front_forms.minus_turn
   minus_turn count e = same (mark hyphen) >> minus_behind count e
 
-  factor_turn : (count : ℕ) (e : Either) →
+  factor_turn : (count : ℕ) (e : MaybeSubscripts) →
       Deepens (levels_of Parens) true (front_forms.factor_turn names less count e)
       (front_forms.factor_turn names more count e)
   unfolding front_forms.factor_turn
   factor_turn count e = same law.operator >>= (λ op. decided count e op)
 
-  front_turn : (count : ℕ) (front : Front) →
+  front_turn : (count : ℕ) (front : FirstInParens) →
       Deepens (levels_of Parens) true (front_forms.front_turn names less count front)
       (front_forms.front_turn names more count front)
   unfolding front_forms.front_turn
@@ -308,7 +308,7 @@ module _ (names : Names) {less more : Inner} (I : InnerDeepens less more) where
       (front_forms.window_suffix names more alone first count)
   window_suffix alone first count = window_behind alone first count >>= (λ window. same pure)
 
-  front_end : (alone : Bool) (count : ℕ) (front : Front) →
+  front_end : (alone : Bool) (count : ℕ) (front : FirstInParens) →
       Deepens (levels_of Parens) true (front_forms.front_end names less alone count front)
       (front_forms.front_end names more alone count front)
   unfolding front_forms.front_end

@@ -60,9 +60,9 @@ module _ {e f : Form (Unit {0})} (E : Adds false e f) where
   unfolding arms.behind_not arms.own_words
   behind_not phrase has_first = where_next (loose (chosen has_first (same (laws.phrase_words phrase)) (entering_words phrase) >> same pure)) (same pure)
 
-  not_phrase : (phrase : Phrase) (has_first not_read : Bool) → Adds false (arms.not_phrase phrase e has_first not_read) (arms.not_phrase phrase f has_first not_read)
+  not_phrase : (phrase : Phrase) (has_first pending_not : Bool) → Adds false (arms.not_phrase phrase e has_first pending_not) (arms.not_phrase phrase f has_first pending_not)
   unfolding arms.not_phrase arms.not_or_none
-  not_phrase phrase has_first not_read = chosen not_read (behind_not phrase has_first) (where_next (loose (same (key (codes "NOT")) >> behind_not phrase has_first)) (same pure))
+  not_phrase phrase has_first pending_not = chosen pending_not (behind_not phrase has_first) (where_next (loose (same (key (codes "NOT")) >> behind_not phrase has_first)) (same pure))
 
 -- ---- what is held
 
@@ -117,7 +117,7 @@ module _ {k l : Level} (L : LevelAdds k l) where
 
   perform_by : (scope : Scope) (head : PerformHead) → Adds false (loops.perform_by k scope head) (loops.perform_by l scope head)
   unfolding loops.perform_by loops.loop_body
-  perform_by scope (heads.Whole stmt not_read) = same pure
+  perform_by scope (heads.Whole stmt pending_not) = same pure
   perform_by scope (heads.Inline control) = loose (L.stmts (loops.looped scope) >>= (λ held. loop_end control held))
 
 module _ {Side Known : Type 0} {parts : Parts Side Known} (P : PartsAreLawful parts) where
@@ -189,7 +189,7 @@ module _ {Side Known : Type 0} {parts : Parts Side Known} (P : PartsAreLawful pa
 
     whens_turn : (scope : Scope) (known : Option Known) (state : Whens) → Adds true (choice.whens_turn parts k scope known state) (choice.whens_turn parts l scope known state)
     unfolding choice.whens_turn
-    whens_turn scope known state = chosen (state.other || state.not_read) (same refuse) (when_next scope known state.whens)
+    whens_turn scope known state = chosen (state.other || state.pending_not) (same refuse) (when_next scope known state.whens)
 
     whens : (scope : Scope) (known : Option Known) → Adds true (choice.whens parts k scope known) (choice.whens parts l scope known)
     unfolding choice.whens
@@ -227,8 +227,8 @@ module _ {Side Known : Type 0} {parts : Parts Side Known} (P : PartsAreLawful pa
     unfolding all.stmts_with
     stmts_with scope = stmt scope [] >>= (λ before. loop (stmts_turn scope))
 
-  enter : (m n : ℕ) → m ≤ n → Adds false (all.enter m) (all.enter n)
-  unfolding all.enter
+  enter : (m n : ℕ) → m ≤ n → Adds false (all.enter_level m) (all.enter_level n)
+  unfolding all.enter_level
   enter zero zero h = same refuse
   enter zero (suc n) h = refused Nesting pure
   enter (suc m) zero h = absurd (omega (arith, h))

@@ -14,7 +14,7 @@ use Rattle.cob_base.specs.Limit.{max_parens}
 use Rattle.cobol_grammar.specs.expr_forms.Limit.{Inner}
 use Rattle.cobol_grammar.specs.expr_forms.Levels.{inner}
 use Rattle.cobol_grammar.specs.declared.cond_forms.part.Joined.{Joined}
-use Rattle.cobol_grammar.specs.declared.cond_forms.part.Part.{Part}
+use Rattle.cobol_grammar.specs.declared.cond_forms.part.SimpleCond.{SimpleCond}
 use Rattle.cobol_grammar.specs.declared.cond_forms.test.Primary.{Primary}
 use Rattle.cobol_grammar.specs.declared.cond_forms.test.Primary.TheVariants as prims
 use Rattle.cobol_grammar.specs.declared.cond_forms.test.Read.{Read}
@@ -30,20 +30,20 @@ whole_of None cond = cond
 whole_of (Some before) cond = conds.Or before cond
 
 -- so far, and with one more part behind AND
-abbrev pub and_joined : (before : Option Cond) → (left : Cond) → (next : Part) → Joined
+abbrev pub and_joined : (before : Option Cond) → (left : Cond) → (next : SimpleCond) → Joined
 and_joined before left next = record {
   before = before;
-  part = part_of (conds.And left next.cond) next.setting next.count next.not_read;
+  part = part_of (conds.And left next.cond) next.setting next.count next.pending_not;
 }
 
 -- the same behind OR
-abbrev pub or_joined : (before : Option Cond) → (left : Cond) → (next : Part) → Joined
+abbrev pub or_joined : (before : Option Cond) → (left : Cond) → (next : SimpleCond) → Joined
 or_joined before left next = record { before = Some (whole_of before left); part = next }
 
-abbrev pub joined_whole : Joined → Part
+abbrev pub joined_whole : Joined → SimpleCond
 joined_whole state =
     part_of (whole_of state.before state.part.cond) state.part.setting state.part.count
-    state.part.not_read
+    state.part.pending_not
 
 unfoldable pub and_part : Names → Inner → (ℕ → Form Read) →
     Option Cond → Cond → Option Setting → ℕ → Form Joined
@@ -61,7 +61,7 @@ or_part names inner content before left setting count = do
 
 -- nothing is joined where a NOT was read that isn't the condition's own
 unfoldable pub join : Names → Inner → (ℕ → Form Read) → Joined → Form Joined
-join names inner content state = chosen state.part.not_read (refuse Syntax)
+join names inner content state = chosen state.part.pending_not (refuse Syntax)
     (where_next (is_key (codes "AND"))
     (and_part names inner content state.before state.part.cond state.part.setting state.part.count)
     (or_part names inner content state.before state.part.cond state.part.setting state.part.count))
@@ -70,23 +70,23 @@ abbrev pub joins_from : Names → Inner → (ℕ → Form Read) → Joined → F
 joins_from names inner content first = loop joins (join names inner content) first
 
 -- from the first part on
-unfoldable pub conds_from : Names → Inner → (ℕ → Form Read) → Part → Form Part
+unfoldable pub conds_from : Names → Inner → (ℕ → Form Read) → SimpleCond → Form SimpleCond
 conds_from names inner content first = do
   state ← joins_from names inner content (record { before = None; part = first })
   pure (joined_whole state)
 
-unfoldable pub cond_with : Names → Inner → (ℕ → Form Read) → ℕ → Form Part
+unfoldable pub cond_with : Names → Inner → (ℕ → Form Read) → ℕ → Form SimpleCond
 cond_with names inner content count =
     neg names inner content None count >>= conds_from names inner content
 
 -- ---- in parentheses
 
-unfoldable pub close_cond : Part → Form Read
+unfoldable pub close_cond : SimpleCond → Form Read
 close_cond part =
-    chosen part.not_read (refuse Syntax) (mark right_parenthesis >> pure
+    chosen part.pending_not (refuse Syntax) (mark right_parenthesis >> pure
     (read_test part.cond None part.count))
 
-unfoldable pub content_from : Names → Inner → (ℕ → Form Read) → Part → Form Read
+unfoldable pub content_from : Names → Inner → (ℕ → Form Read) → SimpleCond → Form Read
 content_from names inner content first = conds_from names inner content first >>= close_cond
 
 unfoldable pub close_side : Position → Side → ℕ → Form Read
@@ -94,12 +94,12 @@ close_side position side count =
     mark right_parenthesis >> pure (record {
       prim = prims.Alone (enclosed position side);
       count = count;
-      not_read = false;
+      pending_not = false;
     })
 
 unfoldable pub alone_content : Names → Inner → (ℕ → Form Read) → Side → ℕ → Bool → Form Read
-alone_content names inner content side count not_read =
-    alone_part false None side count not_read >>= content_from names inner content
+alone_content names inner content side count pending_not =
+    alone_part false None side count pending_not >>= content_from names inner content
 
 -- an expression alone stays one; what else follows makes it a condition
 unfoldable pub content_by : Names → Inner → (ℕ → Form Read) → Position → Primary → ℕ → Bool →
@@ -109,8 +109,8 @@ content_by names inner content position (prims.Alone side) count false =
     (alone_content names inner content side count false)
 content_by names inner content position (prims.Alone side) count true =
     alone_content names inner content side count true
-content_by names inner content position (prims.Test cond after) count not_read =
-    content_from names inner content (part_of cond after count not_read)
+content_by names inner content position (prims.Test cond after) count pending_not =
+    content_from names inner content (part_of cond after count pending_not)
 
 unfoldable pub neg_content : Names → Inner → (ℕ → Form Read) → ℕ → Form Read
 neg_content names inner content count =
@@ -119,7 +119,7 @@ neg_content names inner content count =
 unfoldable pub prim_content : Names → Inner → (ℕ → Form Read) → Position → ℕ → Form Read
 prim_content names inner content position count =
     prim names inner content count >>=
-    (λ read. content_by names inner content position read.prim read.count read.not_read)
+    (λ read. content_by names inner content position read.prim read.count read.pending_not)
 
 unfoldable pub in_content : Names → Inner → (ℕ → Form Read) → ℕ → Form Read
 in_content names inner content count = do
@@ -135,9 +135,9 @@ content names (suc n) count = in_content names (inner names n) (content names n)
 -- ---- as statements have it
 
 -- a condition with all that was found of it
-unfoldable pub cond : Names → Form Part
+unfoldable pub cond : Names → Form SimpleCond
 cond names = cond_with names (inner names max_parens) (content names max_parens) 0
 
 -- a condition, and whether a NOT was read behind it that isn't its own
 unfoldable pub whole_cond : Names → Form (Cond × Bool)
-whole_cond names = cond names >>= (λ part. pure (part.cond, part.not_read))
+whole_cond names = cond names >>= (λ part. pure (part.cond, part.pending_not))

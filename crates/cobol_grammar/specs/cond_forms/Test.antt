@@ -8,11 +8,11 @@ use Rattle.parser_combinators.specs.declared.why.Why.TheVariants.{Syntax}
 use Rattle.parser_combinators.specs.Form.{Form, pure, refuse, note, one, ◌>>=◌, ◌>>◌, where_next}
 use Rattle.parser_combinators.specs.Part.{key, is_key}
 use Rattle.symbol_tables.specs.data_names.Names.{Names}
-use Rattle.cobol_grammar.specs.declared.expr_forms.side.Shape.{Shape}
-use Rattle.cobol_grammar.specs.declared.expr_forms.side.Shape.TheVariants as shapes
+use Rattle.cobol_grammar.specs.declared.expr_forms.side.ExprForm.{ExprForm}
+use Rattle.cobol_grammar.specs.declared.expr_forms.side.ExprForm.TheVariants as shapes
 use Rattle.cobol_grammar.specs.declared.expr_forms.side.Side.{Side}
-use Rattle.cobol_grammar.specs.declared.expr_forms.side.What.{What}
-use Rattle.cobol_grammar.specs.declared.expr_forms.side.What.TheVariants as whats
+use Rattle.cobol_grammar.specs.declared.expr_forms.side.ParsedExpr.{ParsedExpr}
+use Rattle.cobol_grammar.specs.declared.expr_forms.side.ParsedExpr.TheVariants as whats
 use Rattle.cobol_grammar.specs.expr_forms.Fault.{number_fault, value_fault, relation_fault}
 use Rattle.cobol_grammar.specs.expr_forms.Side.{shape_of, expr_of}
 use Rattle.cobol_grammar.specs.expr_forms.Limit.{Inner}
@@ -34,7 +34,7 @@ abbrev pub read_test : Cond → Option Setting → ℕ → Read
 read_test cond setting count = record {
   prim = prims.Test cond setting;
   count = count;
-  not_read = false;
+  pending_not = false;
 }
 
 -- `before` terms stand before the left side
@@ -54,7 +54,7 @@ sign_test negated left count = do
   note (number_fault left)
   pure (read_test (conds.SignIs (expr_of left.what) sign negated) None count)
 
-unfoldable pub class_of_ref : Bool → ClassKind → What → ℕ → Form Read
+unfoldable pub class_of_ref : Bool → ClassKind → ParsedExpr → ℕ → Form Read
 class_of_ref negated class (whats.Ref place) count =
     pure (read_test (conds.Class place class negated) None count)
 class_of_ref negated class _ count = refuse Syntax
@@ -68,11 +68,11 @@ class_test negated left count = do
 -- no test stands here: a syntax fault, or an expression alone, behind which NOT was read or not
 unfoldable pub untested : Option Bool → Side → ℕ → Form Read
 untested None left count = refuse Syntax
-untested (Some not_read) left count =
-    pure (record { prim = prims.Alone left; count = count; not_read = not_read })
+untested (Some pending_not) left count =
+    pure (record { prim = prims.Alone left; count = count; pending_not = pending_not })
 
 -- only a reference has a class
-unfoldable pub class_or : Shape → Bool → Option Bool → Side → ℕ → Form Read
+unfoldable pub class_or : ExprForm → Bool → Option Bool → Side → ℕ → Form Read
 class_or shapes.Ref negated end left count =
     where_next begins_class (class_test negated left count) (untested end left count)
 class_or _ negated end left count = untested end left count

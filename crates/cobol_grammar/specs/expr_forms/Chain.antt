@@ -3,11 +3,11 @@ use Rattle.std.specs.Prelude.{Bool, true, false, ◌&&◌, Option, Some, None}
 use Rattle.cob_tree.specs.declared.place.Expr.TheVariants as exprs
 use Rattle.cob_tree.specs.declared.place.Op.{Op}
 use Rattle.cob_tree.specs.declared.place.Op.TheVariants as ops
-use Rattle.cobol_grammar.specs.declared.expr_forms.side.Make.TheVariants as makes
+use Rattle.cobol_grammar.specs.declared.expr_forms.side.ExprContent.TheVariants as makes
 use Rattle.cobol_grammar.specs.declared.expr_forms.side.Side.{Side}
 use Rattle.cobol_grammar.specs.declared.expr_forms.side.ValueKind.TheVariants as kinds
-use Rattle.cobol_grammar.specs.declared.expr_forms.side.What.TheVariants as whats
-use Rattle.cobol_grammar.specs.declared.expr_forms.chain.Before.{Before}
+use Rattle.cobol_grammar.specs.declared.expr_forms.side.ParsedExpr.TheVariants as whats
+use Rattle.cobol_grammar.specs.declared.expr_forms.chain.PendingTerm.{PendingTerm}
 use Rattle.cobol_grammar.specs.declared.expr_forms.chain.Chain.{Chain}
 use Rattle.cobol_grammar.specs.expr_forms.Fault.{is_whole}
 use Rattle.cobol_grammar.specs.expr_forms.Side.{expr_of}
@@ -15,7 +15,7 @@ use Rattle.cobol_grammar.specs.expr_forms.Side.{expr_of}
 abbrev pub chain_of : Side → Chain
 chain_of side = record { before = None; last = side }
 
-abbrev pub finished : Option Before → Side → Side
+abbrev pub finished : Option PendingTerm → Side → Side
 finished None last = last
 finished (Some b) last = record {
   what = whats.Sum (exprs.Both b.op b.left (expr_of last.what));
@@ -28,7 +28,7 @@ finished (Some b) last = record {
 unfoldable pub finish : Chain → Side
 finish chain = finished chain.before chain.last
 
-abbrev pub opened : Op → Side → Before
+abbrev pub opened : Op → Side → PendingTerm
 opened op side = record {
   left = expr_of side.what;
   op = op;

@@ -4,8 +4,8 @@ use Rattle.cob_tree.specs.declared.place.Op.{Op}
 use Rattle.cob_tree.specs.declared.place.Place.{Place}
 use Rattle.cob_tree.specs.declared.place.Sub.{Sub, roll-Sub}
 use Rattle.parser_combinators.specs.declared.note.Position.{Position}
-use Rattle.symbol_tables.specs.declared.data_names.name.Found.{Found}
-use Rattle.cobol_grammar.specs.declared.expr_forms.either.Either.{Either}
+use Rattle.symbol_tables.specs.declared.data_names.name.Referent.{Referent}
+use Rattle.cobol_grammar.specs.declared.expr_forms.either.MaybeSubscripts.{MaybeSubscripts}
 use Rattle.cobol_grammar.specs.expr_forms.Fault.{whole_fault_at, kind_of}
 use Rattle.cobol_grammar.specs.expr_forms.Side.{place_of, ref_side, number_of, digits_side}
 use Rattle.cobol_grammar.specs.expr_forms.Chain.{chain_of, joined}
@@ -21,7 +21,7 @@ item_sub place negative digits =
 abbrev pub bare_sub : Place → Sub
 bare_sub place = item_sub place false (codes "0")
 
-abbrev pub number_either : List ℕ → Position → Either
+abbrev pub number_either : List ℕ → Position → MaybeSubscripts
 number_either digits position = record {
   subs = number_sub digits ∷ [];
   base = None;
@@ -30,7 +30,7 @@ number_either digits position = record {
   fault = None;
 }
 
-abbrev pub ref_either : Found → List (List ℕ) → Position → Either
+abbrev pub ref_either : Referent → List (List ℕ) → Position → MaybeSubscripts
 ref_either found of position = record {
   subs = [];
   base = Some (place_of found of [] None);
@@ -47,7 +47,7 @@ abbrev pub more_leaves : ℕ → ℕ
 more_leaves leaves = min (leaves + 1) 4294967295
 
 -- one more number behind `+` or `-`
-unfoldable pub with_number : Op → Bool → List ℕ → Position → Either → Either
+unfoldable pub with_number : Op → Bool → List ℕ → Position → MaybeSubscripts → MaybeSubscripts
 with_number op negative digits position e = record e {
   subs = e.subs ++ added_sub e.base negative digits ∷ [];
   base = None;
@@ -59,5 +59,5 @@ abbrev pub subs_with : Option Place → List Sub → List Sub
 subs_with None subs = subs
 subs_with (Some place) subs = subs ++ bare_sub place ∷ []
 
-unfoldable pub subs_of : Either → List Sub
+unfoldable pub subs_of : MaybeSubscripts → List Sub
 subs_of e = subs_with e.base e.subs

@@ -12,7 +12,7 @@ use Rattle.cob_base.specs.Bytes.{left_parenthesis, right_parenthesis, plus_sign,
 use Rattle.parser_combinators.specs.Form.{Form, pure, note, one, ◌>>=◌, ◌>>◌, loop, where_next}
 use Rattle.parser_combinators.specs.Part.{mark, is_mark}
 use Rattle.symbol_tables.specs.data_names.Names.{Names}
-use Rattle.cobol_grammar.specs.expr_forms.Limit.{Inner, tally}
+use Rattle.cobol_grammar.specs.expr_forms.Limit.{Inner, count_terms}
 use Rattle.cobol_grammar.specs.expr_forms.Operand.{operand}
 
 unfoldable pub unsigned : Names → Inner → ℕ → Form (Side × ℕ)
@@ -27,7 +27,7 @@ plussed names inner count = do
 
 unfoldable pub minussed : Names → Inner → ℕ → Form (Side × ℕ)
 minussed names inner count = do
-  more ← tally count 1
+  more ← count_terms count 1
   position ← mark hyphen
   side ← unsigned names inner more
   note (number_fault side.0)

@@ -4,12 +4,12 @@ use Rattle.parser_combinators.specs.declared.note.Note.{Note}
 use Rattle.parser_combinators.specs.declared.note.NameKind.{NameKind}
 use Rattle.parser_combinators.specs.declared.note.NameKind.TheVariants as faults
 use Rattle.parser_combinators.specs.declared.note.Position.{Position}
-use Rattle.symbol_tables.specs.declared.data_names.name.Kind.{Kind}
-use Rattle.symbol_tables.specs.declared.data_names.name.Kind.TheVariants as items
-use Rattle.symbol_tables.specs.declared.data_names.name.Found.{Found}
-use Rattle.symbol_tables.specs.declared.data_names.name.Found.TheVariants as found
-use Rattle.cobol_grammar.specs.declared.expr_forms.side.Make.{Make}
-use Rattle.cobol_grammar.specs.declared.expr_forms.side.Make.TheVariants as makes
+use Rattle.symbol_tables.specs.declared.data_names.name.ItemKind.{ItemKind}
+use Rattle.symbol_tables.specs.declared.data_names.name.ItemKind.TheVariants as items
+use Rattle.symbol_tables.specs.declared.data_names.name.Referent.{Referent}
+use Rattle.symbol_tables.specs.declared.data_names.name.Referent.TheVariants as found
+use Rattle.cobol_grammar.specs.declared.expr_forms.side.ExprContent.{ExprContent}
+use Rattle.cobol_grammar.specs.declared.expr_forms.side.ExprContent.TheVariants as makes
 use Rattle.cobol_grammar.specs.declared.expr_forms.side.Side.{Side}
 use Rattle.cobol_grammar.specs.declared.expr_forms.side.ValueKind.{ValueKind}
 use Rattle.cobol_grammar.specs.declared.expr_forms.side.ValueKind.TheVariants as kinds
@@ -63,7 +63,7 @@ condition_fault side = condition_fault_at side.leaf side.kind
 
 -- ---- relations
 
-abbrev pub inexact_fault : Make → ValueKind → Position → Option Note
+abbrev pub inexact_fault : ExprContent → ValueKind → Position → Option Note
 inexact_fault makes.Joined kind position = usage position
 inexact_fault _ kind position = whole_fault_at position kind
 
@@ -81,7 +81,7 @@ kinds_fault (kinds.Number whole) kinds.Figure left right = usage right.position
 kinds_fault kinds.Figure (kinds.Number whole) left right = usage left.position
 kinds_fault _ _ left right = None
 
-abbrev pub makes_fault : Make → Make → (left right : Side) → Option Note
+abbrev pub makes_fault : ExprContent → ExprContent → (left right : Side) → Option Note
 makes_fault makes.Literal makes.Literal left right = usage right.position
 makes_fault _ _ left right = kinds_fault (compared_as left.kind) (compared_as right.kind) left right
 
@@ -92,17 +92,17 @@ relation_fault left right = makes_fault left.make right.make left right
 
 -- ---- names
 
-abbrev pub item_of : Found → ℕ
+abbrev pub item_of : Referent → ℕ
 item_of (found.Item item kind dims) = item
 item_of _ = 0
 
-abbrev pub item_kind : Kind → ValueKind
+abbrev pub item_kind : ItemKind → ValueKind
 item_kind (items.Number whole) = kinds.Number whole
 item_kind items.Text = kinds.Text
 item_kind items.Group = kinds.Group
 item_kind items.Condition = kinds.Condition
 
-abbrev pub kind_of : Found → ValueKind
+abbrev pub kind_of : Referent → ValueKind
 kind_of (found.Item item kind dims) = item_kind kind
 kind_of _ = kinds.Unknown
 
@@ -111,7 +111,7 @@ is_condition kinds.Condition = true
 is_condition _ = false
 
 -- a name with so many subscripts behind it, and with a window or none
-unfoldable pub found_fault : Found → (subs : ℕ) → (windowed : Bool) → Position → Option Note
+unfoldable pub found_fault : Referent → (subs : ℕ) → (windowed : Bool) → Position → Option Note
 found_fault found.Unknown subs windowed position = fault_at faults.Unknown position
 found_fault found.Ambiguous subs windowed position = fault_at faults.Ambiguous position
 found_fault (found.Item item kind dims) subs windowed position =

@@ -9,8 +9,8 @@ use Rattle.parser_combinators.specs.Form.{Form}
 use Rattle.parser_combinators.specs.Part.{unless}
 
 -- so many more terms, unless they pass the limit at the next token
-abbrev pub tally : ℕ → ℕ → Form ℕ
-tally count more = unless Terms (nat_lt max_terms (count + more)) (count + more)
+abbrev pub count_terms : ℕ → ℕ → Form ℕ
+count_terms count more = unless Terms (nat_lt max_terms (count + more)) (count + more)
 
 -- what stands in parentheses, by how many terms there are up to them
 pub record Inner : Type 1 where

@@ -3,7 +3,7 @@ use Rattle.std.specs.Prelude.{ℕ}
 use Rattle.cobol_grammar.specs.declared.expr_forms.side.Side.{Side}
 use Rattle.cobol_grammar.specs.expr_forms.Side.{literal_kind, literal_side}
 use Rattle.cobol_grammar.specs.expr_forms.Token.{begins_operand}
-use Rattle.cobol_grammar.specs.expr_forms.Limit.{Inner, tally}
+use Rattle.cobol_grammar.specs.expr_forms.Limit.{Inner, count_terms}
 use Rattle.cobol_grammar.specs.expr_forms.Reference.{reference}
 use Rattle.symbol_tables.specs.data_names.Names.{Names}
 use Rattle.parser_combinators.specs.words.Word.{is_name}
@@ -17,6 +17,6 @@ literal_operand count =
 
 unfoldable pub operand : Names → Inner → ℕ → Form (Side × ℕ)
 operand names inner count = where_next begins_operand
-    (tally count 1
+    (count_terms count 1
     >>= (λ more. where_next is_name (reference names inner more) (literal_operand more)))
     (refuse Syntax)

@@ -2,9 +2,9 @@
 use Rattle.std.specs.Prelude.{ℕ, codes, List, [], length, Some, None}
 use Rattle.std.specs.Option.{is_some}
 use Rattle.parser_combinators.specs.declared.note.Position.{Position}
-use Rattle.symbol_tables.specs.declared.data_names.name.Found.{Found}
+use Rattle.symbol_tables.specs.declared.data_names.name.Referent.{Referent}
 use Rattle.cobol_grammar.specs.declared.expr_forms.side.Side.{Side}
-use Rattle.cobol_grammar.specs.declared.expr_forms.reference.Behind.{Behind}
+use Rattle.cobol_grammar.specs.declared.expr_forms.reference.RefSuffixes.{RefSuffixes}
 use Rattle.cobol_grammar.specs.declared.expr_forms.reference.Suffix.{Suffix}
 use Rattle.cobol_grammar.specs.declared.expr_forms.reference.Suffix.TheVariants as suffixes
 use Rattle.cobol_grammar.specs.expr_forms.Fault.{found_fault}
@@ -27,7 +27,7 @@ qualifier = do
 abbrev pub qualifiers : Form (List (List ℕ))
 qualifiers = many is_of qualifier
 
-abbrev pub more_behind : Inner → Suffix → ℕ → Form Behind
+abbrev pub more_behind : Inner → Suffix → ℕ → Form RefSuffixes
 more_behind inner (suffixes.Window window) count =
     pure (record { subs = []; window = Some window; count = count })
 more_behind inner (suffixes.Subs subs) count = where_next (is_mark left_parenthesis)
@@ -36,13 +36,13 @@ more_behind inner (suffixes.Subs subs) count = where_next (is_mark left_parenthe
     (pure (record { subs = subs; window = None; count = count }))
 
 -- subscripts and a window, or none
-unfoldable pub behind : Inner → ℕ → Form Behind
+unfoldable pub behind : Inner → ℕ → Form RefSuffixes
 behind inner count = where_next (is_mark left_parenthesis)
     (inner.suffix count >>= (λ suffix. more_behind inner suffix.0 suffix.1))
     (pure (record { subs = []; window = None; count = count }))
 
 -- what stands behind the words of a reference
-unfoldable pub ref_behind : Inner → Found → (of : List (List ℕ)) → Position → ℕ → Form (Side × ℕ)
+unfoldable pub ref_behind : Inner → Referent → (of : List (List ℕ)) → Position → ℕ → Form (Side × ℕ)
 ref_behind inner found of position count = do
   tail ← behind inner count
   note (found_fault found (length tail.subs) (is_some tail.window) position)

@@ -11,15 +11,15 @@ use Rattle.cob_tree.specs.declared.place.Place.{Place, roll-Place}
 use Rattle.cob_tree.specs.declared.place.Sub.{Sub}
 use Rattle.cob_tree.specs.declared.place.Window.{Window}
 use Rattle.parser_combinators.specs.declared.note.Position.{Position}
-use Rattle.symbol_tables.specs.declared.data_names.name.Found.{Found}
-use Rattle.cobol_grammar.specs.declared.expr_forms.side.Make.TheVariants as makes
-use Rattle.cobol_grammar.specs.declared.expr_forms.side.Shape.{Shape}
-use Rattle.cobol_grammar.specs.declared.expr_forms.side.Shape.TheVariants as shapes
+use Rattle.symbol_tables.specs.declared.data_names.name.Referent.{Referent}
+use Rattle.cobol_grammar.specs.declared.expr_forms.side.ExprContent.TheVariants as makes
+use Rattle.cobol_grammar.specs.declared.expr_forms.side.ExprForm.{ExprForm}
+use Rattle.cobol_grammar.specs.declared.expr_forms.side.ExprForm.TheVariants as shapes
 use Rattle.cobol_grammar.specs.declared.expr_forms.side.Side.{Side}
 use Rattle.cobol_grammar.specs.declared.expr_forms.side.ValueKind.{ValueKind}
 use Rattle.cobol_grammar.specs.declared.expr_forms.side.ValueKind.TheVariants as kinds
-use Rattle.cobol_grammar.specs.declared.expr_forms.side.What.{What}
-use Rattle.cobol_grammar.specs.declared.expr_forms.side.What.TheVariants as whats
+use Rattle.cobol_grammar.specs.declared.expr_forms.side.ParsedExpr.{ParsedExpr}
+use Rattle.cobol_grammar.specs.declared.expr_forms.side.ParsedExpr.TheVariants as whats
 use Rattle.cobol_grammar.specs.expr_forms.Fault.{is_whole, kind_of, item_of}
 
 abbrev pub windowed : ValueKind → ValueKind
@@ -33,23 +33,23 @@ kind_within (Some window) kind = windowed kind
 
 -- ---- what is read
 
-abbrev pub expr_of : What → Expr
+abbrev pub expr_of : ParsedExpr → Expr
 expr_of (whats.Ref place) = exprs.Leaf (operands.Place place)
 expr_of (whats.Literal operand) = exprs.Leaf operand
 expr_of (whats.Enclosed place) = exprs.Leaf (operands.Place place)
 expr_of (whats.Sum expr) = expr
 
-abbrev pub shape_of : What → Shape
+abbrev pub shape_of : ParsedExpr → ExprForm
 shape_of (whats.Ref place) = shapes.Ref
 shape_of (whats.Literal operand) = shapes.Literal
 shape_of (whats.Enclosed place) = shapes.Enclosed
 shape_of (whats.Sum expr) = shapes.Sum
 
-abbrev pub place_of : Found → List (List ℕ) → List Sub → Option Window → Place
+abbrev pub place_of : Referent → List (List ℕ) → List Sub → Option Window → Place
 place_of found of subs window =
     roll-Place (record { item = item_of found; of = of; subs = subs; window = window })
 
-unfoldable pub ref_side : Found → List (List ℕ) → List Sub → Option Window → Position → Side
+unfoldable pub ref_side : Referent → List (List ℕ) → List Sub → Option Window → Position → Side
 ref_side found of subs window position = record {
   what = whats.Ref (place_of found of subs window);
   kind = kind_within window (kind_of found);
@@ -99,7 +99,7 @@ negated position side = record {
   leaf = position;
 }
 
-abbrev pub enclosed_what : What → What
+abbrev pub enclosed_what : ParsedExpr → ParsedExpr
 enclosed_what (whats.Ref place) = whats.Enclosed place
 enclosed_what (whats.Enclosed place) = whats.Enclosed place
 enclosed_what (whats.Literal operand) = whats.Sum (exprs.Leaf operand)

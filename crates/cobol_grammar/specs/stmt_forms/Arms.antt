@@ -94,10 +94,10 @@ not_or_none phrase enter has_first =
     (pure nots.Missing)
 
 -- behind the first arm, where NOT may have been read
-unfoldable pub not_phrase : Phrase → (enter : Form (Unit {0})) → (has_first not_read : Bool) →
+unfoldable pub not_phrase : Phrase → (enter : Form (Unit {0})) → (has_first pending_not : Bool) →
     Form NotPhrase
-not_phrase phrase enter has_first not_read =
-    chosen not_read (behind_not phrase enter has_first) (not_or_none phrase enter has_first)
+not_phrase phrase enter has_first pending_not =
+    chosen pending_not (behind_not phrase enter has_first) (not_or_none phrase enter has_first)
 
 unfoldable pub held_arm : Level → Scope → Form Arm
 held_arm level scope = level.stmts scope >>= (λ found. pure (Some found.0, found.1))
@@ -128,7 +128,7 @@ arms phrase level scope = do
 
 -- the word that ends a statement, unless NOT was read
 unfoldable pub end_word : List ℕ → Bool → Form (Unit {0})
-end_word word not_read = chosen not_read (pure tt) (maybe word)
+end_word word pending_not = chosen pending_not (pure tt) (maybe word)
 
 -- ---- arithmetic
 
@@ -164,7 +164,7 @@ end_of verbs.Divide = codes "END-DIVIDE"
 end_of verbs.Compute = codes "END-COMPUTE"
 
 unfoldable pub end_work : ArithmeticVerb → Bool → Form (Unit {0})
-end_work verb not_read = end_word (end_of verb) not_read
+end_work verb pending_not = end_word (end_of verb) pending_not
 
 -- work [[ON] SIZE ERROR stmt+] [NOT [ON] SIZE ERROR stmt+] [END-verb]
 unfoldable pub arithmetic_stmt : {Side Known : Type 0} → Parts Side Known →

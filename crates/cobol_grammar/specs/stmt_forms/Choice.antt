@@ -158,7 +158,8 @@ abbrev pub when_of : List Test → List Stmt → When
 when_of tests held = roll-When (record { tests = tests; stmts = held })
 
 abbrev pub whens_of : List When → Bool → Bool → Whens
-whens_of whens other not_read = record { whens = whens; other = other; not_read = not_read }
+whens_of whens other pending_not =
+    record { whens = whens; other = other; pending_not = pending_not }
 
 -- tests that share their statements, behind those before
 unfoldable pub when_held : Level → Scope → List When → List Test → Form Whens
@@ -193,7 +194,7 @@ when_next parts level scope known before = when_head parts known >>= whens_by le
 unfoldable pub whens_turn : {Side Known : Type 0} → (parts : Parts Side Known) →
     Level → Scope → Option Known → Whens → Form Whens
 whens_turn parts level scope known state =
-    chosen (state.other || state.not_read) (refuse Syntax)
+    chosen (state.other || state.pending_not) (refuse Syntax)
     (when_next parts level scope known state.whens)
 
 abbrev pub whens_from : {Side Known : Type 0} → (parts : Parts Side Known) →
@@ -210,7 +211,7 @@ whens parts level scope known = do
 
 unfoldable pub other_part : Level → Scope → Whens → Form Arm
 other_part level scope state =
-    chosen state.other (held_arm level scope) (pure (None, state.not_read))
+    chosen state.other (held_arm level scope) (pure (None, state.pending_not))
 
 unfoldable pub evaluated : Level → Scope → Subject → Whens → Form FoundOne
 evaluated level scope subject state = do

@@ -209,7 +209,7 @@ unfoldable pub loop_body : Level → Scope → Control → Form FoundOne
 loop_body level scope control = level.stmts (looped scope) >>= loop_end control
 
 unfoldable pub perform_by : Level → Scope → PerformHead → Form FoundOne
-perform_by level scope (heads.Whole stmt not_read) = pure (stmt, not_read)
+perform_by level scope (heads.Whole stmt pending_not) = pure (stmt, pending_not)
 perform_by level scope (heads.Inline control) = loop_body level scope control
 
 unfoldable pub perform_stmt : {Side Known : Type 0} → Parts Side Known →

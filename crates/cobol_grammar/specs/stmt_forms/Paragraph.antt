@@ -121,7 +121,7 @@ paragraph parts name state = do
 unfoldable pub headed : {Side Known : Type 0} → Parts Side Known → Outline → Form Outline
 headed parts state = do
   name ← parts.header_name
-  note (parts.again_fault name.0 name.1)
+  note (parts.duplicate_fault name.0 name.1)
   where_next (is_key (codes "SECTION")) (section parts name.0 state) (paragraph parts name.0 state)
 
 abbrev pub headed_from : {Side Known : Type 0} → Parts Side Known → Outline → Form Outline

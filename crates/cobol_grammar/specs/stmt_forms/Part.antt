@@ -37,7 +37,7 @@ pub record Parts (Side Known : Type 0) : Type 1 where
   -- the entry and exit of a paragraph or section
   pub procedure_of : List ℕ → Option (ℕ × ℕ)
   -- the fault of a name that an earlier paragraph or section has
-  pub again_fault : List ℕ → Position → Option Note
+  pub duplicate_fault : List ℕ → Position → Option Note
   -- what stands in the tree for them
   pub operand_of : Side → Operand
   pub place_of : Side → Place

@@ -86,18 +86,18 @@ unfoldable pub stmts_with : {Side Known : Type 0} → Parts Side Known → Level
 stmts_with parts level scope = stmt parts level scope [] >>= stmts_from parts level scope
 
 -- nothing, where a level is left
-unfoldable pub enter : ℕ → Form (Unit {0})
-enter zero = refuse Nesting
-enter (suc n) = pure tt
+unfoldable pub enter_level : ℕ → Form (Unit {0})
+enter_level zero = refuse Nesting
+enter_level (suc n) = pure tt
 
 -- what is held, with one level less
 unfoldable pub held : {Side Known : Type 0} → Parts Side Known → ℕ → Scope → Form Found
 held parts zero scope = refuse Nesting
 held parts (suc n) scope =
-    stmts_with parts (record { enter = enter n; stmts = held parts n }) scope
+    stmts_with parts (record { enter_level = enter_level n; stmts = held parts n }) scope
 
 abbrev pub level : {Side Known : Type 0} → Parts Side Known → ℕ → Level
-level parts levels = record { enter = enter levels; stmts = held parts levels }
+level parts levels = record { enter_level = enter_level levels; stmts = held parts levels }
 
 abbrev pub stmts : {Side Known : Type 0} → Parts Side Known → ℕ → Scope → Form Found
 stmts parts levels scope = stmts_with parts (level parts levels) scope

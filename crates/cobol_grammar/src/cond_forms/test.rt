@@ -24,5 +24,5 @@ pub enum Primary {
 pub struct Read {
     pub prim: Primary,
     pub count: u32,
-    pub not_read: bool,
+    pub pending_not: bool,
 }

@@ -6,7 +6,7 @@ use parser_combinators::Position;
 
 /// What stands before the last term of a sum.
 #[derive(Debug, Drop)]
-pub struct Before {
+pub struct PendingTerm {
     pub left: Expr,
     pub op: Op,
     pub position: Position,
@@ -17,6 +17,6 @@ pub struct Before {
 /// A sum as far as it is read; factors go to the last term.
 #[derive(Debug, Drop)]
 pub struct Chain {
-    pub before: Option<Before>,
+    pub before: Option<PendingTerm>,
     pub last: Side,
 }

@@ -7,7 +7,7 @@ use parser_combinators::Note;
 
 /// A sum that may turn out to be subscripts, as far as it is read.
 #[derive(Debug, Drop)]
-pub struct Either {
+pub struct MaybeSubscripts {
     /// The subscripts that the tokens spell.
     pub subs: Items<Sub>,
     /// The item of one more subscript, to which a number may be added.

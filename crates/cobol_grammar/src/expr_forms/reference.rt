@@ -12,7 +12,7 @@ pub enum Suffix {
 
 /// The subscripts and the window behind a reference, and how many terms there are up to there.
 #[derive(Debug, Drop)]
-pub struct Behind {
+pub struct RefSuffixes {
     pub subs: Items<Sub>,
     pub window: Option<Boxed<Window>>,
     pub count: u32,

@@ -26,7 +26,7 @@ pub enum ValueKind {
 
 /// How an expression is written.
 #[derive(Debug, Drop)]
-pub enum What {
+pub enum ParsedExpr {
     /// A reference alone.
     Ref(Place),
     /// A literal alone.
@@ -39,7 +39,7 @@ pub enum What {
 
 /// In which of these ways an expression is written.
 #[derive(Clone, Copy, Debug, PartialEq, Eq)]
-pub enum Shape {
+pub enum ExprForm {
     Ref,
     Literal,
     Enclosed,
@@ -48,7 +48,7 @@ pub enum Shape {
 
 /// What an expression is made of.
 #[derive(Clone, Copy, Debug, PartialEq, Eq)]
-pub enum Make {
+pub enum ExprContent {
     Item,
     Literal,
     /// With an operator or a sign.
@@ -58,22 +58,22 @@ pub enum Make {
 /// An expression, and what is known of it.
 #[derive(Debug, Drop)]
 pub struct Side {
-    pub what: What,
+    pub what: ParsedExpr,
     pub kind: ValueKind,
-    pub make: Make,
+    pub make: ExprContent,
     /// Where it begins.
     pub position: Position,
     /// Where its operand stands, if it is one.
     pub leaf: Position,
 }
 
-impl Copied for What {
-    fn copy(&self, alloc: Global) -> Result<What, NoMemory> {
+impl Copied for ParsedExpr {
+    fn copy(&self, alloc: Global) -> Result<ParsedExpr, NoMemory> {
         match self {
-            What::Ref(place) => Ok(What::Ref(place.copy(alloc)?)),
-            What::Literal(operand) => Ok(What::Literal(operand.copy(alloc)?)),
-            What::Enclosed(place) => Ok(What::Enclosed(place.copy(alloc)?)),
-            What::Sum(expr) => Ok(What::Sum(expr.copy(alloc)?)),
+            ParsedExpr::Ref(place) => Ok(ParsedExpr::Ref(place.copy(alloc)?)),
+            ParsedExpr::Literal(operand) => Ok(ParsedExpr::Literal(operand.copy(alloc)?)),
+            ParsedExpr::Enclosed(place) => Ok(ParsedExpr::Enclosed(place.copy(alloc)?)),
+            ParsedExpr::Sum(expr) => Ok(ParsedExpr::Sum(expr.copy(alloc)?)),
         }
     }
 }

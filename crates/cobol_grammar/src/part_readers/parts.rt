@@ -77,8 +77,8 @@ pub trait Parts {
         ensures { result ≡ (parts self.now).procedure_of name.now };
 
     /// The fault of a name that an earlier paragraph or section has.
-    fn again_fault(&self, name: &Word, position: Position) -> Option<Note>
-        ensures { result ≡ (parts self.now).again_fault name.now position };
+    fn duplicate_fault(&self, name: &Word, position: Position) -> Option<Note>
+        ensures { result ≡ (parts self.now).duplicate_fault name.now position };
 
     fn operand_of(&self, side: Self::Side) -> Operand
         ensures { result ≡ (parts self.now).operand_of side };

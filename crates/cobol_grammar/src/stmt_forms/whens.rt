@@ -10,5 +10,5 @@ pub struct Whens {
     /// WHEN OTHER was read, and its statements are next.
     pub other: bool,
     /// A NOT was read behind them that isn't theirs.
-    pub not_read: bool,
+    pub pending_not: bool,
 }

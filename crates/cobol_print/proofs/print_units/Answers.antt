@@ -1,6 +1,6 @@
 use Rattle.std.proofs.Common.{◌≡◌, ◌++◌, [], drop, sym, ap, ◌∙◌, append-nil, arith}
 use Rattle.std.proofs.lemmas.List.{drop_all}
-use Rattle.cobol_print.specs.Stream.{units_bytes}
+use Rattle.cobol_print.specs.Layout.{units_bytes}
 use Rattle.cobol_print.proofs.StreamLemmas.{lines-bytes}
 use Rattle.cobol_print.proofs.print_units.Goals as goal
 

@@ -1,5 +1,5 @@
 use Rattle.std.proofs.Common.{◌≡◌, ◌++◌, drop}
-use Rattle.cobol_print.specs.Stream.{units_bytes}
+use Rattle.cobol_print.specs.Layout.{units_bytes}
 use Rattle.cobol_print.proofs.print_units.Given as goal
 
 abbrev pub invariant-loop-unit : goal.invariant-loop-unit

@@ -23,8 +23,8 @@ use Rattle.unparser.specs.Arithmetic.{end_word, calc_front, calc_back, targets_t
 use Rattle.unparser.specs.Choice.{test_tokens}
 use Rattle.unparser.specs.Condition.{not_tokens}
 use Rattle.unparser.specs.Head.{head_step}
-use Rattle.cobol_print.specs.declared.units.statement.Phrase.{Phrase}
-use Rattle.cobol_print.specs.declared.units.statement.Phrase.TheVariants.{AtEnd, OnSizeError}
+use Rattle.cobol_print.specs.declared.units.statement.ArmPhrase.{ArmPhrase}
+use Rattle.cobol_print.specs.declared.units.statement.ArmPhrase.TheVariants.{AtEnd, OnSizeError}
 use Rattle.cobol_print.specs.declared.units.unit.PrintUnit.{PrintUnit}
 use Rattle.cobol_print.specs.units.Unit.{unit_at, header, deeper, ended}
 use Rattle.cobol_print.specs.units.Statement.{Lines, ArmLines, WhenLines, phrase_tokens, other_tokens, tests_lines, end_lines, some_lines, list_lines, arm_lines, arm_if_any, whens_lines, held_by_other, held_by_else, held_step, stmt_step, arms_step, when_step, stmt_lines, arms_lines, when_lines}
@@ -93,7 +93,7 @@ end-in : (asked : Bool) (word : List ℕ) (column : ℕ) → 8 ≤ column → co
 end-in true word column low high = one-in column (kind.Word word ∷ []) low high tt
 end-in false word column low high = none-in
 
-phrase-begins : (not : Bool) (phrase : Phrase) → Begins (not_tokens not ++ phrase_tokens phrase)
+phrase-begins : (not : Bool) (phrase : ArmPhrase) → Begins (not_tokens not ++ phrase_tokens phrase)
 phrase-begins true phrase = tt
 phrase-begins false AtEnd = tt
 phrase-begins false OnSizeError = tt
@@ -135,7 +135,7 @@ head-begins program Stmt-F.ExitSection = tt
 head-begins program (Stmt-F.ExitPerform cycle) = tt
 head-begins program Stmt-F.Continue = tt
 
-arm-in : (stmts : List Lines) (phrase : Phrase) (not : Bool) → AreAll AreInFrom stmts → (column : ℕ) → 8 ≤ column → column ≤ 32 →
+arm-in : (stmts : List Lines) (phrase : ArmPhrase) (not : Bool) → AreAll AreInFrom stmts → (column : ℕ) → 8 ≤ column → column ≤ 32 →
     AreIn (arm_lines stmts phrase not column)
 arm-in stmts phrase not h column low high =
     let low_1 : 8 ≤ deeper column = deeper-low column low in
@@ -161,7 +161,7 @@ abbrev WhenInFrom : WhenLines → Type 0
 WhenInFrom when = (column : ℕ) → 8 ≤ column → column ≤ 32 → AreIn (when column)
 
 abbrev ArmsInFrom : ArmLines → Type 0
-ArmsInFrom arms = (phrase : Phrase) (column : ℕ) → 8 ≤ column → column ≤ 32 → AreIn (arms.lines phrase column)
+ArmsInFrom arms = (phrase : ArmPhrase) (column : ℕ) → 8 ≤ column → column ≤ 32 → AreIn (arms.lines phrase column)
 
 whens-in : (whens : List WhenLines) → AreAll WhenInFrom whens → (column : ℕ) → 8 ≤ column → column ≤ 32 → AreIn (whens_lines whens column)
 unfolding AreAll
@@ -285,7 +285,7 @@ module _ (program : Program) where
   arm_of None = None
   arm_of (Some stmts) = Some (map (stmt_lines program) (map (λ x. x.0) stmts))
 
-  arm-if-in : (arm : Option (List SuchStmt)) (not : Bool) (phrase : Phrase) (column : ℕ) → 8 ≤ column → column ≤ 32 →
+  arm-if-in : (arm : Option (List SuchStmt)) (not : Bool) (phrase : ArmPhrase) (column : ℕ) → 8 ≤ column → column ≤ 32 →
       AreIn (arm_if_any (arm_of arm) phrase not column)
   arm-if-in None not phrase column low high = none-in
   arm-if-in (Some stmts) not phrase column low high = arm-in _ phrase not (all-in stmts) column low high

@@ -12,8 +12,8 @@ use Rattle.unparser.specs.Arithmetic.{end_word}
 use Rattle.unparser.specs.Choice.{test_tokens}
 use Rattle.unparser.specs.Condition.{not_tokens}
 use Rattle.unparser.specs.Head.{head_step}
-use Rattle.cobol_print.specs.declared.units.statement.Phrase.{Phrase}
-use Rattle.cobol_print.specs.declared.units.statement.Phrase.TheVariants.{AtEnd, OnSizeError}
+use Rattle.cobol_print.specs.declared.units.statement.ArmPhrase.{ArmPhrase}
+use Rattle.cobol_print.specs.declared.units.statement.ArmPhrase.TheVariants.{AtEnd, OnSizeError}
 use Rattle.cobol_print.specs.declared.units.unit.PrintUnit.{PrintUnit}
 use Rattle.cobol_print.specs.units.Unit.{unit_at, deeper}
 
@@ -25,7 +25,7 @@ Lines = (column : ℕ) → (closed : Bool) → List PrintUnit
 -- the lines of arms, by their phrase, and whether there are any
 pub record ArmLines : Type 0 where
   pub some : Bool
-  pub lines : Phrase → (column : ℕ) → List PrintUnit
+  pub lines : ArmPhrase → (column : ℕ) → List PrintUnit
 
 abbrev pub WhenLines : Type 0
 WhenLines = (column : ℕ) → List PrintUnit
@@ -35,7 +35,7 @@ WhenLines = (column : ℕ) → List PrintUnit
 abbrev pub word_line : (column : ℕ) → List ℕ → PrintUnit
 word_line column word = unit_at column (kind.Word word ∷ [])
 
-abbrev pub phrase_tokens : Phrase → Tokens
+abbrev pub phrase_tokens : ArmPhrase → Tokens
 phrase_tokens AtEnd = kind.Word (codes "AT") ∷ kind.Word (codes "END") ∷ []
 phrase_tokens OnSizeError =
     kind.Word (codes "ON") ∷ kind.Word (codes "SIZE") ∷ kind.Word (codes "ERROR") ∷ []
@@ -72,12 +72,12 @@ list_lines (stmt ∷ stmts) column closed = some_lines (stmt ∷ stmts) column c
 abbrev pub has_arms : Arms → Bool
 has_arms arms = is_some arms.first || is_some arms.second
 
-abbrev pub arm_lines : List Lines → Phrase → (not : Bool) → (column : ℕ) → List PrintUnit
+abbrev pub arm_lines : List Lines → ArmPhrase → (not : Bool) → (column : ℕ) → List PrintUnit
 arm_lines stmts phrase not column =
     unit_at (deeper column) (not_tokens not ++ phrase_tokens phrase)
     ∷ list_lines stmts (deeper (deeper column)) true
 
-abbrev pub arm_if_any : Option (List Lines) → Phrase → (not : Bool) → (column : ℕ) →
+abbrev pub arm_if_any : Option (List Lines) → ArmPhrase → (not : Bool) → (column : ℕ) →
     List PrintUnit
 arm_if_any None phrase not column = []
 arm_if_any (Some stmts) phrase not column = arm_lines stmts phrase not column

@@ -15,7 +15,7 @@ use cob_tree::{Arms, Calc, Program, Stmt, Test, When};
 
 /// The phrase of an arm.
 #[derive(Clone, Copy, Debug)]
-pub enum Phrase {
+pub enum ArmPhrase {
     AtEnd,
     OnSizeError,
 }
@@ -28,15 +28,15 @@ fn has_arms(arms: &Arms) -> bool
 
 impl Units {
     /// Adds the line of a phrase, with NOT where it is said.
-    fn phrase(&mut self, phrase: Phrase, not: bool, column: usize) -> Result<(), NoMemory>
+    fn phrase(&mut self, phrase: ArmPhrase, not: bool, column: usize) -> Result<(), NoMemory>
         ensures { OnOk result
             (self.new ≡ self.old ++ unit_at column (not_tokens not ++ phrase_tokens phrase) ∷ []) }
     {
         let mut tokens = self.tokens();
         tokens.not(not)?;
         match phrase {
-            Phrase::AtEnd => tokens.two_words(b"AT", b"END")?,
-            Phrase::OnSizeError => {
+            ArmPhrase::AtEnd => tokens.two_words(b"AT", b"END")?,
+            ArmPhrase::OnSizeError => {
                 tokens.two_words(b"ON", b"SIZE")?;
                 tokens.word(b"ERROR")?;
             }
@@ -95,12 +95,17 @@ impl Units {
         }
     }
 
-    fn head(&mut self, program: &Program, stmt: &Stmt, column: usize) -> Result<(), NoMemory>
+    fn statement_first_line(
+        &mut self,
+        program: &Program,
+        stmt: &Stmt,
+        column: usize,
+    ) -> Result<(), NoMemory>
         ensures { OnOk result (self.new ≡
             self.old ++ unit_at column (head_step program.now (out-Stmt stmt.now)) ∷ []) }
     {
         let mut tokens = self.tokens();
-        tokens.head(program, stmt)?;
+        tokens.statement_first_line(program, stmt)?;
         self.push(column, tokens)
     }
 
@@ -116,14 +121,14 @@ impl Units {
         ensures { OnOk result
             (self.new ≡ self.old ++ stmt_lines program.now stmt.now column closed) }
     {
-        self.head(program, stmt, column)?;
+        self.statement_first_line(program, stmt, column)?;
         match stmt {
             Stmt::Arith { calc, arms, .. } => {
-                self.arms(program, arms, Phrase::OnSizeError, column)?;
+                self.arms(program, arms, ArmPhrase::OnSizeError, column)?;
                 self.end_arithmetic(has_arms(arms) || closed, calc, column)
             }
             Stmt::Read { arms, .. } => {
-                self.arms(program, arms, Phrase::AtEnd, column)?;
+                self.arms(program, arms, ArmPhrase::AtEnd, column)?;
                 self.end_read(has_arms(arms) || closed, column)
             }
             Stmt::If { yes, no, .. } => {
@@ -217,7 +222,7 @@ impl Units {
         &mut self,
         program: &Program,
         arms: &Arms,
-        phrase: Phrase,
+        phrase: ArmPhrase,
         column: usize,
     ) -> Result<(), NoMemory>
         ensures { OnOk result
@@ -238,7 +243,7 @@ impl Units {
         &mut self,
         program: &Program,
         stmts: &Items<Stmt>,
-        phrase: Phrase,
+        phrase: ArmPhrase,
         not: bool,
         column: usize,
     ) -> Result<(), NoMemory>

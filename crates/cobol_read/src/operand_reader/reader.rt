@@ -7,7 +7,7 @@ use crate::operand_uses as uses;
 use crate::operand_uses::Records;
 use cob_base::{Text, Word};
 use cob_tree::{Cond, Expr, Operand, Place};
-use cobol_grammar::Known;
+use cobol_grammar::SubjectKind;
 use cobol_grammar::expr_forms::Side;
 use cobol_grammar::part_readers::Parts;
 use cond_parse::whole_cond;
@@ -34,7 +34,7 @@ pub struct PartReader<'a> {
 impl<'a> Parts for PartReader<'a> {
     type Side = Side;
 
-    type Known = Known;
+    type Known = SubjectKind;
 
     ghost parts = { λ r. parts_of r.names.now r.records.now r.procedures.now };
 
@@ -98,8 +98,8 @@ impl<'a> Parts for PartReader<'a> {
         uses::procedure_of(self.procedures, name)
     }
 
-    fn again_fault(&self, name: &Word, position: Position) -> Option<Note> {
-        self.procedures.again_fault(name, position)
+    fn duplicate_fault(&self, name: &Word, position: Position) -> Option<Note> {
+        self.procedures.duplicate_fault(name, position)
     }
 
     fn operand_of(&self, side: Side) -> Operand {
@@ -118,7 +118,7 @@ impl<'a> Parts for PartReader<'a> {
         uses::entry_of(side)
     }
 
-    fn known_of(&self, side: &Side) -> Known {
+    fn known_of(&self, side: &Side) -> SubjectKind {
         uses::known_of(side)
     }
 
@@ -150,7 +150,7 @@ impl<'a> Parts for PartReader<'a> {
         uses::into_fault(self.records, file, to)
     }
 
-    fn subject_fault(&self, known: &Known, side: &Side) -> Option<Note> {
+    fn subject_fault(&self, known: &SubjectKind, side: &Side) -> Option<Note> {
         uses::subject_fault(known, side)
     }
 }

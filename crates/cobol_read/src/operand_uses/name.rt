@@ -17,7 +17,7 @@ use expr_parse::actions::ref_side;
 use parser_combinators::words::name;
 use parser_combinators::{Cursor, NameKind, Note, Position, Unread, Why};
 use std::alloc::Global;
-use symbol_tables::data_names::{Found, NameTable};
+use symbol_tables::data_names::{NameTable, Referent};
 use symbol_tables::procedure_names::header_name as name_of;
 
 #[tactic(auto, unfolding(parser_combinators::specs::words::Word::is_free))]
@@ -78,13 +78,13 @@ fn is_record(entries: &[Entry], item: u32) -> bool
     }
 }
 
-fn record_fault(entries: &[Entry], found: Found, position: Position) -> Option<Note>
+fn record_fault(entries: &[Entry], found: Referent, position: Position) -> Option<Note>
     ensures { result ≡ words.record_fault entries.now found position }
 {
     match found {
-        Found::Unknown => fault_at(NameKind::Unknown, position),
-        Found::Ambiguous => fault_at(NameKind::Ambiguous, position),
-        Found::Item { item, .. } => {
+        Referent::Unknown => fault_at(NameKind::Unknown, position),
+        Referent::Ambiguous => fault_at(NameKind::Ambiguous, position),
+        Referent::Item { item, .. } => {
             if is_record(entries, item) {
                 None
             } else {
@@ -94,23 +94,23 @@ fn record_fault(entries: &[Entry], found: Found, position: Position) -> Option<N
     }
 }
 
-fn as_record(entries: &[Entry], found: Found) -> Found
+fn as_record(entries: &[Entry], found: Referent) -> Referent
     ensures { result ≡ words.as_record entries.now found }
 {
     match found {
-        Found::Unknown => Found::Unknown,
-        Found::Ambiguous => Found::Unknown,
-        Found::Item { item, kind, dims } => {
+        Referent::Unknown => Referent::Unknown,
+        Referent::Ambiguous => Referent::Unknown,
+        Referent::Item { item, kind, dims } => {
             if is_record(entries, item) {
-                Found::Item { item, kind, dims }
+                Referent::Item { item, kind, dims }
             } else {
-                Found::Unknown
+                Referent::Unknown
             }
         }
     }
 }
 
-fn look_alone(names: &NameTable, word: &Word) -> Found
+fn look_alone(names: &NameTable, word: &Word) -> Referent
     ensures { result ≡ look names.now word.now [] }
 {
     names.look(word, &[])

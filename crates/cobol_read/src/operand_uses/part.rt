@@ -7,8 +7,8 @@ ghost use Rattle.cobol_grammar.specs.Use as uses;
 use crate::operand_uses::record::Records;
 use cob_base::Items;
 use cob_tree::{Figure, Operand, Place};
-use cobol_grammar::Known;
-use cobol_grammar::expr_forms::{Make, Side, ValueKind, What};
+use cobol_grammar::SubjectKind;
+use cobol_grammar::expr_forms::{ExprContent, ParsedExpr, Side, ValueKind};
 use expr_parse::actions::whole_fault_at;
 use parser_combinators::{NameKind, Note, Position};
 use std::alloc::Global;
@@ -25,26 +25,26 @@ fn bare_place(alloc: Global) -> Place
 }
 
 /// An operand as it stands in the tree.
-pub fn operand_of(what: What) -> Operand
+pub fn operand_of(what: ParsedExpr) -> Operand
     ensures { result ≡ uses.operand_of what }
 {
     match what {
-        What::Ref(place) => Operand::Place(place),
-        What::Literal(operand) => operand,
-        What::Enclosed(place) => Operand::Place(place),
-        What::Sum(_) => Operand::Figure(Figure::Zero),
+        ParsedExpr::Ref(place) => Operand::Place(place),
+        ParsedExpr::Literal(operand) => operand,
+        ParsedExpr::Enclosed(place) => Operand::Place(place),
+        ParsedExpr::Sum(_) => Operand::Figure(Figure::Zero),
     }
 }
 
 /// A reference as it stands in the tree.
-pub fn place_of(alloc: Global, what: What) -> Place
+pub fn place_of(alloc: Global, what: ParsedExpr) -> Place
     ensures { result ≡ uses.place_of what }
 {
     match what {
-        What::Ref(place) => place,
-        What::Literal(_) => bare_place(alloc),
-        What::Enclosed(place) => place,
-        What::Sum(_) => bare_place(alloc),
+        ParsedExpr::Ref(place) => place,
+        ParsedExpr::Literal(_) => bare_place(alloc),
+        ParsedExpr::Enclosed(place) => place,
+        ParsedExpr::Sum(_) => bare_place(alloc),
     }
 }
 
@@ -53,10 +53,10 @@ pub fn entry_of(side: &Side) -> u32
     ensures { result ≡ uses.entry_of side.now.what }
 {
     match &side.what {
-        What::Ref(place) => place.item,
-        What::Literal(_) => 0,
-        What::Enclosed(place) => place.item,
-        What::Sum(_) => 0,
+        ParsedExpr::Ref(place) => place.item,
+        ParsedExpr::Literal(_) => 0,
+        ParsedExpr::Enclosed(place) => place.item,
+        ParsedExpr::Sum(_) => 0,
     }
 }
 
@@ -75,16 +75,16 @@ fn unless_whole(whole: bool, position: Position) -> Option<Note>
     if whole { None } else { usage(position) }
 }
 
-fn to_group_fault(make: Make, whole: bool, position: Position) -> Option<Note>
+fn to_group_fault(make: ExprContent, whole: bool, position: Position) -> Option<Note>
     ensures { result ≡ uses.to_group_fault make whole position }
 {
     match make {
-        Make::Literal => unless_whole(whole, position),
+        ExprContent::Literal => unless_whole(whole, position),
         _ => None,
     }
 }
 
-fn number_moved(make: Make, whole: bool, to: ValueKind, position: Position) -> Option<Note>
+fn number_moved(make: ExprContent, whole: bool, to: ValueKind, position: Position) -> Option<Note>
     ensures { result ≡ uses.number_moved make whole to position }
 {
     match to {
@@ -103,7 +103,12 @@ fn figure_moved(to: ValueKind, position: Position) -> Option<Note>
     }
 }
 
-fn moved_fault(make: Make, from: ValueKind, to: ValueKind, position: Position) -> Option<Note>
+fn moved_fault(
+    make: ExprContent,
+    from: ValueKind,
+    to: ValueKind,
+    position: Position,
+) -> Option<Note>
     ensures { result ≡ uses.moved_fault make from to position }
 {
     match from {
@@ -121,10 +126,10 @@ pub fn move_fault(from: &Side, to: &Side) -> Option<Note>
 }
 
 /// What is kept of a subject of EVALUATE.
-pub fn known_of(side: &Side) -> Known
+pub fn known_of(side: &Side) -> SubjectKind
     ensures { result ≡ uses.known_of side.now }
 {
-    Known {
+    SubjectKind {
         kind: side.kind,
         make: side.make,
         position: side.position,
@@ -137,15 +142,15 @@ pub fn into_fault(records: &Records<'_>, file: Option<u32>, to: &Side) -> Option
 {
     match file {
         None => None,
-        Some(file) => moved_fault(Make::Item, records.kind(file), to.kind, to.position),
+        Some(file) => moved_fault(ExprContent::Item, records.kind(file), to.kind, to.position),
     }
 }
 
-fn inexact_fault(make: Make, kind: ValueKind, position: Position) -> Option<Note>
+fn inexact_fault(make: ExprContent, kind: ValueKind, position: Position) -> Option<Note>
     ensures { result ≡ faults.inexact_fault make kind position }
 {
     match make {
-        Make::Joined => usage(position),
+        ExprContent::Joined => usage(position),
         _ => whole_fault_at(position, kind),
     }
 }
@@ -159,7 +164,12 @@ fn compared_as(kind: ValueKind) -> ValueKind
     }
 }
 
-fn compared_fault(left: ValueKind, right: ValueKind, known: &Known, side: &Side) -> Option<Note>
+fn compared_fault(
+    left: ValueKind,
+    right: ValueKind,
+    known: &SubjectKind,
+    side: &Side,
+) -> Option<Note>
     ensures { result ≡ uses.compared_fault left right known.now side.now }
 {
     match (left, right) {
@@ -177,7 +187,7 @@ fn compared_fault(left: ValueKind, right: ValueKind, known: &Known, side: &Side)
 
 /// The fault of a subject and what it is compared with.
 #[tactic(auto, unfolding(cobol_grammar::specs::Use::subject_fault))]
-pub fn subject_fault(known: &Known, side: &Side) -> Option<Note>
+pub fn subject_fault(known: &SubjectKind, side: &Side) -> Option<Note>
     ensures { result ≡ uses.subject_fault known.now side.now }
 {
     compared_fault(compared_as(known.kind), compared_as(side.kind), known, side)

@@ -13,7 +13,7 @@ use Rattle.file_model.specs.operations.Standing.{SameShelf}
 use Rattle.control_flow_theory.specs.runs.Run.{Over}
 use Rattle.control_flow_theory.specs.semantics.Outcome.{How, Stopped, Normally, Trace}
 use Rattle.control_flow_theory.specs.semantics.Outcome as outcome
-use Rattle.control_flow_theory.specs.agreement.Same.{IsMatchedBy}
+use Rattle.control_flow_theory.specs.semantics_agree.Same.{IsMatchedBy}
 use Rattle.cobol_theory.specs.cobol_meaning.Acting.{abend_number}
 use Rattle.cobol_theory.specs.cobol_meaning.Laws.{StructuredBehavesAsItself, StructuredMeetsNoFault}
 use Rattle.cobol_theory.specs.cobol_meaning.Runs.{Files, source_run, structural_run}

@@ -9,7 +9,7 @@ use Rattle.cob_store.specs.declared.area.Area.{Area}
 use Rattle.cob_store.specs.declared.area.Areas.{Areas}
 use Rattle.cob_store.specs.declared.laying.Laid.{Laid}
 use Rattle.cob_store.specs.declared.laying.Open.{Open}
-use Rattle.cob_store.specs.declared.size.Piece.{Piece}
+use Rattle.cob_store.specs.declared.size.SizedItem.{SizedItem}
 use Rattle.cob_store.specs.Size.{capped, is_condition, is_apart, inside, behind, size_by, times, added, Sized, item_sized, apart_sized, sized_by, sized}
 use Rattle.cob_store.specs.Laying.{groups_of, dims_of, root_by, same_file, last_area, lengthened, area_of, root_laid, alone_laid, item_laid, condition_laid, apart_laid, laid_by, laid_from, nothing_laid, areas_of, layout_of}
 use Rattle.cob_store.specs.Area.{root_of}
@@ -19,11 +19,11 @@ use Rattle.cobol_theory.specs.added_items.Laying.{begins_with_item, stands_alone
 -- ---- sizes
 
 -- pieces of level 01 in front
-abbrev Outermost : List Piece → Type 0
+abbrev Outermost : List SizedItem → Type 0
 Outermost [] = Unit {0}
 Outermost (piece ∷ pieces) = piece.depth ≡ 1
 
-inside-kept : (depth bytes : ℕ) (pieces outer : List Piece) → 1 ≤ depth → Outermost outer → inside depth bytes (pieces ++ outer) ≡ inside depth bytes pieces
+inside-kept : (depth bytes : ℕ) (pieces outer : List SizedItem) → 1 ≤ depth → Outermost outer → inside depth bytes (pieces ++ outer) ≡ inside depth bytes pieces
 inside-kept depth bytes [] [] deep outermost = refl
 inside-kept depth bytes [] (piece ∷ others) deep outermost = by_case (nat_lt depth piece.depth) refl
   where
@@ -33,7 +33,7 @@ inside-kept depth bytes [] (piece ∷ others) deep outermost = by_case (nat_lt d
 inside-kept depth bytes (piece ∷ pieces) outer deep outermost =
     ap (λ x. if nat_lt depth piece.depth then x else bytes) (inside-kept depth (capped (bytes + piece.bytes)) pieces outer deep outermost)
 
-behind-kept : (depth : ℕ) (pieces outer : List Piece) → 1 ≤ depth → Outermost outer → behind depth (pieces ++ outer) ≡ behind depth pieces ++ outer
+behind-kept : (depth : ℕ) (pieces outer : List SizedItem) → 1 ≤ depth → Outermost outer → behind depth (pieces ++ outer) ≡ behind depth pieces ++ outer
 behind-kept depth [] [] deep outermost = refl
 behind-kept depth [] (piece ∷ others) deep outermost = by_case (nat_lt depth piece.depth) refl
   where

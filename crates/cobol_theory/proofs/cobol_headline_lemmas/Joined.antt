@@ -4,12 +4,12 @@ use Rattle.cob_tree.specs.declared.program.Program.{Program}
 use Rattle.control_flow_theory.specs.language.Control.{control_of}
 use Rattle.control_flow_theory.specs.language.Language as language
 use Rattle.control_flow_theory.specs.language.Structured.{IsStructured}
-use Rattle.control_flow_theory.specs.lowering.Told.{IsTold, IsSource}
+use Rattle.control_flow_theory.specs.lowering.FlowFacts.{IsTold, IsSource}
 use Rattle.control_flow_theory.specs.semantics.Structural.{structural}
-use Rattle.control_flow_theory.specs.agreement.Same as meanings
-use Rattle.control_flow_theory.specs.headline.CallsReached.{GivesSome}
-use Rattle.control_flow_theory.specs.headline.Headline.{Parts, CanBeRestructured, PartsAgree, written_by, source_of, result_of}
-use Rattle.control_flow_theory.proofs.headline_lemmas.Whole.{written-behaves}
+use Rattle.control_flow_theory.specs.semantics_agree.Same as meanings
+use Rattle.control_flow_theory.specs.main_theorem.CallsReached.{GivesSome}
+use Rattle.control_flow_theory.specs.main_theorem.MainTheorem.{Parts, CanBeRestructured, PartsAgree, written_by, source_of, result_of}
+use Rattle.control_flow_theory.proofs.main_theorem_lemmas.Whole.{written-behaves}
 use Rattle.cobol_theory.proofs.cobol_parts_lemmas.Skips.{skips}
 use Rattle.cobol_theory.proofs.cobol_parts_lemmas.Gives.{chooses}
 use Rattle.cobol_theory.proofs.cobol_parts_lemmas.Sources.{source}

@@ -24,9 +24,9 @@ use Rattle.meanings.specs.statements.Does.{memory_in, of_sum}
 use Rattle.meanings.specs.statements.Filing.{Declared, Effect, Operation, Ended, Went, Chose, Abended, no_effect, after, then_do, of_outcome, into, into_by, end_by, always_ends, settled, status_spot, status_by, operated_to, record_put, read_end, address_at, record_spot}
 use Rattle.control_flow_theory.specs.language.Language.{Chooser, Evaluate, Arith, Depending}
 use Rattle.control_flow_theory.specs.language.Language as language
-use Rattle.control_flow_theory.specs.lowering.Told.{ChoiceIsTold}
+use Rattle.control_flow_theory.specs.lowering.FlowFacts.{ChoiceIsTold}
 use Rattle.cobol_theory.specs.cobol_meaning.Acting.{Memory, answered, chosen, name_in, arm_in, chooses_in}
-use Rattle.program_facts.specs.completion.Told.{never_ends, status_missing, width_of}
+use Rattle.program_facts.specs.completion.FlowFacts.{never_ends, status_missing, width_of}
 
 -- ---- EVALUATE
 

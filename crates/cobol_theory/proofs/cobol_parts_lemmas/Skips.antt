@@ -7,7 +7,7 @@ use Rattle.cob_tree.specs.declared.stmt.Stmt.TheOpen.{Stmt-F}
 use Rattle.meanings.specs.statements.Filing.{Declared}
 use Rattle.control_flow_theory.specs.semantics.Outcome.{Got}
 use Rattle.cobol_theory.specs.cobol_meaning.Acting.{Memory, does_to}
-use Rattle.program_facts.specs.completion.Told.{does_nothing}
+use Rattle.program_facts.specs.completion.FlowFacts.{does_nothing}
 
 skips-rolled : (declared : Declared) (memory : Memory) (view : Stmt-F Stmt Arms When) →
     does_nothing (roll-Stmt view) ≡ true →

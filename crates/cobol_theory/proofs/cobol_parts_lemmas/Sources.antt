@@ -24,8 +24,8 @@ use Rattle.control_flow_theory.specs.language.Own as own
 use Rattle.control_flow_theory.specs.language.OwnItems.{NamesOwnItems, operand_own, place_own, option_own, places_own, cond_own, control_own, calc_own, target_own, subject_own, test_own, stmt_own, arms_own, when_own, stmts_own, sentences_own, paragraphs_own}
 use Rattle.control_flow_theory.specs.language.OwnItems as items
 use Rattle.control_flow_theory.proofs.language_lemmas.OwnCells.{cond-own, move-own, arith-own, evaluate-own, OwnTurns, control-own}
-use Rattle.control_flow_theory.specs.lowering.Told.{Told, AllBelow, FirstMayBeMissing, OwnPicker, OwnStmt, OwnStmts, OwnArms, OwnParagraph, OwnParagraphs, IsSource, arm_count}
-use Rattle.program_facts.specs.completion.Told.{told_of, width_of}
+use Rattle.control_flow_theory.specs.lowering.FlowFacts.{FlowFacts, AllBelow, FirstMayBeMissing, OwnPicker, OwnStmt, OwnStmts, OwnArms, OwnParagraph, OwnParagraphs, IsSource, arm_count}
+use Rattle.program_facts.specs.completion.FlowFacts.{flow_facts_of, width_of}
 use Rattle.cobol_theory.specs.cobol_parts.Named as named
 use Rattle.cobol_theory.specs.cobol_parts.Named.{turns, is_there, stmt_named, arms_named, when_named, stmts_named, sentences_named, paragraphs_named, NamesOwnParagraphs}
 
@@ -41,8 +41,8 @@ all-below count (number ∷ to) e =
     (below count number h.0, all-below count to h.1)
 
 module _ (declared : Declared) (returning : List (List ℕ)) (count : ℕ) where
-  abbrev told : Told
-  told = told_of declared.files returning
+  abbrev told : FlowFacts
+  told = flow_facts_of declared.files returning
 
   -- ---- statements with parts that fit
 
@@ -394,9 +394,9 @@ paragraph-count number (paragraph ∷ others) = ap suc (paragraph-count (suc num
 
 pub source : (declared : Declared) (returning : List (List ℕ)) (program : Program) →
     NamesOwnItems program → NamesOwnParagraphs program →
-    IsSource (told_of declared.files returning) (control_of program)
+    IsSource (flow_facts_of declared.files returning) (control_of program)
 source declared returning program items paragraphs =
-    subst (λ count. OwnParagraphs (told_of declared.files returning) count
+    subst (λ count. OwnParagraphs (flow_facts_of declared.files returning) count
     (seen_paragraphs 0 program.paragraphs)) (paragraph-count 0 program.paragraphs)
     (paragraphs-fit declared returning (length program.paragraphs) 0 program.paragraphs
     (omega arith) items paragraphs)

@@ -21,10 +21,10 @@ use Rattle.cob_tree.specs.declared.stmt.Stmt.TheVariants as stmts
 use Rattle.control_flow_theory.specs.language.All.{all}
 use Rattle.control_flow_theory.specs.language.Control.{cell_of, cell_in, number_in, number_written, relation_of, setting, Tested, tested_step, tested, test_of, move_to, move_of, lowered_cell, arith_alone, arith_act, arith_of, control_in, setting_item, augmented}
 use Rattle.control_flow_theory.specs.language.Language as language
-use Rattle.control_flow_theory.specs.lowering.Told.{Told}
+use Rattle.control_flow_theory.specs.lowering.FlowFacts.{FlowFacts}
 use Rattle.control_flow_theory.specs.rendering.Rendering.{Naming}
 use Rattle.control_flow_theory.specs.rendering.Procedures.{Writable}
-use Rattle.control_flow_theory.specs.served_graphs.Served.{ActIsServed, TestIsServed, ChooserIsServed, ControlIsServed}
+use Rattle.control_flow_theory.specs.expressible_graphs.Served.{ActIsServed, TestIsServed, ChooserIsServed, ControlIsServed}
 use Rattle.program_facts.specs.well_scoped.Part.{Counts, is_filled, if_any, file_named, place_named, operand_named, expr_named}
 use Rattle.program_facts.specs.well_scoped.Beside.{cond_named, control_named, calc_named, target_named, subject_named, test_named}
 use Rattle.program_facts.specs.well_scoped.Beside as beside
@@ -32,7 +32,7 @@ use Rattle.program_facts.specs.well_scoped.Named.{stmt_named}
 use Rattle.program_facts.proofs.well_scoped_lemmas.Made.{both, made-Relation, made-Class, made-SignIs, made-Named, made-Not, made-And, made-Or, made-Move, made-Arith, made-Arms}
 use Rattle.program_facts.specs.whole_counts.Whole.{amount_is_whole, control_counts_whole, place_is_whole}
 
-module _ (naming : Naming) (kinds : Writable) (told : Told) (range : language.Range) (counts : Counts) (entries : List Entry) where
+module _ (naming : Naming) (kinds : Writable) (told : FlowFacts) (range : language.Range) (counts : Counts) (entries : List Entry) where
   -- these parts may be written
   pub record Takes : Type 0 where
     pub simples : (stmt : Stmt) → stmt_named counts stmt ≡ true → kinds.simples stmt ≡ true

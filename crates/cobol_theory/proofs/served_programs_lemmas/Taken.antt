@@ -11,20 +11,20 @@ use Rattle.control_flow_theory.specs.language.All.{all}
 use Rattle.control_flow_theory.specs.language.Language.{Range, By, none, also, Arms, done, given, missing}
 use Rattle.control_flow_theory.specs.language.Language as language
 use Rattle.control_flow_theory.specs.language.Control.{control_of}
-use Rattle.control_flow_theory.specs.lowering.Told.{Told, IsSource}
+use Rattle.control_flow_theory.specs.lowering.FlowFacts.{FlowFacts, IsSource}
 use Rattle.control_flow_theory.specs.lowering.WellFormed.{AreJustReached}
 use Rattle.control_flow_theory.specs.graph_rules.Walked.{In}
-use Rattle.program_facts.specs.completion.Told.{told_of, status_missing}
+use Rattle.program_facts.specs.completion.FlowFacts.{flow_facts_of, status_missing}
 use Rattle.cobol_theory.proofs.cobol_parts_lemmas.Sources.{source}
 use Rattle.control_flow_theory.specs.rendering.Rendering.{Empty, Continues, Goes, Naming, count_arms, arm_stands, standing}
 use Rattle.control_flow_theory.specs.rendering.Procedures.{Writable}
-use Rattle.control_flow_theory.specs.headline.Chain.{StartsEmpty, GraphsServed}
-use Rattle.control_flow_theory.specs.headline.Headline.{graphs_by}
+use Rattle.control_flow_theory.specs.main_theorem.Chain.{StartsEmpty, GraphsServed}
+use Rattle.control_flow_theory.specs.main_theorem.MainTheorem.{graphs_by}
 use Rattle.meanings.specs.statements.Does.{declared_in}
 use Rattle.meanings.specs.statements.Filing.{Declared, status_by}
-use Rattle.control_flow_theory.specs.served_graphs.Served.{ProgramIsServed}
-use Rattle.control_flow_theory.specs.served_graphs.Laws.{CountersAreServed}
-use Rattle.control_flow_theory.proofs.served_graphs_lemmas.Graphs.{served-graphs}
+use Rattle.control_flow_theory.specs.expressible_graphs.Served.{ProgramIsServed}
+use Rattle.control_flow_theory.specs.expressible_graphs.Laws.{CountersAreServed}
+use Rattle.control_flow_theory.proofs.expressible_graphs_lemmas.Graphs.{served-graphs}
 use Rattle.cobol_theory.specs.added_items.Own.{items}
 use Rattle.cobol_theory.specs.added_items.Within.{whens_within}
 use Rattle.cobol_theory.proofs.added_items_lemmas.Layouts.{inside-of}
@@ -91,8 +91,8 @@ module _ (program : Program) (writing : Writing) (range : Range) (proper : IsPro
   abbrev kinds : Writable
   kinds = writable_of program writing
 
-  abbrev told : Told
-  told = told_of program.files writing.returning
+  abbrev told : FlowFacts
+  told = flow_facts_of program.files writing.returning
 
   same : counts.items ≡ items declared
   same = (inside-of program.entries proper.begins).0
@@ -135,7 +135,7 @@ module _ (program : Program) (writing : Writing) (range : Range) (proper : IsPro
 -- ---- its lowered graphs
 
 pub graphs-served : (program : Program) (writing : Writing) → IsProper program → counts_whole program ≡ true → IsFit program → KeepsAtEnd writing →
-    writing.plan.told ≡ told_of program.files writing.returning →
+    writing.plan.told ≡ flow_facts_of program.files writing.returning →
     ((range : Range) → In range (language.Main ∷ writing.plan.others) → AreJustReached writing.plan.told (control_of program) range (writing.plan.keep range)) →
     CountersAreServed (writable_of program writing) (language.Main ∷ writing.plan.others) (graphs_by writing.plan (control_of program)) →
     GraphsServed (naming_of program writing) (writable_of program writing) (language.Main ∷ writing.plan.others) (graphs_by writing.plan (control_of program))

@@ -18,10 +18,10 @@ use Rattle.cob_tree.specs.declared.stmt.Stmt.TheOpen.{Stmt-F, Arms-F, When-F}
 use Rattle.control_flow_theory.specs.language.Language as language
 use Rattle.control_flow_theory.specs.language.All.{all}
 use Rattle.control_flow_theory.specs.language.Control.{arith_stmt, arm_before, else_of, evaluate_of, picker_by, control_in, loop_of, perform_of, tests_of, Branch, branches_before, Both, both_arms, both_step, branch_step, seen_step, seen, seen_when, seen_both, seen_stmts, seen_sentence, section_last, seen_paragraphs}
-use Rattle.control_flow_theory.specs.lowering.Told.{Told}
+use Rattle.control_flow_theory.specs.lowering.FlowFacts.{FlowFacts}
 use Rattle.control_flow_theory.specs.rendering.Rendering.{Naming}
 use Rattle.control_flow_theory.specs.rendering.Procedures.{Writable}
-use Rattle.control_flow_theory.specs.served_graphs.Served.{PickerIsServed, StmtIsServed, StmtsAreServed, ArmsAreServed, ParagraphIsServed, ParagraphsAreServed}
+use Rattle.control_flow_theory.specs.expressible_graphs.Served.{PickerIsServed, StmtIsServed, StmtsAreServed, ArmsAreServed, ParagraphIsServed, ParagraphsAreServed}
 use Rattle.program_facts.specs.well_scoped.Part.{Counts, is_filled, if_any, file_named, item_named, paragraph_named, place_named, operand_named, places_named, operands_named}
 use Rattle.program_facts.specs.well_scoped.Beside.{turns, cond_named, control_named, calc_named, target_named, subject_named, test_named}
 use Rattle.program_facts.specs.well_scoped.Named as named
@@ -31,7 +31,7 @@ use Rattle.program_facts.specs.whole_counts.Whole.{control_counts_whole, whole_s
 use Rattle.cobol_theory.specs.fit_programs.Fit.{few_step, few_arms, few_when, stmt_names_few, arms_name_few, when_names_few}
 use Rattle.cobol_theory.proofs.served_programs_lemmas.Parts.{Takes, test-taken, move-taken, alone-named, arith-taken, TurnsTaken, control-taken}
 
-module _ (naming : Naming) (kinds : Writable) (told : Told) (range : language.Range) (counts : Counts) (entries : List Entry) (takes : Takes naming kinds told range counts entries) where
+module _ (naming : Naming) (kinds : Writable) (told : FlowFacts) (range : language.Range) (counts : Counts) (entries : List Entry) (takes : Takes naming kinds told range counts entries) where
   abbrev StmtServed : language.Stmt → Type 0
   StmtServed stmt = StmtIsServed naming kinds told range stmt
 

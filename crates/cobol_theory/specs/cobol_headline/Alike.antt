@@ -6,12 +6,12 @@ use Rattle.control_flow_theory.specs.language.Language.{Picker, Range, Main}
 use Rattle.control_flow_theory.specs.language.OwnItems.{NamesOwnItems}
 use Rattle.control_flow_theory.specs.language.Structured.{IsStructured}
 use Rattle.control_flow_theory.specs.lowering.flow.Paths.{IsFaulty}
-use Rattle.program_facts.specs.completion.Told.{told_of}
+use Rattle.program_facts.specs.completion.FlowFacts.{flow_facts_of}
 use Rattle.control_flow_theory.specs.rendering.Rendering.{Empty, Naming, rendered}
 use Rattle.control_flow_theory.specs.rendering.Procedures.{Writable}
-use Rattle.control_flow_theory.specs.headline.Chain.{IsPlan, EachCellServed, GraphsServed}
-use Rattle.control_flow_theory.specs.headline.CallsReached.{CalledByPaths}
-use Rattle.control_flow_theory.specs.headline.Headline.{Plan, graphs_by, procedures_by}
+use Rattle.control_flow_theory.specs.main_theorem.Chain.{IsPlan, EachCellServed, GraphsServed}
+use Rattle.control_flow_theory.specs.main_theorem.CallsReached.{CalledByPaths}
+use Rattle.control_flow_theory.specs.main_theorem.MainTheorem.{Plan, graphs_by, procedures_by}
 use Rattle.cobol_theory.specs.cobol_parts.Named.{NamesOwnParagraphs}
 use Rattle.cobol_theory.specs.cobol_meaning.Same.{SameBehaviour}
 use Rattle.meanings.specs.statements.Does.{declared_in}
@@ -54,7 +54,7 @@ writable_of program writing =
 
 -- the program has a paragraph, isn't faulty, and is written so
 pub record CanBeWritten (program : Program) (writing : Writing) : Type 0 where
-  pub told : writing.plan.told ≡ told_of program.files writing.returning
+  pub told : writing.plan.told ≡ flow_facts_of program.files writing.returning
   pub some : 0 < length (control_of program).paragraphs
   pub fair : IsFaulty writing.plan.told (control_of program) → ⊥
   pub planned : IsPlan writing.plan.told (control_of program) writing.plan.keep writing.plan.others

@@ -1,6 +1,6 @@
 -- Two programs behave the same.
 use Rattle.cob_tree.specs.declared.program.Program.{Program}
-use Rattle.control_flow_theory.specs.agreement.Same as meanings
+use Rattle.control_flow_theory.specs.semantics_agree.Same as meanings
 use Rattle.cobol_theory.specs.cobol_meaning.Runs.{source_run, structural_run}
 
 -- over all files each run of the source is matched by one of the result's nested statements, and

@@ -6,12 +6,12 @@ use Rattle.control_flow_theory.specs.language.Control.{control_of}
 use Rattle.control_flow_theory.specs.language.Language.{Range, Main, By, Read}
 use Rattle.control_flow_theory.specs.lowering.WellFormed.{AreJustReached}
 use Rattle.control_flow_theory.specs.graph_rules.Walked.{In}
-use Rattle.program_facts.specs.completion.Told.{told_of}
+use Rattle.program_facts.specs.completion.FlowFacts.{flow_facts_of}
 use Rattle.control_flow_theory.specs.rendering.Rendering.{Continues, Goes}
-use Rattle.control_flow_theory.specs.headline.Chain.{GraphsServed}
-use Rattle.control_flow_theory.specs.headline.Headline.{graphs_by}
-use Rattle.control_flow_theory.specs.served_graphs.Served.{ProgramIsServed}
-use Rattle.control_flow_theory.specs.served_graphs.Laws.{CountersAreServed}
+use Rattle.control_flow_theory.specs.main_theorem.Chain.{GraphsServed}
+use Rattle.control_flow_theory.specs.main_theorem.MainTheorem.{graphs_by}
+use Rattle.control_flow_theory.specs.expressible_graphs.Served.{ProgramIsServed}
+use Rattle.control_flow_theory.specs.expressible_graphs.Laws.{CountersAreServed}
 use Rattle.program_facts.specs.whole_counts.Whole.{counts_whole}
 use Rattle.cobol_theory.specs.cobol_headline.Alike.{IsProper, Writing, naming_of, writable_of}
 use Rattle.cobol_theory.specs.fit_programs.Fit.{IsFit}
@@ -27,14 +27,14 @@ ProperProgramsAreServed =
     (program : Program) (writing : Writing) (range : Range) →
     IsProper program → counts_whole program ≡ true → IsFit program → KeepsAtEnd writing →
     ProgramIsServed (naming_of program writing) (writable_of program writing)
-    (told_of program.files writing.returning) range (control_of program)
+    (flow_facts_of program.files writing.returning) range (control_of program)
 
 -- so what stands in the lowered graphs may be written, where their counters may
 abbrev pub ProperProgramsHaveServedGraphs : Type 0
 ProperProgramsHaveServedGraphs =
     (program : Program) (writing : Writing) →
     IsProper program → counts_whole program ≡ true → IsFit program → KeepsAtEnd writing →
-    writing.plan.told ≡ told_of program.files writing.returning →
+    writing.plan.told ≡ flow_facts_of program.files writing.returning →
     ((range : Range) → In range (Main ∷ writing.plan.others) →
     AreJustReached writing.plan.told (control_of program) range (writing.plan.keep range)) →
     CountersAreServed (writable_of program writing) (Main ∷ writing.plan.others)

@@ -38,8 +38,8 @@ pub fn noted_fault(note: Option<Note>) -> Option<NameFault>
 }
 
 /// How many tokens of those that were read stand behind a condition.
-pub fn unread(not_read: bool) -> usize
-    ensures { result ≡ answers.unread not_read }
+pub fn unread(pending_not: bool) -> usize
+    ensures { result ≡ answers.unread pending_not }
 {
-    if not_read { 1 } else { 0 }
+    if pending_not { 1 } else { 0 }
 }

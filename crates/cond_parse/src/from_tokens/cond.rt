@@ -38,8 +38,8 @@ pub fn parse_cond(
 {
     let mut cursor = Cursor::from_index(tokens, from);
     match whole_cond(alloc, &mut cursor, names) {
-        Ok((cond, not_read)) => {
-            let next = cursor.index().saturating_sub(unread(not_read));
+        Ok((cond, pending_not)) => {
+            let next = cursor.index().saturating_sub(unread(pending_not));
             let fault = noted_fault(cursor.fault());
             Ok(CondPart { cond, next, fault })
         }

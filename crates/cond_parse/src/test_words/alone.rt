@@ -15,10 +15,10 @@ ghost use Rattle.cobol_grammar.specs.cond_forms.Alone as alones;
 use crate::test_words::test::relation_of;
 use cob_base::{Boxed, Copied, NoMemory};
 use cob_tree::{Cond, Place, Rel};
-use cobol_grammar::cond_forms::{Part, Primary, Setting};
-use cobol_grammar::expr_forms::{Shape, Side, What};
+use cobol_grammar::cond_forms::{Primary, Setting, SimpleCond};
+use cobol_grammar::expr_forms::{ExprForm, ParsedExpr, Side};
 use expr_parse::actions::{
-    condition_fault, is_condition, relation_fault, shape_of, tally, value_fault,
+    condition_fault, count_terms, is_condition, relation_fault, shape_of, value_fault,
 };
 use parser_combinators::{Cursor, Unread, Why};
 use std::alloc::Global;
@@ -34,14 +34,14 @@ fn with_not(alloc: Global, negated: bool, cond: Cond) -> Result<Cond, NoMemory>
 }
 
 /// A condition and what was found of it.
-pub fn part_of(cond: Cond, setting: Option<Setting>, count: u32, not_read: bool) -> Part
-    ensures { result ≡ alones.part_of cond setting count not_read }
+pub fn part_of(cond: Cond, setting: Option<Setting>, count: u32, pending_not: bool) -> SimpleCond
+    ensures { result ≡ alones.part_of cond setting count pending_not }
 {
-    Part {
+    SimpleCond {
         cond,
         setting,
         count,
-        not_read,
+        pending_not,
     }
 }
 
@@ -62,15 +62,15 @@ fn carried_part(
     setting: Setting,
     right: Side,
     count: u32,
-    not_read: bool,
-) -> Result<Part, NoMemory>
+    pending_not: bool,
+) -> Result<SimpleCond, NoMemory>
     ensures { Makes (alones.part_of (tests.relation_of setting.left setting.rel right) (Some
-        setting) count not_read) result }
+        setting) count pending_not) result }
 {
     match setting.left.copy(alloc) {
         Ok(left) => {
             let cond = relation_of(left, setting.rel, right);
-            Ok(part_of(cond, Some(setting), count, not_read))
+            Ok(part_of(cond, Some(setting), count, pending_not))
         }
         Err(fault) => {
             drop(setting);
@@ -88,16 +88,16 @@ fn carried(
     setting: Setting,
     right: Side,
     count: u32,
-    not_read: bool,
-) -> Result<Part, Unread>
-    ensures { Reads ((alones.carried setting right count not_read).reads cursor.old)
+    pending_not: bool,
+) -> Result<SimpleCond, Unread>
+    ensures { Reads ((alones.carried setting right count pending_not).reads cursor.old)
         result cursor.new }
 {
-    match tally(cursor, count, setting.terms) {
+    match count_terms(cursor, count, setting.terms) {
         Ok(more) => {
             cursor.note(value_fault(&right));
             cursor.note(relation_fault(&setting.left, &right));
-            Ok(carried_part(alloc, setting, right, more, not_read)?)
+            Ok(carried_part(alloc, setting, right, more, pending_not)?)
         }
         Err(stop) => {
             drop(setting);
@@ -112,13 +112,13 @@ fn named_place(
     negated: bool,
     place: Place,
     count: u32,
-    not_read: bool,
-) -> Result<Part, NoMemory>
+    pending_not: bool,
+) -> Result<SimpleCond, NoMemory>
     ensures { Makes (alones.part_of (alones.with_not negated (conds.Named place)) None count
-        not_read) result }
+        pending_not) result }
 {
     let cond = with_not(alloc, negated, Cond::Named(place))?;
-    Ok(part_of(cond, None, count, not_read))
+    Ok(part_of(cond, None, count, pending_not))
 }
 
 #[tactic(auto, unfolding(cobol_grammar::specs::cond_forms::Alone::named_by))]
@@ -126,21 +126,21 @@ fn named_by(
     alloc: Global,
     cursor: &Cursor<'_>,
     negated: bool,
-    what: What,
+    what: ParsedExpr,
     count: u32,
-    not_read: bool,
-) -> Result<Part, Unread>
-    ensures { Reads ((alones.named_by negated what count not_read).reads cursor.now)
+    pending_not: bool,
+) -> Result<SimpleCond, Unread>
+    ensures { Reads ((alones.named_by negated what count pending_not).reads cursor.now)
         result cursor.now }
 {
     match what {
-        What::Ref(place) => Ok(named_place(alloc, negated, place, count, not_read)?),
-        What::Enclosed(place) => Ok(named_place(alloc, negated, place, count, not_read)?),
-        What::Literal(operand) => {
+        ParsedExpr::Ref(place) => Ok(named_place(alloc, negated, place, count, pending_not)?),
+        ParsedExpr::Enclosed(place) => Ok(named_place(alloc, negated, place, count, pending_not)?),
+        ParsedExpr::Literal(operand) => {
             drop(operand);
             Err(Unread::Stop(Why::Syntax))
         }
-        What::Sum(expr) => {
+        ParsedExpr::Sum(expr) => {
             drop(expr);
             Err(Unread::Stop(Why::Syntax))
         }
@@ -154,28 +154,33 @@ fn named(
     negated: bool,
     side: Side,
     count: u32,
-    not_read: bool,
-) -> Result<Part, Unread>
-    ensures { Reads ((alones.named negated side count not_read).reads cursor.old)
+    pending_not: bool,
+) -> Result<SimpleCond, Unread>
+    ensures { Reads ((alones.named negated side count pending_not).reads cursor.old)
         result cursor.new }
 {
     cursor.note(condition_fault(&side));
-    named_by(alloc, cursor, negated, side.what, count, not_read)
+    named_by(alloc, cursor, negated, side.what, count, pending_not)
 }
 
 #[tactic(auto, unfolding(cobol_grammar::specs::cond_forms::Alone::kept))]
 fn kept(
     cursor: &Cursor<'_>,
     setting: Setting,
-    what: What,
+    what: ParsedExpr,
     count: u32,
-    not_read: bool,
-) -> Result<Part, Unread>
-    ensures { Reads ((alones.kept setting what count not_read).reads cursor.now)
+    pending_not: bool,
+) -> Result<SimpleCond, Unread>
+    ensures { Reads ((alones.kept setting what count pending_not).reads cursor.now)
         result cursor.now }
 {
     match what {
-        What::Ref(place) => Ok(part_of(Cond::Named(place), Some(setting), count, not_read)),
+        ParsedExpr::Ref(place) => Ok(part_of(
+            Cond::Named(place),
+            Some(setting),
+            count,
+            pending_not,
+        )),
         other => {
             drop(other);
             drop(setting);
@@ -190,16 +195,16 @@ fn set_ref_part(
     setting: Setting,
     side: Side,
     count: u32,
-    not_read: bool,
-) -> Result<Part, Unread>
+    pending_not: bool,
+) -> Result<SimpleCond, Unread>
     ensures { Reads ((chosen (is_condition side.kind) (alones.kept setting side.what count
-        not_read) (alones.carried setting side count not_read)).reads cursor.old) result
+        pending_not) (alones.carried setting side count pending_not)).reads cursor.old) result
         cursor.new }
 {
     if is_condition(side.kind) {
-        kept(cursor, setting, side.what, count, not_read)
+        kept(cursor, setting, side.what, count, pending_not)
     } else {
-        carried(alloc, cursor, setting, side, count, not_read)
+        carried(alloc, cursor, setting, side, count, pending_not)
     }
 }
 
@@ -211,18 +216,18 @@ fn ref_part(
     setting: Option<Setting>,
     side: Side,
     count: u32,
-    not_read: bool,
-) -> Result<Part, Unread>
-    ensures { Reads ((alones.ref_part negated setting side count not_read).reads cursor.old)
+    pending_not: bool,
+) -> Result<SimpleCond, Unread>
+    ensures { Reads ((alones.ref_part negated setting side count pending_not).reads cursor.old)
         result cursor.new }
 {
     if negated {
         drop(setting);
-        return named(alloc, cursor, true, side, count, not_read);
+        return named(alloc, cursor, true, side, count, pending_not);
     }
     match setting {
-        None => named(alloc, cursor, false, side, count, not_read),
-        Some(setting) => set_ref_part(alloc, cursor, setting, side, count, not_read),
+        None => named(alloc, cursor, false, side, count, pending_not),
+        Some(setting) => set_ref_part(alloc, cursor, setting, side, count, pending_not),
     }
 }
 
@@ -234,9 +239,9 @@ fn literal_part(
     setting: Option<Setting>,
     side: Side,
     count: u32,
-    not_read: bool,
-) -> Result<Part, Unread>
-    ensures { Reads ((alones.literal_part negated setting side count not_read).reads cursor.old)
+    pending_not: bool,
+) -> Result<SimpleCond, Unread>
+    ensures { Reads ((alones.literal_part negated setting side count pending_not).reads cursor.old)
         result cursor.new }
 {
     if negated {
@@ -249,7 +254,7 @@ fn literal_part(
             drop(side);
             Err(Unread::Stop(Why::Syntax))
         }
-        Some(setting) => carried(alloc, cursor, setting, side, count, not_read),
+        Some(setting) => carried(alloc, cursor, setting, side, count, pending_not),
     }
 }
 
@@ -257,24 +262,32 @@ fn literal_part(
 fn part_by_shape(
     alloc: Global,
     cursor: &mut Cursor<'_>,
-    shape: Shape,
+    shape: ExprForm,
     negated: bool,
     setting: Option<Setting>,
     side: Side,
     count: u32,
-    not_read: bool,
-) -> Result<Part, Unread>
-    ensures { Reads ((alones.part_by_shape shape negated setting side count not_read).reads
+    pending_not: bool,
+) -> Result<SimpleCond, Unread>
+    ensures { Reads ((alones.part_by_shape shape negated setting side count pending_not).reads
         cursor.old) result cursor.new }
 {
     match shape {
-        Shape::Ref => ref_part(alloc, cursor, negated, setting, side, count, not_read),
-        Shape::Literal => literal_part(alloc, cursor, negated, setting, side, count, not_read),
-        Shape::Enclosed => {
+        ExprForm::Ref => ref_part(alloc, cursor, negated, setting, side, count, pending_not),
+        ExprForm::Literal => literal_part(
+            alloc,
+            cursor,
+            negated,
+            setting,
+            side,
+            count,
+            pending_not,
+        ),
+        ExprForm::Enclosed => {
             drop(setting);
-            named(alloc, cursor, negated, side, count, not_read)
+            named(alloc, cursor, negated, side, count, pending_not)
         }
-        Shape::Sum => {
+        ExprForm::Sum => {
             drop(setting);
             drop(side);
             Err(Unread::Stop(Why::Syntax))
@@ -291,14 +304,21 @@ pub fn alone_part(
     setting: Option<Setting>,
     side: Side,
     count: u32,
-    not_read: bool,
-) -> Result<Part, Unread>
-    ensures { Reads ((alones.alone_part negated setting side count not_read).reads cursor.old)
+    pending_not: bool,
+) -> Result<SimpleCond, Unread>
+    ensures { Reads ((alones.alone_part negated setting side count pending_not).reads cursor.old)
         result cursor.new }
 {
     let shape = shape_of(&side);
     part_by_shape(
-        alloc, cursor, shape, negated, setting, side, count, not_read,
+        alloc,
+        cursor,
+        shape,
+        negated,
+        setting,
+        side,
+        count,
+        pending_not,
     )
 }
 
@@ -308,12 +328,12 @@ fn test_part(
     cond: Cond,
     after: Option<Setting>,
     count: u32,
-    not_read: bool,
-) -> Result<Part, NoMemory>
-    ensures { Makes (alones.part_of (alones.with_not negated cond) after count not_read) result }
+    pending_not: bool,
+) -> Result<SimpleCond, NoMemory>
+    ensures { Makes (alones.part_of (alones.with_not negated cond) after count pending_not) result }
 {
     match with_not(alloc, negated, cond) {
-        Ok(cond) => Ok(part_of(cond, after, count, not_read)),
+        Ok(cond) => Ok(part_of(cond, after, count, pending_not)),
         Err(fault) => {
             drop(after);
             Err(fault)
@@ -330,16 +350,24 @@ pub fn part_by(
     setting: Option<Setting>,
     prim: Primary,
     count: u32,
-    not_read: bool,
-) -> Result<Part, Unread>
-    ensures { Reads ((alones.part_by negated setting prim count not_read).reads cursor.old)
+    pending_not: bool,
+) -> Result<SimpleCond, Unread>
+    ensures { Reads ((alones.part_by negated setting prim count pending_not).reads cursor.old)
         result cursor.new }
 {
     match prim {
         Primary::Test(cond, after) => {
             drop(setting);
-            Ok(test_part(alloc, negated, cond, after, count, not_read)?)
+            Ok(test_part(alloc, negated, cond, after, count, pending_not)?)
         }
-        Primary::Alone(side) => alone_part(alloc, cursor, negated, setting, side, count, not_read),
+        Primary::Alone(side) => alone_part(
+            alloc,
+            cursor,
+            negated,
+            setting,
+            side,
+            count,
+            pending_not,
+        ),
     }
 }

@@ -9,7 +9,7 @@ use crate::test_words::alone::part_of;
 use crate::test_words::test::read_test;
 use cob_base::{Boxed, NoMemory};
 use cob_tree::Cond;
-use cobol_grammar::cond_forms::{Joined, Part, Primary, Read};
+use cobol_grammar::cond_forms::{Joined, Primary, Read, SimpleCond};
 use cobol_grammar::expr_forms::Side;
 use expr_parse::actions::enclosed;
 use parser_combinators::{Cursor, Position, Unread, Why};
@@ -77,20 +77,20 @@ pub fn and_joined(
     alloc: Global,
     before: Option<Cond>,
     left: Cond,
-    next: Part,
+    next: SimpleCond,
 ) -> Result<Joined, NoMemory>
     ensures { Makes (conditions.and_joined before left next) result }
 {
-    let Part {
+    let SimpleCond {
         cond,
         setting,
         count,
-        not_read,
+        pending_not,
     } = next;
     match and_of(alloc, left, cond) {
         Ok(both) => Ok(Joined {
             before,
-            part: part_of(both, setting, count, not_read),
+            part: part_of(both, setting, count, pending_not),
         }),
         Err(fault) => {
             drop(before);
@@ -105,7 +105,7 @@ pub fn or_joined(
     alloc: Global,
     before: Option<Cond>,
     left: Cond,
-    next: Part,
+    next: SimpleCond,
 ) -> Result<Joined, NoMemory>
     ensures { Makes (conditions.or_joined before left next) result }
 {
@@ -122,18 +122,18 @@ pub fn or_joined(
 }
 
 /// The whole of the parts.
-pub fn joined_whole(alloc: Global, state: Joined) -> Result<Part, NoMemory>
+pub fn joined_whole(alloc: Global, state: Joined) -> Result<SimpleCond, NoMemory>
     ensures { Makes (conditions.joined_whole state) result }
 {
     let Joined { before, part } = state;
-    let Part {
+    let SimpleCond {
         cond,
         setting,
         count,
-        not_read,
+        pending_not,
     } = part;
     match whole_of(alloc, before, cond) {
-        Ok(whole) => Ok(part_of(whole, setting, count, not_read)),
+        Ok(whole) => Ok(part_of(whole, setting, count, pending_not)),
         Err(fault) => {
             drop(setting);
             Err(fault)
@@ -143,17 +143,17 @@ pub fn joined_whole(alloc: Global, state: Joined) -> Result<Part, NoMemory>
 
 /// Takes the parenthesis behind a condition.
 #[tactic(auto, unfolding(cobol_grammar::specs::cond_forms::Condition::close_cond))]
-pub fn close_cond(cursor: &mut Cursor<'_>, part: Part) -> Result<Read, Unread>
+pub fn close_cond(cursor: &mut Cursor<'_>, part: SimpleCond) -> Result<Read, Unread>
     ensures { Reads ((conditions.close_cond part).reads cursor.old) result cursor.new }
 {
-    let Part {
+    let SimpleCond {
         cond,
         setting,
         count,
-        not_read,
+        pending_not,
     } = part;
     drop(setting);
-    if not_read {
+    if pending_not {
         drop(cond);
         return Err(Unread::Stop(Why::Syntax));
     }
@@ -181,7 +181,7 @@ pub fn close_side(
         Ok(_) => Ok(Read {
             prim: Primary::Alone(enclosed(position, side)),
             count,
-            not_read: false,
+            pending_not: false,
         }),
         Err(stop) => {
             drop(side);

@@ -7,7 +7,7 @@ ghost use Rattle.cobol_grammar.specs.cond_forms.Test as tests;
 use crate::test_words::token::{at_class, class_word, sign_word};
 use cob_tree::{ClassKind, Cond, Rel};
 use cobol_grammar::cond_forms::{Primary, Read, Setting};
-use cobol_grammar::expr_forms::{Shape, Side, What};
+use cobol_grammar::expr_forms::{ExprForm, ParsedExpr, Side};
 use expr_parse::actions::{expr_of, number_fault, value_fault};
 use parser_combinators::{Cursor, Unread, Why};
 
@@ -25,7 +25,7 @@ pub fn read_test(cond: Cond, setting: Option<Setting>, count: u32) -> Read
     Read {
         prim: Primary::Test(cond, setting),
         count,
-        not_read: false,
+        pending_not: false,
     }
 }
 
@@ -56,14 +56,14 @@ fn class_of_ref(
     cursor: &Cursor<'_>,
     negated: bool,
     class: ClassKind,
-    what: What,
+    what: ParsedExpr,
     count: u32,
 ) -> Result<Read, Unread>
     ensures { Reads ((tests.class_of_ref negated class what count).reads cursor.now)
         result cursor.now }
 {
     match what {
-        What::Ref(place) => Ok(read_test(Cond::Class(place, class, negated), None, count)),
+        ParsedExpr::Ref(place) => Ok(read_test(Cond::Class(place, class, negated), None, count)),
         other => {
             drop(other);
             Err(Unread::Stop(Why::Syntax))
@@ -102,10 +102,10 @@ fn untested(cursor: &Cursor<'_>, end: Option<bool>, left: Side, count: u32) -> R
             drop(left);
             Err(Unread::Stop(Why::Syntax))
         }
-        Some(not_read) => Ok(Read {
+        Some(pending_not) => Ok(Read {
             prim: Primary::Alone(left),
             count,
-            not_read,
+            pending_not,
         }),
     }
 }
@@ -114,7 +114,7 @@ fn untested(cursor: &Cursor<'_>, end: Option<bool>, left: Side, count: u32) -> R
 #[tactic(auto, unfolding(cobol_grammar::specs::cond_forms::Test::class_or))]
 pub fn class_or(
     cursor: &mut Cursor<'_>,
-    shape: Shape,
+    shape: ExprForm,
     negated: bool,
     end: Option<bool>,
     left: Side,
@@ -124,7 +124,7 @@ pub fn class_or(
         result cursor.new }
 {
     match shape {
-        Shape::Ref => {
+        ExprForm::Ref => {
             if at_class(cursor) {
                 class_test(cursor, negated, left, count)
             } else {

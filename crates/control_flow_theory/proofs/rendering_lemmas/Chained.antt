@@ -15,13 +15,13 @@ use Rattle.control_flow_theory.specs.semantics.Graph.{Family}
 use Rattle.control_flow_theory.specs.semantics.Walk.{walk_machine, main_machine}
 use Rattle.control_flow_theory.specs.semantics.Structural.{structural}
 use Rattle.control_flow_theory.specs.language.Structured.{IsStructured}
-use Rattle.control_flow_theory.specs.agreement.Same.{EndsFairly, SameBehaviour}
+use Rattle.control_flow_theory.specs.semantics_agree.Same.{EndsFairly, SameBehaviour}
 use Rattle.control_flow_theory.specs.rendering.Rendering.{Naming, Procedure, rendered}
 use Rattle.control_flow_theory.specs.rendering.Procedures.{Writable, AreProcedures}
 use Rattle.control_flow_theory.specs.rendering.Serving.{Serves}
 use Rattle.control_flow_theory.specs.rendering.Laws.{IsNeverLost, NeverFaults, Follows, WalkAlike, IsRestructured}
-use Rattle.control_flow_theory.proofs.agreement_lemmas.Agreement.{structured-tied}
-use Rattle.control_flow_theory.proofs.agreement_lemmas.Tying.{tied-same}
+use Rattle.control_flow_theory.proofs.semantics_agree_lemmas.Agreement.{structured-tied}
+use Rattle.control_flow_theory.proofs.semantics_agree_lemmas.Tying.{tied-same}
 use Rattle.control_flow_theory.proofs.rendering_lemmas.Written.{walks_from, written_from, written-tied}
 use Rattle.control_flow_theory.proofs.rendering_lemmas.Structure.{rendered-structured}
 

@@ -6,7 +6,7 @@ use Rattle.control_flow_theory.specs.semantics.Graph as graph
 use Rattle.control_flow_theory.specs.language.Structured.{StmtNests, StmtsNest, ArmsNest, BodyNests, NamesLater, ParagraphsNest, EndsInStop, FirstStops, stmt_performs, stmts_perform, arms_perform, body_performs, paragraph_performs, IsStructured}
 use Rattle.control_flow_theory.specs.rendering.Rendering.{Empty, Continues, Stays, Goes, Naming, Procedure, place_of, required, written_arm, and_missing, whole_arms, picker_lacks, then_stmts, closing, written_stmt, written_stmts, written_arms, written_body, written_paragraph, rendered}
 use Rattle.control_flow_theory.specs.rendering.Procedures.{Writable, StmtStands, StmtsStand, StmtsLeft, ArmsStand, BodyStands, StmtChooses, BodyChooses, stmt_calls, stmts_call, arms_call, body_calls, FirstIsMain, AreProcedures}
-use Rattle.control_flow_theory.proofs.agreement_lemmas.Agreement.{same_number}
+use Rattle.control_flow_theory.proofs.semantics_agree_lemmas.Agreement.{same_number}
 use Rattle.control_flow_theory.proofs.rendering_lemmas.Written.{same-range, map-get}
 
 either : (a b : Bool) → (if a then true else b) ≡ true → (a ≡ true) ⊎ (b ≡ true)

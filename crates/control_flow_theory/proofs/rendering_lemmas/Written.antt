@@ -15,12 +15,12 @@ use Rattle.control_flow_theory.specs.language.Items.{Pending, ends_at}
 use Rattle.control_flow_theory.specs.semantics.Source.{SourceState, rest_of, comes_to, goes, falls, source_step, source_begun}
 use Rattle.control_flow_theory.specs.semantics.Graph.{Tree, tree, End, Pick, Jump, Return, Stop, Dead, body_of, end_of, Family, IsLast}
 use Rattle.control_flow_theory.specs.semantics.Walk.{Level, Walk, walk_goes, walk_end, walk_step, walk_begun}
-use Rattle.control_flow_theory.specs.agreement.Same.{EndsFairly}
+use Rattle.control_flow_theory.specs.semantics_agree.Same.{EndsFairly}
 use Rattle.control_flow_theory.specs.rendering.Rendering.{Naming, Procedure, place_of, required, then_stmts, closing, written_stmts, written_paragraph, rendered}
 use Rattle.control_flow_theory.specs.rendering.Procedures.{Writable, FirstIsMain, AreProcedures}
 use Rattle.control_flow_theory.specs.rendering.Serving.{Alike, Serves}
 use Rattle.control_flow_theory.proofs.semantics_lemmas.Growth.{source-grows, main-grows}
-use Rattle.control_flow_theory.proofs.agreement_lemmas.Agreement.{same_number}
+use Rattle.control_flow_theory.proofs.semantics_agree_lemmas.Agreement.{same_number}
 use Rattle.control_flow_theory.proofs.rendering_lemmas.Writing.{Eased, written_items, AllStand, Ready, Ways, written-before, eased-required, stand-before, written_item, item-ways}
 
 pub same-range : (a b : Range) → same_range a b ≡ true → a ≡ b

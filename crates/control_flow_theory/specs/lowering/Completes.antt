@@ -1,7 +1,7 @@
 -- What a statement holds, whether it can complete, and what stands behind one that can't.
 use Rattle.std.specs.Prelude.{ℕ, Bool, true, false, if◌then◌else◌, ◌+◌}
 use Rattle.control_flow_theory.specs.language.Language.{Act, Own, Set, Take, Lower, Picker, If, By, ByCell, Control, Times, Until, Varying, Stmt, Do, Choose, Loop, Perform, Go, GoDepending, NextSentence, ExitParagraph, ExitSection, ExitPerform, StopRun, Stmts, none, also, Arms, done, given, missing, Body, Nested, Performed}
-use Rattle.control_flow_theory.specs.lowering.Told.{Told}
+use Rattle.control_flow_theory.specs.lowering.FlowFacts.{FlowFacts}
 
 -- the loop is tested after its body
 abbrev pub is_after : Control → Bool
@@ -10,14 +10,14 @@ is_after (Until after test) = after
 is_after (Varying after set step test) = after
 
 -- its chooser never gives the first arm
-abbrev pub first_is_dead : Told → Picker → Bool
+abbrev pub first_is_dead : FlowFacts → Picker → Bool
 first_is_dead told (If test) = false
 first_is_dead told (By chooser) = told.never_first chooser
 first_is_dead told (ByCell cell) = false
 
 abbrev mutual
   -- control can come behind it
-  pub completes : Told → Stmt → Bool
+  pub completes : FlowFacts → Stmt → Bool
   completes told (Do act) = true
   completes told (Choose picker arms) = choice_completes told (first_is_dead told picker) arms
   completes told (Loop control body) =
@@ -32,26 +32,26 @@ abbrev mutual
   completes told (ExitPerform cycle) = false
   completes told StopRun = false
 
-  pub complete : Told → Stmts → Bool
+  pub complete : FlowFacts → Stmts → Bool
   complete told none = true
   complete told (also stmt stmts) = if completes told stmt then complete told stmts else false
 
   -- an arm is missing or can complete; a missing first arm that is never given counts as one that
   -- can't
-  pub choice_completes : Told → Bool → Arms → Bool
+  pub choice_completes : FlowFacts → Bool → Arms → Bool
   choice_completes told first done = false
   choice_completes told first (given arm others) =
       if complete told arm then true else choice_completes told false others
   choice_completes told first (missing others) =
       if first then choice_completes told false others else true
 
-  pub body_completes : Told → Body → Bool
+  pub body_completes : FlowFacts → Body → Bool
   body_completes told (Nested stmts) = complete told stmts
   body_completes told (Performed entry exit) = told.returning entry exit
 
   -- an EXIT PERFORM of the loop around stands in it, with or without CYCLE, and not behind what
   -- can't complete
-  pub leaves_loop : Told → Stmt → Bool
+  pub leaves_loop : FlowFacts → Stmt → Bool
   leaves_loop told (Do act) = false
   leaves_loop told (Choose picker arms) = arms_leave_loop told arms
   leaves_loop told (Loop control body) = false
@@ -64,25 +64,25 @@ abbrev mutual
   leaves_loop told (ExitPerform cycle) = true
   leaves_loop told StopRun = false
 
-  pub leave_loop : Told → Stmts → Bool
+  pub leave_loop : FlowFacts → Stmts → Bool
   leave_loop told none = false
   leave_loop told (also stmt stmts) =
       if leaves_loop told stmt then true
       else (if completes told stmt then leave_loop told stmts else false)
 
-  pub arms_leave_loop : Told → Arms → Bool
+  pub arms_leave_loop : FlowFacts → Arms → Bool
   arms_leave_loop told done = false
   arms_leave_loop told (given arm others) =
       if leave_loop told arm then true else arms_leave_loop told others
   arms_leave_loop told (missing others) = arms_leave_loop told others
 
-  pub body_leaves_loop : Told → Body → Bool
+  pub body_leaves_loop : FlowFacts → Body → Bool
   body_leaves_loop told (Nested stmts) = leave_loop told stmts
   body_leaves_loop told (Performed entry exit) = false
 
 -- lists end behind the first statement that can't complete
 abbrev mutual
-  pub cut : Told → Stmt → Stmt
+  pub cut : FlowFacts → Stmt → Stmt
   cut told (Do act) = Do act
   cut told (Choose picker arms) = Choose picker (cut_arms told arms)
   cut told (Loop control body) = Loop control (cut_body told body)
@@ -95,17 +95,17 @@ abbrev mutual
   cut told (ExitPerform cycle) = ExitPerform cycle
   cut told StopRun = StopRun
 
-  pub cuts : Told → Stmts → Stmts
+  pub cuts : FlowFacts → Stmts → Stmts
   cuts told none = none
   cuts told (also stmt stmts) =
       also (cut told stmt) (if completes told stmt then cuts told stmts else none)
 
-  pub cut_arms : Told → Arms → Arms
+  pub cut_arms : FlowFacts → Arms → Arms
   cut_arms told done = done
   cut_arms told (given arm others) = given (cuts told arm) (cut_arms told others)
   cut_arms told (missing others) = missing (cut_arms told others)
 
-  pub cut_body : Told → Body → Body
+  pub cut_body : FlowFacts → Body → Body
   cut_body told (Nested stmts) = Nested (cuts told stmts)
   cut_body told (Performed entry exit) = Performed entry exit
 
@@ -197,7 +197,7 @@ abbrev mutual
   size_body (Performed entry exit) = 0
 
 -- the statement does nothing
-abbrev pub skips : Told → Act → Bool
+abbrev pub skips : FlowFacts → Act → Bool
 skips told (Own simple) = told.skipped simple
 skips told (Set cell value) = false
 skips told (Take cell amount) = false

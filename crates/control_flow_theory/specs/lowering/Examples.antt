@@ -3,13 +3,13 @@ use Rattle.std.specs.Prelude.{ℕ, ◌≡◌, Bool, true, false, [], ◌∷◌}
 use Rattle.control_flow_theory.specs.language.Language.{Own, Take, Lower, Holds, Above, If, Times, Until, Stmt, Stmts, Do, Choose, Loop, Go, ExitParagraph, ExitSection, ExitPerform, StopRun, none, also, done, given, missing, Nested, Program, Main, Part}
 use Rattle.control_flow_theory.specs.semantics.Parts.{says, is, amount}
 use Rattle.control_flow_theory.specs.semantics.Graph.{tree, Pick, Jump, Return, Stop, no_more, more}
-use Rattle.control_flow_theory.specs.lowering.Told.{Told}
+use Rattle.control_flow_theory.specs.lowering.FlowFacts.{FlowFacts}
 use Rattle.control_flow_theory.specs.lowering.Completes.{completes}
-use Rattle.control_flow_theory.specs.lowering.Lower.{only}
+use Rattle.control_flow_theory.specs.lowering.Lower.{end_alone}
 use Rattle.control_flow_theory.specs.lowering.Lowered.{lowered}
 
 -- every range returns, nothing is skipped
-abbrev pub plainly : Told
+abbrev pub plainly : FlowFacts
 plainly = record {
   returning = λ entry exit. true;
   skipped = λ simple. false;
@@ -37,9 +37,11 @@ inside_an_arm = record {
 abbrev pub LabelInsideAnArmRunsOn : Type 0
 LabelInsideAnArmRunsOn =
     ((lowered plainly inside_an_arm).node Main 0 ≡
-    only (Pick (If (Holds (is 0)))
-    (more (only (Pick (If (Holds (is 3))) (more (only (Jump 18)) (more (only (Jump 12)) no_more))))
-    (more (only (Jump 15)) no_more))))
+    end_alone (Pick (If (Holds (is 0)))
+    (more (end_alone
+    (Pick (If (Holds (is 3)))
+    (more (end_alone (Jump 18)) (more (end_alone (Jump 12)) no_more))))
+    (more (end_alone (Jump 15)) no_more))))
     × ((lowered plainly inside_an_arm).node Main 12
     ≡ tree (also (shows 1) (also (shows 2) none)) (Jump 18))
     × ((lowered plainly inside_an_arm).node Main 15 ≡ tree (also (shows 2) none) (Jump 18))
@@ -66,10 +68,10 @@ CuttingComesFirst =
     (also (Do (Take 4 (amount 6))) none))
     (Jump 13))
     × ((lowered plainly counted).node Main 13 ≡
-    only (Pick (If (Above 4))
+    end_alone (Pick (If (Above 4))
     (more (tree (also (Do (Lower 4)) none)
-    (Pick (If (Holds (is 0))) (more (only (Jump 0)) (more (only (Jump 21)) no_more))))
-    (more (only Stop) no_more))))
+    (Pick (If (Holds (is 0))) (more (end_alone (Jump 0)) (more (end_alone (Jump 21)) no_more))))
+    (more (end_alone Stop) no_more))))
     × ((lowered plainly counted).node Main 21 ≡ tree (also (shows 1) none) (Jump 13))
 
 abbrev pub when : ℕ → Stmt → Stmt
@@ -90,17 +92,21 @@ left_within cycle = record {
 -- jump
 abbrev pub LoopsAreLeft : Type 0
 LoopsAreLeft =
-    ((lowered plainly (left_within false)).node Main 0 ≡ only (Jump 4))
+    ((lowered plainly (left_within false)).node Main 0 ≡ end_alone (Jump 4))
     × ((lowered plainly (left_within false)).node Main 4 ≡
-    only (Pick (If (Holds (is 5))) (more (only (Jump 18)) (more (tree (also (shows 1) none)
-    (Pick (If (Holds (is 3))) (more (only (Jump 18)) (more (only (Jump 15)) no_more)))) no_more))))
-    × ((lowered plainly (left_within false)).node Main 12 ≡ only (Jump 18))
+    end_alone (Pick (If (Holds (is 5)))
+    (more (end_alone (Jump 18)) (more (tree (also (shows 1) none)
+    (Pick (If (Holds (is 3))) (more (end_alone (Jump 18)) (more (end_alone (Jump 15)) no_more))))
+    no_more))))
+    × ((lowered plainly (left_within false)).node Main 12 ≡ end_alone (Jump 18))
     × ((lowered plainly (left_within false)).node Main 15 ≡ tree (also (shows 2) none) (Jump 4))
     × ((lowered plainly (left_within false)).node Main 18 ≡ tree (also (shows 4) none) Stop)
     × ((lowered plainly (left_within true)).node Main 4 ≡
-    only (Pick (If (Holds (is 5))) (more (only (Jump 18)) (more (tree (also (shows 1) none)
-    (Pick (If (Holds (is 3))) (more (only (Jump 4)) (more (only (Jump 15)) no_more)))) no_more))))
-    × ((lowered plainly (left_within true)).node Main 12 ≡ only (Jump 4))
+    end_alone (Pick (If (Holds (is 5)))
+    (more (end_alone (Jump 18)) (more (tree (also (shows 1) none)
+    (Pick (If (Holds (is 3))) (more (end_alone (Jump 4)) (more (end_alone (Jump 15)) no_more))))
+    no_more))))
+    × ((lowered plainly (left_within true)).node Main 12 ≡ end_alone (Jump 4))
 
 -- S1 SECTION. A. DISPLAY 1. EXIT SECTION. B. DISPLAY 2. S2 SECTION. C. DISPLAY 3. EXIT PARAGRAPH.
 -- DISPLAY 4.

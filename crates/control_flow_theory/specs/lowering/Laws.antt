@@ -10,7 +10,7 @@ use Rattle.control_flow_theory.specs.semantics.Doing.{Acting, alone, Celled}
 use Rattle.control_flow_theory.specs.semantics.Source.{rest_of, source_machine, SourceState, source_step}
 use Rattle.control_flow_theory.specs.semantics.Graph.{Family, Label}
 use Rattle.control_flow_theory.specs.semantics.Walk.{main_machine, walk_machine}
-use Rattle.control_flow_theory.specs.lowering.Told.{Told, IsTold, IsSource, OwnStmt}
+use Rattle.control_flow_theory.specs.lowering.FlowFacts.{FlowFacts, IsTold, IsSource, OwnStmt}
 use Rattle.control_flow_theory.specs.lowering.flow.Comes.{AreReturning, IsLowered}
 use Rattle.control_flow_theory.specs.language.Items.{Do, Item}
 use Rattle.control_flow_theory.specs.lowering.Completes.{completes}
@@ -28,7 +28,7 @@ NoFlowFault {Memory} acting left program = (memory : Memory) (n : ℕ) (fault : 
 -- the walk of a lowered family does what the source does
 abbrev pub LoweringKeepsMeaning : Type 0 → Type 0 → Type 0
 LoweringKeepsMeaning Memory Left =
-    (acting : Acting Memory) (left : Memory → Left) (told : Told) (program : Program)
+    (acting : Acting Memory) (left : Memory → Left) (told : FlowFacts) (program : Program)
     (place_of : ℕ → ℕ) (family : Family) →
     IsTold told acting → IsSource told program → 0 < length program.paragraphs →
     IsLowered told program place_of family →
@@ -65,7 +65,7 @@ IsSoundAt {Memory} acting left family range = (memory : Celled Memory) (n : ℕ)
 
 abbrev pub LoweredRangeIsSound : Type 0 → Type 0 → Type 0
 LoweredRangeIsSound Memory Left =
-    (acting : Acting Memory) (left : Memory → Left) (told : Told) (program : Program)
+    (acting : Acting Memory) (left : Memory → Left) (told : FlowFacts) (program : Program)
     (place_of : ℕ → ℕ) (family : Family) →
     IsTold told acting → IsSource told program → IsLowered told program place_of family →
     AreReturning (alone acting) program 0 (rest_of program 0) told.returning →
@@ -75,7 +75,7 @@ LoweredRangeIsSound Memory Left =
 
 abbrev pub LoweredMainIsSound : Type 0 → Type 0 → Type 0
 LoweredMainIsSound Memory Left =
-    (acting : Acting Memory) (left : Memory → Left) (told : Told) (program : Program)
+    (acting : Acting Memory) (left : Memory → Left) (told : FlowFacts) (program : Program)
     (place_of : ℕ → ℕ) (family : Family) →
     IsTold told acting → IsSource told program → 0 < length program.paragraphs →
     IsLowered told program place_of family →
@@ -86,14 +86,14 @@ LoweredMainIsSound Memory Left =
 -- no run of a program that isn't faulty meets a fault of its flow
 abbrev pub NotFaultyHasNoFlowFault : Type 0 → Type 0 → Type 0
 NotFaultyHasNoFlowFault Memory Left =
-    (acting : Acting Memory) (left : Memory → Left) (told : Told) (program : Program) →
+    (acting : Acting Memory) (left : Memory → Left) (told : FlowFacts) (program : Program) →
     IsTold told acting → IsSource told program → (IsFaulty told program → ⊥) →
     NoFlowFault acting left program
 
 -- the walk of the reached nodes of a program that isn't faulty does what the program does
 abbrev pub LoweredFamilyKeepsMeaning : Type 0 → Type 0 → Type 0
 LoweredFamilyKeepsMeaning Memory Left =
-    (acting : Acting Memory) (left : Memory → Left) (told : Told) (program : Program)
+    (acting : Acting Memory) (left : Memory → Left) (told : FlowFacts) (program : Program)
     (keep : Range → Label → Bool) →
     IsTold told acting → IsSource told program → 0 < length program.paragraphs →
     NamesWhatReturns told program → (IsFaulty told program → ⊥) →
@@ -104,7 +104,7 @@ LoweredFamilyKeepsMeaning Memory Left =
 -- and no walk of a range that is entered is lost
 abbrev pub LoweredFamilyIsSound : Type 0 → Type 0 → Type 0
 LoweredFamilyIsSound Memory Left =
-    (acting : Acting Memory) (left : Memory → Left) (told : Told) (program : Program)
+    (acting : Acting Memory) (left : Memory → Left) (told : FlowFacts) (program : Program)
     (keep : Range → Label → Bool) →
     IsTold told acting → IsSource told program → 0 < length program.paragraphs →
     NamesWhatReturns told program → (IsFaulty told program → ⊥) →
@@ -121,7 +121,7 @@ KeepsApart numbers =
 -- the same of the reached nodes, where counters are numbered as one likes
 abbrev pub NumberedFamilyKeepsMeaning : Type 0 → Type 0 → Type 0
 NumberedFamilyKeepsMeaning Memory Left =
-    (acting : Acting Memory) (left : Memory → Left) (told : Told) (program : Program)
+    (acting : Acting Memory) (left : Memory → Left) (told : FlowFacts) (program : Program)
     (keep : Range → Label → Bool) (numbers : Range → ℕ → ℕ) →
     IsTold told acting → IsSource told program → 0 < length program.paragraphs →
     NamesWhatReturns told program → (IsFaulty told program → ⊥) →
@@ -138,7 +138,7 @@ NumberedFamilyKeepsMeaning Memory Left =
 -- said to complete
 abbrev pub WhatCompletesIsPassed : Type 0
 WhatCompletesIsPassed =
-    (told : Told) (program : Program) (paragraphs : ℕ) →
+    (told : FlowFacts) (program : Program) (paragraphs : ℕ) →
     ((entry exit : ℕ) → told.returning entry exit ≡ true →
     FreelyComes told program (Part entry exit) exit []) →
     (range : Range) (number : ℕ) (stmt : Stmt) (rest : List Item) → OwnStmt told paragraphs stmt →

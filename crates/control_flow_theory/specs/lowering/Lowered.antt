@@ -2,9 +2,9 @@
 use Rattle.std.specs.Prelude.{ℕ, zero, suc, ◌+◌, ◌≤◌, if◌then◌else◌, ◌==◌, List, [], ◌∷◌, ◌++◌}
 use Rattle.control_flow_theory.specs.language.Language.{Paragraph, Program, Range}
 use Rattle.control_flow_theory.specs.semantics.Graph.{Label, Tree, Dead, Family}
-use Rattle.control_flow_theory.specs.lowering.Told.{Told}
+use Rattle.control_flow_theory.specs.lowering.FlowFacts.{FlowFacts}
 use Rattle.control_flow_theory.specs.lowering.Completes.{sizes}
-use Rattle.control_flow_theory.specs.lowering.Lower.{point, only, Node, node, nodes, Leaving, leaving_at}
+use Rattle.control_flow_theory.specs.lowering.Lower.{point, end_alone, Node, node, nodes, EscapeTargets, leaving_at}
 use Rattle.control_flow_theory.specs.lowering.Rests.{Rest, Over, From, Sent, Turns, Cut, rest_from, leaf_of, leaving_of, tree_of}
 use Rattle.control_flow_theory.specs.lowering.flow.Comes.{entry_of}
 
@@ -25,12 +25,12 @@ place_in program number = place_from 0 program.paragraphs number
 
 -- the tree at a label; where there is none, Dead
 abbrev pub find : Label → List Node → Tree
-find key [] = only Dead
+find key [] = end_alone Dead
 find key (one ∷ others) = if one.key == key then one.tree else find key others
 
-module _ (told : Told) (program : Program) where
+module _ (told : FlowFacts) (program : Program) where
   -- the nodes of what is left of a paragraph
-  abbrev pub nodes_left : Leaving → Rest → List Node
+  abbrev pub nodes_left : EscapeTargets → Rest → List Node
   nodes_left paragraph Over = []
   nodes_left paragraph (From place stmts others) =
       nodes told (place_in program) stmts place

@@ -5,8 +5,8 @@ use Rattle.control_flow_theory.specs.language.Language.{Program, Range}
 use Rattle.control_flow_theory.specs.semantics.Doing.{Acting, Celled}
 use Rattle.control_flow_theory.specs.semantics.Graph.{Label, tree, End, Pick, Jump, Return, Stop, Dead, Trees, no_more, more, end_of, Family}
 use Rattle.control_flow_theory.specs.semantics.Walk.{walk_machine}
-use Rattle.control_flow_theory.specs.lowering.Told.{Told}
-use Rattle.control_flow_theory.specs.lowering.Lower.{only, Node}
+use Rattle.control_flow_theory.specs.lowering.FlowFacts.{FlowFacts}
+use Rattle.control_flow_theory.specs.lowering.Lower.{end_alone, Node}
 use Rattle.control_flow_theory.specs.lowering.Lowered.{nodes_of, lowered, find}
 
 -- a leaf of the end jumps to the label
@@ -33,7 +33,7 @@ abbrev pub kept : (Range → Label → Bool) → Family → Family
 kept keep family =
     record {
       entry = family.entry;
-      node = λ range label. if keep range label then family.node range label else only Dead;
+      node = λ range label. if keep range label then family.node range label else end_alone Dead;
     }
 
 abbrev pub kept_nodes : (Label → Bool) → List Node → List Node
@@ -58,7 +58,8 @@ UnreachedMakesNoDifference Memory Left =
 -- the family of the kept nodes is the one that looks them up in the shorter list
 abbrev pub KeptNodesAreFound : Type 0
 KeptNodesAreFound =
-    (told : Told) (program : Program) (keep : Range → Label → Bool) (range : Range) (label : Label)
+    (told : FlowFacts) (program : Program) (keep : Range → Label → Bool) (range : Range)
+    (label : Label)
     →
     (kept keep (lowered told program)).node range label
     ≡ find label (kept_nodes (keep range) (nodes_of told program range))

@@ -3,9 +3,9 @@ use Rattle.std.specs.Prelude.{ℕ, ◌+◌, ◌≡◌, Bool, true, false, List, 
 use Rattle.control_flow_theory.specs.language.Language.{Control, Times, Until, Varying, Loop, Stmts, Nested, Paragraph}
 use Rattle.control_flow_theory.specs.language.Items.{Turning, Counted, Tests, Steps, StepsAfter, Item, SentenceEnd, Turn, before}
 use Rattle.control_flow_theory.specs.semantics.Graph.{Label, Tree, End, Jump}
-use Rattle.control_flow_theory.specs.lowering.Told.{Told}
+use Rattle.control_flow_theory.specs.lowering.FlowFacts.{FlowFacts}
 use Rattle.control_flow_theory.specs.lowering.Completes.{cuts, leave_sentence, sizes}
-use Rattle.control_flow_theory.specs.lowering.Lower.{head, third, only, back, Leaving, leaf, build, Node, nodes, nodes_in}
+use Rattle.control_flow_theory.specs.lowering.Lower.{loop_head_label, loop_step_label, end_alone, loop_back_label, EscapeTargets, leaf, build, Node, nodes, nodes_in}
 
 -- what is left of a paragraph: statements from a place; the end of a sentence, and whether a NEXT
 -- SENTENCE stands in it;
@@ -37,11 +37,11 @@ items_in (Cut others) = items_in others
 
 -- the label at which a loop's remainder begins; of VARYING before its test was reached, the head
 abbrev pub to_turn : Control → Bool → ℕ → Label
-to_turn (Times amount) reached place = head place
-to_turn (Until after test) reached place = back (Until after test) place
-to_turn (Varying false set step test) false place = head place
-to_turn (Varying false set step test) true place = third place
-to_turn (Varying true set step test) reached place = third place
+to_turn (Times amount) reached place = loop_head_label place
+to_turn (Until after test) reached place = loop_back_label (Until after test) place
+to_turn (Varying false set step test) false place = loop_head_label place
+to_turn (Varying false set step test) true place = loop_step_label place
+to_turn (Varying true set step test) reached place = loop_step_label place
 
 -- the rest behind the sentence, at whose continuation the walk stands
 abbrev pub after_sentence : Rest → Rest
@@ -78,15 +78,15 @@ uncut (Turns place control left reached body others) =
 uncut (Cut others) = uncut others
 
 -- the whole rest of a paragraph, from the place of its first statement
-abbrev pub rest_from : Told → ℕ → Paragraph → Rest
+abbrev pub rest_from : FlowFacts → ℕ → Paragraph → Rest
 rest_from told place [] = Over
 rest_from told place (sentence ∷ sentences) =
     From place sentence
     (Sent (leave_sentence (cuts told sentence)) (rest_from told (place + sizes sentence) sentences))
 
-module _ (told : Told) (place_of : ℕ → ℕ) where
+module _ (told : FlowFacts) (place_of : ℕ → ℕ) where
   -- its continuation, in a paragraph that is left so
-  abbrev pub leaf_of : Leaving → Rest → End
+  abbrev pub leaf_of : EscapeTargets → Rest → End
   leaf_of paragraph Over = paragraph.paragraph
   leaf_of paragraph (From place stmts others) =
       leaf told place_of stmts place (leaf_of paragraph others)
@@ -96,7 +96,7 @@ module _ (told : Told) (place_of : ℕ → ℕ) where
   leaf_of paragraph (Cut others) = leaf_of paragraph others
 
   -- where what leaves it goes on
-  abbrev pub leaving_of : Leaving → Rest → Leaving
+  abbrev pub leaving_of : EscapeTargets → Rest → EscapeTargets
   leaving_of paragraph rest = record {
     sentence = leaf_of paragraph (after_sentence rest);
     paragraph = paragraph.paragraph;
@@ -106,16 +106,16 @@ module _ (told : Told) (place_of : ℕ → ℕ) where
   }
 
   -- its tree
-  abbrev pub tree_of : Leaving → Rest → Tree
-  tree_of paragraph Over = only paragraph.paragraph
+  abbrev pub tree_of : EscapeTargets → Rest → Tree
+  tree_of paragraph Over = end_alone paragraph.paragraph
   tree_of paragraph (From place stmts others) =
       build told place_of stmts place (leaving_of paragraph others) (leaf_of paragraph others)
       (tree_of paragraph others)
-  tree_of paragraph (Sent true others) = only (leaf_of paragraph others)
+  tree_of paragraph (Sent true others) = end_alone (leaf_of paragraph others)
   tree_of paragraph (Sent false others) = tree_of paragraph others
   tree_of paragraph (Turns place control left reached body others) =
-      only (Jump (to_turn control reached place))
-  tree_of paragraph (Cut others) = only (leaf_of paragraph others)
+      end_alone (Jump (to_turn control reached place))
+  tree_of paragraph (Cut others) = end_alone (leaf_of paragraph others)
 
   -- a graph has these nodes
   abbrev pub Has : (Label → Tree) → List Node → Type 0
@@ -123,7 +123,7 @@ module _ (told : Told) (place_of : ℕ → ℕ) where
   Has graph (one ∷ others) = (graph one.key ≡ one.tree) × Has graph others
 
   -- a graph has the nodes of all that is left
-  abbrev pub HasRest : (Label → Tree) → Leaving → Rest → Type 0
+  abbrev pub HasRest : (Label → Tree) → EscapeTargets → Rest → Type 0
   HasRest graph paragraph Over = Unit {0}
   HasRest graph paragraph (From place stmts others) =
       Has graph (nodes told place_of stmts place (leaving_of paragraph others)

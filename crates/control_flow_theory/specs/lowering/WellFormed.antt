@@ -4,9 +4,9 @@
 use Rattle.std.specs.Prelude.{ℕ, suc, ◌≡◌, ◌<◌, ◌⊎◌, Bool, true, List, [], ◌∷◌, length}
 use Rattle.control_flow_theory.specs.language.Language.{Picker, If, By, ByCell, Program, Range}
 use Rattle.control_flow_theory.specs.semantics.Graph.{Label, Tree, tree, End, Pick, Jump, Return, Stop, Dead, Trees, no_more, more}
-use Rattle.control_flow_theory.specs.lowering.Told.{Told, IsSource}
+use Rattle.control_flow_theory.specs.lowering.FlowFacts.{FlowFacts, IsSource}
 use Rattle.control_flow_theory.specs.lowering.Completes.{wholes}
-use Rattle.control_flow_theory.specs.lowering.Lower.{Node, only}
+use Rattle.control_flow_theory.specs.lowering.Lower.{Node, end_alone}
 use Rattle.control_flow_theory.specs.lowering.flow.Comes.{entry_of}
 use Rattle.control_flow_theory.specs.lowering.Lowered.{nodes_of, lowered, Within}
 use Rattle.control_flow_theory.specs.lowering.Reached.{IsReached, kept_nodes}
@@ -20,7 +20,7 @@ tree_count no_more = 0
 tree_count (more first others) = suc (tree_count others)
 
 -- as many arms as what chooses gives
-abbrev pub HasArms : Told → Picker → ℕ → Type 0
+abbrev pub HasArms : FlowFacts → Picker → ℕ → Type 0
 HasArms told (If test) arms = arms ≡ 2
 HasArms told (By chooser) arms = told.width chooser ≡ arms
 HasArms told (ByCell cell) arms = Unit {0}
@@ -28,15 +28,15 @@ HasArms told (ByCell cell) arms = Unit {0}
 -- where what chooses never gives the first arm, that arm is empty and Dead
 abbrev pub IsFirstDead : Trees → Type 0
 IsFirstDead no_more = ⊥
-IsFirstDead (more first others) = first ≡ only Dead
+IsFirstDead (more first others) = first ≡ end_alone Dead
 
-abbrev pub HasDeadFirst : Told → Picker → Trees → Type 0
+abbrev pub HasDeadFirst : FlowFacts → Picker → Trees → Type 0
 HasDeadFirst told (If test) arms = Unit {0}
 HasDeadFirst told (By chooser) arms = told.never_first chooser ≡ true → IsFirstDead arms
 HasDeadFirst told (ByCell cell) arms = Unit {0}
 
 abbrev mutual
-  pub IsWellEnd : Told → List Node → End → Type 0
+  pub IsWellEnd : FlowFacts → List Node → End → Type 0
   IsWellEnd told labels (Pick picker arms) = HasArms told picker (tree_count arms)
       × AreWell told labels arms × HasDeadFirst told picker arms
   IsWellEnd told labels (Jump to) = IsLabelOf labels to
@@ -44,15 +44,15 @@ abbrev mutual
   IsWellEnd told labels Stop = Unit {0}
   IsWellEnd told labels Dead = Unit {0}
 
-  pub AreWell : Told → List Node → Trees → Type 0
+  pub AreWell : FlowFacts → List Node → Trees → Type 0
   AreWell told labels no_more = Unit {0}
   AreWell told labels (more (tree body end) others) =
       (wholes body ≡ true) × IsWellEnd told labels end × AreWell told labels others
 
-abbrev pub IsWellTree : Told → List Node → Tree → Type 0
+abbrev pub IsWellTree : FlowFacts → List Node → Tree → Type 0
 IsWellTree told labels (tree body end) = (wholes body ≡ true) × IsWellEnd told labels end
 
-abbrev pub AllAreWell : Told → List Node → List Node → Type 0
+abbrev pub AllAreWell : FlowFacts → List Node → List Node → Type 0
 AllAreWell told labels [] = Unit {0}
 AllAreWell told labels (one ∷ others) =
     IsWellTree told labels one.tree × AllAreWell told labels others
@@ -63,14 +63,14 @@ IsRangeOf program range = entry_of range < length program.paragraphs
 
 -- the nodes of a range
 abbrev pub LoweredGraphsAreWellFormed : Type 0
-LoweredGraphsAreWellFormed = (told : Told) (program : Program) (range : Range) →
+LoweredGraphsAreWellFormed = (told : FlowFacts) (program : Program) (range : Range) →
     IsSource told program → IsRangeOf program range →
     AllAreWell told (nodes_of told program range) (nodes_of told program range)
     × IsLabelOf (nodes_of told program range) ((lowered told program).entry range)
     × ((high : ℕ) × Within 0 high (nodes_of told program range))
 
 -- these are exactly the nodes that are reached
-abbrev pub AreJustReached : Told → Program → Range → (Label → Bool) → Type 0
+abbrev pub AreJustReached : FlowFacts → Program → Range → (Label → Bool) → Type 0
 AreJustReached told program range keep =
     ((label : Label) → keep label ≡ true → IsReached (lowered told program) range label)
     × ((label : Label) → IsReached (lowered told program) range label → keep label ≡ true)
@@ -78,7 +78,7 @@ AreJustReached told program range keep =
 -- and the same of those that are reached
 abbrev pub ReachedGraphsAreWellFormed : Type 0
 ReachedGraphsAreWellFormed =
-    (told : Told) (program : Program) (range : Range) (keep : Label → Bool) →
+    (told : FlowFacts) (program : Program) (range : Range) (keep : Label → Bool) →
     IsSource told program → IsRangeOf program range → AreJustReached told program range keep →
     AllAreWell told (kept_nodes keep (nodes_of told program range))
     (kept_nodes keep (nodes_of told program range))

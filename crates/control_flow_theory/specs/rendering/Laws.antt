@@ -11,7 +11,7 @@ use Rattle.control_flow_theory.specs.semantics.Graph.{Family}
 use Rattle.control_flow_theory.specs.semantics.Walk.{walk_machine, main_machine}
 use Rattle.control_flow_theory.specs.semantics.Structural.{structural}
 use Rattle.control_flow_theory.specs.language.Structured.{IsStructured}
-use Rattle.control_flow_theory.specs.agreement.Same.{EndsFairly, SameBehaviour}
+use Rattle.control_flow_theory.specs.semantics_agree.Same.{EndsFairly, SameBehaviour}
 use Rattle.control_flow_theory.specs.rendering.Rendering.{Empty, Naming, Procedure, rendered}
 use Rattle.control_flow_theory.specs.rendering.Procedures.{Writable, AreProcedures}
 use Rattle.control_flow_theory.specs.rendering.Serving.{Serves}

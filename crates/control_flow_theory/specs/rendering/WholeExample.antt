@@ -7,7 +7,7 @@ use Rattle.control_flow_theory.specs.semantics.Source.{source_machine}
 use Rattle.control_flow_theory.specs.semantics.Graph.{tree, Stop, Family}
 use Rattle.control_flow_theory.specs.semantics.Structural.{structural}
 use Rattle.control_flow_theory.specs.language.Structured.{IsStructured}
-use Rattle.control_flow_theory.specs.agreement.Same.{SameBehaviour}
+use Rattle.control_flow_theory.specs.semantics_agree.Same.{SameBehaviour}
 use Rattle.control_flow_theory.specs.rendering.Rendering.{Naming, Procedure, rendered}
 use Rattle.control_flow_theory.specs.rendering.Procedures.{Writable}
 use Rattle.control_flow_theory.specs.semantics.Examples.{say, one, jumping}

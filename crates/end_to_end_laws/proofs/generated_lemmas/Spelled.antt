@@ -19,12 +19,12 @@ use Rattle.symbol_tables.specs.data_names.Names.{Names, names_of, names_from}
 use Rattle.program_facts.specs.term_counts.Condition.{cond_terms}
 use Rattle.program_facts.specs.term_counts.Expression.{if_any, window_most, place_most, operand_most, most_by, expr_terms, operand_terms}
 use Rattle.symbol_tables.specs.declared.procedure_names.table.ProcedureTable.{ProcedureTable}
-use Rattle.cobol_grammar.specs.declared.expr_forms.side.Make.TheVariants as makes
+use Rattle.cobol_grammar.specs.declared.expr_forms.side.ExprContent.TheVariants as makes
 use Rattle.cobol_grammar.specs.declared.expr_forms.side.Side.{Side}
 use Rattle.cobol_grammar.specs.declared.expr_forms.side.ValueKind.TheVariants as values
 use Rattle.cobol_grammar.specs.expr_forms.Fault.{is_condition}
 use Rattle.cobol_grammar.specs.stmt_forms.Part.{Parts}
-use Rattle.cobol_grammar.specs.declared.known.Known.{Known}
+use Rattle.cobol_grammar.specs.declared.subject_kind.SubjectKind.{SubjectKind}
 use Rattle.cobol_grammar.specs.Whole.{parts_of}
 use Rattle.round_trip.specs.spelling.expr_spelling.Printable.{Judged, literal, is_number, judged_place, judged_operand, judged_expr}
 use Rattle.round_trip.specs.spelling.expr_spelling.Spelled.{PlaceHasRoom, OperandHasRoom}
@@ -127,7 +127,7 @@ module _ (n taken : ℕ) (small : n ≤ 1249) where
   abbrev table : ProcedureTable
   table = own_procedures (generated n) taken
 
-  abbrev parts : Parts Side Known
+  abbrev parts : Parts Side SubjectKind
   parts = parts_of (names n) (generated n).entries table
 
   spelled : PartsAreSpelled parts (kept_of (names n) (generated n)) n

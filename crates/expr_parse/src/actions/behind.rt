@@ -7,7 +7,7 @@ ghost use Rattle.cobol_grammar.specs.declared.expr_forms.reference.Suffix.TheVar
 use crate::actions::drops::drop_subs;
 use cob_base::{Boxed, Items, NoMemory};
 use cob_tree::{Sub, Window};
-use cobol_grammar::expr_forms::{Behind, Suffix};
+use cobol_grammar::expr_forms::{RefSuffixes, Suffix};
 use std::alloc::Global;
 
 /// A window alone.
@@ -23,11 +23,11 @@ pub fn both_behind(
     subs: Items<Sub>,
     window: Window,
     count: u32,
-) -> Result<Behind, NoMemory>
+) -> Result<RefSuffixes, NoMemory>
     ensures { Makes (record { subs = subs; window = Some window; count = count }) result }
 {
     match Boxed::new(alloc, window) {
-        Ok(window) => Ok(Behind {
+        Ok(window) => Ok(RefSuffixes {
             subs,
             window: Some(window),
             count,

@@ -10,7 +10,7 @@ use crate::actions::fault::is_whole;
 use crate::actions::side::expr_of;
 use cob_base::{Boxed, NoMemory};
 use cob_tree::{Expr, Op};
-use cobol_grammar::expr_forms::{Before, Chain, Make, Side, ValueKind, What};
+use cobol_grammar::expr_forms::{Chain, ExprContent, ParsedExpr, PendingTerm, Side, ValueKind};
 use std::alloc::Global;
 
 /// A sum of one term.
@@ -51,7 +51,7 @@ pub fn finish(alloc: Global, chain: Chain) -> Result<Side, NoMemory>
     match before {
         None => Ok(last),
         Some(before) => {
-            let Before {
+            let PendingTerm {
                 left,
                 op,
                 position,
@@ -60,9 +60,9 @@ pub fn finish(alloc: Global, chain: Chain) -> Result<Side, NoMemory>
             let whole = whole && is_whole(last.kind);
             let sum = both(alloc, op, left, expr_of(last.what))?;
             Ok(Side {
-                what: What::Sum(sum),
+                what: ParsedExpr::Sum(sum),
                 kind: ValueKind::Number(whole),
-                make: Make::Joined,
+                make: ExprContent::Joined,
                 position,
                 leaf: position,
             })
@@ -70,11 +70,11 @@ pub fn finish(alloc: Global, chain: Chain) -> Result<Side, NoMemory>
     }
 }
 
-fn opened(op: Op, side: Side) -> Before
+fn opened(op: Op, side: Side) -> PendingTerm
     ensures { result ≡ chains.opened op side }
 {
     let whole = is_whole(side.kind);
-    Before {
+    PendingTerm {
         left: expr_of(side.what),
         op,
         position: side.position,
@@ -89,9 +89,9 @@ fn multiplied(alloc: Global, op: Op, exact: bool, left: Side, right: Side) -> Re
     let position = left.position;
     let product = both(alloc, op, expr_of(left.what), expr_of(right.what))?;
     Ok(Side {
-        what: What::Sum(product),
+        what: ParsedExpr::Sum(product),
         kind: ValueKind::Number(whole),
-        make: Make::Joined,
+        make: ExprContent::Joined,
         position,
         leaf: position,
     })

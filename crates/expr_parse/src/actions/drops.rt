@@ -5,7 +5,7 @@ ghost use Rattle.std.specs.Prelude.{◌≡◌};
 
 use cob_base::Items;
 use cob_tree::{Expr, Place, Sub, Window};
-use cobol_grammar::expr_forms::{Chain, Either, Side};
+use cobol_grammar::expr_forms::{Chain, MaybeSubscripts, Side};
 
 /// Lets an operand or expression go.
 pub fn drop_side(side: Side) {
@@ -18,7 +18,7 @@ pub fn drop_chain(chain: Chain) {
 }
 
 /// Lets go what may be subscripts or a sum.
-pub fn drop_either(either: Either) {
+pub fn drop_either(either: MaybeSubscripts) {
     drop(either);
 }
 
@@ -43,10 +43,10 @@ pub fn drop_window(window: Window) {
 }
 
 /// The sum that it spells, and how many leaves it has; the subscripts go.
-pub fn sum_of(either: Either) -> (Chain, u32)
+pub fn sum_of(either: MaybeSubscripts) -> (Chain, u32)
     ensures { result ≡ (either.chain, either.leaves) }
 {
-    let Either {
+    let MaybeSubscripts {
         subs,
         base,
         chain,

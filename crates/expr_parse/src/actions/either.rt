@@ -11,10 +11,10 @@ use crate::actions::fault::{kind_of, last_fault, whole_fault_at};
 use crate::actions::side::{digits_side, number_of, place_of, ref_side};
 use cob_base::{Boxed, Copied, Items, NoMemory, Text, Word};
 use cob_tree::{Op, Place, Sub};
-use cobol_grammar::expr_forms::Either;
+use cobol_grammar::expr_forms::MaybeSubscripts;
 use parser_combinators::{Note, Position};
 use std::alloc::Global;
-use symbol_tables::data_names::Found;
+use symbol_tables::data_names::Referent;
 
 /// One more element; the list is let go where there is no memory.
 ///
@@ -74,12 +74,16 @@ pub fn bare_sub(alloc: Global, place: Place) -> Result<Sub, NoMemory>
 }
 
 /// A number that may be a subscript or begin a sum.
-pub fn number_either(alloc: Global, digits: Text, position: Position) -> Result<Either, NoMemory>
+pub fn number_either(
+    alloc: Global,
+    digits: Text,
+    position: Position,
+) -> Result<MaybeSubscripts, NoMemory>
     ensures { Makes (eithers.number_either digits position) result }
 {
     let copy = digits.copy(alloc)?;
     let subs = sub_added(Items::new(alloc), number_sub(copy))?;
-    Ok(Either {
+    Ok(MaybeSubscripts {
         subs,
         base: None,
         chain: chain_of(digits_side(digits, position)),
@@ -91,16 +95,16 @@ pub fn number_either(alloc: Global, digits: Text, position: Position) -> Result<
 /// An item that may be a subscript or begin a sum.
 pub fn ref_either(
     alloc: Global,
-    found: Found,
+    found: Referent,
     of: Items<Word>,
     position: Position,
-) -> Result<Either, NoMemory>
+) -> Result<MaybeSubscripts, NoMemory>
     ensures { Makes (eithers.ref_either found of position) result }
 {
     let again = of.copy(alloc)?;
     let base = place_of(found, again, Items::new(alloc), None);
     let side = ref_side(found, of, Items::new(alloc), None, position);
-    Ok(Either {
+    Ok(MaybeSubscripts {
         subs: Items::new(alloc),
         base: Some(base),
         chain: chain_of(side),
@@ -149,11 +153,11 @@ pub fn with_number(
     negative: bool,
     digits: Text,
     position: Position,
-    either: Either,
-) -> Result<Either, NoMemory>
+    either: MaybeSubscripts,
+) -> Result<MaybeSubscripts, NoMemory>
     ensures { Makes (eithers.with_number op negative digits position either) result }
 {
-    let Either {
+    let MaybeSubscripts {
         subs,
         base,
         chain,
@@ -177,7 +181,7 @@ pub fn with_number(
         }
     };
     match joined(alloc, op, chain, digits_side(digits, position)) {
-        Ok(chain) => Ok(Either {
+        Ok(chain) => Ok(MaybeSubscripts {
             subs,
             base: None,
             chain,
@@ -193,10 +197,10 @@ pub fn with_number(
 
 /// The subscripts that it spells.
 #[tactic(auto, unfolding(cobol_grammar::specs::expr_forms::Either::subs_of))]
-pub fn subs_of(alloc: Global, either: Either) -> Result<Items<Sub>, NoMemory>
+pub fn subs_of(alloc: Global, either: MaybeSubscripts) -> Result<Items<Sub>, NoMemory>
     ensures { Makes (eithers.subs_of either) result }
 {
-    let Either {
+    let MaybeSubscripts {
         subs,
         base,
         chain,
@@ -216,7 +220,7 @@ pub fn subs_of(alloc: Global, either: Either) -> Result<Items<Sub>, NoMemory>
 }
 
 /// The fault of the last operand of the sum that it spells, which stands under an operator.
-pub fn either_fault(either: &Either) -> Option<Note>
+pub fn either_fault(either: &MaybeSubscripts) -> Option<Note>
     ensures { result ≡ number_fault either.now.chain.last }
 {
     last_fault(&either.chain)

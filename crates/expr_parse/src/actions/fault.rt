@@ -3,9 +3,9 @@
 ghost use Rattle.std.specs.Prelude.{◌≡◌};
 ghost use Rattle.cobol_grammar.specs.expr_forms.Fault as faults;
 
-use cobol_grammar::expr_forms::{Chain, Make, Side, ValueKind};
+use cobol_grammar::expr_forms::{Chain, ExprContent, Side, ValueKind};
 use parser_combinators::{NameKind, Note, Position};
-use symbol_tables::data_names::{Found, Kind};
+use symbol_tables::data_names::{ItemKind, Referent};
 
 fn fault_at(kind: NameKind, position: Position) -> Option<Note>
     ensures { result ≡ faults.fault_at kind position }
@@ -93,7 +93,7 @@ fn inexact_fault(side: &Side) -> Option<Note>
     ensures { result ≡ faults.inexact_fault side.now.make side.now.kind side.now.position }
 {
     match side.make {
-        Make::Joined => usage(side.position),
+        ExprContent::Joined => usage(side.position),
         _ => whole_fault_at(side.position, side.kind),
     }
 }
@@ -126,38 +126,38 @@ pub fn relation_fault(left: &Side, right: &Side) -> Option<Note>
     ensures { result ≡ faults.relation_fault left.now right.now }
 {
     match (left.make, right.make) {
-        (Make::Literal, Make::Literal) => usage(right.position),
+        (ExprContent::Literal, ExprContent::Literal) => usage(right.position),
         _ => kinds_fault(left, right),
     }
 }
 
 /// The entry that a reference stands for, or the first where it stands for none.
-pub fn item_of(found: Found) -> u32
+pub fn item_of(found: Referent) -> u32
     ensures { result ≡ faults.item_of found }
 {
     match found {
-        Found::Item { item, .. } => item,
+        Referent::Item { item, .. } => item,
         _ => 0,
     }
 }
 
-fn item_kind(kind: Kind) -> ValueKind
+fn item_kind(kind: ItemKind) -> ValueKind
     ensures { result ≡ faults.item_kind kind }
 {
     match kind {
-        Kind::Number { whole } => ValueKind::Number(whole),
-        Kind::Text => ValueKind::Text,
-        Kind::Group => ValueKind::Group,
-        Kind::Condition => ValueKind::Condition,
+        ItemKind::Number { whole } => ValueKind::Number(whole),
+        ItemKind::Text => ValueKind::Text,
+        ItemKind::Group => ValueKind::Group,
+        ItemKind::Condition => ValueKind::Condition,
     }
 }
 
 /// What a reference without window stands for.
-pub fn kind_of(found: Found) -> ValueKind
+pub fn kind_of(found: Referent) -> ValueKind
     ensures { result ≡ faults.kind_of found }
 {
     match found {
-        Found::Item { kind, .. } => item_kind(kind),
+        Referent::Item { kind, .. } => item_kind(kind),
         _ => ValueKind::Unknown,
     }
 }
@@ -174,13 +174,13 @@ pub fn is_condition(kind: ValueKind) -> bool
 
 /// The fault of a name with so many subscripts behind it, and with a window or none.
 #[tactic(auto, unfolding(cobol_grammar::specs::expr_forms::Fault::found_fault))]
-pub fn found_fault(found: Found, subs: usize, windowed: bool, position: Position) -> Option<Note>
+pub fn found_fault(found: Referent, subs: usize, windowed: bool, position: Position) -> Option<Note>
     ensures { result ≡ faults.found_fault found subs windowed position }
 {
     match found {
-        Found::Unknown => fault_at(NameKind::Unknown, position),
-        Found::Ambiguous => fault_at(NameKind::Ambiguous, position),
-        Found::Item { kind, dims, .. } => {
+        Referent::Unknown => fault_at(NameKind::Unknown, position),
+        Referent::Ambiguous => fault_at(NameKind::Ambiguous, position),
+        Referent::Item { kind, dims, .. } => {
             if dims == subs && !(is_condition(item_kind(kind)) && windowed) {
                 None
             } else {

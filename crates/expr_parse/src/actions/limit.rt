@@ -7,8 +7,8 @@ use cob_base::limit::MAX_TERMS;
 use parser_combinators::{Cursor, Unread, Why};
 
 /// So many more terms, unless they pass the limit at the next token.
-pub fn tally(cursor: &Cursor<'_>, count: u32, more: u32) -> Result<u32, Unread>
-    ensures { Reads ((limits.tally count more).reads cursor.now) result cursor.now }
+pub fn count_terms(cursor: &Cursor<'_>, count: u32, more: u32) -> Result<u32, Unread>
+    ensures { Reads ((limits.count_terms count more).reads cursor.now) result cursor.now }
 {
     match count.checked_add(more) {
         Some(sum) if sum <= MAX_TERMS => Ok(sum),

@@ -7,10 +7,10 @@ ghost use Rattle.cobol_grammar.specs.expr_forms.Side as sides;
 use crate::actions::fault::{is_whole, item_of, kind_of};
 use cob_base::{Boxed, Items, NoMemory, Text, Word};
 use cob_tree::{Digits, Expr, Figure, Number, Operand, Place, Sub, Window};
-use cobol_grammar::expr_forms::{Make, Shape, Side, ValueKind, What};
+use cobol_grammar::expr_forms::{ExprContent, ExprForm, ParsedExpr, Side, ValueKind};
 use parser_combinators::Position;
 use std::alloc::Global;
-use symbol_tables::data_names::Found;
+use symbol_tables::data_names::Referent;
 
 fn kind_within(window: &Option<Boxed<Window>>, kind: ValueKind) -> ValueKind
     ensures { result ≡ sides.kind_within window.now kind }
@@ -26,32 +26,32 @@ fn kind_within(window: &Option<Boxed<Window>>, kind: ValueKind) -> ValueKind
 }
 
 /// The expression that is read.
-pub fn expr_of(what: What) -> Expr
+pub fn expr_of(what: ParsedExpr) -> Expr
     ensures { result ≡ sides.expr_of what }
 {
     match what {
-        What::Ref(place) => Expr::Leaf(Operand::Place(place)),
-        What::Literal(operand) => Expr::Leaf(operand),
-        What::Enclosed(place) => Expr::Leaf(Operand::Place(place)),
-        What::Sum(expr) => expr,
+        ParsedExpr::Ref(place) => Expr::Leaf(Operand::Place(place)),
+        ParsedExpr::Literal(operand) => Expr::Leaf(operand),
+        ParsedExpr::Enclosed(place) => Expr::Leaf(Operand::Place(place)),
+        ParsedExpr::Sum(expr) => expr,
     }
 }
 
 /// How an expression is written.
-pub fn shape_of(side: &Side) -> Shape
+pub fn shape_of(side: &Side) -> ExprForm
     ensures { result ≡ sides.shape_of side.now.what }
 {
     match &side.what {
-        What::Ref(_) => Shape::Ref,
-        What::Literal(_) => Shape::Literal,
-        What::Enclosed(_) => Shape::Enclosed,
-        What::Sum(_) => Shape::Sum,
+        ParsedExpr::Ref(_) => ExprForm::Ref,
+        ParsedExpr::Literal(_) => ExprForm::Literal,
+        ParsedExpr::Enclosed(_) => ExprForm::Enclosed,
+        ParsedExpr::Sum(_) => ExprForm::Sum,
     }
 }
 
 /// The place that a reference stands for.
 pub fn place_of(
-    found: Found,
+    found: Referent,
     of: Items<Word>,
     subs: Items<Sub>,
     window: Option<Boxed<Window>>,
@@ -69,7 +69,7 @@ pub fn place_of(
 /// A reference alone.
 #[tactic(auto, unfolding(cobol_grammar::specs::expr_forms::Side::ref_side))]
 pub fn ref_side(
-    found: Found,
+    found: Referent,
     of: Items<Word>,
     subs: Items<Sub>,
     window: Option<Boxed<Window>>,
@@ -79,9 +79,9 @@ pub fn ref_side(
 {
     let kind = kind_within(&window, kind_of(found));
     Side {
-        what: What::Ref(place_of(found, of, subs, window)),
+        what: ParsedExpr::Ref(place_of(found, of, subs, window)),
         kind,
-        make: Make::Item,
+        make: ExprContent::Item,
         position,
         leaf: position,
     }
@@ -93,9 +93,9 @@ pub fn literal_side(operand: Operand, kind: ValueKind, position: Position) -> Si
     ensures { result ≡ sides.literal_side operand kind position }
 {
     Side {
-        what: What::Literal(operand),
+        what: ParsedExpr::Literal(operand),
         kind,
-        make: Make::Literal,
+        make: ExprContent::Literal,
         position,
         leaf: position,
     }
@@ -150,7 +150,7 @@ pub fn sum_side(position: Position, side: Side) -> Side
     ensures { result ≡ sides.sum_side position side }
 {
     Side {
-        what: What::Sum(expr_of(side.what)),
+        what: ParsedExpr::Sum(expr_of(side.what)),
         kind: side.kind,
         make: side.make,
         position,
@@ -166,22 +166,22 @@ pub fn negated(alloc: Global, position: Position, side: Side) -> Result<Side, No
     let whole = is_whole(side.kind);
     let expr = Expr::Minus(Boxed::new(alloc, expr_of(side.what))?);
     Ok(Side {
-        what: What::Sum(expr),
+        what: ParsedExpr::Sum(expr),
         kind: ValueKind::Number(whole),
-        make: Make::Joined,
+        make: ExprContent::Joined,
         position,
         leaf: position,
     })
 }
 
-fn enclosed_what(what: What) -> What
+fn enclosed_what(what: ParsedExpr) -> ParsedExpr
     ensures { result ≡ sides.enclosed_what what }
 {
     match what {
-        What::Ref(place) => What::Enclosed(place),
-        What::Enclosed(place) => What::Enclosed(place),
-        What::Literal(operand) => What::Sum(Expr::Leaf(operand)),
-        What::Sum(expr) => What::Sum(expr),
+        ParsedExpr::Ref(place) => ParsedExpr::Enclosed(place),
+        ParsedExpr::Enclosed(place) => ParsedExpr::Enclosed(place),
+        ParsedExpr::Literal(operand) => ParsedExpr::Sum(Expr::Leaf(operand)),
+        ParsedExpr::Sum(expr) => ParsedExpr::Sum(expr),
     }
 }
 

@@ -8,7 +8,7 @@ use Rattle.control_flow_theory.specs.semantics.Graph.{Label}
 use Rattle.control_flow_theory.specs.lowering.Completes.{size, sizes, size_arms}
 use Rattle.lowering_labels.proofs.points_lemmas.SizeLemmas.{size-seen}
 use Rattle.control_flow_theory.specs.graph_rules.Shapes.{followed, arm_stmts, arms_stmts, last_stmts}
-use Rattle.control_flow_theory.specs.closing.Dispatches.{set_to, number_in}
+use Rattle.control_flow_theory.specs.structuring.Dispatches.{set_to, number_in}
 use Rattle.branch_tree.specs.Choosers.{seen_picker}
 use Rattle.branch_tree.specs.declared.chooser.Picker as code
 use Rattle.branch_tree.specs.declared.chooser.Test as tests
@@ -19,12 +19,12 @@ use Rattle.branch_tree.specs.declared.tree.Leaves.TheVariants as leaves
 use Rattle.branch_tree.specs.declared.tree.Piece.{Piece}
 use Rattle.branch_tree.specs.declared.tree.Piece.TheVariants as piece
 use Rattle.branch_tree.specs.declared.tree.Tree.{Tree}
-use Rattle.branch_tree.specs.Graphs.{seen_node, seen_nodes}
-use Rattle.branch_tree.specs.Trees.{seen_piece, seen_tree, seen_trees, seen_body, seen_end, jump_within, stated}
+use Rattle.branch_tree.specs.Graph.{seen_node, seen_nodes}
+use Rattle.branch_tree.specs.Tree.{seen_piece, seen_tree, seen_trees, seen_body, seen_end, jump_within, stated}
 use Rattle.branch_tree.proofs.TreeRows.{seen_tree_is, seen_own, seen_choose, seen_loop, seen_pick}
 use Rattle.branch_tree.specs.Within.{end_within, arms_within}
 use Rattle.flow_graph.specs.graph_sizes.Parts.{arm_size, piece_size, unless, within_size}
-use Rattle.flow_graph.specs.graph_sizes.Sizes.{tree_size, end_size, trees_size, node_size}
+use Rattle.flow_graph.specs.graph_sizes.Sizing.{tree_size, end_size, trees_size, node_size}
 
 -- leaves within a loop
 

@@ -6,36 +6,36 @@ use Rattle.control_flow_theory.specs.language.Language.{none}
 use Rattle.control_flow_theory.specs.semantics.Graph as graph
 use Rattle.control_flow_theory.specs.lowering.Lower.{point}
 use Rattle.branch_tree.specs.Changes.{gone_on}
-use Rattle.branch_tree.specs.Trees.{seen_body, seen_end, seen_tree}
+use Rattle.branch_tree.specs.Tree.{seen_body, seen_end, seen_tree}
 use Rattle.branch_tree.specs.declared.tree.End.{End}
 use Rattle.branch_tree.specs.declared.tree.Piece.{Piece}
-use Rattle.lowering_labels.specs.points.Fall.{seen_range}
-use Rattle.lowering_labels.specs.points.Leaf.{seen_leaf}
-use Rattle.lowering_labels.specs.declared.points.leaf.Leaf.{Leaf}
-use Rattle.statement_lowering.specs.Along.{Runs}
-use Rattle.statement_lowering.specs.declared.telling.Leaving.{Leaving}
-use Rattle.statement_lowering.specs.declared.telling.Telling.{Telling}
+use Rattle.lowering_labels.specs.points.FallThrough.{seen_range}
+use Rattle.lowering_labels.specs.points.JumpTarget.{seen_target}
+use Rattle.lowering_labels.specs.declared.points.jump_target.JumpTarget.{JumpTarget}
+use Rattle.statement_lowering.specs.LowerList.{Runs}
+use Rattle.statement_lowering.specs.declared.context.EscapeTargets.{EscapeTargets}
+use Rattle.statement_lowering.specs.declared.context.LoweringContext.{LoweringContext}
 use Rattle.statement_lowering.proofs.Bodies.{before_nothing}
 use Rattle.lowering_labels.specs.loop_nodes.Loops.{before}
-use Rattle.statement_lowering.specs.continuations.Onward.{Lowering, GoesLater, after_by, behind_by, tree_behind}
-use Rattle.statement_lowering.specs.continuations.Spots.{Fits, IsRest}
-use Rattle.statement_lowering.specs.declared.continuations.spot.Spot.{Spot}
-use Rattle.flow_graph.specs.label_trees.Nodes.{GoAlike, GoesOnIn, IsTableOf, IsWhole, LeavesIn, node_in}
-use Rattle.flow_graph.specs.label_trees.Runs.{IsBehind, IsRunAlike, RunsOn}
-use Rattle.flow_graph.specs.declared.label_trees.run.OwnRun.{OwnRun}
+use Rattle.statement_lowering.specs.continuations.Successors.{Lowering, GoesLater, after_by, behind_by, tree_behind}
+use Rattle.statement_lowering.specs.continuations.Statements.{Fits, IsRest}
+use Rattle.statement_lowering.specs.declared.continuations.continuation.Continuation.{Continuation}
+use Rattle.flow_graph.specs.label_trees.Node.{GoAlike, GoesOnIn, IsTableOf, IsWhole, LeavesIn, node_in}
+use Rattle.flow_graph.specs.label_trees.Run.{IsBehind, IsStraightRunAlike, RunsOn}
+use Rattle.flow_graph.specs.declared.label_trees.run.StraightRun.{StraightRun}
 use Rattle.flow_graph.proofs.label_trees_lemmas.NodeSteps.{before_only, fit_at, goes_alike, graph_in, here_is, leaves_alike, rest_at_index, run_ends, run_goes}
 
-same-spot : (one spot : Spot) → Some one ≡ Some spot → one ≡ spot
+same-spot : (one spot : Continuation) → Some one ≡ Some spot → one ≡ spot
 same-spot one spot e = cc
 
-pub fits-there : (telling : Telling) (spots : List Spot) (place : ℕ) (spot : Spot) →
+pub fits-there : (telling : LoweringContext) (spots : List Continuation) (place : ℕ) (spot : Continuation) →
     IsWhole telling spots → place < length spots → spot ≡ get_or spots place spot →
     Fits telling.layout.now.end place spot
 fits-there telling spots place spot whole lt is =
     subst (λ n. Fits telling.layout.now.end n spot) (omega arith)
     (fit_at telling.layout.now.end 0 spots place spot lt is whole.fit)
 
-pub is-behind : (telling : Telling) (spots : List Spot) (place next : ℕ) (spot : Spot) →
+pub is-behind : (telling : LoweringContext) (spots : List Continuation) (place next : ℕ) (spot : Continuation) →
     IsWhole telling spots → place < length spots → spot ≡ get_or spots place spot →
     spot.onward.behind ≡ Some next → IsBehind spots place next
 is-behind telling spots place next spot whole lt is behind =
@@ -48,23 +48,23 @@ is-behind telling spots place next spot whole lt is behind =
       within = omega (arith, later.1, whole.count);
       behind = λ one there.
           let same = same-spot one spot (sym there ∙ here_is spots place spot lt is) in
-          ap (λ (s : Spot). s.onward.behind) same ∙ behind;
+          ap (λ (s : Continuation). s.onward.behind) same ∙ behind;
     }
 
 -- going along the statements of the rest at a place, from nothing
-pub record RanAlong (telling : Telling) (spots : List Spot) (range : code.Range) (place : ℕ)
-    (spot : Spot) (after : Leaf) (found : Option End) (news : List Piece) : Type 0 where
+pub record RanAlong (telling : LoweringContext) (spots : List Continuation) (range : code.Range) (place : ℕ)
+    (spot : Continuation) (after : JumpTarget) (found : Option End) (news : List Piece) : Type 0 where
   pub lt : place < length spots
   pub is : spot ≡ get_or spots place spot
-  pub leaving : Leaving
+  pub leaving : EscapeTargets
   pub leaves : LeavesIn telling range spot.onward leaving
   pub goes : GoesOnIn telling range spot.onward after
   pub bodies : List Piece
   pub empty : bodies ≡ []
   pub runs : Runs telling leaving spot.stmts.now place after found bodies news
 
-module _ (telling : Telling) (spots : List Spot) (range : code.Range) (place : ℕ) (spot : Spot)
-    (after : Leaf) (found : Option End) (news : List Piece)
+module _ (telling : LoweringContext) (spots : List Continuation) (range : code.Range) (place : ℕ) (spot : Continuation)
+    (after : JumpTarget) (found : Option End) (news : List Piece)
     (ran : RanAlong telling spots range place spot after found news) where
   module _ (other : code.Range) (alike : GoAlike range other spot.onward) (program : Program)
       (table : IsTableOf telling spots program) where
@@ -103,7 +103,7 @@ module _ (telling : Telling) (spots : List Spot) (range : code.Range) (place : �
         leaves-there goes-there none ran.bodies news found from-nothing ran.runs at
 
     ends-behind : found ≡ None → spot.onward.behind ≡ None →
-        node ≡ graph.tree (seen_body news) (seen_leaf after)
+        node ≡ graph.tree (seen_body news) (seen_target after)
     ends-behind at behind =
         let end = after_by telling.layout.now graph_there spot.onward in
         goes-behind at
@@ -119,33 +119,33 @@ module _ (telling : Telling) (spots : List Spot) (range : code.Range) (place : �
         ∙ ap (λ b. before (seen_body news) (tree_behind telling.layout.now graph_there b end)) behind
 
   -- at whatever the spot there is called
-  alike-there : (other : code.Range) (one : Spot) → slice_get spots place ≡ Some one →
+  alike-there : (other : code.Range) (one : Continuation) → slice_get spots place ≡ Some one →
       GoAlike range other one.onward → GoAlike range other spot.onward
   alike-there other one there alike =
-      subst (λ (s : Spot). GoAlike range other s.onward)
+      subst (λ (s : Continuation). GoAlike range other s.onward)
       (same-spot one spot (sym there ∙ here_is spots place spot ran.lt ran.is)) alike
 
-  pub run-ends : (run : OwnRun) (end : End) → found ≡ Some end → run.next ≡ None →
+  pub run-ends : (run : StraightRun) (end : End) → found ≡ Some end → run.next ≡ None →
       seen_tree run.tree ≡ graph.tree (seen_body news) (seen_end end) →
-      IsRunAlike telling spots range place run
+      IsStraightRunAlike telling spots range place run
   run-ends run end at next is = λ other one there alike program table.
       let so = alike-there other one there alike in
       subst (λ n. RunsOn (node_in telling program other) (seen_tree run.tree) n
       (node_in telling program other (point place))) (sym next)
       (ends-there other so program table end at ∙ sym is)
 
-  pub run-leaves : (run : OwnRun) → found ≡ None → spot.onward.behind ≡ None → run.next ≡ None →
-      seen_tree run.tree ≡ graph.tree (seen_body news) (seen_leaf after) →
-      IsRunAlike telling spots range place run
+  pub run-leaves : (run : StraightRun) → found ≡ None → spot.onward.behind ≡ None → run.next ≡ None →
+      seen_tree run.tree ≡ graph.tree (seen_body news) (seen_target after) →
+      IsStraightRunAlike telling spots range place run
   run-leaves run at behind next is = λ other one there alike program table.
       let so = alike-there other one there alike in
       subst (λ n. RunsOn (node_in telling program other) (seen_tree run.tree) n
       (node_in telling program other (point place))) (sym next)
       (ends-behind other so program table at behind ∙ sym is)
 
-  pub run-goes : (run : OwnRun) (to : ℕ) → found ≡ None → spot.onward.behind ≡ Some to →
+  pub run-goes : (run : StraightRun) (to : ℕ) → found ≡ None → spot.onward.behind ≡ Some to →
       run.next ≡ Some to → seen_tree run.tree ≡ graph.tree (seen_body news) graph.Dead →
-      IsRunAlike telling spots range place run
+      IsStraightRunAlike telling spots range place run
   run-goes run to at behind next is = λ other one there alike program table.
       let so = alike-there other one there alike in
       let node = node_in telling program other in

@@ -2,13 +2,13 @@
 use Rattle.std.proofs.Common.{◌≡◌, ℕ, zero, suc, ◌<◌, ◌==◌, Bool, true, false, if◌then◌else◌, List, [], ◌∷◌, get_or, length, Option, Some, None, slice_get, refl, ap, sym, ◌∙◌, arith, eqb-true, eq-eqb}
 use Rattle.std.proofs.lemmas.Option.{slice_get-get_or}
 use Rattle.cob_tree.specs.declared.program.Range as code
-use Rattle.statement_lowering.specs.declared.continuations.spot.Onward.{Onward}
-use Rattle.statement_lowering.specs.declared.continuations.spot.Spot.{Spot}
-use Rattle.flow_graph.specs.label_trees.Nodes.{GoAlike, GoAlikeFrom, returns_at}
-use Rattle.flow_graph.specs.label_trees.Runs.{IsBehind}
-use Rattle.flow_graph.specs.declared.range_sizes.going.Passing.{Passing}
-use Rattle.flow_graph.specs.declared.range_sizes.going.Passing.TheVariants.{Falls, Returns, Leaves}
-use Rattle.flow_graph.specs.range_sizes.Going.{AllGoWithin, GoesSo, found_within, stands_within, passing_of}
+use Rattle.statement_lowering.specs.declared.continuations.continuation.Successors.{Successors}
+use Rattle.statement_lowering.specs.declared.continuations.continuation.Continuation.{Continuation}
+use Rattle.flow_graph.specs.label_trees.Node.{GoAlike, GoAlikeFrom, returns_at}
+use Rattle.flow_graph.specs.label_trees.Run.{IsBehind}
+use Rattle.flow_graph.specs.declared.range_sizes.exits.Passing.{Passing}
+use Rattle.flow_graph.specs.declared.range_sizes.exits.Passing.TheVariants.{Falls, Returns, Leaves}
+use Rattle.flow_graph.specs.range_sizes.Exits.{AllGoWithin, GoesSo, found_within, stands_within, passing_of}
 
 exit-is : (exit : Option ℕ) (number : ℕ) → returns_at exit number ≡ true → exit ≡ Some number
 exit-is None number is = absurd (let k : ⊥ = cc in k)
@@ -28,7 +28,7 @@ same-passings false false true d e = absurd (let k : ⊥ = cc in k)
 same-passings false false false true e = absurd (let k : ⊥ = cc in k)
 same-passings false false false false e = (refl, λ not. refl)
 
-pub go-alike : (range other : code.Range) (onward : Onward) →
+pub go-alike : (range other : code.Range) (onward : Successors) →
     passing_of range.exit onward ≡ passing_of other.exit onward → GoAlike range other onward
 go-alike range other onward same =
     let a = returns_at range.exit onward.paragraph in
@@ -50,7 +50,7 @@ go-alike range other onward same =
 
 -- Rests that stand in one paragraph and section.
 
-stands-parts : (onward behind : Onward) → stands_within onward behind ≡ true →
+stands-parts : (onward behind : Successors) → stands_within onward behind ≡ true →
     (behind.paragraph ≡ onward.paragraph) × (behind.last ≡ onward.last)
 stands-parts onward behind is =
     (elim (behind.paragraph == onward.paragraph) as
@@ -62,14 +62,14 @@ stands-parts onward behind is =
       | false ↦ λ same rest. absurd (let k : ⊥ = cc in k)
     ]) refl is
 
-stands-by : (onward behind : Onward) → behind.paragraph ≡ onward.paragraph →
+stands-by : (onward behind : Successors) → behind.paragraph ≡ onward.paragraph →
     behind.last ≡ onward.last → stands_within onward behind ≡ true
 stands-by onward behind paragraph last =
     ap (λ b. if b then behind.last == onward.last else false)
     (eq-eqb behind.paragraph onward.paragraph paragraph)
     ∙ eq-eqb behind.last onward.last last
 
-further : (found : Option Spot) (onward behind : Onward) → stands_within onward behind ≡ true →
+further : (found : Option Continuation) (onward behind : Successors) → stands_within onward behind ≡ true →
     found_within behind found ≡ true → found_within onward found ≡ true
 further None onward behind stands found = refl
 further (Some spot) onward behind stands found =
@@ -77,14 +77,14 @@ further (Some spot) onward behind stands found =
     let two = stands-parts behind spot.onward found in
     stands-by onward spot.onward (two.0 ∙ one.0) (two.1 ∙ one.1)
 
-pub alike-from : (spots : List Spot) (range other : code.Range) (place : ℕ) (spot : Spot) →
+pub alike-from : (spots : List Continuation) (range other : code.Range) (place : ℕ) (spot : Continuation) →
     AllGoWithin spots → slice_get spots place ≡ Some spot →
     passing_of range.exit spot.onward ≡ passing_of other.exit spot.onward →
     GoAlikeFrom spots range other place
 alike-from spots range other place spot within there same =
     let own = spot.onward in
     let alike = go-alike range other own same in
-    let stands : (at : ℕ) (one : Spot) → found_within own (slice_get spots at) ≡ true →
+    let stands : (at : ℕ) (one : Continuation) → found_within own (slice_get spots at) ≡ true →
     slice_get spots at ≡ Some one → stands_within own one.onward ≡ true =
     λ at one on is. sym (ap (found_within own) is) ∙ on in
     record {
@@ -105,39 +105,39 @@ alike-from spots range other place spot within there same =
 
 -- A range goes on behind a rest as from it.
 
-same-spot : (one spot : Spot) → Some one ≡ Some spot → one ≡ spot
+same-spot : (one spot : Continuation) → Some one ≡ Some spot → one ≡ spot
 same-spot one spot e = cc
 
-pub goes-there : (spots : List Spot) (range : code.Range) (place : ℕ) (passing : Passing)
-    (spot : Spot) → GoesSo spots range place passing → slice_get spots place ≡ Some spot →
+pub goes-there : (spots : List Continuation) (range : code.Range) (place : ℕ) (passing : Passing)
+    (spot : Continuation) → GoesSo spots range place passing → slice_get spots place ≡ Some spot →
     passing_of range.exit spot.onward ≡ passing
 goes-there spots range place passing spot so there =
-    sym (ap (λ (s : Spot). passing_of range.exit s.onward)
+    sym (ap (λ (s : Continuation). passing_of range.exit s.onward)
     (same-spot so.spot spot (sym so.there ∙ there)))
     ∙ so.goes
 
-pub alike-so : (spots : List Spot) (range other : code.Range) (place : ℕ) (passing : Passing)
-    (spot : Spot) → GoesSo spots range place passing → GoesSo spots other place passing →
+pub alike-so : (spots : List Continuation) (range other : code.Range) (place : ℕ) (passing : Passing)
+    (spot : Continuation) → GoesSo spots range place passing → GoesSo spots other place passing →
     slice_get spots place ≡ Some spot → GoAlike range other spot.onward
 alike-so spots range other place passing spot one two there =
     go-alike range other spot.onward
     (goes-there spots range place passing spot one there
     ∙ sym (goes-there spots other place passing spot two there))
 
-some-there : (spots : List Spot) (at : ℕ) → at < length spots →
-    (spot : Spot) × (slice_get spots at ≡ Some spot)
+some-there : (spots : List Continuation) (at : ℕ) → at < length spots →
+    (spot : Continuation) × (slice_get spots at ≡ Some spot)
 some-there [] at lt = absurd (omega (arith, lt))
 some-there (spot ∷ spots) zero lt = (spot, refl)
 some-there (spot ∷ spots) (suc at) lt = some-there spots at (omega (arith, lt))
 
-passes-so : (exit : Option ℕ) (onward behind : Onward) → stands_within onward behind ≡ true →
+passes-so : (exit : Option ℕ) (onward behind : Successors) → stands_within onward behind ≡ true →
     passing_of exit behind ≡ passing_of exit onward
 passes-so exit onward behind stands =
     let parts = stands-parts onward behind stands in
     ap (λ (n : ℕ). passing_by (returns_at exit n) (returns_at exit behind.last)) parts.0
     ∙ ap (λ (n : ℕ). passing_by (returns_at exit onward.paragraph) (returns_at exit n)) parts.1
 
-pub goes-behind : (spots : List Spot) (range : code.Range) (place next : ℕ) (passing : Passing) →
+pub goes-behind : (spots : List Continuation) (range : code.Range) (place next : ℕ) (passing : Passing) →
     AllGoWithin spots → IsBehind spots place next → GoesSo spots range place passing →
     GoesSo spots range next passing
 goes-behind spots range place next passing within behind so =
@@ -151,8 +151,8 @@ goes-behind spots range place next passing within behind so =
       goes = passes-so range.exit so.spot.onward one.0.onward stands ∙ so.goes;
     }
 
-pub goes-read : (spots : List Spot) (range : code.Range) (place : ℕ) (passing : Passing)
-    (read : Spot) → place < length spots →
+pub goes-read : (spots : List Continuation) (range : code.Range) (place : ℕ) (passing : Passing)
+    (read : Continuation) → place < length spots →
     passing ≡ passing_of range.exit (get_or spots place read).onward →
     GoesSo spots range place passing
 goes-read spots range place passing read lt is = record {

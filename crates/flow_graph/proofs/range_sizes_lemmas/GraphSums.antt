@@ -5,12 +5,12 @@ use Rattle.flow_graph.specs.Counts.{CountsTo}
 use Rattle.flow_graph.specs.Reaching.{AreReachedIn}
 use Rattle.flow_graph.proofs.KeptSums.{places-just, sum-whole}
 use Rattle.flow_graph.proofs.NodeRows.{is_in}
-use Rattle.pending_returns.specs.levels.Reaching.{IsMarked}
-use Rattle.statement_lowering.specs.declared.telling.Telling.{Telling}
-use Rattle.statement_lowering.specs.declared.continuations.spot.Spot.{Spot}
-use Rattle.flow_graph.specs.range_sizes.Sizes.{IsSizeIn}
+use Rattle.pending_returns.specs.levels.Reach.{IsMarked}
+use Rattle.statement_lowering.specs.declared.context.LoweringContext.{LoweringContext}
+use Rattle.statement_lowering.specs.declared.continuations.continuation.Continuation.{Continuation}
+use Rattle.flow_graph.specs.range_sizes.Sizing.{IsSizeIn}
 
-pub size-in : (telling : Telling) (spots : List Spot) (range : code.Range) (places : List ℕ)
+pub size-in : (telling : LoweringContext) (spots : List Continuation) (range : code.Range) (places : List ℕ)
     (marks : List Bool) → IsMarked places marks → AreReachedIn telling spots range places →
     (count : ℕ) → CountsTo telling spots range places count → IsSizeIn telling spots range count
 size-in telling spots range places marks marked reached count counts program is =

@@ -6,18 +6,18 @@ use Rattle.std.proofs.lemmas.Option.{slice_get_read, slice_get_within}
 use Rattle.cob_tree.specs.declared.program.Program.{Program}
 use Rattle.cob_tree.specs.declared.program.Range as code
 use Rattle.control_flow_theory.specs.semantics.Graph as graph
-use Rattle.pending_returns.specs.levels.Reaching.{IsMarked}
-use Rattle.statement_lowering.specs.declared.telling.Telling.{Telling}
-use Rattle.flow_graph.specs.label_trees.Nodes.{IsTableOf, node_in}
-use Rattle.statement_lowering.specs.declared.continuations.spot.Spot.{Spot}
-use Rattle.flow_graph.specs.declared.range_sizes.going.Passing.{Passing}
-use Rattle.flow_graph.specs.declared.range_sizes.going.Passing.TheVariants.{Falls, Returns, Leaves}
-use Rattle.flow_graph.specs.declared.range_sizes.known.Known.{Known}
-use Rattle.flow_graph.specs.declared.range_sizes.known.Row.{Row}
+use Rattle.pending_returns.specs.levels.Reach.{IsMarked}
+use Rattle.statement_lowering.specs.declared.context.LoweringContext.{LoweringContext}
+use Rattle.flow_graph.specs.label_trees.Node.{IsTableOf, node_in}
+use Rattle.statement_lowering.specs.declared.continuations.continuation.Continuation.{Continuation}
+use Rattle.flow_graph.specs.declared.range_sizes.exits.Passing.{Passing}
+use Rattle.flow_graph.specs.declared.range_sizes.exits.Passing.TheVariants.{Falls, Returns, Leaves}
+use Rattle.flow_graph.specs.declared.range_sizes.cache.TreeSizeCache.{TreeSizeCache}
+use Rattle.flow_graph.specs.declared.range_sizes.cache.Row.{Row}
 use Rattle.flow_graph.specs.declared.range_sizes.parts.Jumps.{Jumps}
-use Rattle.flow_graph.specs.declared.range_sizes.parts.Part.{Part}
-use Rattle.flow_graph.specs.range_sizes.Going.{AllGoWithin, GoesSo}
-use Rattle.flow_graph.specs.range_sizes.Known.{Counts, IsKept, IsKnown, IsPartAt, Keeps, kept_in, number_in, part_at, part_in, with_number}
+use Rattle.flow_graph.specs.declared.range_sizes.parts.TreeCount.{TreeCount}
+use Rattle.flow_graph.specs.range_sizes.Exits.{AllGoWithin, GoesSo}
+use Rattle.flow_graph.specs.range_sizes.Cache.{Counts, IsKept, IsKnown, IsPartAt, Keeps, kept_in, number_in, part_at, part_in, with_number}
 use Rattle.flow_graph.specs.range_sizes.Parts.{IsPartIn, IsPartOf}
 
 module _ {A : Type 0} where
@@ -63,13 +63,13 @@ number-with row Leaves Returns number found e = inr e
 number-with row Leaves Leaves number found e = inl (refl, one-of number found e)
 
 -- the part that is kept of a label
-pub kept-part : (telling : Telling) (spots : List Spot) (known : Known) (label : ℕ)
-    (passing : Passing) (part : Part) → IsKnown telling spots known →
+pub kept-part : (telling : LoweringContext) (spots : List Continuation) (known : TreeSizeCache) (label : ℕ)
+    (passing : Passing) (part : TreeCount) → IsKnown telling spots known →
     Some part ≡ kept_in known label passing →
     IsPartAt telling spots known.jumps.items label passing part
 kept-part telling spots known label passing part was found = by-row (slice_get known.rows.items label) refl found
   where
-    Is : Part → Type 0
+    Is : TreeCount → Type 0
     Is one = IsPartAt telling spots known.jumps.items label passing one
 
     by-number : (row : Row) (number : Option ℕ) → slice_get known.rows.items label ≡ Some row →
@@ -85,8 +85,8 @@ kept-part telling spots known label passing part was found = by-row (slice_get k
     by-row (Some row) there e = by-number row (number_in row passing) there refl e
 
 -- the jumps of a part, where they were read
-pub own-part : (telling : Telling) (spots : List Spot) (lists : List Jumps) (range : code.Range)
-    (label : ℕ) (passing : Passing) (part : Part) (read : Jumps) →
+pub own-part : (telling : LoweringContext) (spots : List Continuation) (lists : List Jumps) (range : code.Range)
+    (label : ℕ) (passing : Passing) (part : TreeCount) (read : Jumps) →
     IsPartAt telling spots lists label passing part → GoesSo spots range (label / 3) passing →
     read ≡ get_or lists part.jumps read →
     IsPartIn telling spots range label part.size read.labels.items
@@ -98,7 +98,7 @@ own-part telling spots lists range label passing part read is goes at =
     (one-of is.jumps read both) (is.is range goes)
 
 -- no part yet
-pub known-none : (telling : Telling) (spots : List Spot) (known : Known) (none : Row) →
+pub known-none : (telling : LoweringContext) (spots : List Continuation) (known : TreeSizeCache) (none : Row) →
     length known.rows.items ≡ 3 * length spots →
     ((label : ℕ) (row : Row) → slice_get known.rows.items label ≡ Some row → row ≡ none) →
     ((passing : Passing) → number_in none passing ≡ None) →
@@ -117,20 +117,20 @@ known-none telling spots known none rows all empty marked size shared = record {
   shared = shared;
 }
 
-module _ (telling : Telling) (spots : List Spot) (old new : Known)
+module _ (telling : LoweringContext) (spots : List Continuation) (old new : TreeSizeCache)
     (was : IsKnown telling spots old) where
-  abbrev Found : List Jumps → List Part → ℕ → ℕ → Passing → Type 0
-  Found lists parts at number by = (one : Part) × (slice_get parts number ≡ Some one)
+  abbrev Found : List Jumps → List TreeCount → ℕ → ℕ → Passing → Type 0
+  Found lists parts at number by = (one : TreeCount) × (slice_get parts number ≡ Some one)
       × IsPartAt telling spots lists at by one
 
-  module _ (label : ℕ) (passing : Passing) (part : Part) where
+  module _ (label : ℕ) (passing : Passing) (part : TreeCount) where
     one-kept : IsPartAt telling spots old.jumps.items label passing part →
         IsKept label passing part old new → (at number : ℕ) (row : Row) (by : Passing) →
         slice_get new.rows.items at ≡ Some row → number_in row by ≡ Some number →
         Found old.jumps.items new.parts.items at number by
     one-kept is kept at number row by there found =
         let lists = old.jumps.items in
-        let more : List Part = old.parts.items ++ part ∷ [] in
+        let more : List TreeCount = old.parts.items ++ part ∷ [] in
         let later : (row : Row) → slice_get old.rows.items at ≡ Some row →
         number_in row by ≡ Some number → Found lists new.parts.items at number by =
         λ row old_there old_found.
@@ -190,7 +190,7 @@ module _ (telling : Telling) (spots : List Spot) (old new : Known)
     }
 
   -- the jumps of a tree more
-  pub part-longer : (label : ℕ) (passing : Passing) (part : Part) (jumps : Jumps) →
+  pub part-longer : (label : ℕ) (passing : Passing) (part : TreeCount) (jumps : Jumps) →
       IsPartAt telling spots old.jumps.items label passing part →
       IsPartAt telling spots (old.jumps.items ++ jumps ∷ []) label passing part
   part-longer label passing part jumps is = record {
@@ -199,7 +199,7 @@ module _ (telling : Telling) (spots : List Spot) (old new : Known)
     is = is.is;
   }
 
-  module _ (tree : graph.Tree) (part : Part) (counts : Counts tree part old new) where
+  module _ (tree : graph.Tree) (part : TreeCount) (counts : Counts tree part old new) where
     pub known-counted : IsKnown telling spots new
     known-counted = record {
       rows = ap (λ rs. length rs.items) counts.rows ∙ was.rows;

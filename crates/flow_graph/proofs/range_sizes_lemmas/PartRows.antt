@@ -7,11 +7,11 @@ use Rattle.flow_graph.specs.Counts.{IsSizeAt}
 use Rattle.flow_graph.specs.Jumps.{AddsJumps, AddsThose, JumpBelow}
 use Rattle.flow_graph.specs.Reaching.{AddsNodeJumps, NodeJumpsBelow}
 use Rattle.flow_graph.proofs.JumpRows.{adds_same}
-use Rattle.pending_returns.specs.levels.Reaching.{Adds, AllPlaces, Holds}
-use Rattle.flow_graph.specs.graph_sizes.Sizes.{tree_size}
-use Rattle.statement_lowering.specs.declared.telling.Telling.{Telling}
-use Rattle.flow_graph.specs.label_trees.Nodes.{IsTableOf, node_in}
-use Rattle.statement_lowering.specs.declared.continuations.spot.Spot.{Spot}
+use Rattle.pending_returns.specs.levels.Reach.{Adds, AllPlaces, Holds}
+use Rattle.flow_graph.specs.graph_sizes.Sizing.{tree_size}
+use Rattle.statement_lowering.specs.declared.context.LoweringContext.{LoweringContext}
+use Rattle.flow_graph.specs.label_trees.Node.{IsTableOf, node_in}
+use Rattle.statement_lowering.specs.declared.continuations.continuation.Continuation.{Continuation}
 use Rattle.flow_graph.specs.range_sizes.Parts.{IsPartIn, IsPartOf}
 
 -- the labels that are added to an empty list
@@ -31,26 +31,26 @@ part-of t count old jumps none adds size = record {
   all = adds.added;
 }
 
-pub part-adds : (telling : Telling) (spots : List Spot) (range : code.Range) (label count : ℕ)
+pub part-adds : (telling : LoweringContext) (spots : List Continuation) (range : code.Range) (label count : ℕ)
     (jumps old new : List ℕ) → IsPartIn telling spots range label count jumps →
     AddsThose (Holds jumps) old new → AddsNodeJumps telling spots range label old new
 part-adds telling spots range label count jumps old new is adds = λ program table.
     let one = is program table in
     adds_same (Holds jumps) _ old new one.sound one.all adds
 
-pub part-below : (telling : Telling) (spots : List Spot) (range : code.Range) (label end count : ℕ)
+pub part-below : (telling : LoweringContext) (spots : List Continuation) (range : code.Range) (label end count : ℕ)
     (jumps : List ℕ) → IsPartIn telling spots range label count jumps →
     NodeJumpsBelow telling spots range label end → AllPlaces end jumps
 part-below telling spots range label end count jumps is below = λ to holds.
     below.2 to ((is below.0 below.1).sound to holds)
 
-pub part-size : (telling : Telling) (spots : List Spot) (range : code.Range) (label count : ℕ)
+pub part-size : (telling : LoweringContext) (spots : List Continuation) (range : code.Range) (label count : ℕ)
     (jumps : List ℕ) → IsPartIn telling spots range label count jumps →
     IsSizeAt telling spots range label count
 part-size telling spots range label count jumps is = λ program table. (is program table).size
 
 -- the tree at a label jumps below, where the node there does
-pub tree-below : (telling : Telling) (spots : List Spot) (range : code.Range) (label end room : ℕ)
+pub tree-below : (telling : LoweringContext) (spots : List Continuation) (range : code.Range) (label end room : ℕ)
     (t : graph.Tree) → NodeJumpsBelow telling spots range label end → room ≡ end →
     ((program : Program) → IsTableOf telling spots program →
     t ≡ node_in telling program range label) → JumpBelow room (graph.end_of t)

@@ -6,25 +6,25 @@ use Rattle.control_flow_theory.specs.semantics.Graph as graph
 use Rattle.control_flow_theory.specs.lowering.Lower.{point}
 use Rattle.control_flow_theory.specs.lowering.Reached.{JumpsTo}
 use Rattle.branch_tree.specs.Changes.{gone_on}
-use Rattle.branch_tree.specs.Trees.{seen_tree}
+use Rattle.branch_tree.specs.Tree.{seen_tree}
 use Rattle.branch_tree.specs.declared.tree.Tree.{Tree}
 use Rattle.flow_graph.specs.Jumps.{JumpBelow}
 use Rattle.flow_graph.specs.Reaching.{NodeJumpsBelow}
-use Rattle.flow_graph.specs.graph_sizes.Sizes.{end_size, tree_size}
+use Rattle.flow_graph.specs.graph_sizes.Sizing.{end_size, tree_size}
 use Rattle.flow_graph.proofs.graph_sizes_lemmas.SizeRows.{followed_sizes}
-use Rattle.statement_lowering.specs.declared.telling.Telling.{Telling}
-use Rattle.flow_graph.specs.label_trees.Nodes.{IsNodeAlike, IsTableOf, node_in}
-use Rattle.flow_graph.specs.label_trees.Runs.{IsBehind, IsRunAlike, RunsOn}
-use Rattle.flow_graph.specs.declared.label_trees.run.OwnRun.{OwnRun}
-use Rattle.statement_lowering.specs.declared.continuations.spot.Spot.{Spot}
-use Rattle.flow_graph.specs.declared.range_sizes.going.Passing.{Passing}
+use Rattle.statement_lowering.specs.declared.context.LoweringContext.{LoweringContext}
+use Rattle.flow_graph.specs.label_trees.Node.{IsNodeAlike, IsTableOf, node_in}
+use Rattle.flow_graph.specs.label_trees.Run.{IsBehind, IsStraightRunAlike, RunsOn}
+use Rattle.flow_graph.specs.declared.label_trees.run.StraightRun.{StraightRun}
+use Rattle.statement_lowering.specs.declared.continuations.continuation.Continuation.{Continuation}
+use Rattle.flow_graph.specs.declared.range_sizes.exits.Passing.{Passing}
 use Rattle.flow_graph.specs.declared.range_sizes.parts.Jumps.{Jumps}
-use Rattle.flow_graph.specs.declared.range_sizes.parts.Part.{Part}
-use Rattle.flow_graph.specs.declared.range_sizes.stretch.Stretch.{Stretch}
-use Rattle.flow_graph.specs.range_sizes.Going.{AllGoWithin, GoesSo}
-use Rattle.flow_graph.specs.range_sizes.Known.{IsPartAt}
+use Rattle.flow_graph.specs.declared.range_sizes.parts.TreeCount.{TreeCount}
+use Rattle.flow_graph.specs.declared.range_sizes.segment.Segment.{Segment}
+use Rattle.flow_graph.specs.range_sizes.Exits.{AllGoWithin, GoesSo}
+use Rattle.flow_graph.specs.range_sizes.Cache.{IsPartAt}
 use Rattle.flow_graph.specs.range_sizes.Parts.{IsPartOf}
-use Rattle.flow_graph.specs.range_sizes.Stretch.{IsLonger, IsStretch, LeadsTo}
+use Rattle.flow_graph.specs.range_sizes.Segment.{IsLonger, IsSegment, LeadsTo}
 use Rattle.flow_graph.proofs.range_sizes_lemmas.Alike.{alike-from, alike-so, goes-behind, goes-there}
 
 gone-size : (own next : graph.Tree) → graph.end_of own ≡ graph.Dead →
@@ -33,12 +33,12 @@ gone-size (graph.tree body end) (graph.tree other last) dead =
     omega (arith, followed_sizes body other, ap end_size dead)
 
 -- where the own run goes on
-pub stretch-of : (telling : Telling) (spots : List Spot) (range : code.Range) (place next : ℕ)
-    (passing : Passing) (run : OwnRun) (stretch : Stretch) → AllGoWithin spots →
+pub stretch-of : (telling : LoweringContext) (spots : List Continuation) (range : code.Range) (place next : ℕ)
+    (passing : Passing) (run : StraightRun) (stretch : Segment) → AllGoWithin spots →
     place < length spots → IsBehind spots place next → GoesSo spots range place passing →
-    IsRunAlike telling spots range place run → run.next ≡ Some next → stretch.place ≡ place →
+    IsStraightRunAlike telling spots range place run → run.next ≡ Some next → stretch.place ≡ place →
     stretch.size ≡ min (tree_size (seen_tree run.tree)) (2 ^ 64 - 1) →
-    IsStretch telling spots passing stretch next
+    IsSegment telling spots passing stretch next
 stretch-of telling spots range place next passing run stretch within lt behind so is to at size =
     record {
       there = subst (λ (n : ℕ). n < length spots) (sym at) lt;
@@ -64,9 +64,9 @@ stretch-of telling spots range place next passing run stretch within lt behind s
     }
 
 -- where it is the whole tree
-pub run-whole : (telling : Telling) (spots : List Spot) (range : code.Range) (place : ℕ)
-    (passing : Passing) (run : OwnRun) → GoesSo spots range place passing →
-    IsRunAlike telling spots range place run → run.next ≡ None → (other : code.Range) →
+pub run-whole : (telling : LoweringContext) (spots : List Continuation) (range : code.Range) (place : ℕ)
+    (passing : Passing) (run : StraightRun) → GoesSo spots range place passing →
+    IsStraightRunAlike telling spots range place run → run.next ≡ None → (other : code.Range) →
     GoesSo spots other (point place / 3) passing → (program : Program) →
     IsTableOf telling spots program →
     seen_tree run.tree ≡ node_in telling program other (point place)
@@ -82,7 +82,7 @@ run-whole telling spots range place passing run so is none other goes program ta
     sym runs
 
 -- and so is the tree at a label
-pub label-whole : (telling : Telling) (spots : List Spot) (range : code.Range) (label : ℕ)
+pub label-whole : (telling : LoweringContext) (spots : List Continuation) (range : code.Range) (label : ℕ)
     (passing : Passing) (tree : Tree) → AllGoWithin spots →
     GoesSo spots range (label / 3) passing → IsNodeAlike telling spots range (label / 3) label tree →
     (other : code.Range) → GoesSo spots other (label / 3) passing → (program : Program) →
@@ -101,9 +101,9 @@ longer-part first next own count total jumps longer part adds = record {
 }
 
 -- the part of a tree by that of the next one
-pub part-further : (telling : Telling) (spots : List Spot) (lists : List Jumps) (passing : Passing)
-    (stretch : Stretch) (next : ℕ) (part longer : Part) →
-    IsStretch telling spots passing stretch next →
+pub part-further : (telling : LoweringContext) (spots : List Continuation) (lists : List Jumps) (passing : Passing)
+    (stretch : Segment) (next : ℕ) (part longer : TreeCount) →
+    IsSegment telling spots passing stretch next →
     IsPartAt telling spots lists (point next) passing part →
     longer.size ≡ min (part.size + stretch.size) (2 ^ 64 - 1) → longer.jumps ≡ part.jumps →
     IsPartAt telling spots lists (point stretch.place) passing longer
@@ -121,8 +121,8 @@ part-further telling spots lists passing stretch next part longer runs is size j
       size;
 }
 
-pub below-next : (telling : Telling) (spots : List Spot) (range : code.Range) (passing : Passing)
-    (stretch : Stretch) (next end : ℕ) → IsStretch telling spots passing stretch next →
+pub below-next : (telling : LoweringContext) (spots : List Continuation) (range : code.Range) (passing : Passing)
+    (stretch : Segment) (next end : ℕ) → IsSegment telling spots passing stretch next →
     GoesSo spots range stretch.place passing →
     NodeJumpsBelow telling spots range (point stretch.place) end →
     NodeJumpsBelow telling spots range (point next) end
@@ -134,22 +134,22 @@ below-next telling spots range passing stretch next end runs so below = (
 
 -- stretches with one more at its end
 
-module _ (telling : Telling) (spots : List Spot) (passing : Passing) where
-  pub one-more : (place here next : ℕ) (others : List Stretch) (stretch : Stretch) →
+module _ (telling : LoweringContext) (spots : List Continuation) (passing : Passing) where
+  pub one-more : (place here next : ℕ) (others : List Segment) (stretch : Segment) →
       LeadsTo telling spots passing place others here → stretch.place ≡ here →
-      IsStretch telling spots passing stretch next →
+      IsSegment telling spots passing stretch next →
       LeadsTo telling spots passing place (others ++ stretch ∷ []) next
   one-more place here next [] stretch leads at is = (next, at ∙ leads, is, refl)
   one-more place here next (first ∷ others) stretch leads at is =
       (leads.0, leads.1, leads.2, one-more leads.0 here next others stretch leads.3 at is)
 
-  pub one-less : (place here : ℕ) (others : List Stretch) (stretch : Stretch) →
+  pub one-less : (place here : ℕ) (others : List Segment) (stretch : Segment) →
       LeadsTo telling spots passing place (others ++ stretch ∷ []) here →
       LeadsTo telling spots passing place others stretch.place
-      × IsStretch telling spots passing stretch here
+      × IsSegment telling spots passing stretch here
   one-less place here [] stretch leads = (
     leads.1,
-    subst (IsStretch telling spots passing stretch) (sym leads.3) leads.2,
+    subst (IsSegment telling spots passing stretch) (sym leads.3) leads.2,
   )
   one-less place here (first ∷ others) stretch leads =
       let one = one-less leads.0 here others stretch leads.3 in (
@@ -157,6 +157,6 @@ module _ (telling : Telling) (spots : List Spot) (passing : Passing) where
         one.1,
       )
 
-pub none-left : (stretches : List Stretch) → length stretches ≡ 0 → stretches ≡ []
+pub none-left : (stretches : List Segment) → length stretches ≡ 0 → stretches ≡ []
 none-left [] e = refl
 none-left (stretch ∷ stretches) e = absurd (omega (arith, e))

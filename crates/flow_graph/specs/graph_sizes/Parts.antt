@@ -2,7 +2,7 @@
 use Rattle.std.specs.Prelude.{ℕ, Bool, if◌then◌else◌}
 use Rattle.control_flow_theory.specs.lowering.Completes.{size, sizes}
 use Rattle.control_flow_theory.specs.graph_rules.Shapes.{arm_stmts}
-use Rattle.branch_tree.specs.Trees.{seen_piece, seen_tree, stated}
+use Rattle.branch_tree.specs.Tree.{seen_piece, seen_tree, stated}
 use Rattle.branch_tree.specs.declared.tree.Leaves.{Leaves}
 use Rattle.branch_tree.specs.declared.tree.Piece.{Piece}
 use Rattle.branch_tree.specs.declared.tree.Tree.{Tree}

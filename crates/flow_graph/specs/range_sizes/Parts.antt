@@ -4,13 +4,13 @@ use Rattle.cob_tree.specs.declared.program.Program.{Program}
 use Rattle.cob_tree.specs.declared.program.Range as code
 use Rattle.control_flow_theory.specs.semantics.Graph as graph
 use Rattle.control_flow_theory.specs.lowering.Reached.{JumpsTo}
-use Rattle.pending_returns.specs.levels.Reaching.{Holds}
-use Rattle.flow_graph.specs.graph_sizes.Sizes.{tree_size}
-use Rattle.statement_lowering.specs.declared.telling.Telling.{Telling}
-use Rattle.flow_graph.specs.label_trees.Nodes.{IsTableOf, node_in}
-use Rattle.statement_lowering.specs.declared.continuations.spot.Spot.{Spot}
-use Rattle.flow_graph.specs.range_sizes.Going.{GoesSo}
-use Rattle.flow_graph.specs.declared.range_sizes.going.Passing.{Passing}
+use Rattle.pending_returns.specs.levels.Reach.{Holds}
+use Rattle.flow_graph.specs.graph_sizes.Sizing.{tree_size}
+use Rattle.statement_lowering.specs.declared.context.LoweringContext.{LoweringContext}
+use Rattle.flow_graph.specs.label_trees.Node.{IsTableOf, node_in}
+use Rattle.statement_lowering.specs.declared.continuations.continuation.Continuation.{Continuation}
+use Rattle.flow_graph.specs.range_sizes.Exits.{GoesSo}
+use Rattle.flow_graph.specs.declared.range_sizes.exits.Passing.{Passing}
 
 -- so many statements this tree has, and to these labels it jumps
 pub record IsPartOf (tree : graph.Tree) (count : ℕ) (jumps : List ℕ) : Type 0 where
@@ -19,13 +19,13 @@ pub record IsPartOf (tree : graph.Tree) (count : ℕ) (jumps : List ℕ) : Type 
   pub all : (label : ℕ) → JumpsTo label (graph.end_of tree) → Holds jumps label
 
 -- so does the tree at a label, whatever the program
-abbrev pub IsPartIn : Telling → List Spot → code.Range → ℕ → ℕ → List ℕ → Type 0
+abbrev pub IsPartIn : LoweringContext → List Continuation → code.Range → ℕ → ℕ → List ℕ → Type 0
 IsPartIn telling spots range label count jumps =
     (program : Program) → IsTableOf telling spots program →
     IsPartOf (node_in telling program range label) count jumps
 
 -- in each range that goes on so from there
-abbrev pub IsPartBy : Telling → List Spot → ℕ → Passing → ℕ → List ℕ → Type 0
+abbrev pub IsPartBy : LoweringContext → List Continuation → ℕ → Passing → ℕ → List ℕ → Type 0
 IsPartBy telling spots label passing count jumps =
     (range : code.Range) → GoesSo spots range (label / 3) passing →
     IsPartIn telling spots range label count jumps

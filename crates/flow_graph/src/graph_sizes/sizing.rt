@@ -3,11 +3,11 @@
 ghost use Rattle.std.specs.Prelude.{◌≡◌, ◌-◌, ◌^◌, min, sum_by};
 ghost use Rattle.control_flow_theory.specs.lowering.Completes.{sizes};
 ghost use Rattle.control_flow_theory.specs.graph_rules.Shapes.{last_stmts};
-ghost use Rattle.branch_tree.specs.Graphs.{seen_graph, seen_node};
-ghost use Rattle.branch_tree.specs.Trees.{seen_end, seen_tree, jump_within, return_within};
+ghost use Rattle.branch_tree.specs.Graph.{seen_graph, seen_node};
+ghost use Rattle.branch_tree.specs.Tree.{seen_end, seen_tree, jump_within, return_within};
 ghost use Rattle.branch_tree.specs.Within.{end_within};
 ghost use Rattle.flow_graph.specs.graph_sizes.Parts.{arm_size, piece_size, unless, within_size};
-ghost use Rattle.flow_graph.specs.graph_sizes.Sizes.{tree_size, end_size, node_size, graph_size};
+ghost use Rattle.flow_graph.specs.graph_sizes.Sizing.{tree_size, end_size, node_size, graph_size};
 
 use branch_tree::{End, Graph, Label, Leaves, Node, Piece, Tree};
 use lowering_labels::points::stmt_size;

@@ -3,47 +3,49 @@
 ghost use Rattle.std.specs.Prelude.{◌≡◌, ◌*◌, ◌/◌, ◌<◌, ◌^◌, length, IfOk, MatchOption};
 ghost use Rattle.cob_tree.specs.declared.stmt.Stmt.TheVariants.{Loop};
 ghost use Rattle.control_flow_theory.specs.lowering.Lower.{point};
-ghost use Rattle.statement_lowering.specs.continuations.Spots.{Fits};
-ghost use Rattle.flow_graph.specs.label_trees.Nodes.{GoesOnIn, HoldsNoLoop, IsNodeAlike, IsNodeIn, IsTurnAlike, IsWhole, LeavesIn};
+ghost use Rattle.statement_lowering.specs.continuations.Statements.{Fits};
+ghost use Rattle.flow_graph.specs.label_trees.Node.{GoesOnIn, HoldsNoLoop, IsNodeAlike, IsNodeIn, IsTurnAlike, IsWhole, LeavesIn};
 
 use branch_tree::{End, Tree};
 use cob_base::NoMemory;
 use cob_tree::{Control, Range, Stmt};
-use lowering_labels::loop_nodes::{end_at, ended, only};
-use lowering_labels::points::{Leaf, end_leaf, leaf_of, stmt_size};
-use statement_lowering::continuations::{Onward, Spot, ended_by};
-use statement_lowering::{Leaving, RestContext, Telling, loop_tree, rest_at, run_on};
+use lowering_labels::loop_nodes::{body_with_end, end_alone, end_at};
+use lowering_labels::points::{JumpTarget, jump_target_of, paragraph_end_target, stmt_size};
+use statement_lowering::continuations::{Continuation, Successors, ended_by};
+use statement_lowering::{
+    EscapeTargets, LoweringContext, RestContext, loop_tree, lower_rest, rest_at,
+};
 use std::alloc::Global;
 
 /// Where what leaves a rest goes on in a range.
-pub fn leaving_of(onward: &Onward, range: Range, telling: &Telling<'_>) -> Leaving
+pub fn leaving_of(onward: &Successors, range: Range, telling: &LoweringContext<'_>) -> EscapeTargets
     ensures { LeavesIn telling.now range onward.now result }
 {
-    let end = end_leaf(telling.layout, range, onward.paragraph);
-    Leaving {
+    let end = paragraph_end_target(telling.layout, range, onward.paragraph);
+    EscapeTargets {
         sentence: ended_by(&onward.sentence, &end),
         paragraph: end,
-        section: end_leaf(telling.layout, range, onward.last),
+        section: paragraph_end_target(telling.layout, range, onward.last),
         behind_loop: ended_by(&onward.behind_loop, &end),
         cycle: ended_by(&onward.cycle, &end),
     }
 }
 
 /// The continuation behind a rest's list in a range.
-pub fn after_of(onward: &Onward, range: Range, telling: &Telling<'_>) -> Leaf
+pub fn after_of(onward: &Successors, range: Range, telling: &LoweringContext<'_>) -> JumpTarget
     ensures { GoesOnIn telling.now range onward.now result }
 {
-    let end = end_leaf(telling.layout, range, onward.paragraph);
+    let end = paragraph_end_target(telling.layout, range, onward.paragraph);
     ended_by(&onward.after, &end)
 }
 
 /// The tree at the point before a place. It goes on at later places, at the last one at most.
 fn point_tree(
     alloc: Global,
-    spots: &[Spot<'_>],
+    spots: &[Continuation<'_>],
     place: u32,
     range: Range,
-    telling: &Telling<'_>,
+    telling: &LoweringContext<'_>,
 ) -> Result<Tree, NoMemory>
     requires whole { IsWhole telling.now spots.now }
     requires there { place < length spots.now }
@@ -60,15 +62,15 @@ fn point_tree(
             leaving: &leaving,
             after: &after,
         };
-        match run_on(alloc, &mut body, spot.stmts, here, context)? {
-            Some(end) => return Ok(ended(body, end)),
+        match lower_rest(alloc, &mut body, spot.stmts, here, context)? {
+            Some(end) => return Ok(body_with_end(body, end)),
             None => match spot.onward.behind {
-                None => return Ok(ended(body, end_at(after))),
+                None => return Ok(body_with_end(body, end_at(after))),
                 Some(next) => here = next,
             },
         }
     }
-    Ok(ended(body, End::Dead))
+    Ok(body_with_end(body, End::Dead))
 }
 
 /// The control and the body of a loop.
@@ -105,25 +107,25 @@ fn loop_parts(stmt: &Stmt) -> Option<(&Control, &[Stmt])>
 /// The tree at a loop's head, or at its test or step.
 fn turn_tree(
     alloc: Global,
-    spot: &Spot<'_>,
+    spot: &Continuation<'_>,
     place: u32,
     is_head: bool,
     range: Range,
-    telling: &Telling<'_>,
+    telling: &LoweringContext<'_>,
 ) -> Result<Tree, NoMemory>
     requires fits { Fits telling.now.layout.now.end place spot.now }
     requires small { telling.now.layout.now.end < 2 ^ 30 }
     ensures { IfOk result (IsTurnAlike telling.now spot.now range place is_head) }
 {
     match spot.stmts {
-        [] => Ok(only(alloc, End::Dead)),
+        [] => Ok(end_alone(alloc, End::Dead)),
         [stmt, ..] => match loop_parts(stmt) {
-            None => Ok(only(alloc, End::Dead)),
+            None => Ok(end_alone(alloc, End::Dead)),
             Some((control, turns)) => {
                 let leaving = leaving_of(&spot.onward, range, telling);
                 let next = place + stmt_size(stmt) as u32;
                 let behind = after_of(&spot.onward, range, telling);
-                let after = leaf_of(rest_at(spot.stmts, 1), next, telling.layout, behind);
+                let after = jump_target_of(rest_at(spot.stmts, 1), next, telling.layout, behind);
                 let context = RestContext {
                     telling,
                     leaving: &leaving,
@@ -139,10 +141,10 @@ fn turn_tree(
 /// The tree at a label. It is that of each range that goes on alike from there.
 pub fn label_tree(
     alloc: Global,
-    spots: &[Spot<'_>],
+    spots: &[Continuation<'_>],
     label: u32,
     range: Range,
-    telling: &Telling<'_>,
+    telling: &LoweringContext<'_>,
 ) -> Result<Tree, NoMemory>
     requires whole { IsWhole telling.now spots.now }
     requires there { label < 3 * length spots.now }

@@ -1,39 +1,39 @@
 //! What a tree has from its own list of statements.
 
 ghost use Rattle.std.specs.Prelude.{◌<◌, length, IfOk};
-ghost use Rattle.flow_graph.specs.label_trees.Nodes.{IsWhole};
-ghost use Rattle.flow_graph.specs.label_trees.Runs.{GoesBehind, IsRunAlike};
+ghost use Rattle.flow_graph.specs.label_trees.Node.{IsWhole};
+ghost use Rattle.flow_graph.specs.label_trees.Run.{GoesBehind, IsStraightRunAlike};
 
 use crate::label_trees::node::{after_of, leaving_of};
 use branch_tree::{End, Tree};
 use cob_base::NoMemory;
 use cob_tree::Range;
-use lowering_labels::loop_nodes::{end_at, ended};
-use statement_lowering::continuations::Spot;
-use statement_lowering::{RestContext, Telling, run_on};
+use lowering_labels::loop_nodes::{body_with_end, end_at};
+use statement_lowering::continuations::Continuation;
+use statement_lowering::{LoweringContext, RestContext, lower_rest};
 use std::alloc::Global;
 
 /// A tree up to where it goes on as the tree at another place, and that place; or the whole tree,
 /// and none.
 #[derive(Drop)]
-pub struct OwnRun {
+pub struct StraightRun {
     pub tree: Tree,
     pub next: Option<u32>,
 }
 
 /// The own run of the tree at the point before a place: it goes along the statements of this place's
 /// list alone, however long the tree is.
-pub fn own_run(
+pub fn straight_run(
     alloc: Global,
-    spots: &[Spot<'_>],
+    spots: &[Continuation<'_>],
     place: u32,
     range: Range,
-    telling: &Telling<'_>,
-) -> Result<OwnRun, NoMemory>
+    telling: &LoweringContext<'_>,
+) -> Result<StraightRun, NoMemory>
     requires whole { IsWhole telling.now spots.now }
     requires there { place < length spots.now }
     ensures next { IfOk result (λ run. GoesBehind spots.now place run.next) }
-    ensures run { IfOk result (IsRunAlike telling.now spots.now range place) }
+    ensures run { IfOk result (IsStraightRunAlike telling.now spots.now range place) }
 {
     let spot = &spots[place as usize];
     let leaving = leaving_of(&spot.onward, range, telling);
@@ -44,18 +44,18 @@ pub fn own_run(
         leaving: &leaving,
         after: &after,
     };
-    match run_on(alloc, &mut body, spot.stmts, place, context)? {
-        Some(end) => Ok(OwnRun {
-            tree: ended(body, end),
+    match lower_rest(alloc, &mut body, spot.stmts, place, context)? {
+        Some(end) => Ok(StraightRun {
+            tree: body_with_end(body, end),
             next: None,
         }),
         None => match spot.onward.behind {
-            None => Ok(OwnRun {
-                tree: ended(body, end_at(after)),
+            None => Ok(StraightRun {
+                tree: body_with_end(body, end_at(after)),
                 next: None,
             }),
-            Some(next) => Ok(OwnRun {
-                tree: ended(body, End::Dead),
+            Some(next) => Ok(StraightRun {
+                tree: body_with_end(body, End::Dead),
                 next: Some(next),
             }),
         },

@@ -2,7 +2,7 @@
 
 ghost use Rattle.std.specs.Prelude.{◌≡◌, length, OnOk};
 ghost use Rattle.flow_graph.specs.Jumps.{AddsThose};
-ghost use Rattle.pending_returns.specs.levels.Reaching.{AllPlaces, Holds, IsMarked};
+ghost use Rattle.pending_returns.specs.levels.Reach.{AllPlaces, Holds, IsMarked};
 
 use cob_base::NoMemory;
 use pending_returns::levels::Reach;
@@ -15,7 +15,7 @@ pub struct Jumps {
 
 /// What is counted of a tree: its statements, and the number under which its jumps are kept.
 #[derive(Clone, Copy)]
-pub struct Part {
+pub struct TreeCount {
     pub size: u64,
     pub jumps: usize,
 }

@@ -4,30 +4,30 @@ ghost use Rattle.std.specs.Prelude.{◌≡◌, ◌*◌, length, IfOk};
 ghost use Rattle.cob_tree.specs.declared.program.Program.{Program};
 ghost use Rattle.flow_graph.specs.Counts.{CountsTo};
 ghost use Rattle.flow_graph.specs.Reaching.{AreReachedIn, Begins, IsRangeIn};
-ghost use Rattle.pending_returns.specs.levels.Reaching.{IsMarked};
-ghost use Rattle.flow_graph.specs.label_trees.Nodes.{IsWhole};
-ghost use Rattle.flow_graph.specs.range_sizes.Known.{IsKnown};
-ghost use Rattle.flow_graph.specs.range_sizes.Sizes.{IsSizeIn};
+ghost use Rattle.pending_returns.specs.levels.Reach.{IsMarked};
+ghost use Rattle.flow_graph.specs.label_trees.Node.{IsWhole};
+ghost use Rattle.flow_graph.specs.range_sizes.Cache.{IsKnown};
+ghost use Rattle.flow_graph.specs.range_sizes.Sizing.{IsSizeIn};
 
 use crate::first_of;
-use crate::range_sizes::known::Known;
+use crate::range_sizes::cache::TreeSizeCache;
 use crate::range_sizes::visiting::visit_label;
 use cob_base::NoMemory;
 use cob_tree::Range;
 use pending_returns::levels::Reach;
-use statement_lowering::Telling;
-use statement_lowering::continuations::Spot;
+use statement_lowering::LoweringContext;
+use statement_lowering::continuations::Continuation;
 use std::alloc::Global;
 
 /// The labels that are reached in the range from this one, and the statements of their trees.
 fn size_from(
     alloc: Global,
     reach: &mut Reach,
-    known: &mut Known,
-    spots: &[Spot<'_>],
+    known: &mut TreeSizeCache,
+    spots: &[Continuation<'_>],
     entry: u32,
     range: Range,
-    telling: &Telling<'_>,
+    telling: &LoweringContext<'_>,
 ) -> Result<u64, NoMemory>
     requires marked { IsMarked reach.old.places.items reach.old.marks.items }
     requires whole { IsWhole telling.now spots.now }
@@ -62,10 +62,10 @@ fn size_from(
 pub fn range_size(
     alloc: Global,
     reach: &mut Reach,
-    known: &mut Known,
-    spots: &[Spot<'_>],
+    known: &mut TreeSizeCache,
+    spots: &[Continuation<'_>],
     range: Range,
-    telling: &Telling<'_>,
+    telling: &LoweringContext<'_>,
 ) -> Result<u64, NoMemory>
     requires marked { IsMarked reach.old.places.items reach.old.marks.items }
     requires whole { IsWhole telling.now spots.now }

@@ -3,35 +3,35 @@
 ghost use Rattle.std.specs.Prelude.{◌≡◌, ◌*◌, ◌<◌, ◌/◌, length, true, IfOk};
 ghost use Rattle.flow_graph.specs.Counts.{IsSizeAt};
 ghost use Rattle.flow_graph.specs.Reaching.{AddsNodeJumps, NodeJumpsBelow};
-ghost use Rattle.pending_returns.specs.levels.Reaching.{IsMarked};
-ghost use Rattle.flow_graph.specs.label_trees.Nodes.{IsWhole};
-ghost use Rattle.flow_graph.specs.range_sizes.Going.{GoesSo};
-ghost use Rattle.flow_graph.specs.range_sizes.Known.{IsKnown, IsPartAt};
+ghost use Rattle.pending_returns.specs.levels.Reach.{IsMarked};
+ghost use Rattle.flow_graph.specs.label_trees.Node.{IsWhole};
+ghost use Rattle.flow_graph.specs.range_sizes.Exits.{GoesSo};
+ghost use Rattle.flow_graph.specs.range_sizes.Cache.{IsKnown, IsPartAt};
 
 use crate::graph_sizes::tree_size;
 use crate::label_trees::label_tree;
-use crate::range_sizes::going::{Passing, passing_of};
-use crate::range_sizes::known::Known;
-use crate::range_sizes::parts::{Part, visit_labels};
-use crate::range_sizes::stretch::point_part;
+use crate::range_sizes::cache::TreeSizeCache;
+use crate::range_sizes::exits::{Passing, passing_of};
+use crate::range_sizes::parts::{TreeCount, visit_labels};
+use crate::range_sizes::segment::point_part;
 use crate::visit_tree;
 use cob_base::NoMemory;
 use cob_tree::Range;
 use pending_returns::levels::Reach;
-use statement_lowering::Telling;
-use statement_lowering::continuations::Spot;
+use statement_lowering::LoweringContext;
+use statement_lowering::continuations::Continuation;
 use std::alloc::Global;
 
 /// The part of the tree at a label of a loop, which runs on as no other.
 fn turn_part(
     alloc: Global,
-    known: &mut Known,
-    spots: &[Spot<'_>],
+    known: &mut TreeSizeCache,
+    spots: &[Continuation<'_>],
     label: u32,
     passing: Passing,
     range: Range,
-    telling: &Telling<'_>,
-) -> Result<Part, NoMemory>
+    telling: &LoweringContext<'_>,
+) -> Result<TreeCount, NoMemory>
     requires whole { IsWhole telling.now spots.now }
     requires known { IsKnown telling.now spots.now known.old }
     requires shared { known.old.shared ≡ true }
@@ -56,13 +56,13 @@ fn turn_part(
 /// The part of the tree at a label.
 fn part_at(
     alloc: Global,
-    known: &mut Known,
-    spots: &[Spot<'_>],
+    known: &mut TreeSizeCache,
+    spots: &[Continuation<'_>],
     label: u32,
     passing: Passing,
     range: Range,
-    telling: &Telling<'_>,
-) -> Result<Part, NoMemory>
+    telling: &LoweringContext<'_>,
+) -> Result<TreeCount, NoMemory>
     requires whole { IsWhole telling.now spots.now }
     requires known { IsKnown telling.now spots.now known.old }
     requires shared { known.old.shared ≡ true }
@@ -85,10 +85,10 @@ fn part_at(
 fn visit_alone(
     alloc: Global,
     reach: &mut Reach,
-    spots: &[Spot<'_>],
+    spots: &[Continuation<'_>],
     label: u32,
     range: Range,
-    telling: &Telling<'_>,
+    telling: &LoweringContext<'_>,
 ) -> Result<u64, NoMemory>
     requires marked { IsMarked reach.old.places.items reach.old.marks.items }
     requires whole { IsWhole telling.now spots.now }
@@ -114,11 +114,11 @@ fn visit_alone(
 pub fn visit_label(
     alloc: Global,
     reach: &mut Reach,
-    known: &mut Known,
-    spots: &[Spot<'_>],
+    known: &mut TreeSizeCache,
+    spots: &[Continuation<'_>],
     label: u32,
     range: Range,
-    telling: &Telling<'_>,
+    telling: &LoweringContext<'_>,
 ) -> Result<u64, NoMemory>
     requires marked { IsMarked reach.old.places.items reach.old.marks.items }
     requires whole { IsWhole telling.now spots.now }

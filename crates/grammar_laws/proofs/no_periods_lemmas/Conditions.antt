@@ -9,18 +9,18 @@ use Rattle.parser_combinators.specs.declared.note.Position.{Position}
 use Rattle.parser_combinators.specs.Form.{Form}
 use Rattle.grammar_laws.proofs.no_periods_lemmas.Makers.{pure, refuse, note, one, key, mark, maybe, chosen, where_next, loop, too_deep, ◌>>=◌, ◌>>◌, ◌<$>◌}
 use Rattle.symbol_tables.specs.data_names.Names.{Names}
-use Rattle.cobol_grammar.specs.declared.expr_forms.side.Shape.{Shape}
-use Rattle.cobol_grammar.specs.declared.expr_forms.side.Shape.TheVariants as shapes
+use Rattle.cobol_grammar.specs.declared.expr_forms.side.ExprForm.{ExprForm}
+use Rattle.cobol_grammar.specs.declared.expr_forms.side.ExprForm.TheVariants as shapes
 use Rattle.cobol_grammar.specs.declared.expr_forms.side.Side.{Side}
-use Rattle.cobol_grammar.specs.declared.expr_forms.side.What.{What}
-use Rattle.cobol_grammar.specs.declared.expr_forms.side.What.TheVariants as whats
+use Rattle.cobol_grammar.specs.declared.expr_forms.side.ParsedExpr.{ParsedExpr}
+use Rattle.cobol_grammar.specs.declared.expr_forms.side.ParsedExpr.TheVariants as whats
 use Rattle.cobol_grammar.specs.expr_forms.Fault as faults
 use Rattle.cob_base.specs.Limit.{max_parens}
 use Rattle.cobol_grammar.specs.expr_forms.Limit.{Inner}
 use Rattle.grammar_laws.proofs.no_periods_lemmas.Expressions as law
 use Rattle.grammar_laws.proofs.no_periods_lemmas.Expressions.{InnerPlain, tally}
 use Rattle.cobol_grammar.specs.declared.cond_forms.part.Joined.{Joined}
-use Rattle.cobol_grammar.specs.declared.cond_forms.part.Part.{Part}
+use Rattle.cobol_grammar.specs.declared.cond_forms.part.SimpleCond.{SimpleCond}
 use Rattle.cobol_grammar.specs.declared.cond_forms.test.Primary.{Primary}
 use Rattle.cobol_grammar.specs.declared.cond_forms.test.Primary.TheVariants as prims
 use Rattle.cobol_grammar.specs.declared.cond_forms.test.Read.{Read}
@@ -85,7 +85,7 @@ pub sign_test : (negated : Bool) (left : Side) (count : ℕ) →
 unfolding tests.sign_test
 sign_test negated left count = one (λ position kind. tokens.sign_of kind) (λ position. refl) >>= (λ sign. note >> pure)
 
-pub class_of_ref : (negated : Bool) (class : ClassKind) (what : What) (count : ℕ) →
+pub class_of_ref : (negated : Bool) (class : ClassKind) (what : ParsedExpr) (count : ℕ) →
     Plain (tests.class_of_ref negated class what count)
 unfolding tests.class_of_ref
 class_of_ref negated class (whats.Ref place) count = pure
@@ -104,9 +104,9 @@ pub untested : (end : Option Bool) (left : Side) (count : ℕ) →
     Plain (tests.untested end left count)
 unfolding tests.untested
 untested None left count = refuse
-untested (Some not_read) left count = pure
+untested (Some pending_not) left count = pure
 
-pub class_or : (shape : Shape) (negated : Bool) (end : Option Bool) (left : Side) (count : ℕ) →
+pub class_or : (shape : ExprForm) (negated : Bool) (end : Option Bool) (left : Side) (count : ℕ) →
     Plain (tests.class_or shape negated end left count)
 unfolding tests.class_or
 class_or shapes.Ref negated end left count =
@@ -182,75 +182,75 @@ prim names I C count = where_next (parens_prim names I C count) (expr_prim names
 
 -- ---- an expression without test
 
-pub carried : (setting : Setting) (right : Side) (count : ℕ) (not_read : Bool) →
-    Plain (alones.carried setting right count not_read)
+pub carried : (setting : Setting) (right : Side) (count : ℕ) (pending_not : Bool) →
+    Plain (alones.carried setting right count pending_not)
 unfolding alones.carried
-carried setting right count not_read = do
+carried setting right count pending_not = do
   more ← tally count setting.terms
   note
   note
   pure
 
-pub named_by : (negated : Bool) (what : What) (count : ℕ) (not_read : Bool) →
-    Plain (alones.named_by negated what count not_read)
+pub named_by : (negated : Bool) (what : ParsedExpr) (count : ℕ) (pending_not : Bool) →
+    Plain (alones.named_by negated what count pending_not)
 unfolding alones.named_by
-named_by negated (whats.Ref place) count not_read = pure
-named_by negated (whats.Enclosed place) count not_read = pure
-named_by negated (whats.Literal operand) count not_read = refuse
-named_by negated (whats.Sum expr) count not_read = refuse
+named_by negated (whats.Ref place) count pending_not = pure
+named_by negated (whats.Enclosed place) count pending_not = pure
+named_by negated (whats.Literal operand) count pending_not = refuse
+named_by negated (whats.Sum expr) count pending_not = refuse
 
-pub named : (negated : Bool) (side : Side) (count : ℕ) (not_read : Bool) →
-    Plain (alones.named negated side count not_read)
+pub named : (negated : Bool) (side : Side) (count : ℕ) (pending_not : Bool) →
+    Plain (alones.named negated side count pending_not)
 unfolding alones.named
-named negated side count not_read = note >> named_by negated side.what count not_read
+named negated side count pending_not = note >> named_by negated side.what count pending_not
 
-pub kept : (setting : Setting) (what : What) (count : ℕ) (not_read : Bool) →
-    Plain (alones.kept setting what count not_read)
+pub kept : (setting : Setting) (what : ParsedExpr) (count : ℕ) (pending_not : Bool) →
+    Plain (alones.kept setting what count pending_not)
 unfolding alones.kept
-kept setting (whats.Ref place) count not_read = pure
-kept setting (whats.Enclosed place) count not_read = refuse
-kept setting (whats.Literal operand) count not_read = refuse
-kept setting (whats.Sum expr) count not_read = refuse
+kept setting (whats.Ref place) count pending_not = pure
+kept setting (whats.Enclosed place) count pending_not = refuse
+kept setting (whats.Literal operand) count pending_not = refuse
+kept setting (whats.Sum expr) count pending_not = refuse
 
 pub ref_part : (negated : Bool) (setting : Option Setting) (side : Side) (count : ℕ)
-    (not_read : Bool) → Plain (alones.ref_part negated setting side count not_read)
+    (pending_not : Bool) → Plain (alones.ref_part negated setting side count pending_not)
 unfolding alones.ref_part
-ref_part false (Some setting) side count not_read =
-    chosen (faults.is_condition side.kind) (kept setting side.what count not_read)
-    (carried setting side count not_read)
-ref_part false None side count not_read = named false side count not_read
-ref_part true setting side count not_read = named true side count not_read
+ref_part false (Some setting) side count pending_not =
+    chosen (faults.is_condition side.kind) (kept setting side.what count pending_not)
+    (carried setting side count pending_not)
+ref_part false None side count pending_not = named false side count pending_not
+ref_part true setting side count pending_not = named true side count pending_not
 
 pub literal_part : (negated : Bool) (setting : Option Setting) (side : Side) (count : ℕ)
-    (not_read : Bool) → Plain (alones.literal_part negated setting side count not_read)
+    (pending_not : Bool) → Plain (alones.literal_part negated setting side count pending_not)
 unfolding alones.literal_part
-literal_part false (Some setting) side count not_read = carried setting side count not_read
-literal_part false None side count not_read = refuse
-literal_part true setting side count not_read = refuse
+literal_part false (Some setting) side count pending_not = carried setting side count pending_not
+literal_part false None side count pending_not = refuse
+literal_part true setting side count pending_not = refuse
 
-pub part_by_shape : (shape : Shape) (negated : Bool) (setting : Option Setting) (side : Side)
-    (count : ℕ) (not_read : Bool) →
-    Plain (alones.part_by_shape shape negated setting side count not_read)
+pub part_by_shape : (shape : ExprForm) (negated : Bool) (setting : Option Setting) (side : Side)
+    (count : ℕ) (pending_not : Bool) →
+    Plain (alones.part_by_shape shape negated setting side count pending_not)
 unfolding alones.part_by_shape
-part_by_shape shapes.Ref negated setting side count not_read =
-    ref_part negated setting side count not_read
-part_by_shape shapes.Literal negated setting side count not_read =
-    literal_part negated setting side count not_read
-part_by_shape shapes.Enclosed negated setting side count not_read =
-    named negated side count not_read
-part_by_shape shapes.Sum negated setting side count not_read = refuse
+part_by_shape shapes.Ref negated setting side count pending_not =
+    ref_part negated setting side count pending_not
+part_by_shape shapes.Literal negated setting side count pending_not =
+    literal_part negated setting side count pending_not
+part_by_shape shapes.Enclosed negated setting side count pending_not =
+    named negated side count pending_not
+part_by_shape shapes.Sum negated setting side count pending_not = refuse
 
 pub alone_part : (negated : Bool) (setting : Option Setting) (side : Side) (count : ℕ)
-    (not_read : Bool) → Plain (alones.alone_part negated setting side count not_read)
+    (pending_not : Bool) → Plain (alones.alone_part negated setting side count pending_not)
 unfolding alones.alone_part
-alone_part negated setting side count not_read = part_by_shape _ negated setting side count not_read
+alone_part negated setting side count pending_not = part_by_shape _ negated setting side count pending_not
 
 pub part_by : (negated : Bool) (setting : Option Setting) (prim : Primary) (count : ℕ)
-    (not_read : Bool) → Plain (alones.part_by negated setting prim count not_read)
+    (pending_not : Bool) → Plain (alones.part_by negated setting prim count pending_not)
 unfolding alones.part_by
-part_by negated setting (prims.Test cond after) count not_read = pure
-part_by negated setting (prims.Alone side) count not_read =
-    alone_part negated setting side count not_read
+part_by negated setting (prims.Test cond after) count pending_not = pure
+part_by negated setting (prims.Alone side) count pending_not =
+    alone_part negated setting side count pending_not
 
 -- ---- neg
 
@@ -273,9 +273,9 @@ unfolding negs.abbreviated
 abbreviated names I negated None count = refuse
 abbreviated names I negated (Some setting) count = abbreviated_by names I negated setting count
 
-pub close_cond : (part : Part) → Plain (conditions.close_cond part)
+pub close_cond : (part : SimpleCond) → Plain (conditions.close_cond part)
 unfolding conditions.close_cond
-close_cond part = chosen part.not_read refuse (mark right_parenthesis >> pure)
+close_cond part = chosen part.pending_not refuse (mark right_parenthesis >> pure)
 
 pub close_side : (position : Position) (side : Side) (count : ℕ) →
     Plain (conditions.close_side position side count)
@@ -288,7 +288,7 @@ module _ (names : Names) {inner : Inner} (I : InnerPlain inner) {content : ℕ �
       Plain (negs.prim_part names inner content negated setting count)
   unfolding negs.prim_part
   prim_part negated setting count = prim names I C count >>=
-      (λ read. part_by negated setting read.prim read.count read.not_read)
+      (λ read. part_by negated setting read.prim read.count read.pending_not)
 
   pub behind_not : (setting : Option Setting) (count : ℕ) →
       Plain (negs.behind_not names inner content setting count)
@@ -328,11 +328,11 @@ module _ (names : Names) {inner : Inner} (I : InnerPlain inner) {content : ℕ �
 
   pub join : (state : Joined) → Plain (conditions.join names inner content state)
   unfolding conditions.join
-  join state = chosen state.part.not_read refuse
+  join state = chosen state.part.pending_not refuse
       (where_next (and_part _ _ state.part.setting state.part.count)
       (or_part _ _ state.part.setting state.part.count))
 
-  pub conds_from : (first : Part) → Plain (conditions.conds_from names inner content first)
+  pub conds_from : (first : SimpleCond) → Plain (conditions.conds_from names inner content first)
   unfolding conditions.conds_from
   conds_from first = loop join >>= (λ state. pure)
 
@@ -342,22 +342,22 @@ module _ (names : Names) {inner : Inner} (I : InnerPlain inner) {content : ℕ �
 
   -- ---- in parentheses
 
-  pub content_from : (first : Part) → Plain (conditions.content_from names inner content first)
+  pub content_from : (first : SimpleCond) → Plain (conditions.content_from names inner content first)
   unfolding conditions.content_from
   content_from first = conds_from first >>= close_cond
 
-  pub alone_content : (side : Side) (count : ℕ) (not_read : Bool) →
-      Plain (conditions.alone_content names inner content side count not_read)
+  pub alone_content : (side : Side) (count : ℕ) (pending_not : Bool) →
+      Plain (conditions.alone_content names inner content side count pending_not)
   unfolding conditions.alone_content
-  alone_content side count not_read = alone_part false None side count not_read >>= content_from
+  alone_content side count pending_not = alone_part false None side count pending_not >>= content_from
 
-  pub content_by : (position : Position) (prim : Primary) (count : ℕ) (not_read : Bool) →
-      Plain (conditions.content_by names inner content position prim count not_read)
+  pub content_by : (position : Position) (prim : Primary) (count : ℕ) (pending_not : Bool) →
+      Plain (conditions.content_by names inner content position prim count pending_not)
   unfolding conditions.content_by
   content_by position (prims.Alone side) count false = where_next (close_side position side count)
       (alone_content side count false)
   content_by position (prims.Alone side) count true = alone_content side count true
-  content_by position (prims.Test cond after) count not_read = content_from _
+  content_by position (prims.Test cond after) count pending_not = content_from _
 
   pub neg_content : (count : ℕ) → Plain (conditions.neg_content names inner content count)
   unfolding conditions.neg_content
@@ -367,7 +367,7 @@ module _ (names : Names) {inner : Inner} (I : InnerPlain inner) {content : ℕ �
       Plain (conditions.prim_content names inner content position count)
   unfolding conditions.prim_content
   prim_content position count = prim names I C count >>=
-      (λ read. content_by position read.prim read.count read.not_read)
+      (λ read. content_by position read.prim read.count read.pending_not)
 
   pub in_content : (count : ℕ) → Plain (conditions.in_content names inner content count)
   unfolding conditions.in_content

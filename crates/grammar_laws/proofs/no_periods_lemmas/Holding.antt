@@ -40,9 +40,9 @@ unfolding arms.phrase_words arms.end_words arms.size_words
 phrase_words phrases.End = maybe (codes "AT") >> (key (codes "END") >> pure)
 phrase_words phrases.Size = maybe (codes "ON") >> (key (codes "SIZE") >> (key (codes "ERROR") >> pure))
 
-pub end_word : (w : List ℕ) (not_read : Bool) → Plain (arms.end_word w not_read)
+pub end_word : (w : List ℕ) (pending_not : Bool) → Plain (arms.end_word w pending_not)
 unfolding arms.end_word
-end_word w not_read = chosen not_read pure (maybe w)
+end_word w pending_not = chosen pending_not pure (maybe w)
 
 pub thru : Plain choice.thru
 unfolding choice.thru
@@ -75,9 +75,9 @@ module _ {enter : Form (Unit {0})} (E : Plain enter) where
   unfolding arms.behind_not arms.own_words
   behind_not phrase has_first = where_next (chosen has_first (phrase_words phrase) (entering_words phrase) >> pure) pure
 
-  pub not_phrase : (phrase : Phrase) (has_first not_read : Bool) → Plain (arms.not_phrase phrase enter has_first not_read)
+  pub not_phrase : (phrase : Phrase) (has_first pending_not : Bool) → Plain (arms.not_phrase phrase enter has_first pending_not)
   unfolding arms.not_phrase arms.not_or_none
-  not_phrase phrase has_first not_read = chosen not_read (behind_not phrase has_first) (where_next (key (codes "NOT") >> behind_not phrase has_first) pure)
+  not_phrase phrase has_first pending_not = chosen pending_not (behind_not phrase has_first) (where_next (key (codes "NOT") >> behind_not phrase has_first) pure)
 
 -- ---- what is held
 
@@ -128,7 +128,7 @@ module _ {level : Level} (L : LevelIsLawful level) where
 
   pub perform_by : (scope : Scope) (head : PerformHead) → Plain (loops.perform_by level scope head)
   unfolding loops.perform_by loops.loop_body loops.loop_end loops.loop_closed
-  perform_by scope (heads.Whole stmt not_read) = pure
+  perform_by scope (heads.Whole stmt pending_not) = pure
   perform_by scope (heads.Inline control) = (L.stmts (loops.looped scope) >>= (λ held. chosen held.1 refuse (key (codes "END-PERFORM") >> pure)))
 
 module _ {Side Known : Type 0} {parts : Parts Side Known} (P : PartsArePlain parts) where
@@ -316,7 +316,7 @@ module _ {Side Known : Type 0} {parts : Parts Side Known} (P : PartsArePlain par
 
     pub whens_turn : (scope : Scope) (known : Option Known) (state : Whens) → Plain (choice.whens_turn parts level scope known state)
     unfolding choice.whens_turn
-    whens_turn scope known state = chosen (state.other || state.not_read) refuse (when_next scope known state.whens)
+    whens_turn scope known state = chosen (state.other || state.pending_not) refuse (when_next scope known state.whens)
 
     pub whens : (scope : Scope) (known : Option Known) → Plain (choice.whens parts level scope known)
     unfolding choice.whens
@@ -354,8 +354,8 @@ module _ {Side Known : Type 0} {parts : Parts Side Known} (P : PartsArePlain par
     unfolding all.stmts_with
     stmts_with scope = stmt scope [] >>= (λ before. loop (stmts_turn scope))
 
-  pub enter : (levels : ℕ) → Plain (all.enter levels)
-  unfolding all.enter
+  pub enter : (levels : ℕ) → Plain (all.enter_level levels)
+  unfolding all.enter_level
   enter zero = refuse
   enter (suc n) = pure
 

@@ -49,7 +49,7 @@ abbrev ArmPasses : Fold → Option (List Stmt) → Type 0
 ArmPasses fold arm = arm_passes fold arm ≡ true
 
 abbrev HeadPasses : Fold → PerformHead → Type 0
-HeadPasses fold (heads.Whole stmt not_read) = Passes fold stmt
+HeadPasses fold (heads.Whole stmt pending_not) = Passes fold stmt
 HeadPasses fold (heads.Inline control) = Unit {0}
 
 module _ {bound : ℕ} {fold : Fold} (is : IsByParts bound fold) where
@@ -126,7 +126,7 @@ module _ {bound : ℕ} {fold : Fold} (is : IsByParts bound fold) where
 
     perform_by : (scope : Scope) (head : PerformHead) → GivesOfFew bound (loops.perform_by level scope head) (λ found. HeadPasses fold head → Passes fold found.0)
     unfolding loops.perform_by
-    perform_by scope (heads.Whole stmt not_read) = pure (λ h. h)
+    perform_by scope (heads.Whole stmt pending_not) = pure (λ h. h)
     perform_by scope (heads.Inline control) = still (loop_body scope control)
 
   module _ {Side Known : Type 0} {parts : Parts Side Known} (lawful : PartsAreLawful parts) where
@@ -203,7 +203,7 @@ module _ {bound : ℕ} {fold : Fold} (is : IsByParts bound fold) where
 
       whens_turn : (scope : Scope) (known : Option Known) (state : Whens) → GivesOfFew bound (choice.whens_turn parts level scope known state) (λ last. WhensPass fold state.whens → WhensPass fold last.whens)
       unfolding choice.whens_turn
-      whens_turn scope known state = chosen (state.other || state.not_read) refuse (when_next scope known state.whens)
+      whens_turn scope known state = chosen (state.other || state.pending_not) refuse (when_next scope known state.whens)
 
       whens : (scope : Scope) (known : Option Known) → GivesOfFew bound (choice.whens parts level scope known) (λ state. WhensPass fold state.whens)
       unfolding choice.whens

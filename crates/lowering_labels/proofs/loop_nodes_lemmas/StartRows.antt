@@ -10,7 +10,7 @@ use Rattle.control_flow_theory.proofs.language_lemmas.OwnCells.{place-no_cell}
 use Rattle.control_flow_theory.proofs.language_lemmas.Rows.{seen_move}
 use Rattle.control_flow_theory.specs.semantics.Graph as graph
 use Rattle.control_flow_theory.specs.graph_rules.Shapes.{followed, alone}
-use Rattle.branch_tree.specs.Trees.{seen_piece, seen_body, end_step, piece_step, tree_step}
+use Rattle.branch_tree.specs.Tree.{seen_piece, seen_body, end_step, piece_step, tree_step}
 use Rattle.branch_tree.specs.declared.tree.Piece.{Piece, fold-roll-Piece}
 use Rattle.branch_tree.specs.declared.tree.Piece.TheVariants as piece
 use Rattle.branch_tree.specs.declared.tree.End.TheOpen.{Piece-F}

@@ -3,31 +3,31 @@
 ghost use Rattle.std.specs.Prelude.{◌≡◌, ◌∷◌, [], ◌++◌, length, map, IfOk, OnOk};
 ghost use Rattle.control_flow_theory.specs.language.Language.{By, Depending};
 ghost use Rattle.control_flow_theory.specs.semantics.Graph.{Pick};
-ghost use Rattle.branch_tree.specs.Trees.{seen_end, seen_tree, seen_trees};
-ghost use Rattle.control_flow_theory.specs.lowering.Lower.{only};
-ghost use Rattle.lowering_labels.specs.points.Leaf.{seen_leaf};
-ghost use Rattle.lowering_labels.specs.loop_nodes.Arms.{AddsArm, AddsJumps, IsDepending, IsDependingEnd};
+ghost use Rattle.branch_tree.specs.Tree.{seen_end, seen_tree, seen_trees};
+ghost use Rattle.control_flow_theory.specs.lowering.Lower.{end_alone};
+ghost use Rattle.lowering_labels.specs.points.JumpTarget.{seen_target};
+ghost use Rattle.lowering_labels.specs.loop_nodes.Ends.{AddsArm, AddsJumps, IsDepending, IsDependingEnd};
 
-use crate::points::{Layout, Leaf, point};
+use crate::points::{JumpTarget, PlaceTable, point};
 use branch_tree::{Chooser, End, Picker, Tree};
 use cob_base::{Copied, Items, NoMemory};
 use cob_tree::Place;
 use std::alloc::Global;
 use std::collections::VecDeque;
 
-pub fn end_at(leaf: Leaf) -> End
-    ensures { seen_end result ≡ seen_leaf leaf }
+pub fn end_at(leaf: JumpTarget) -> End
+    ensures { seen_end result ≡ seen_target leaf }
 {
     match leaf {
-        Leaf::Jump(to) => End::Jump(to),
-        Leaf::Return => End::Return,
-        Leaf::Stop => End::Stop,
+        JumpTarget::Jump(to) => End::Jump(to),
+        JumpTarget::Return => End::Return,
+        JumpTarget::Stop => End::Stop,
     }
 }
 
 /// A tree that is only an end.
-pub fn only(alloc: Global, end: End) -> Tree
-    ensures { seen_tree result ≡ only (seen_end end) }
+pub fn end_alone(alloc: Global, end: End) -> Tree
+    ensures { seen_tree result ≡ end_alone (seen_end end) }
 {
     Tree {
         body: VecDeque::new(alloc),
@@ -37,9 +37,9 @@ pub fn only(alloc: Global, end: End) -> Tree
 
 /// Adds an arm that is only an end.
 pub fn push_only(alloc: Global, arms: &mut Items<Tree>, end: End) -> Result<(), NoMemory>
-    ensures { OnOk result (AddsArm (only (seen_end end)) arms.old arms.new) }
+    ensures { OnOk result (AddsArm (end_alone (seen_end end)) arms.old arms.new) }
 {
-    arms.push(only(alloc, end))
+    arms.push(end_alone(alloc, end))
 }
 
 /// Adds an arm for each name of a GO TO DEPENDING.
@@ -47,7 +47,7 @@ fn push_jumps(
     alloc: Global,
     arms: &mut Items<Tree>,
     to: &[u32],
-    layout: &Layout,
+    layout: &PlaceTable,
 ) -> Result<(), NoMemory>
     ensures { OnOk result (AddsJumps layout.now to.now arms.old arms.new) }
 {
@@ -62,8 +62,8 @@ fn push_names(
     alloc: Global,
     arms: &mut Items<Tree>,
     to: &[u32],
-    layout: &Layout,
-    after: Leaf,
+    layout: &PlaceTable,
+    after: JumpTarget,
 ) -> Result<(), NoMemory>
     requires { arms.old ≡ [] }
     ensures { OnOk result (IsDepending layout.now to.now after arms.new) }
@@ -95,8 +95,8 @@ pub fn depending(
     alloc: Global,
     to: &[u32],
     on: &Place,
-    layout: &Layout,
-    after: Leaf,
+    layout: &PlaceTable,
+    after: JumpTarget,
 ) -> Result<End, NoMemory>
     ensures { IfOk result (IsDependingEnd layout.now to.now on.now after) }
 {

@@ -5,39 +5,45 @@ ghost use Rattle.control_flow_theory.specs.language.Control.{control_in, augment
 ghost use Rattle.control_flow_theory.specs.language.Language.{Do};
 ghost use Rattle.control_flow_theory.specs.language.OwnItems.{control_own, place_own};
 ghost use Rattle.control_flow_theory.specs.graph_rules.Shapes.{alone};
-ghost use Rattle.control_flow_theory.specs.lowering.Lower.{head, third, by_test};
+ghost use Rattle.control_flow_theory.specs.lowering.Lower.{loop_head_label, loop_step_label, by_test};
 ghost use Rattle.branch_tree.specs.Choosers.{seen_test};
-ghost use Rattle.branch_tree.specs.Trees.{seen_piece, seen_tree};
-ghost use Rattle.lowering_labels.specs.loop_nodes.Made.{IsTree, Adds, AreBoth};
+ghost use Rattle.branch_tree.specs.Tree.{seen_piece, seen_tree};
+ghost use Rattle.lowering_labels.specs.loop_nodes.Nodes.{IsTree, Adds, AreBoth};
 ghost use Rattle.lowering_labels.specs.loop_nodes.Loops.{back_by, start_by};
 
-use crate::loop_nodes::ends::only;
+use crate::loop_nodes::ends::end_alone;
 use branch_tree::{End, Label, Picker, Piece, Test, Tree};
 use cob_base::{Copied, Items, NoMemory};
 use cob_tree::{Arms, Calc, Control, Operand, Place, Stmt, Target};
 use std::alloc::Global;
 
-pub fn head(place: u32) -> Label
-    ensures { result ≡ head place }
+pub fn loop_head_label(place: u32) -> Label
+    ensures { result ≡ loop_head_label place }
 {
     Label { place, part: 1 }
 }
 
-pub fn third(place: u32) -> Label
-    ensures { result ≡ third place }
+pub fn loop_step_label(place: u32) -> Label
+    ensures { result ≡ loop_step_label place }
 {
     Label { place, part: 2 }
 }
 
 /// The label to which a loop's body comes back.
-pub fn back(control: &Control, place: u32) -> Label
+pub fn loop_back_label(control: &Control, place: u32) -> Label
     ensures { result ≡ back_by (control_in control.now) place }
 {
     match control {
-        Control::Once => head(place),
-        Control::Times(_) => head(place),
-        Control::Until { after, .. } => { if *after { third(place) } else { head(place) } }
-        Control::Varying { .. } => third(place),
+        Control::Once => loop_head_label(place),
+        Control::Times(_) => loop_head_label(place),
+        Control::Until { after, .. } => {
+            if *after {
+                loop_step_label(place)
+            } else {
+                loop_head_label(place)
+            }
+        }
+        Control::Varying { .. } => loop_step_label(place),
     }
 }
 
@@ -132,7 +138,7 @@ pub fn by_test(alloc: Global, test: Test, holds: Tree, fails: Tree) -> Result<Tr
     match both_arms(alloc, holds, fails) {
         Ok(arms) => {
             let by = Picker::If(test);
-            Ok(only(alloc, End::Pick { by, arms }))
+            Ok(end_alone(alloc, End::Pick { by, arms }))
         }
         Err(fault) => {
             drop(test);

@@ -3,13 +3,13 @@
 ghost use Rattle.std.specs.Prelude.{◌≡◌, IfOk, OnOk};
 ghost use Rattle.control_flow_theory.specs.language.Control.{control_in, augmented};
 ghost use Rattle.control_flow_theory.specs.semantics.Graph.{tree};
-ghost use Rattle.branch_tree.specs.Trees.{seen_tree, seen_body, seen_end};
-ghost use Rattle.lowering_labels.specs.loop_nodes.Made.{IsTree, Adds, left_or, third_of, head_of};
+ghost use Rattle.branch_tree.specs.Tree.{seen_tree, seen_body, seen_end};
+ghost use Rattle.lowering_labels.specs.loop_nodes.Nodes.{IsTree, Adds, left_or, third_of, head_of};
 ghost use Rattle.lowering_labels.specs.loop_nodes.Loops.{stepped, turn_start};
 
-use crate::loop_nodes::ends::{end_at, only};
-use crate::loop_nodes::loops::{augmenting, by_test, head};
-use crate::points::Leaf;
+use crate::loop_nodes::ends::{end_alone, end_at};
+use crate::loop_nodes::loops::{augmenting, by_test, loop_head_label};
+use crate::points::JumpTarget;
 use branch_tree::{End, Piece, Test, Tree};
 use cob_base::{Copied, NoMemory};
 use cob_tree::{Cond, Control, Operand, Place};
@@ -17,12 +17,17 @@ use std::alloc::Global;
 use std::collections::VecDeque;
 
 /// The choice between what follows where the condition holds, and this tree.
-pub fn leave_or(alloc: Global, cond: &Cond, after: Leaf, other: Tree) -> Result<Tree, NoMemory>
+pub fn leave_or(
+    alloc: Global,
+    cond: &Cond,
+    after: JumpTarget,
+    other: Tree,
+) -> Result<Tree, NoMemory>
     ensures { IfOk result (IsTree (left_or cond.now after (seen_tree other))) }
 {
     match cond.copy(alloc) {
         Ok(cond) => {
-            let leaves = only(alloc, end_at(after));
+            let leaves = end_alone(alloc, end_at(after));
             by_test(alloc, Test::Holds(cond), leaves, other)
         }
         Err(fault) => {
@@ -33,7 +38,7 @@ pub fn leave_or(alloc: Global, cond: &Cond, after: Leaf, other: Tree) -> Result<
 }
 
 /// Pieces, and then an end.
-pub fn ended(body: Vec<Piece>, end: End) -> Tree
+pub fn body_with_end(body: Vec<Piece>, end: End) -> Tree
     ensures { seen_tree result ≡ tree (seen_body body.items) (seen_end end) }
 {
     Tree {
@@ -48,8 +53,8 @@ fn step_tree(alloc: Global, item: &Place, by: &Operand, place: u32) -> Result<Tr
 {
     let mut body = Vec::new(alloc);
     body.push(augmenting(alloc, item, by)?)?;
-    let end = End::Jump(head(place));
-    Ok(ended(body, end))
+    let end = End::Jump(loop_head_label(place));
+    Ok(body_with_end(body, end))
 }
 
 /// The tree at the test after the body, or at the step.
@@ -57,21 +62,21 @@ pub fn third_node(
     alloc: Global,
     control: &Control,
     place: u32,
-    after: Leaf,
+    after: JumpTarget,
 ) -> Result<Tree, NoMemory>
     ensures { IfOk result (IsTree (third_of control.now place after)) }
 {
     match control {
-        Control::Once => Ok(only(alloc, End::Dead)),
-        Control::Times(_) => Ok(only(alloc, End::Dead)),
+        Control::Once => Ok(end_alone(alloc, End::Dead)),
+        Control::Times(_) => Ok(end_alone(alloc, End::Dead)),
         Control::Until {
             after: is_after,
             cond,
         } => {
             if !*is_after {
-                return Ok(only(alloc, End::Dead));
+                return Ok(end_alone(alloc, End::Dead));
             }
-            let turns = only(alloc, End::Jump(head(place)));
+            let turns = end_alone(alloc, End::Jump(loop_head_label(place)));
             leave_or(alloc, cond, after, turns)
         }
         Control::Varying {
@@ -112,17 +117,17 @@ pub fn head_node(
     control: &Control,
     place: u32,
     turn: Tree,
-    after: Leaf,
+    after: JumpTarget,
 ) -> Result<Tree, NoMemory>
     ensures { IfOk result (IsTree (head_of control.now place (seen_tree turn) after)) }
 {
     match control {
         Control::Once => {
             drop(turn);
-            Ok(only(alloc, End::Dead))
+            Ok(end_alone(alloc, End::Dead))
         }
         Control::Times(_) => {
-            let leaves = only(alloc, end_at(after));
+            let leaves = end_alone(alloc, end_at(after));
             by_test(alloc, Test::Above { cell: place }, turn, leaves)
         }
         Control::Until {

@@ -11,12 +11,12 @@ use std::alloc::Global;
 
 /// The place of each paragraph, and the number behind the last place.
 #[derive(Drop)]
-pub struct Layout {
+pub struct PlaceTable {
     pub places: Vec<u32>,
     pub end: u32,
 }
 
-impl Layout {
+impl PlaceTable {
     /// The place of a paragraph; behind the last one the number behind the last place.
     pub fn place_of(&self, number: u32) -> u32
         ensures { result ≡ place_at self.now.places.items self.now.end number }
@@ -30,7 +30,7 @@ impl Layout {
 
 /// Numbers places: each paragraph, and behind it its statements in text order, nested ones behind
 /// their holder.
-pub fn layout_of(alloc: Global, program: &Program) -> Result<Layout, NoMemory>
+pub fn layout_of(alloc: Global, program: &Program) -> Result<PlaceTable, NoMemory>
     requires { program_places program.now < 2 ^ 31 }
     ensures { IfOk result (λ made. IsLayout program.now made.places.items made.end) }
 {
@@ -40,7 +40,7 @@ pub fn layout_of(alloc: Global, program: &Program) -> Result<Layout, NoMemory>
         places.push(place as u32)?;
         place = place + 1 + paragraph_size(paragraph);
     }
-    Ok(Layout {
+    Ok(PlaceTable {
         places,
         end: place as u32,
     })

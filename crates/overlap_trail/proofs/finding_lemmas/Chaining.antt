@@ -6,14 +6,14 @@ use Rattle.cob_tree.specs.declared.ending.FlowFault.TheVariants.{Overlap, Reentr
 use Rattle.program_points.specs.paths.Step.{Ends}
 use Rattle.program_points.specs.paths.Flow.{is_exit, is_among, fault_of}
 use Rattle.program_points.specs.paths.Accepted.{with_exit, IsIn, NoneTwice}
-use Rattle.pending_returns.specs.levels.Reaching.{Holds}
+use Rattle.pending_returns.specs.levels.Reach.{Holds}
 use Rattle.pending_returns.proofs.levels_lemmas.Searching.{before-or-now}
 use Rattle.pending_returns.specs.declared.facts.RangeFacts.{RangeFacts}
 use Rattle.pending_returns.specs.Tabled.{CallsBelow}
-use Rattle.pending_returns.specs.faults.Clashing.{FaultsAt}
+use Rattle.pending_returns.specs.faults.Clash.{FaultsAt}
 use Rattle.pending_returns.proofs.faults_lemmas.Standing.{get-below, get-some}
-use Rattle.overlap_trail.specs.declared.finding.route.Came.{Came}
-use Rattle.overlap_trail.specs.finding.Chains.{CallsTo, TracesCalls, Along, stays, calls_on, WentTo, none, more, EndsAmong, IsLevels, ends_after, IsFaultAt, IsAt, IsChain, IsWay}
+use Rattle.overlap_trail.specs.declared.finding.search.Predecessor.{Predecessor}
+use Rattle.overlap_trail.specs.finding.Chain.{CallsTo, TracesCalls, Along, stays, calls_on, WentTo, none, more, EndsAmong, IsLevels, ends_after, IsFaultAt, IsAt, IsChain, IsWay}
 use Rattle.overlap_trail.proofs.finding_lemmas.Getting.{get-front, get-last, same-some, longer}
 use Rattle.overlap_trail.proofs.finding_lemmas.Standing.{at-in}
 use Rattle.overlap_trail.proofs.finding_lemmas.Knowing.{once-append}
@@ -29,7 +29,7 @@ module _ (levels : List RangeFacts) where
   along-append from via to path rest (stays f) way = way
   along-append from via to path rest (calls_on f next last others first onward) way = calls_on from next to (others ++ rest) first (along-append next via to others rest onward way)
 
-  pub went-along : (base : ℕ) (places : List ℕ) (came : List Came) → TracesCalls levels base places came → (at : ℕ) (path : List ℕ) → WentTo came places at path → (place : ℕ) → slice_get places at ≡ Some place → Along levels base path place
+  pub went-along : (base : ℕ) (places : List ℕ) (came : List Predecessor) → TracesCalls levels base places came → (at : ℕ) (path : List ℕ) → WentTo came places at path → (place : ℕ) → slice_get places at ≡ Some place → Along levels base path place
   went-along base places came traces at path (none) place e = subst (λ (n : ℕ). Along levels base [] n) (sym (traces.first place e)) (stays base)
   went-along base places came traces at path (more index here how before lt e f rest) place g =
       let same : here ≡ place = same-some here place (sym e ∙ g) in

@@ -1,6 +1,6 @@
 -- Flags of numbers.
 use Rattle.std.proofs.Common.{◌≡◌, ℕ, zero, suc, true, false, List, [], ◌∷◌, Option, Some, None, slice_get, ap}
-use Rattle.overlap_trail.specs.finding.Routes.{is_there, flags_of}
+use Rattle.overlap_trail.specs.finding.Search.{is_there, flags_of}
 
 pub flag-there : (numbers : List (Option ℕ)) (at number : ℕ) → slice_get numbers at ≡ Some (Some number) → slice_get (flags_of numbers) at ≡ Some true
 flag-there [] at number e = absurd (let k : ⊥ = cc in k)

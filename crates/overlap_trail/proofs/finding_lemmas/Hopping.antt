@@ -13,28 +13,28 @@ use Rattle.program_points.specs.paths.Step as lang
 use Rattle.program_points.specs.paths.Flow.{main_range, part, is_exit, is_among, fault_of}
 use Rattle.program_points.specs.paths.Accepted.{walk, LeadsTo, Meets, with_exit, HopsLead, BeginsInMain, lemma_ranges, hop_ranges}
 use Rattle.program_points.specs.paths.Accepted as accepted
-use Rattle.program_points.specs.declared.point_table.table.Place.{Place}
-use Rattle.program_points.specs.declared.point_table.table.Place.TheVariants.{Goes, Chooses, Calls, Stops, Ends}
+use Rattle.program_points.specs.declared.point_table.table.ProgramPoint.{ProgramPoint}
+use Rattle.program_points.specs.declared.point_table.table.ProgramPoint.TheVariants.{Goes, Chooses, Calls, Stops, Ends}
 use Rattle.program_points.specs.declared.point_table.table.Table.{Table}
 use Rattle.program_points.specs.point_table.Table.{IsTable}
-use Rattle.overlap_trail.specs.declared.finding.aim.Aim.TheVariants.{Enter, Ending}
-use Rattle.overlap_trail.specs.finding.Aims.{IsAimed, IsMetBy}
-use Rattle.overlap_trail.specs.finding.Knowing.{Numbers}
-use Rattle.overlap_trail.specs.finding.Chains.{ends_after, IsFaultAt}
-use Rattle.overlap_trail.specs.finding.Hopping.{aim_of, aim_at, into_of, IsHop, HopsCome}
+use Rattle.overlap_trail.specs.declared.finding.goal.SearchGoal.TheVariants.{Enter, Ending}
+use Rattle.overlap_trail.specs.finding.Goal.{IsAimed, IsMetBy}
+use Rattle.overlap_trail.specs.finding.ReturnLemmas.{Numbers}
+use Rattle.overlap_trail.specs.finding.Chain.{ends_after, IsFaultAt}
+use Rattle.overlap_trail.specs.finding.Hops.{aim_of, aim_at, into_of, IsHop, HopsCome}
 use Rattle.pending_returns.proofs.faults_lemmas.Standing.{get-below, get-some}
 use Rattle.overlap_trail.proofs.finding_lemmas.Getting.{get-split, same-some, longer}
 use Rattle.overlap_trail.proofs.finding_lemmas.Leading.{leads}
 use Rattle.overlap_trail.proofs.finding_lemmas.Knowing.{aimed-end}
 
-aimed-enter : (table : Table) (range : Range) (here : Place) → IsAimed table (Enter range) here → (called : ℕ) × (after : ℕ) × (here ≡ Calls called after) × (slice_get table.ranges called ≡ Some range)
+aimed-enter : (table : Table) (range : Range) (here : ProgramPoint) → IsAimed table (Enter range) here → (called : ℕ) × (after : ℕ) × (here ≡ Calls called after) × (slice_get table.ranges called ≡ Some range)
 aimed-enter table range (Goes to) met = absurd met
 aimed-enter table range (Chooses ways) met = absurd met
 aimed-enter table range (Calls called after) met = (called, after, refl, met)
 aimed-enter table range Stops met = absurd met
 aimed-enter table range (Ends paragraph) met = absurd met
 
-aimed-ending : (table : Table) (end : ℕ) (here : Place) → IsAimed table (Ending end) here → (called : ℕ) × (after : ℕ) × (range : Range) × (here ≡ Calls called after) × (slice_get table.ranges called ≡ Some range) × (is_exit range.exit end ≡ true)
+aimed-ending : (table : Table) (end : ℕ) (here : ProgramPoint) → IsAimed table (Ending end) here → (called : ℕ) × (after : ℕ) × (range : Range) × (here ≡ Calls called after) × (slice_get table.ranges called ≡ Some range) × (is_exit range.exit end ≡ true)
 aimed-ending table end (Goes to) met = absurd met
 aimed-ending table end (Chooses ways) met = absurd met
 aimed-ending table end (Calls called after) met = (called, after, met.0, refl, met.1, met.2)
@@ -43,17 +43,17 @@ aimed-ending table end (Ends paragraph) met = absurd met
 
 module _ (never_first : Chooser → Bool) (program : Program) (table : Table) (points : ℕ → Point) (is : IsTable never_first program table points) (lemmas : List Lemma) (numbers : List (Option ℕ)) (numbered : Numbers table lemmas numbers) where
   -- what a place of the table performs
-  performs : (place called after : ℕ) (here : Place) (range : Range) → slice_get table.places place ≡ Some here → here ≡ Calls called after → slice_get table.ranges called ≡ Some range → (entry : ℕ) × (exit : ℕ) × (next never_first program (points place) ≡ lang.Calls entry exit (points after)) × (range ≡ part entry exit)
+  performs : (place called after : ℕ) (here : ProgramPoint) (range : Range) → slice_get table.places place ≡ Some here → here ≡ Calls called after → slice_get table.ranges called ≡ Some range → (entry : ℕ) × (exit : ℕ) × (next never_first program (points place) ≡ lang.Calls entry exit (points after)) × (range ≡ part entry exit)
   performs place called after here range e same there =
-      let d = is.places place (Calls called after) (e ∙ ap (λ (p : Place). Some p) same) in
+      let d = is.places place (Calls called after) (e ∙ ap (λ (p : ProgramPoint). Some p) same) in
       let both : Some range ≡ Some (part d.0 d.1) = sym there ∙ d.3 in
       let equal : range ≡ part d.0 d.1 = cc in
       (d.0, d.1, d.2, equal)
 
   -- the fault at the place
-  fault-is : (fault : FlowFault) (ends : List ℕ) (place : ℕ) (here : Place) → slice_get table.places place ≡ Some here → IsAimed table (aim_of fault) here → IsFaultAt fault ends → fault_of (next never_first program (points place)) ends ≡ Some fault
+  fault-is : (fault : FlowFault) (ends : List ℕ) (place : ℕ) (here : ProgramPoint) → slice_get table.places place ≡ Some here → IsAimed table (aim_of fault) here → IsFaultAt fault ends → fault_of (next never_first program (points place)) ends ≡ Some fault
   fault-is (Overlap end) ends place here e met fits =
-      let now : next never_first program (points place) ≡ lang.Ends end = is.places place (Ends end) (e ∙ ap (λ (p : Place). Some p) (aimed-end table end here met)) in
+      let now : next never_first program (points place) ≡ lang.Ends end = is.places place (Ends end) (e ∙ ap (λ (p : ProgramPoint). Some p) (aimed-end table end here met)) in
       ap (λ (n : Next). fault_of n ends) now ∙ fits
   fault-is (Reentry end) ends place here e met fits =
       let a = aimed-ending table end here met in

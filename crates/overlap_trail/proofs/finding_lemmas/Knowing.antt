@@ -10,18 +10,18 @@ use Rattle.program_points.specs.paths.Step.{Point, start, next}
 use Rattle.program_points.specs.paths.Step as lang
 use Rattle.program_points.specs.paths.Flow.{is_exit}
 use Rattle.program_points.specs.paths.Accepted.{walk, Return, Meets, Leads, LeadsTo, LemmasHold, lemma_ranges, IsIn, NoneTwice}
-use Rattle.program_points.specs.declared.point_table.table.Place.{Place}
-use Rattle.program_points.specs.declared.point_table.table.Place.TheVariants.{Goes, Chooses, Calls, Stops, Ends}
+use Rattle.program_points.specs.declared.point_table.table.ProgramPoint.{ProgramPoint}
+use Rattle.program_points.specs.declared.point_table.table.ProgramPoint.TheVariants.{Goes, Chooses, Calls, Stops, Ends}
 use Rattle.program_points.specs.declared.point_table.table.Table.{Table}
 use Rattle.program_points.specs.point_table.Table.{IsTable, ReturnsHere}
-use Rattle.pending_returns.specs.levels.Reaching.{trues}
+use Rattle.pending_returns.specs.levels.Reach.{trues}
 use Rattle.pending_returns.proofs.levels_lemmas.Searching.{trues-set, before-or-now}
 use Rattle.pending_returns.proofs.faults_lemmas.Standing.{get-below, ends-is}
-use Rattle.overlap_trail.specs.declared.finding.aim.Aim.TheVariants.{End}
-use Rattle.overlap_trail.specs.finding.Routes.{is_there, flags_of}
-use Rattle.overlap_trail.specs.finding.Aims.{IsAimed, IsMetNowhere, IsMetBy}
-use Rattle.overlap_trail.specs.declared.finding.known.Known.{Known}
-use Rattle.overlap_trail.specs.finding.Knowing.{RangesOnce, Knows, Learns}
+use Rattle.overlap_trail.specs.declared.finding.goal.SearchGoal.TheVariants.{End}
+use Rattle.overlap_trail.specs.finding.Search.{is_there, flags_of}
+use Rattle.overlap_trail.specs.finding.Goal.{IsAimed, IsMetNowhere, IsMetBy}
+use Rattle.overlap_trail.specs.declared.finding.return_lemmas.ReturnLemmas.{ReturnLemmas}
+use Rattle.overlap_trail.specs.finding.ReturnLemmas.{RangesOnce, Knows, Learns}
 use Rattle.overlap_trail.proofs.finding_lemmas.Flags.{flag-missing}
 use Rattle.overlap_trail.proofs.finding_lemmas.Getting.{get-front, get-last}
 use Rattle.overlap_trail.proofs.finding_lemmas.Leading.{leads}
@@ -84,7 +84,7 @@ hold-append never_first program earlier (lemma ∷ lemmas) new hold to = (
       (subst (λ ranges. LeadsTo never_first program ranges new.range Return new.moves) (sym (append_assoc earlier (lemma.range ∷ []) (lemma_ranges lemmas))) to),
 )
 
-pub aimed-end : (table : Table) (end : ℕ) (here : Place) → IsAimed table (End end) here → here ≡ Ends end
+pub aimed-end : (table : Table) (end : ℕ) (here : ProgramPoint) → IsAimed table (End end) here → here ≡ Ends end
 aimed-end table end (Goes to) met = absurd met
 aimed-end table end (Chooses ways) met = absurd met
 aimed-end table end (Calls called after) met = absurd met
@@ -105,7 +105,7 @@ module _ (table : Table) (lemmas : List Lemma) (numbers : List (Option ℕ)) whe
     lemma-leads : (never_first : Chooser → Bool) (program : Program) (points : ℕ → Point) → IsTable never_first program table points → LeadsTo never_first program (lemma_ranges lemmas) range Return moves
     lemma-leads never_first program points is =
         let place = met.0 in
-        let ended : slice_get table.places place ≡ Some (Ends end) = met.3 ∙ ap (λ (p : Place). Some p) (aimed-end table end met.1 met.4) in
+        let ended : slice_get table.places place ≡ Some (Ends end) = met.3 ∙ ap (λ (p : ProgramPoint). Some p) (aimed-end table end met.1 met.4) in
         let now : next never_first program (points place) ≡ lang.Ends end = is.places place (Ends end) ended in
         record {
           is_there = is.entries number range there;
@@ -177,13 +177,13 @@ closed-more table flags index new so_far = λ number range lt e here. elim (befo
 ]
 
 -- a round so far
-pub record RoundSoFar (table : Table) (start known : Known) (number : ℕ) (more : Bool) : Type 0 where
+pub record RoundSoFar (table : Table) (start known : ReturnLemmas) (number : ℕ) (more : Bool) : Type 0 where
   pub knows : Knows table known.lemmas known.numbers.items
   pub grown : trues (flags_of start.numbers.items) ≤ trues (flags_of known.numbers.items)
   pub news : more ≡ true → trues (flags_of start.numbers.items) < trues (flags_of known.numbers.items)
   pub closed : more ≡ false → ClosedUpTo table (flags_of known.numbers.items) number
 
-pub round-none : (table : Table) (start : Known) → Knows table start.lemmas start.numbers.items → RoundSoFar table start start 0 false
+pub round-none : (table : Table) (start : ReturnLemmas) → Knows table start.lemmas start.numbers.items → RoundSoFar table start start 0 false
 round-none table start knows = record {
   knows = knows;
   grown = omega arith;
@@ -191,7 +191,7 @@ round-none table start knows = record {
   closed = λ same number range lt e here. absurd (omega (arith, lt));
 }
 
-pub round-new : (table : Table) (start old new : Known) (number : ℕ) (more : Bool) → Learns table old new number true → Knows table new.lemmas new.numbers.items → RoundSoFar table start old number more → RoundSoFar table start new (number + 1) true
+pub round-new : (table : Table) (start old new : ReturnLemmas) (number : ℕ) (more : Bool) → Learns table old new number true → Knows table new.lemmas new.numbers.items → RoundSoFar table start old number more → RoundSoFar table start new (number + 1) true
 round-new table start old new number more learns knows so_far = record {
   knows = knows;
   grown = (let lt : trues (flags_of old.numbers.items) < trues (flags_of new.numbers.items) = learns in let le = so_far.grown in omega (arith, lt, le));
@@ -199,8 +199,8 @@ round-new table start old new number more learns knows so_far = record {
   closed = λ wrong. absurd (let k : ⊥ = cc in k);
 }
 
-pub round-same : (table : Table) (start old new : Known) (number : ℕ) (more : Bool) → Learns table old new number false → RoundSoFar table start old number more → RoundSoFar table start new (number + 1) more
-round-same table start old new number more learns so_far = subst (λ (known : Known). RoundSoFar table start known (number + 1) more) (sym learns.0) (record {
+pub round-same : (table : Table) (start old new : ReturnLemmas) (number : ℕ) (more : Bool) → Learns table old new number false → RoundSoFar table start old number more → RoundSoFar table start new (number + 1) more
+round-same table start old new number more learns so_far = subst (λ (known : ReturnLemmas). RoundSoFar table start known (number + 1) more) (sym learns.0) (record {
   knows = so_far.knows;
   grown = so_far.grown;
   news = so_far.news;

@@ -9,12 +9,12 @@ use Rattle.program_points.specs.paths.Step.{Point, start, next, way_at, no_way, 
 use Rattle.program_points.specs.paths.Step as lang
 use Rattle.program_points.specs.paths.Flow.{part}
 use Rattle.program_points.specs.paths.Accepted.{Walk, walk, walk_to, by_choice, is_range, onward_by, onward, Leads, here, further, lemma_ranges}
-use Rattle.program_points.specs.declared.point_table.table.Place.{Place}
-use Rattle.program_points.specs.declared.point_table.table.Place.TheVariants.{Goes, Chooses, Calls, Stops, Ends}
+use Rattle.program_points.specs.declared.point_table.table.ProgramPoint.{ProgramPoint}
+use Rattle.program_points.specs.declared.point_table.table.ProgramPoint.TheVariants.{Goes, Chooses, Calls, Stops, Ends}
 use Rattle.program_points.specs.declared.point_table.table.Table.{Table}
 use Rattle.program_points.specs.point_table.Table.{IsTable}
-use Rattle.overlap_trail.specs.finding.Routes.{is_there, arm_of, GoesBy, listed, ComesBy, begins, goes_on}
-use Rattle.overlap_trail.specs.finding.Knowing.{Numbers}
+use Rattle.overlap_trail.specs.finding.Search.{is_there, arm_of, GoesBy, listed, ComesBy, begins, goes_on}
+use Rattle.overlap_trail.specs.finding.ReturnLemmas.{Numbers}
 
 -- ways of the table are those of the program
 
@@ -78,7 +78,7 @@ module _ (never_first : Chooser → Bool) (program : Program) (table : Table) (p
       ∙ ap (λ c. by_choice c (map (λ (way : Option ℕ). option_map points way) ways) more) (only-same points ways ∙ ap (λ (c : Option ℕ). option_map points c) o)
       ∙ ap (λ (n : ℕ). Some (walk (points n) more)) (the-way ways one number to o w)
 
-  step : (from to : ℕ) (place : Place) (moved : Option Move) → slice_get table.places from ≡ Some place → GoesBy table numbers range place moved to → Goes-on (points from) (listed moved) (points to)
+  step : (from to : ℕ) (place : ProgramPoint) (moved : Option Move) → slice_get table.places from ≡ Some place → GoesBy table numbers range place moved to → Goes-on (points from) (listed moved) (points to)
   step from to (Goes there) moved e go = λ more.
       let d = is.places from (Goes there) e in
       ap (λ (m : Option Move). onward never_first program (lemma_ranges lemmas) range (walk (points from) (listed m ++ more))) go.0

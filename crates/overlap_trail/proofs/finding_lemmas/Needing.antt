@@ -6,7 +6,7 @@ use Rattle.program_points.specs.declared.paths.trail.Lemma.{Lemma}
 use Rattle.program_points.specs.declared.paths.trail.Hop.{Hop}
 use Rattle.pending_returns.proofs.levels_lemmas.Searching.{before-or-now}
 use Rattle.pending_returns.proofs.faults_lemmas.Standing.{get-below}
-use Rattle.overlap_trail.specs.finding.Short.{Flags, FlagsOver, Adds, FlagHops, renamed, renumber, Renumbers}
+use Rattle.overlap_trail.specs.finding.Pruning.{Flags, FlagsOver, Adds, FlagHops, renamed, renumber, Renumbers}
 use Rattle.overlap_trail.proofs.finding_lemmas.Getting.{get-front, get-last, get-split, same-some, longer, le-or}
 
 pub adds-none : (until : ℕ) (flags : List Bool) → Adds until flags flags

@@ -15,7 +15,7 @@ use Rattle.program_points.specs.paths.Accepted.{Walk, walk, walk_to, arm_at, by_
 use Rattle.pending_returns.proofs.levels_lemmas.Searching.{before-or-now}
 use Rattle.pending_returns.proofs.faults_lemmas.Standing.{get-below}
 use Rattle.overlap_trail.specs.finding.Finding.{IsFound}
-use Rattle.overlap_trail.specs.finding.Short.{FlagHops, FlagLemmas, over_by, renumber, KeepsOne, Keeps, Renumbers}
+use Rattle.overlap_trail.specs.finding.Pruning.{FlagHops, FlagLemmas, over_by, renumber, KeepsOne, Keeps, Renumbers}
 use Rattle.overlap_trail.proofs.finding_lemmas.Getting.{get-front, get-last, get-split, same-some, longer}
 use Rattle.overlap_trail.proofs.finding_lemmas.Standing.{at-in}
 use Rattle.overlap_trail.proofs.finding_lemmas.Knowing.{in-append, once-append, hold-append}

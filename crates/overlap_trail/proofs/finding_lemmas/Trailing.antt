@@ -11,24 +11,24 @@ use Rattle.program_points.specs.paths.Flow.{main_range, part, Pending, returning
 use Rattle.program_points.specs.paths.Levels.{Levels, bottom, called}
 use Rattle.program_points.specs.paths.Accepted.{NoneTwice}
 use Rattle.program_points.proofs.paths_lemmas.Runs.{stands}
-use Rattle.program_points.specs.declared.point_table.table.Place.{Place}
-use Rattle.program_points.specs.declared.point_table.table.Place.TheVariants.{Goes, Chooses, Calls, Stops, Ends}
+use Rattle.program_points.specs.declared.point_table.table.ProgramPoint.{ProgramPoint}
+use Rattle.program_points.specs.declared.point_table.table.ProgramPoint.TheVariants.{Goes, Chooses, Calls, Stops, Ends}
 use Rattle.program_points.specs.declared.point_table.table.Table.{Table}
 use Rattle.program_points.specs.point_table.Table.{Describes, IsTable, ComesIn, IsClosed}
-use Rattle.pending_returns.specs.levels.Reaching.{Holds}
+use Rattle.pending_returns.specs.levels.Reach.{Holds}
 use Rattle.pending_returns.proofs.levels_lemmas.Exact.{path-comes, comes-path, found-in}
 use Rattle.program_points.specs.perform_ranges.Named.{is_before, exit_before}
 use Rattle.program_points.proofs.perform_ranges_lemmas.Ordered.{before-far}
 use Rattle.pending_returns.specs.declared.facts.RangeFacts.{RangeFacts}
 use Rattle.pending_returns.specs.declared.facts.Summary.{Summary}
 use Rattle.pending_returns.specs.Summary.{IsSummary}
-use Rattle.pending_returns.specs.faults.Clashing.{LeadsFrom, FaultsAt}
-use Rattle.pending_returns.specs.faults.Clashing as clashing
+use Rattle.pending_returns.specs.faults.Clash.{LeadsFrom, FaultsAt}
+use Rattle.pending_returns.specs.faults.Clash as clashing
 use Rattle.pending_returns.proofs.faults_lemmas.Standing.{get-below, get-some, is-ends}
-use Rattle.overlap_trail.specs.finding.Aims.{IsMetSomewhere}
-use Rattle.overlap_trail.specs.finding.Knowing.{RangesOnce, Knows}
-use Rattle.overlap_trail.specs.finding.Chains.{IsLevels, IsChain}
-use Rattle.overlap_trail.specs.finding.Hopping.{aim_before, aim_at, HopsCome}
+use Rattle.overlap_trail.specs.finding.Goal.{IsMetSomewhere}
+use Rattle.overlap_trail.specs.finding.ReturnLemmas.{RangesOnce, Knows}
+use Rattle.overlap_trail.specs.finding.Chain.{IsLevels, IsChain}
+use Rattle.overlap_trail.specs.finding.Hops.{aim_before, aim_at, HopsCome}
 use Rattle.overlap_trail.specs.finding.Finding.{IsFound}
 use Rattle.overlap_trail.proofs.finding_lemmas.Getting.{same-some}
 use Rattle.overlap_trail.proofs.finding_lemmas.Hopping.{begins-in-main, hops-ranges}
@@ -146,7 +146,7 @@ get-none (x ∷ xs) zero e = absurd (let k : ⊥ = cc in k)
 get-none (x ∷ xs) (suc at) e = (let h : length xs ≤ at = get-none xs at e in omega (arith, h))
 
 module _ (never_first : Chooser → Bool) (program : Program) (table : Table) (points : ℕ → Point) (is : IsTable never_first program table points) where
-  found-call : (from : ℕ) (place : Place) (entry exit : ℕ) (after : Point) → slice_get table.places from ≡ Some place → Describes table points place (next never_first program (points from)) → next never_first program (points from) ≡ lang.Calls entry exit after →
+  found-call : (from : ℕ) (place : ProgramPoint) (entry exit : ℕ) (after : Point) → slice_get table.places from ≡ Some place → Describes table points place (next never_first program (points from)) → next never_first program (points from) ≡ lang.Calls entry exit after →
       (number : ℕ) × (to : ℕ) × (slice_get table.places from ≡ Some (Calls number to)) × (slice_get table.ranges number ≡ Some (part entry exit))
   found-call from (Goes j) entry exit after e d n = absurd (let k : lang.Ways (Some (points j) ∷ []) ≡ lang.Calls entry exit after = sym d.0 ∙ n in let l : ⊥ = cc in l)
   found-call from (Chooses js) entry exit after e d n = absurd (let k : lang.Ways (map (λ (way : Option ℕ). option_map points way) js) ≡ lang.Calls entry exit after = sym d.0 ∙ n in let l : ⊥ = cc in l)
@@ -158,7 +158,7 @@ module _ (never_first : Chooser → Bool) (program : Program) (table : Table) (p
   found-call from Stops entry exit after e d n = absurd (let k : lang.Stops ≡ lang.Calls entry exit after = sym d ∙ n in let l : ⊥ = cc in l)
   found-call from (Ends paragraph) entry exit after e d n = absurd (let k : lang.Ends paragraph ≡ lang.Calls entry exit after = sym d ∙ n in let l : ⊥ = cc in l)
 
-  found-end : (from : ℕ) (place : Place) (paragraph : ℕ) → slice_get table.places from ≡ Some place → Describes table points place (next never_first program (points from)) → next never_first program (points from) ≡ lang.Ends paragraph →
+  found-end : (from : ℕ) (place : ProgramPoint) (paragraph : ℕ) → slice_get table.places from ≡ Some place → Describes table points place (next never_first program (points from)) → next never_first program (points from) ≡ lang.Ends paragraph →
       slice_get table.places from ≡ Some (Ends paragraph)
   found-end from (Goes j) paragraph e d n = absurd (let k : lang.Ways (Some (points j) ∷ []) ≡ lang.Ends paragraph = sym d.0 ∙ n in let l : ⊥ = cc in l)
   found-end from (Chooses js) paragraph e d n = absurd (let k : lang.Ways (map (λ (way : Option ℕ). option_map points way) js) ≡ lang.Ends paragraph = sym d.0 ∙ n in let l : ⊥ = cc in l)

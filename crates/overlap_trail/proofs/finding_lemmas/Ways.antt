@@ -3,7 +3,7 @@ use Rattle.std.proofs.Common.{◌≡◌, ◌+◌, ◌<◌, ◌≤◌, ℕ, zero,
 use Rattle.program_points.specs.paths.Step.{only, no_way}
 use Rattle.pending_returns.proofs.levels_lemmas.Searching.{before-or-now}
 use Rattle.pending_returns.proofs.faults_lemmas.Standing.{get-below}
-use Rattle.overlap_trail.specs.finding.Routes.{is_there}
+use Rattle.overlap_trail.specs.finding.Search.{is_there}
 
 -- of the first ways none is there, or one alone
 abbrev pub AloneSoFar : List (Option ℕ) → ℕ → Bool → Type 0

@@ -1,13 +1,13 @@
 //! The ranges of a trail's hops.
 
 ghost use Rattle.std.specs.Prelude.{◌∷◌, ◌++◌, ◌≡◌, ◌<◌, ◌↔◌, ℕ, length, slice_get, Some, IfOk, OnOk, IsTrue, MatchOption};
-ghost use Rattle.pending_returns.specs.levels.Reaching.{Holds, IsMarked};
+ghost use Rattle.pending_returns.specs.levels.Reach.{Holds, IsMarked};
 ghost use Rattle.pending_returns.specs.Tabled.{AllBelow, AddsCalls, CallsBelow};
-ghost use Rattle.pending_returns.specs.faults.Clashing.{LeadsFrom, HasClash};
-ghost use Rattle.overlap_trail.specs.finding.Routes.{Tracks, GoBack};
-ghost use Rattle.overlap_trail.specs.finding.Chains.{ByCall, TracesCalls, Along, WentTo, EndsAmong, IsChain, IsLevels, HasWay};
+ghost use Rattle.pending_returns.specs.faults.Clash.{LeadsFrom, HasClash};
+ghost use Rattle.overlap_trail.specs.finding.Search.{Tracks, GoBack};
+ghost use Rattle.overlap_trail.specs.finding.Chain.{ByCall, TracesCalls, Along, WentTo, EndsAmong, IsChain, IsLevels, HasWay};
 
-use crate::finding::route::{Came, Route};
+use crate::finding::search::{Predecessor, SearchTree};
 use cob_base::NoMemory;
 use cob_tree::{FlowFault, Range};
 use pending_returns::faults::Clash;
@@ -17,13 +17,13 @@ use std::alloc::Global;
 
 /// The ranges of the hops, main first, with the fault that the last one's level does.
 #[derive(Debug, Drop)]
-pub struct Chain {
+pub struct CallChain {
     pub ranges: Vec<Range>,
     pub fault: FlowFault,
 }
 
 /// Comes to the ranges with these numbers, from the one that was come to as this one.
-fn come_by_calls(route: &mut Route, calls: &[u32], before: u32) -> Result<(), NoMemory>
+fn come_by_calls(route: &mut SearchTree, calls: &[u32], before: u32) -> Result<(), NoMemory>
     requires marked { IsMarked route.old.reach.places.items route.old.reach.marks.items }
     requires below { AllBelow (length route.old.reach.marks.items) calls.now }
     requires size { length route.old.came.items ≡ length route.old.reach.places.items }
@@ -36,7 +36,7 @@ fn come_by_calls(route: &mut Route, calls: &[u32], before: u32) -> Result<(), No
         route.old.came.items route.new.came.items) }
 {
     visit_calls(&mut route.reach, calls)?;
-    let came = Came {
+    let came = Predecessor {
         before,
         moved: None,
     };
@@ -47,7 +47,7 @@ fn come_by_calls(route: &mut Route, calls: &[u32], before: u32) -> Result<(), No
 }
 
 /// The ranges to which calls lead from this one, with how each was come to.
-fn led_from(alloc: Global, levels: &[RangeFacts], base: u32) -> Result<Route, NoMemory>
+fn led_from(alloc: Global, levels: &[RangeFacts], base: u32) -> Result<SearchTree, NoMemory>
     requires base { base < length levels.now }
     requires known { CallsBelow (length levels.now) levels.now }
     ensures led { IfOk result (λ route. (number : ℕ) →
@@ -55,8 +55,8 @@ fn led_from(alloc: Global, levels: &[RangeFacts], base: u32) -> Result<Route, No
     ensures traces { IfOk result (λ route.
         TracesCalls levels.now base route.reach.places.items route.came.items) }
 {
-    let mut route = Route::new(alloc, levels.len())?;
-    let came = Came {
+    let mut route = SearchTree::new(alloc, levels.len())?;
+    let came = Predecessor {
         before: 0,
         moved: None,
     };
@@ -86,7 +86,12 @@ fn place_in(numbers: &[u32], number: u32) -> Option<usize>
 }
 
 /// The places that were come to behind the first one, up to this one.
-fn way_to(alloc: Global, came: &[Came], places: &[u32], at: usize) -> Result<Vec<u32>, NoMemory>
+fn way_to(
+    alloc: Global,
+    came: &[Predecessor],
+    places: &[u32],
+    at: usize,
+) -> Result<Vec<u32>, NoMemory>
     requires back { GoBack came.now }
     requires there { at < length came.now }
     requires size { length came.now ≡ length places.now }
@@ -162,7 +167,7 @@ fn cut(
     levels: &[RangeFacts],
     path: &[u32],
     fault: FlowFault,
-) -> Result<Chain, NoMemory>
+) -> Result<CallChain, NoMemory>
     requires levels { IsLevels levels.now }
     requires below { AllBelow (length levels.now) path.now }
     requires way { HasWay levels.now path.now fault }
@@ -173,7 +178,7 @@ fn cut(
         let range = levels[path[at] as usize].range;
         match pending_end(ranges.as_slice(), range) {
             Some(end) => {
-                return Ok(Chain {
+                return Ok(CallChain {
                     ranges,
                     fault: FlowFault::Reentry(end),
                 });
@@ -182,7 +187,7 @@ fn cut(
         }
         ranges.push(range)?;
     }
-    Ok(Chain { ranges, fault })
+    Ok(CallChain { ranges, fault })
 }
 
 /// Main, and behind it these ranges and then those.
@@ -197,7 +202,7 @@ fn main_then(alloc: Global, front: &[u32], back: &[u32]) -> Result<Vec<u32>, NoM
 }
 
 /// The chain that shows the clash.
-pub fn chain_of(alloc: Global, levels: &[RangeFacts], clash: Clash) -> Result<Chain, NoMemory>
+pub fn chain_of(alloc: Global, levels: &[RangeFacts], clash: Clash) -> Result<CallChain, NoMemory>
     requires levels { IsLevels levels.now }
     requires clash { HasClash levels.now clash }
     requires leads { LeadsFrom levels.now 0 clash.base }

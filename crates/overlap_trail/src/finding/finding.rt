@@ -3,15 +3,15 @@
 ghost use Rattle.std.specs.Prelude.{IfOk, MatchOption};
 ghost use Rattle.control_flow_theory.specs.language.Control.{control_of};
 ghost use Rattle.program_points.specs.paths.Flow.{IsFaulty};
-ghost use Rattle.program_points.specs.numbering.Kinds.{never_first_of};
+ghost use Rattle.program_points.specs.numbering.Kind.{never_first_of};
 ghost use Rattle.pending_returns.specs.Summary.{IsSummary};
-ghost use Rattle.pending_returns.specs.faults.Clashing.{HasClash};
+ghost use Rattle.pending_returns.specs.faults.Clash.{HasClash};
 ghost use Rattle.overlap_trail.specs.finding.Finding.{IsFound};
 
 use crate::finding::chain::chain_of;
 use crate::finding::hops::hops_of;
-use crate::finding::known::{Known, known_of};
-use crate::finding::short::shortened;
+use crate::finding::pruning::shortened;
+use crate::finding::return_lemmas::{ReturnLemmas, known_of};
 use cob_base::NoMemory;
 use cob_tree::Program;
 use pending_returns::Summary;
@@ -37,7 +37,7 @@ pub fn found(
     let chain = chain_of(alloc, summary.ranges.as_slice(), clash)?;
     let ranges = ranges_of(alloc, program)?;
     let table = table_of(alloc, program, ranges)?;
-    let Known { lemmas, numbers } = known_of(alloc, &table)?;
+    let ReturnLemmas { lemmas, numbers } = known_of(alloc, &table)?;
     let hops = hops_of(alloc, &table, numbers.as_slice(), &chain)?;
     Ok(Trail {
         fault: chain.fault,

@@ -4,12 +4,12 @@ ghost use Rattle.std.specs.Prelude.{[], ◌∷◌, ◌++◌, ◌≡◌, ◌<◌,
 ghost use Rattle.cob_tree.specs.declared.program.Range.{Range};
 ghost use Rattle.program_points.specs.declared.paths.trail.Move.TheVariants.{Into};
 ghost use Rattle.program_points.specs.point_table.Table.{IsTidy};
-ghost use Rattle.overlap_trail.specs.finding.Aims.{IsMetSomewhere};
-ghost use Rattle.overlap_trail.specs.finding.Routes.{flags_of};
-ghost use Rattle.overlap_trail.specs.finding.Hopping.{aim_at, HopsCome};
+ghost use Rattle.overlap_trail.specs.finding.Goal.{IsMetSomewhere};
+ghost use Rattle.overlap_trail.specs.finding.Search.{flags_of};
+ghost use Rattle.overlap_trail.specs.finding.Hops.{aim_at, HopsCome};
 
-use crate::finding::aim::{Aim, Found, route_to};
-use crate::finding::chain::Chain;
+use crate::finding::chain::CallChain;
+use crate::finding::goal::{SearchGoal, SearchOutcome, route_to};
 use cob_base::{Items, NoMemory};
 use cob_tree::FlowFault;
 use program_points::paths::{Hop, Move};
@@ -17,15 +17,15 @@ use program_points::point_table::Table;
 use std::alloc::Global;
 
 /// What the level with this number is followed to.
-fn aim_of(chain: &Chain, number: usize) -> Aim
+fn aim_of(chain: &CallChain, number: usize) -> SearchGoal
     requires { number < length chain.now.ranges.items }
     ensures { result ≡ aim_at chain.now.ranges.items chain.now.fault number }
 {
     match chain.ranges.get(number + 1) {
-        Some(later) => Aim::Enter(*later),
+        Some(later) => SearchGoal::Enter(*later),
         None => match chain.fault {
-            FlowFault::Overlap(paragraph) => Aim::End(paragraph),
-            FlowFault::Reentry(paragraph) => Aim::Ending(paragraph),
+            FlowFault::Overlap(paragraph) => SearchGoal::End(paragraph),
+            FlowFault::Reentry(paragraph) => SearchGoal::Ending(paragraph),
         },
     }
 }
@@ -47,7 +47,7 @@ pub fn hops_of(
     alloc: Global,
     table: &Table,
     numbers: &[Option<u32>],
-    chain: &Chain,
+    chain: &CallChain,
 ) -> Result<Items<Hop>, NoMemory>
     requires tidy { IsTidy table.now }
     requires known { length table.now.ranges ≤ length numbers.now }
@@ -64,12 +64,12 @@ pub fn hops_of(
         let range = chain.ranges[number];
         let aim = aim_of(chain, number);
         match route_to(alloc, table, numbers, range, aim)? {
-            Found::Moves(found) => {
+            SearchOutcome::Moves(found) => {
                 let moves = entering(found, number + 1 < count)?;
                 hops.push(Hop { range, moves })?;
             }
             // Each level comes to its aim.
-            Found::Nowhere(_) => return Ok(hops),
+            SearchOutcome::Nowhere(_) => return Ok(hops),
         }
     }
     Ok(hops)

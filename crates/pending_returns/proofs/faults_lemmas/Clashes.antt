@@ -10,15 +10,15 @@ use Rattle.program_points.specs.paths.Flow.{main_range, part, is_exit, Pending, 
 use Rattle.program_points.specs.paths.Levels.{Comes, Levels, bottom, called}
 use Rattle.program_points.proofs.paths_lemmas.Runs.{stands, levels-run}
 use Rattle.program_points.proofs.paths_lemmas.Faults.{frees, faulty}
-use Rattle.pending_returns.specs.levels.Reaching.{Holds}
+use Rattle.pending_returns.specs.levels.Reach.{Holds}
 use Rattle.pending_returns.proofs.levels_lemmas.Exact.{path-comes, comes-path}
 use Rattle.pending_returns.specs.declared.facts.RangeFacts.{RangeFacts}
 use Rattle.pending_returns.specs.declared.facts.Summary.{Summary}
 use Rattle.pending_returns.specs.Summary.{IsSummary}
 use Rattle.pending_returns.specs.Tabled.{CallsBelow}
 use Rattle.pending_returns.specs.declared.faults.clash.Clash.{Clash}
-use Rattle.pending_returns.specs.faults.Clashing.{LeadsFrom, HasClash, NoClash}
-use Rattle.pending_returns.specs.faults.Clashing as clashing
+use Rattle.pending_returns.specs.faults.Clash.{LeadsFrom, HasClash, NoClash}
+use Rattle.pending_returns.specs.faults.Clash as clashing
 
 still : (b c : Bool) → c ≡ true → (if b then true else c) ≡ true
 still true c h = refl

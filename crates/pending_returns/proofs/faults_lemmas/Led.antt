@@ -1,11 +1,11 @@
 -- Where calls lead.
 use Rattle.std.proofs.Common.{◌≡◌, ◌+◌, ◌<◌, ◌≤◌, ℕ, Bool, true, List, [], length, Some, slice_get, ap, sym, ◌∙◌, subst, inl, inr, arith}
 use Rattle.std.proofs.lemmas.Option.{slice_get_within}
-use Rattle.pending_returns.specs.levels.Reaching.{Holds, IsMarked, Adds}
+use Rattle.pending_returns.specs.levels.Reach.{Holds, IsMarked, Adds}
 use Rattle.pending_returns.specs.declared.facts.RangeFacts.{RangeFacts}
 use Rattle.pending_returns.specs.Tabled.{AllBelow, AddsCalls, CallsBelow}
-use Rattle.pending_returns.specs.faults.Clashing.{LeadsFrom}
-use Rattle.pending_returns.specs.faults.Clashing as clashing
+use Rattle.pending_returns.specs.faults.Clash.{LeadsFrom}
+use Rattle.pending_returns.specs.faults.Clash as clashing
 use Rattle.pending_returns.proofs.faults_lemmas.Standing.{get-below, get-some, before-or-now}
 
 -- the ranges so far: those that were looked at have all that they perform among them

@@ -1,12 +1,12 @@
 -- What stands where in a list, and what the first of a list don't do.
 use Rattle.std.proofs.Common.{◌≡◌, ◌+◌, ◌<◌, ◌≤◌, ◌↔◌, ℕ, zero, suc, true, false, List, [], ◌∷◌, length, Option, Some, None, Result, Ok, Err, slice_get, refl, ap, sym, ◌∙◌, subst, ◌⊎◌, inl, inr, eqb-true, eq-eqb, arith}
 use Rattle.program_points.specs.paths.Flow.{is_exit}
-use Rattle.pending_returns.specs.levels.Reaching.{Holds}
+use Rattle.pending_returns.specs.levels.Reach.{Holds}
 use Rattle.pending_returns.specs.declared.facts.RangeFacts.{RangeFacts}
 use Rattle.std.specs.Prelude.{MatchOption, IfOk}
 use Rattle.cob_base.specs.declared.memory.NoMemory.{NoMemory}
 use Rattle.pending_returns.specs.declared.faults.clash.Clash.{Clash}
-use Rattle.pending_returns.specs.faults.Clashing.{LeadsFrom, EndsOne, IsFine, IsClash, HasClash, NoneBelow, NoneFrom, NoClash}
+use Rattle.pending_returns.specs.faults.Clash.{LeadsFrom, EndsOne, IsFine, IsClash, HasClash, NoneBelow, NoneFrom, NoClash}
 
 pub get-below : {A : Type 0} → (xs : List A) (at : ℕ) (x : A) → slice_get xs at ≡ Some x → at < length xs
 get-below [] at x e = absurd (let k : ⊥ = cc in k)

@@ -8,11 +8,11 @@ use Rattle.program_points.specs.paths.Flow.{part, Pending, FreePath, ReturnsIn, 
 use Rattle.program_points.specs.paths.Levels.{Comes, Levels, bottom, called}
 use Rattle.program_points.specs.paths.Levels as level
 use Rattle.program_points.proofs.paths_lemmas.Runs.{stands, levels-run}
-use Rattle.program_points.specs.declared.point_table.table.Place.{Place}
-use Rattle.program_points.specs.declared.point_table.table.Place.TheVariants.{Goes, Chooses, Calls, Stops, Ends}
+use Rattle.program_points.specs.declared.point_table.table.ProgramPoint.{ProgramPoint}
+use Rattle.program_points.specs.declared.point_table.table.ProgramPoint.TheVariants.{Goes, Chooses, Calls, Stops, Ends}
 use Rattle.program_points.specs.declared.point_table.table.Table.{Table}
 use Rattle.program_points.specs.point_table.Table.{AllBelow, Describes, IsTable, ComesIn, enters, goes, chooses, over, falls, IsSound, IsClosed}
-use Rattle.pending_returns.specs.levels.Reaching.{IsReach, IsCalled, IsEnded}
+use Rattle.pending_returns.specs.levels.Reach.{IsReach, IsCalled, IsEnded}
 
 -- a level alone
 
@@ -28,7 +28,7 @@ path-comes never_first program range point path =
 pub comes-path : (never_first : Chooser → Bool) (program : Program) (range : Range) (point : Point) → Comes never_first program range point → FreePath never_first program range point []
 comes-path never_first program range point comes = levels-run never_first program range range [] bottom point comes
 
-there : (places : List Place) (number : ℕ) → number < length places → (place : Place) × (slice_get places number ≡ Some place)
+there : (places : List ProgramPoint) (number : ℕ) → number < length places → (place : ProgramPoint) × (slice_get places number ≡ Some place)
 there [] number lt = absurd (omega arith)
 there (place ∷ places) zero lt = (place, refl)
 there (place ∷ places) (suc number) lt = there places number (omega arith)
@@ -72,10 +72,10 @@ module _ (never_first : Chooser → Bool) (program : Program) (table : Table) (p
   abbrev Found : Range → Point → Type 0
   Found range point = (place : ℕ) × ComesIn table returns range place × (points place ≡ point) × (place < length table.places)
 
-  place-at : (number : ℕ) → number < length table.places → (place : Place) × (slice_get table.places number ≡ Some place)
+  place-at : (number : ℕ) → number < length table.places → (place : ProgramPoint) × (slice_get table.places number ≡ Some place)
   place-at number lt = there table.places number lt
 
-  found-way : (range : Range) (from : ℕ) (place : Place) (ways : List (Option Point)) (number : ℕ) (to : Point) → ComesIn table returns range from → slice_get table.places from ≡ Some place → Describes table points place (next never_first program (points from)) →
+  found-way : (range : Range) (from : ℕ) (place : ProgramPoint) (ways : List (Option Point)) (number : ℕ) (to : Point) → ComesIn table returns range from → slice_get table.places from ≡ Some place → Describes table points place (next never_first program (points from)) →
       next never_first program (points from) ≡ lang.Ways ways → way_at ways number ≡ Some to → Found range to
   found-way range from (Goes j) ways number to c e d n w =
       let same : Some (points j) ∷ [] ≡ ways = (let k : lang.Ways (Some (points j) ∷ []) ≡ lang.Ways ways = sym d.0 ∙ n in cc) in
@@ -89,7 +89,7 @@ module _ (never_first : Chooser → Bool) (program : Program) (table : Table) (p
   found-way range from Stops ways number to c e d n w = absurd (let k : lang.Stops ≡ lang.Ways ways = sym d ∙ n in let l : ⊥ = cc in l)
   found-way range from (Ends paragraph) ways number to c e d n w = absurd (let k : lang.Ends paragraph ≡ lang.Ways ways = sym d ∙ n in let l : ⊥ = cc in l)
 
-  found-call : (from : ℕ) (place : Place) (entry exit : ℕ) (after : Point) → slice_get table.places from ≡ Some place → Describes table points place (next never_first program (points from)) → next never_first program (points from) ≡ lang.Calls entry exit after →
+  found-call : (from : ℕ) (place : ProgramPoint) (entry exit : ℕ) (after : Point) → slice_get table.places from ≡ Some place → Describes table points place (next never_first program (points from)) → next never_first program (points from) ≡ lang.Calls entry exit after →
       (number : ℕ) × (to : ℕ) × (slice_get table.places from ≡ Some (Calls number to)) × (slice_get table.ranges number ≡ Some (part entry exit)) × (points to ≡ after) × (to < length table.places)
   found-call from (Goes j) entry exit after e d n = absurd (let k : lang.Ways (Some (points j) ∷ []) ≡ lang.Calls entry exit after = sym d.0 ∙ n in let l : ⊥ = cc in l)
   found-call from (Chooses js) entry exit after e d n = absurd (let k : lang.Ways (map (λ (way : Option ℕ). option_map points way) js) ≡ lang.Calls entry exit after = sym d.0 ∙ n in let l : ⊥ = cc in l)
@@ -102,7 +102,7 @@ module _ (never_first : Chooser → Bool) (program : Program) (table : Table) (p
   found-call from Stops entry exit after e d n = absurd (let k : lang.Stops ≡ lang.Calls entry exit after = sym d ∙ n in let l : ⊥ = cc in l)
   found-call from (Ends paragraph) entry exit after e d n = absurd (let k : lang.Ends paragraph ≡ lang.Calls entry exit after = sym d ∙ n in let l : ⊥ = cc in l)
 
-  found-end : (from : ℕ) (place : Place) (paragraph : ℕ) → slice_get table.places from ≡ Some place → Describes table points place (next never_first program (points from)) → next never_first program (points from) ≡ lang.Ends paragraph →
+  found-end : (from : ℕ) (place : ProgramPoint) (paragraph : ℕ) → slice_get table.places from ≡ Some place → Describes table points place (next never_first program (points from)) → next never_first program (points from) ≡ lang.Ends paragraph →
       slice_get table.places from ≡ Some (Ends paragraph)
   found-end from (Goes j) paragraph e d n = absurd (let k : lang.Ways (Some (points j) ∷ []) ≡ lang.Ends paragraph = sym d.0 ∙ n in let l : ⊥ = cc in l)
   found-end from (Chooses js) paragraph e d n = absurd (let k : lang.Ways (map (λ (way : Option ℕ). option_map points way) js) ≡ lang.Ends paragraph = sym d.0 ∙ n in let l : ⊥ = cc in l)

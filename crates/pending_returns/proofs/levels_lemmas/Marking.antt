@@ -2,11 +2,11 @@
 use Rattle.std.proofs.Common.{◌≡◌, ◌+◌, ◌<◌, ◌≤◌, ℕ, zero, suc, Bool, true, false, List, [], ◌∷◌, ◌++◌, length, set, get_or, Option, Some, None, slice_get, refl, ap, sym, ◌∙◌, subst, ◌⊎◌, inl, inr, arith, OnOk, Result, Ok, Err, eqb, eqb-true, eq-eqb}
 use Rattle.std.proofs.lemmas.Option.{slice_get_read, slice_get-get_or, slice_get_within}
 use Rattle.cob_tree.specs.declared.program.Range.{Range}
-use Rattle.program_points.specs.declared.point_table.table.Place.{Place}
-use Rattle.program_points.specs.declared.point_table.table.Place.TheVariants.{Chooses}
+use Rattle.program_points.specs.declared.point_table.table.ProgramPoint.{ProgramPoint}
+use Rattle.program_points.specs.declared.point_table.table.ProgramPoint.TheVariants.{Chooses}
 use Rattle.program_points.specs.declared.point_table.table.Table.{Table}
 use Rattle.program_points.specs.point_table.Table.{AllBelow}
-use Rattle.pending_returns.specs.levels.Reaching.{Holds, IsMarked, Adds, AddsNext, AddsAll, AddsSome, Succeeds}
+use Rattle.pending_returns.specs.levels.Reach.{Holds, IsMarked, Adds, AddsNext, AddsAll, AddsSome, Succeeds}
 
 get-front : (xs ys : List ℕ) (at x : ℕ) → slice_get xs at ≡ Some x → slice_get (xs ++ ys) at ≡ Some x
 get-front [] ys at x e = absurd (let k : ⊥ = cc in k)
@@ -84,14 +84,14 @@ pub mark-at : (marks : List Bool) (place : ℕ) (mark : Bool) → place < length
 mark-at marks place mark lt e = slice_get_read marks (length marks) place mark refl lt e
 
 -- what is added by way of one place
-pub one-next : (table : Table) (returns : List Bool) (range : Range) (place : Place) (before after : List ℕ) (to : ℕ) → Adds before after to → Succeeds table returns range place to → ((next : ℕ) → Succeeds table returns range place next → next ≡ to) → AddsNext table returns range place before after
+pub one-next : (table : Table) (returns : List Bool) (range : Range) (place : ProgramPoint) (before after : List ℕ) (to : ℕ) → Adds before after to → Succeeds table returns range place to → ((next : ℕ) → Succeeds table returns range place next → next ≡ to) → AddsNext table returns range place before after
 one-next table returns range place before after to adds succeeds only = record {
   added = λ next s. subst (λ (n : ℕ). Holds after n) (sym (only next s)) adds.added;
   kept = adds.kept;
   only = λ other h. elim (adds.only other h) [ inl old ↦ inl old | inr same ↦ inr (subst (λ (n : ℕ). Succeeds table returns range place n) (sym same) succeeds) ];
 }
 
-pub none-next : (table : Table) (returns : List Bool) (range : Range) (place : Place) (places : List ℕ) → ((next : ℕ) → Succeeds table returns range place next → ⊥) → AddsNext table returns range place places places
+pub none-next : (table : Table) (returns : List Bool) (range : Range) (place : ProgramPoint) (places : List ℕ) → ((next : ℕ) → Succeeds table returns range place next → ⊥) → AddsNext table returns range place places places
 none-next table returns range place places none = record { added = λ next s. absurd (none next s); kept = λ at other e. e; only = λ other h. inl h }
 
 pub all-next : (table : Table) (returns : List Bool) (range : Range) (ways : List (Option ℕ)) (before after : List ℕ) → AddsAll ways before after → AddsNext table returns range (Chooses ways) before after

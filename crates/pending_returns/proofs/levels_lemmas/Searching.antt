@@ -5,14 +5,14 @@ use Rattle.std.proofs.lemmas.Option.{slice_get_within, slice_get_read, slice_get
 use Rattle.std.proofs.lemmas.Map.Keys.{IsDistinct-cons}
 use Rattle.std.proofs.lemmas.Map.Steps.{length-le_from_distinct_below}
 use Rattle.cob_tree.specs.declared.program.Range.{Range}
-use Rattle.program_points.specs.declared.point_table.table.Place.{Place}
-use Rattle.program_points.specs.declared.point_table.table.Place.TheVariants.{Goes, Chooses, Calls, Stops, Ends}
+use Rattle.program_points.specs.declared.point_table.table.ProgramPoint.{ProgramPoint}
+use Rattle.program_points.specs.declared.point_table.table.ProgramPoint.TheVariants.{Goes, Chooses, Calls, Stops, Ends}
 use Rattle.program_points.specs.declared.point_table.table.Table.{Table}
 use Rattle.control_flow_theory.specs.language.Language.{Chooser, Program}
 use Rattle.program_points.specs.paths.Step.{Point}
 use Rattle.program_points.specs.paths.Flow.{ReturnsIn}
 use Rattle.program_points.specs.point_table.Table.{AllBelow, IsTable, IsTidy, IsSound, ReturnsHere, ComesIn, enters, goes, chooses, over, falls}
-use Rattle.pending_returns.specs.levels.Reaching.{Holds, IsMarked, Adds, AddsNext, Succeeds, IsSoFar, IsReach, trues}
+use Rattle.pending_returns.specs.levels.Reach.{Holds, IsMarked, Adds, AddsNext, Succeeds, IsSoFar, IsReach, trues}
 use Rattle.pending_returns.proofs.levels_lemmas.Exact.{comes-path, comes-in}
 
 pub no-mark : (count place : ℕ) → slice_get (replicate count false) place ≡ Some true → ⊥
@@ -74,7 +74,7 @@ few places marks is =
     (λ place e. slice_get_within marks place true (is.marked place (any-holds places place e)))
 
 module _ (table : Table) (returns : List Bool) (range : Range) where
-  next-comes : (from next : ℕ) (place : Place) → ComesIn table returns range from → slice_get table.places from ≡ Some place → Succeeds table returns range place next → ComesIn table returns range next
+  next-comes : (from next : ℕ) (place : ProgramPoint) → ComesIn table returns range from → slice_get table.places from ≡ Some place → Succeeds table returns range place next → ComesIn table returns range next
   next-comes from next (Goes to) c e s = goes from next c (e ∙ ap (λ (n : ℕ). Some (Goes n)) (sym s))
   next-comes from next (Chooses ways) c e s = chooses from next s.0 ways c e s.1
   next-comes from next (Calls called after) c e s = over from next called c (e ∙ ap (λ (n : ℕ). Some (Calls called n)) (sym s.1)) s.0
@@ -102,7 +102,7 @@ module _ (table : Table) (returns : List Bool) (range : Range) where
     done = λ number from place next lt e1 e2 s. absurd (omega arith);
   }
 
-  pub go-on : (places later : List ℕ) (marks more : List Bool) (at here : ℕ) (place : Place) → IsSoFar table returns range places marks at → at < length places → slice_get places at ≡ Some here → slice_get table.places here ≡ Some place →
+  pub go-on : (places later : List ℕ) (marks more : List Bool) (at here : ℕ) (place : ProgramPoint) → IsSoFar table returns range places marks at → at < length places → slice_get places at ≡ Some here → slice_get table.places here ≡ Some place →
       AddsNext table returns range place places later → IsMarked later more → length more ≡ length marks → IsSoFar table returns range later more (at + 1)
   go-on places later marks more at here place so lt is_here is_place adds marked size =
       let kept : (other : ℕ) → Holds places other → Holds later other = λ other h. (h.0, adds.kept h.0 other h.1) in
@@ -148,8 +148,8 @@ module _ (table : Table) (returns : List Bool) (range : Range) where
   pub all-reached : (places : List ℕ) (marks : List Bool) (at : ℕ) → IsSoFar table returns range places marks at → length places ≤ at → IsReach table returns range places
   all-reached places marks at so le = (so.sound, complete places marks at so le)
 
-pub at-place : (xs ys : List Place) (number : ℕ) (place : Place) → xs ≡ ys → number < length xs → place ≡ get_or xs number place → slice_get ys number ≡ Some place
-at-place xs ys number place same lt is = ap (λ (ps : List Place). slice_get ps number) (sym same) ∙ slice_get_read xs (length xs) number place refl lt is
+pub at-place : (xs ys : List ProgramPoint) (number : ℕ) (place : ProgramPoint) → xs ≡ ys → number < length xs → place ≡ get_or xs number place → slice_get ys number ≡ Some place
+at-place xs ys number place same lt is = ap (λ (ps : List ProgramPoint). slice_get ps number) (sym same) ∙ slice_get_read xs (length xs) number place refl lt is
 
 -- which ranges return
 

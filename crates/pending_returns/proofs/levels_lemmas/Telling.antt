@@ -3,10 +3,10 @@ use Rattle.std.proofs.Common.{◌≡◌, ◌+◌, ◌<◌, ◌≤◌, ℕ, false
 use Rattle.std.proofs.lemmas.Option.{slice_get_within}
 use Rattle.cob_tree.specs.declared.program.Range.{Range}
 use Rattle.program_points.specs.paths.Flow.{is_exit}
-use Rattle.program_points.specs.declared.point_table.table.Place.{Place}
-use Rattle.program_points.specs.declared.point_table.table.Place.TheVariants.{Calls, Ends}
+use Rattle.program_points.specs.declared.point_table.table.ProgramPoint.{ProgramPoint}
+use Rattle.program_points.specs.declared.point_table.table.ProgramPoint.TheVariants.{Calls, Ends}
 use Rattle.program_points.specs.declared.point_table.table.Table.{Table}
-use Rattle.pending_returns.specs.levels.Reaching.{Holds, Adds, IsCalled, IsEnded, GathersCalls, GathersEnds, GathersAllCalls, GathersAllEnds}
+use Rattle.pending_returns.specs.levels.Reach.{Holds, Adds, IsCalled, IsEnded, GathersCalls, GathersEnds, GathersAllCalls, GathersAllEnds}
 use Rattle.pending_returns.proofs.levels_lemmas.Searching.{before-or-now}
 
 holds-after : (before after : List ℕ) (number : ℕ) → ((at other : ℕ) → slice_get before at ≡ Some other → slice_get after at ≡ Some other) → Holds before number → Holds after number
@@ -36,7 +36,7 @@ module _ (table : Table) (places : List ℕ) where
     ];
   }
 
-  pub calls-skip : (calls : List ℕ) (index here : ℕ) (place : Place) → GathersCalls table places calls index → slice_get places index ≡ Some here → slice_get table.places here ≡ Some place → ((range after : ℕ) → place ≡ Calls range after → ⊥) → GathersCalls table places calls (index + 1)
+  pub calls-skip : (calls : List ℕ) (index here : ℕ) (place : ProgramPoint) → GathersCalls table places calls index → slice_get places index ≡ Some here → slice_get table.places here ≡ Some place → ((range after : ℕ) → place ≡ Calls range after → ⊥) → GathersCalls table places calls (index + 1)
   calls-skip calls index here place so e f none = record {
     sound = so.sound;
     done = λ at other range after less g h. elim (before-or-now at index less) [
@@ -80,7 +80,7 @@ module _ (table : Table) (range : Range) (places : List ℕ) where
     ];
   }
 
-  pub ends-skip : (ends : List ℕ) (index here : ℕ) (place : Place) → GathersEnds table range places ends index → slice_get places index ≡ Some here → slice_get table.places here ≡ Some place → ((paragraph : ℕ) → place ≡ Ends paragraph → is_exit range.exit paragraph ≡ false → ⊥) → GathersEnds table range places ends (index + 1)
+  pub ends-skip : (ends : List ℕ) (index here : ℕ) (place : ProgramPoint) → GathersEnds table range places ends index → slice_get places index ≡ Some here → slice_get table.places here ≡ Some place → ((paragraph : ℕ) → place ≡ Ends paragraph → is_exit range.exit paragraph ≡ false → ⊥) → GathersEnds table range places ends (index + 1)
   ends-skip ends index here place so e f none = record {
     sound = so.sound;
     done = λ at other paragraph less g h out. elim (before-or-now at index less) [

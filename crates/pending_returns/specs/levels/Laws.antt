@@ -6,7 +6,7 @@ use Rattle.program_points.specs.paths.Step.{Point}
 use Rattle.program_points.specs.paths.Flow.{FreePath, ReturnsIn, CallsIn, EndsIn}
 use Rattle.program_points.specs.declared.point_table.table.Table.{Table}
 use Rattle.program_points.specs.point_table.Table.{IsTable, ComesIn, IsSound, IsClosed}
-use Rattle.pending_returns.specs.levels.Reaching.{IsReach, IsCalled, IsEnded}
+use Rattle.pending_returns.specs.levels.Reach.{IsReach, IsCalled, IsEnded}
 
 abbrev pub TableIsExact : Type 0
 TableIsExact = (never_first : Chooser → Bool) (program : Program) (table : Table) (points : ℕ →

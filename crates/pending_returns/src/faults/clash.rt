@@ -3,14 +3,14 @@
 ghost use Rattle.std.specs.Prelude.{◌≡◌, ◌<◌, length, IfOk, MatchOption};
 ghost use Rattle.control_flow_theory.specs.language.Control.{control_of};
 ghost use Rattle.program_points.specs.paths.Flow.{IsFaulty};
-ghost use Rattle.program_points.specs.numbering.Kinds.{never_first_of};
-ghost use Rattle.pending_returns.specs.levels.Reaching.{IsMarked};
+ghost use Rattle.program_points.specs.numbering.Kind.{never_first_of};
+ghost use Rattle.pending_returns.specs.levels.Reach.{IsMarked};
 ghost use Rattle.pending_returns.specs.Summary.{IsSummary};
 ghost use Rattle.pending_returns.specs.Tabled.{CallsBelow};
-ghost use Rattle.pending_returns.specs.faults.Clashing.{IsClash, HasClash, NoneBelow, NoneFrom, NoClash};
+ghost use Rattle.pending_returns.specs.faults.Clash.{IsClash, HasClash, NoneBelow, NoneFrom, NoClash};
 
 use crate::faults::fault::fault_at;
-use crate::faults::leading::led_from;
+use crate::faults::leading::callees_from;
 use crate::levels::Reach;
 use crate::{RangeFacts, Summary, number_of};
 use cob_base::NoMemory;
@@ -41,7 +41,7 @@ pub fn clash_below(
     ensures marked { IsMarked reach.new.places.items reach.new.marks.items }
     ensures size { length reach.new.marks.items ≡ length levels.now }
 {
-    led_from(reach, levels, base)?;
+    callees_from(reach, levels, base)?;
     for at in 0..reach.places.len() {
         let last = reach.places[at];
         match fault_at(levels, &levels[last as usize], end) {

@@ -1,9 +1,9 @@
 //! What a level does where a range that ends at some paragraph is pending.
 
 ghost use Rattle.std.specs.Prelude.{◌↔◌, length, IsTrue, MatchOption};
-ghost use Rattle.pending_returns.specs.levels.Reaching.{Holds};
+ghost use Rattle.pending_returns.specs.levels.Reach.{Holds};
 ghost use Rattle.pending_returns.specs.Tabled.{AllBelow};
-ghost use Rattle.pending_returns.specs.faults.Clashing.{EndsOne, FaultsAt, IsFine};
+ghost use Rattle.pending_returns.specs.faults.Clash.{EndsOne, FaultsAt, IsFine};
 
 use crate::RangeFacts;
 use crate::levels::ends_at;

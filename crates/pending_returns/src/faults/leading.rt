@@ -1,9 +1,9 @@
 //! The ranges to which calls lead.
 
 ghost use Rattle.std.specs.Prelude.{ℕ, ◌≡◌, ◌<◌, ◌↔◌, length, OnOk};
-ghost use Rattle.pending_returns.specs.levels.Reaching.{Holds, IsMarked};
+ghost use Rattle.pending_returns.specs.levels.Reach.{Holds, IsMarked};
 ghost use Rattle.pending_returns.specs.Tabled.{CallsBelow};
-ghost use Rattle.pending_returns.specs.faults.Clashing.{LeadsFrom};
+ghost use Rattle.pending_returns.specs.faults.Clash.{LeadsFrom};
 
 use crate::levels::Reach;
 use crate::{RangeFacts, visit_calls};
@@ -11,7 +11,7 @@ use cob_base::NoMemory;
 
 /// Makes these the ranges to which calls lead from this one. What was there before is let go, in
 /// the time that it took to come there. Err where memory is wanted.
-pub fn led_from(reach: &mut Reach, levels: &[RangeFacts], base: u32) -> Result<(), NoMemory>
+pub fn callees_from(reach: &mut Reach, levels: &[RangeFacts], base: u32) -> Result<(), NoMemory>
     requires marked { IsMarked reach.old.places.items reach.old.marks.items }
     requires size { length reach.old.marks.items ≡ length levels.now }
     requires base { base < length levels.now }

@@ -2,12 +2,12 @@
 
 ghost use Rattle.std.specs.Prelude.{◌≡◌, length, OnOk};
 ghost use Rattle.program_points.specs.point_table.Table.{IsTidy};
-ghost use Rattle.pending_returns.specs.levels.Reaching.{AllPlaces, IsMarked, GathersAllCalls, GathersAllEnds};
+ghost use Rattle.pending_returns.specs.levels.Reach.{AllPlaces, IsMarked, GathersAllCalls, GathersAllEnds};
 
 use crate::levels::reach::{Reach, ends_at};
 use cob_base::NoMemory;
 use cob_tree::Range;
-use program_points::point_table::{Place, Table};
+use program_points::point_table::{ProgramPoint, Table};
 
 /// Makes these the ranges that the places perform.
 pub fn calls_of(calls: &mut Reach, table: &Table, places: &[u32]) -> Result<(), NoMemory>
@@ -22,7 +22,7 @@ pub fn calls_of(calls: &mut Reach, table: &Table, places: &[u32]) -> Result<(), 
     calls.clear();
     for number in places {
         match &table.places.as_slice()[*number as usize] {
-            Place::Calls { range, .. } => calls.visit(*range)?,
+            ProgramPoint::Calls { range, .. } => calls.visit(*range)?,
             _ => {}
         }
     }
@@ -47,7 +47,7 @@ pub fn ends_of(
     ends.clear();
     for number in places {
         match &table.places.as_slice()[*number as usize] {
-            Place::Ends(paragraph) => {
+            ProgramPoint::Ends(paragraph) => {
                 if !ends_at(range.exit, *paragraph) {
                     ends.visit(*paragraph)?;
                 }

@@ -2,8 +2,8 @@
 
 ghost use Rattle.std.specs.Prelude.{◌≤◌, length, IfOk, OnOk};
 ghost use Rattle.program_points.specs.point_table.Table.{IsTidy};
-ghost use Rattle.pending_returns.specs.levels.Reaching.{IsReach, GathersAllCalls, GathersAllEnds};
-ghost use Rattle.pending_returns.specs.levels.Fitting.{FitsTable};
+ghost use Rattle.pending_returns.specs.levels.Reach.{IsReach, GathersAllCalls, GathersAllEnds};
+ghost use Rattle.pending_returns.specs.levels.Level.{FitsTable};
 
 use crate::levels::facts::{calls_of, ends_of};
 use crate::levels::reach::{Reach, reached};

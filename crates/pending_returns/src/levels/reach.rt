@@ -2,12 +2,12 @@
 
 ghost use Rattle.std.specs.Prelude.{[], ◌≡◌, ◌<◌, ◌≤◌, true, Some, length, IfOk, OnOk};
 ghost use Rattle.program_points.specs.point_table.Table.{AllBelow, IsTidy, IsTidyPlace};
-ghost use Rattle.pending_returns.specs.levels.Reaching.{IsMarked, Adds, AddsNext, AddsAll, IsReach};
+ghost use Rattle.pending_returns.specs.levels.Reach.{IsMarked, Adds, AddsNext, AddsAll, IsReach};
 ghost use Rattle.program_points.specs.paths.Flow.{is_exit};
 
 use cob_base::NoMemory;
 use cob_tree::Range;
-use program_points::point_table::{Place, Table};
+use program_points::point_table::{ProgramPoint, Table};
 use std::alloc::Global;
 
 /// The places that were come to, in the order in which they were, with a mark on each.
@@ -66,7 +66,7 @@ impl Reach {
         table: &Table,
         returns: &[bool],
         range: Range,
-        place: &Place,
+        place: &ProgramPoint,
     ) -> Result<(), NoMemory>
         requires marked { IsMarked self.old.places.items self.old.marks.items }
         requires size { length self.old.marks.items ≡ length table.now.places }
@@ -80,9 +80,9 @@ impl Reach {
         ensures size { length self.new.marks.items ≡ length self.old.marks.items }
     {
         match place {
-            Place::Goes(to) => self.visit(*to),
-            Place::Chooses(ways) => self.visit_all(ways.as_slice()),
-            Place::Calls {
+            ProgramPoint::Goes(to) => self.visit(*to),
+            ProgramPoint::Chooses(ways) => self.visit_all(ways.as_slice()),
+            ProgramPoint::Calls {
                 range: called,
                 after,
             } => {
@@ -92,8 +92,8 @@ impl Reach {
                     Ok(())
                 }
             }
-            Place::Stops => Ok(()),
-            Place::Ends(paragraph) => {
+            ProgramPoint::Stops => Ok(()),
+            ProgramPoint::Ends(paragraph) => {
                 if ends_at(range.exit, *paragraph) {
                     return Ok(());
                 }

@@ -2,13 +2,13 @@
 
 ghost use Rattle.std.specs.Prelude.{◌≡◌, ◌<◌, ◌≤◌, ◌↔◌, true, false, length, IfOk, IsTrue};
 ghost use Rattle.program_points.specs.point_table.Table.{IsTidy, IsClosed, ReturnsHere};
-ghost use Rattle.pending_returns.specs.levels.Reaching.{HasEnd, AllPlaces, IsMarked, SaysSoundly, StaysSound, trues};
+ghost use Rattle.pending_returns.specs.levels.Reach.{HasEnd, AllPlaces, IsMarked, SaysSoundly, StaysSound, trues};
 
 use crate::levels::reach::{Reach, ends_at, reached};
-use crate::levels::working::look_all;
+use crate::levels::working::run_worklist;
 use cob_base::NoMemory;
 use cob_tree::Range;
-use program_points::point_table::{Place, Table};
+use program_points::point_table::{ProgramPoint, Table};
 use std::alloc::Global;
 
 /// Whether one of the places is the end at which the range returns.
@@ -18,7 +18,7 @@ pub fn has_end(table: &Table, range: Range, places: &[u32]) -> bool
 {
     for number in places {
         match &table.places.as_slice()[*number as usize] {
-            Place::Ends(paragraph) => {
+            ProgramPoint::Ends(paragraph) => {
                 if ends_at(range.exit, *paragraph) {
                     return true;
                 }
@@ -49,7 +49,11 @@ pub fn comes_back(
 }
 
 /// Looks at each range that isn't said to return, and says whether one of them does.
-pub fn round(reach: &mut Reach, table: &Table, returns: &mut Vec<bool>) -> Result<bool, NoMemory>
+pub fn recheck_all(
+    reach: &mut Reach,
+    table: &Table,
+    returns: &mut Vec<bool>,
+) -> Result<bool, NoMemory>
     requires marked { IsMarked reach.old.places.items reach.old.marks.items }
     requires places { length reach.old.marks.items ≡ length table.now.places }
     requires tidy { IsTidy table.now }
@@ -77,7 +81,7 @@ pub fn round(reach: &mut Reach, table: &Table, returns: &mut Vec<bool>) -> Resul
 
 /// Which ranges return: those that are found by looking again at what waits, and then, in rounds,
 /// that there are no others.
-pub fn settle(alloc: Global, table: &Table) -> Result<Vec<bool>, NoMemory>
+pub fn returning_ranges(alloc: Global, table: &Table) -> Result<Vec<bool>, NoMemory>
     requires { IsTidy table.now }
     ensures size { IfOk result (λ returns. length returns.items ≡ length table.now.ranges) }
     ensures sound { IfOk result (λ returns. SaysSoundly table.now returns.items) }
@@ -85,9 +89,9 @@ pub fn settle(alloc: Global, table: &Table) -> Result<Vec<bool>, NoMemory>
 {
     let mut returns = vec![in alloc; false; table.ranges.len()]?;
     let mut reach = Reach::new(alloc, table.places.len())?;
-    look_all(alloc, &mut reach, table, &mut returns)?;
+    run_worklist(alloc, &mut reach, table, &mut returns)?;
     'rounds: loop {
-        if !round(&mut reach, table, &mut returns)? {
+        if !recheck_all(&mut reach, table, &mut returns)? {
             return Ok(returns);
         }
     }

@@ -2,38 +2,38 @@
 
 ghost use Rattle.std.specs.Prelude.{◌≡◌, length};
 ghost use Rattle.program_points.specs.point_table.Table.{IsTidy};
-ghost use Rattle.pending_returns.specs.levels.Reaching.{IsMarked, StaysSound};
+ghost use Rattle.pending_returns.specs.levels.Reach.{IsMarked, StaysSound};
 
 use crate::levels::reach::{Reach, reached};
 use crate::levels::settling::has_end;
 use cob_base::NoMemory;
-use program_points::point_table::{Place, Table};
+use program_points::point_table::{ProgramPoint, Table};
 use std::alloc::Global;
 
 /// A range that waits for another one to return, and the number of the next that waits for the
 /// same.
 #[derive(Clone, Copy, Debug)]
-pub struct Wait {
+pub struct Waiter {
     pub range: u32,
     pub next: Option<u32>,
 }
 
 /// The ranges to look at, and those that wait: the first for each range.
 #[derive(Debug, Drop)]
-pub struct Work {
+pub struct Worklist {
     pub queue: Vec<u32>,
     pub firsts: Vec<Option<u32>>,
-    pub waits: Vec<Wait>,
+    pub waits: Vec<Waiter>,
 }
 
-impl Work {
+impl Worklist {
     /// All of so many ranges, the last first: PERFORM mostly names later ones.
-    pub fn new(alloc: Global, count: u32) -> Result<Work, NoMemory> {
+    pub fn new(alloc: Global, count: u32) -> Result<Worklist, NoMemory> {
         let mut queue = Vec::new(alloc);
         for number in (0..count).rev() {
             queue.push(number)?;
         }
-        Ok(Work {
+        Ok(Worklist {
             queue,
             firsts: vec![in alloc; None; count as usize]?,
             waits: Vec::new(alloc),
@@ -50,7 +50,7 @@ impl Work {
             Some(first) => {
                 let next = *first;
                 *first = Some(number);
-                self.waits.push(Wait { range, next })?;
+                self.waits.push(Waiter { range, next })?;
                 Ok(())
             }
             None => Ok(()),
@@ -70,7 +70,7 @@ impl Work {
             };
             match self.waits.get(number as usize) {
                 Some(wait) => {
-                    let Wait { range, next: later } = *wait;
+                    let Waiter { range, next: later } = *wait;
                     self.queue.push(range)?;
                     next = later;
                 }
@@ -90,7 +90,7 @@ impl Work {
     ) -> Result<(), NoMemory> {
         for number in places {
             match table.places.get(*number as usize) {
-                Some(Place::Calls { range: called, .. }) => {
+                Some(ProgramPoint::Calls { range: called, .. }) => {
                     if returns.get(*called as usize) == Some(&false) {
                         self.wait(range, *called)?;
                     }
@@ -103,11 +103,11 @@ impl Work {
 }
 
 /// Says that the range with this number returns, where it does.
-pub fn look(
+pub fn update_range(
     reach: &mut Reach,
     table: &Table,
     returns: &mut Vec<bool>,
-    work: &mut Work,
+    work: &mut Worklist,
     number: u32,
 ) -> Result<(), NoMemory>
     requires marked { IsMarked reach.old.places.items reach.old.marks.items }
@@ -133,7 +133,7 @@ pub fn look(
 }
 
 /// Looks at each range, and again at those that wait for one that comes to return.
-pub fn look_all(
+pub fn run_worklist(
     alloc: Global,
     reach: &mut Reach,
     table: &Table,
@@ -152,13 +152,13 @@ pub fn look_all(
         Ok(count) => count,
         Err(_) => return Err(NoMemory),
     };
-    let mut work = Work::new(alloc, count)?;
+    let mut work = Worklist::new(alloc, count)?;
     for at in 0..usize::MAX {
         if at >= work.queue.len() {
             return Ok(());
         }
         let number = work.queue[at];
-        look(reach, table, returns, &mut work, number)?;
+        update_range(reach, table, returns, &mut work, number)?;
     }
     Ok(())
 }

@@ -21,7 +21,7 @@ goes_on : (level : Level) (scope : Scope) (read : Outcome PerformHead) →
     then_read read (λ head q. (perform_by level scope head).reads q)
     ≡ from_begun level scope (then_read read (λ head q. Got (begun head) q))
 unfolding perform_by
-goes_on level scope (Got (heads.Whole stmt not_read) q) = refl
+goes_on level scope (Got (heads.Whole stmt pending_not) q) = refl
 goes_on level scope (Got (heads.Inline control) q) = refl
 goes_on level scope (Stop why rest) = refl
 

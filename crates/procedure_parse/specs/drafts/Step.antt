@@ -15,11 +15,11 @@ use Rattle.cobol_grammar.specs.stmt_forms.Stmt.{simple_stmts}
 
 -- the word that ends a statement, unless NOT was read
 abbrev pub ended : {A : Type 0} → List ℕ → A → Bool → Form (A × Bool)
-ended word found not_read = end_word word not_read >> pure (found, not_read)
+ended word found pending_not = end_word word pending_not >> pure (found, pending_not)
 
 -- the same of arithmetic
 abbrev pub work_ended : {A : Type 0} → ArithmeticVerb → A → Bool → Form (A × Bool)
-work_ended verb found not_read = end_work verb not_read >> pure (found, not_read)
+work_ended verb found pending_not = end_work verb pending_not >> pure (found, pending_not)
 
 -- a statement that holds no other, behind which no NOT is read
 abbrev pub simple : {Side Known : Type 0} → Parts Side Known → Scope → List Stmt → Form Found
@@ -27,7 +27,7 @@ simple parts scope before = simple_stmts parts scope before >>= (λ found. pure 
 
 -- what is read of PERFORM, in boxes
 abbrev pub begun : PerformHead → Begun
-begun (heads.Whole stmt not_read) = ways.Whole stmt not_read
+begun (heads.Whole stmt pending_not) = ways.Whole stmt pending_not
 begun (heads.Inline control) = ways.Inline control
 
 abbrev pub perform_begun : {Side Known : Type 0} → Parts Side Known → Form (Unit {0}) → Form Begun
@@ -35,5 +35,5 @@ perform_begun parts enter = perform_head parts enter >>= (λ head. pure (begun h
 
 -- PERFORM behind it
 abbrev pub perform_from : Level → Scope → Begun → Form FoundOne
-perform_from level scope (ways.Whole stmt not_read) = pure (stmt, not_read)
+perform_from level scope (ways.Whole stmt pending_not) = pure (stmt, pending_not)
 perform_from level scope (ways.Inline control) = loop_body level scope control

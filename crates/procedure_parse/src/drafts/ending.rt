@@ -16,13 +16,13 @@ fn ended<T: Drop>(
     cursor: &mut Cursor<'_>,
     word: &[u8],
     found: T,
-    not_read: bool,
+    pending_not: bool,
 ) -> Result<(T, bool), Unread>
-    ensures { Reads ((steps.ended word.now found not_read).reads cursor.old)
+    ensures { Reads ((steps.ended word.now found pending_not).reads cursor.old)
         result cursor.new }
 {
-    match end_word(cursor, word, not_read) {
-        Ok(()) => Ok((found, not_read)),
+    match end_word(cursor, word, pending_not) {
+        Ok(()) => Ok((found, pending_not)),
         Err(stop) => {
             drop(found);
             Err(stop)
@@ -35,12 +35,12 @@ pub fn draft_ended(
     cursor: &mut Cursor<'_>,
     word: &[u8],
     found: Draft,
-    not_read: bool,
+    pending_not: bool,
 ) -> Result<(Draft, bool), Unread>
-    ensures { Reads ((steps.ended word.now found not_read).reads cursor.old)
+    ensures { Reads ((steps.ended word.now found pending_not).reads cursor.old)
         result cursor.new }
 {
-    ended(cursor, word, found, not_read)
+    ended(cursor, word, found, pending_not)
 }
 
 /// The same, where the statement stands among others already.
@@ -48,12 +48,12 @@ pub fn stmts_ended(
     cursor: &mut Cursor<'_>,
     word: &[u8],
     found: Items<Stmt>,
-    not_read: bool,
+    pending_not: bool,
 ) -> Result<(Items<Stmt>, bool), Unread>
-    ensures { Reads ((steps.ended word.now found not_read).reads cursor.old)
+    ensures { Reads ((steps.ended word.now found pending_not).reads cursor.old)
         result cursor.new }
 {
-    ended(cursor, word, found, not_read)
+    ended(cursor, word, found, pending_not)
 }
 
 /// The word that ends arithmetic, unless NOT was read.
@@ -61,13 +61,13 @@ pub fn work_ended(
     cursor: &mut Cursor<'_>,
     verb: ArithmeticVerb,
     found: Draft,
-    not_read: bool,
+    pending_not: bool,
 ) -> Result<(Draft, bool), Unread>
-    ensures { Reads ((steps.work_ended verb found not_read).reads cursor.old)
+    ensures { Reads ((steps.work_ended verb found pending_not).reads cursor.old)
         result cursor.new }
 {
-    match end_work(cursor, verb, not_read) {
-        Ok(()) => Ok((found, not_read)),
+    match end_work(cursor, verb, pending_not) {
+        Ok(()) => Ok((found, pending_not)),
         Err(stop) => {
             drop(found);
             Err(stop)

@@ -227,7 +227,7 @@ pub fn begin_if<P: Parts>(
     cursor: &mut Cursor<'_>,
     levels: u32,
 ) -> Result<Boxed<Cond>, Unread>
-    ensures { Reads ((choice.if_head (P.parts parts.now) (all.enter levels)).reads cursor.old)
+    ensures { Reads ((choice.if_head (P.parts parts.now) (all.enter_level levels)).reads cursor.old)
         result cursor.new }
 {
     let cond = if_head(parts, alloc, cursor, levels)?;
@@ -241,7 +241,8 @@ pub fn begin_evaluate<P: Parts>(
     cursor: &mut Cursor<'_>,
     levels: u32,
 ) -> Result<(Boxed<Subject>, Option<P::Known>), Unread>
-    ensures { Reads ((choice.evaluate_head (P.parts parts.now) (all.enter levels)).reads cursor.old)
+    ensures { Reads
+        ((choice.evaluate_head (P.parts parts.now) (all.enter_level levels)).reads cursor.old)
         result cursor.new }
 {
     let (subject, known) = evaluate_head(parts, alloc, cursor, levels)?;
@@ -258,9 +259,9 @@ fn boxed_head(alloc: Global, head: PerformHead) -> Result<Begun, NoMemory>
     ensures { Makes (steps.begun head) result }
 {
     match head {
-        PerformHead::Whole(stmt, not_read) => {
+        PerformHead::Whole(stmt, pending_not) => {
             let stmt = Boxed::new(alloc, stmt)?;
-            Ok(Begun::Whole(Draft::whole(stmt), not_read))
+            Ok(Begun::Whole(Draft::whole(stmt), pending_not))
         }
         PerformHead::Inline(control) => {
             let control = Boxed::new(alloc, control)?;
@@ -276,7 +277,8 @@ pub fn begin_perform<P: Parts>(
     cursor: &mut Cursor<'_>,
     levels: u32,
 ) -> Result<Begun, Unread>
-    ensures { Reads ((steps.perform_begun (P.parts parts.now) (all.enter levels)).reads cursor.old)
+    ensures { Reads
+        ((steps.perform_begun (P.parts parts.now) (all.enter_level levels)).reads cursor.old)
         result cursor.new }
 {
     let head = perform_head(parts, alloc, cursor, levels)?;

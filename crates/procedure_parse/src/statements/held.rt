@@ -61,8 +61,8 @@ fn held_arm<P: Parts>(
         (all.level (P.parts parts.now) context.levels) context.scope).reads cursor.old)
         result cursor.new }
 {
-    let (found, not_read) = held(parts, cursor, context)?;
-    Ok((Some(found), not_read))
+    let (found, pending_not) = held(parts, cursor, context)?;
+    Ok((Some(found), pending_not))
 }
 
 #[cycle(stmt)]
@@ -119,10 +119,10 @@ fn second_behind<P: Parts>(
         (all.level (P.parts parts.now) context.levels) context.scope first).reads cursor.old)
         result cursor.new }
 {
-    let (first, not_read) = first;
-    match not_phrase(cursor, phrase, context.levels, first.is_some(), not_read) {
+    let (first, pending_not) = first;
+    match not_phrase(cursor, phrase, context.levels, first.is_some(), pending_not) {
         Ok(following) => match second_arm(parts, cursor, context, following) {
-            Ok((second, not_read)) => Ok((Arms { first, second }, not_read)),
+            Ok((second, pending_not)) => Ok((Arms { first, second }, pending_not)),
             Err(stop) => {
                 drop_arm(first);
                 Err(stop)
@@ -167,8 +167,8 @@ fn arithmetic_stmt<P: Parts>(
 {
     let (verb, (calc, into)) = begin_arithmetic(parts, context.alloc, cursor)?;
     match arms(parts, cursor, context, Phrase::Size) {
-        Ok((arms, not_read)) => {
-            work_ended(cursor, verb, Draft::arith(calc, into, arms), not_read)
+        Ok((arms, pending_not)) => {
+            work_ended(cursor, verb, Draft::arith(calc, into, arms), pending_not)
         }
         Err(stop) => {
             drop_work(calc, into);
@@ -194,9 +194,9 @@ fn read_arms<P: Parts>(
         result cursor.new }
 {
     match arms(parts, cursor, context, Phrase::End) {
-        Ok((arms, not_read)) => {
+        Ok((arms, pending_not)) => {
             let found = added(found, Draft::read(file, into, arms))?;
-            stmts_ended(cursor, b"END-READ", found, not_read)
+            stmts_ended(cursor, b"END-READ", found, pending_not)
         }
         Err(stop) => {
             drop_stmts(found);
@@ -292,9 +292,9 @@ fn if_ended<P: Parts>(
         result cursor.new }
 {
     match else_part(parts, cursor, context) {
-        Ok((no, not_read)) => {
+        Ok((no, pending_not)) => {
             let draft = Draft::choice(cond, yes, no);
-            draft_ended(cursor, b"END-IF", draft, not_read)
+            draft_ended(cursor, b"END-IF", draft, pending_not)
         }
         Err(stop) => {
             drop_cond(cond);
@@ -318,8 +318,8 @@ fn if_behind<P: Parts>(
         (all.level (P.parts parts.now) context.levels) context.scope cond first).reads cursor.old)
         result cursor.new }
 {
-    let (yes, not_read) = first;
-    if not_read {
+    let (yes, pending_not) = first;
+    if pending_not {
         let no = Items::new(context.alloc);
         Ok((Draft::choice(cond, yes, no), true))
     } else {
@@ -364,10 +364,10 @@ fn when_held<P: Parts>(
         result cursor.new }
 {
     match held(parts, cursor, context) {
-        Ok((stmts, not_read)) => Ok(Whens {
+        Ok((stmts, pending_not)) => Ok(Whens {
             whens: when_added(whens, When { tests, stmts })?,
             other: false,
-            not_read,
+            pending_not,
         }),
         Err(stop) => {
             drop_whens(whens);
@@ -395,7 +395,7 @@ fn whens_by<P: Parts>(
         None => Ok(Whens {
             whens,
             other: true,
-            not_read: false,
+            pending_not: false,
         }),
         Some(tests) => when_held(parts, cursor, context, whens, tests),
     }
@@ -443,9 +443,9 @@ fn whens_turn<P: Parts>(
     let Whens {
         whens,
         other,
-        not_read,
+        pending_not,
     } = state;
-    if other || not_read {
+    if other || pending_not {
         drop_whens(whens);
         Err(Unread::Stop(Why::Syntax))
     } else {
@@ -507,7 +507,7 @@ fn other_part<P: Parts>(
     if state.other {
         held_arm(parts, cursor, context)
     } else {
-        Ok((None, state.not_read))
+        Ok((None, state.pending_not))
     }
 }
 
@@ -527,10 +527,10 @@ fn evaluated<P: Parts>(
         result cursor.new }
 {
     match other_part(parts, cursor, context, &state) {
-        Ok((other, not_read)) => {
+        Ok((other, pending_not)) => {
             let Whens { whens, .. } = state;
             let draft = Draft::evaluate(subject, whens, other);
-            draft_ended(cursor, b"END-EVALUATE", draft, not_read)
+            draft_ended(cursor, b"END-EVALUATE", draft, pending_not)
         }
         Err(stop) => {
             let Whens { whens, .. } = state;
@@ -604,8 +604,8 @@ fn loop_body<P: Parts>(
         in_section: context.scope.in_section,
     };
     match held(parts, cursor, StmtContext { scope, ..context }) {
-        Ok((body, not_read)) => {
-            if not_read {
+        Ok((body, pending_not)) => {
+            if pending_not {
                 drop_control(control);
                 drop_stmts(body);
                 Err(Unread::Stop(Why::Syntax))
@@ -633,7 +633,7 @@ fn perform_from<P: Parts>(
         result cursor.new }
 {
     match head {
-        Begun::Whole(draft, not_read) => Ok((draft, not_read)),
+        Begun::Whole(draft, pending_not) => Ok((draft, pending_not)),
         Begun::Inline(control) => loop_body(parts, cursor, context, control),
     }
 }
@@ -679,7 +679,7 @@ fn held_stmts<P: Parts>(
         read_stmt(parts, cursor, context, found)
     } else {
         match holding_stmt(parts, cursor, context) {
-            Ok((draft, not_read)) => Ok((added(found, draft)?, not_read)),
+            Ok((draft, pending_not)) => Ok((added(found, draft)?, pending_not)),
             Err(stop) => {
                 drop_stmts(found);
                 Err(stop)
@@ -701,8 +701,8 @@ fn stmts_turn<P: Parts>(
         (all.level (P.parts parts.now) context.levels) context.scope found).reads cursor.old)
         result cursor.new }
 {
-    let (stmts, not_read) = found;
-    if not_read {
+    let (stmts, pending_not) = found;
+    if pending_not {
         drop_stmts(stmts);
         Err(Unread::Stop(Why::Syntax))
     } else if at_simple(cursor) {

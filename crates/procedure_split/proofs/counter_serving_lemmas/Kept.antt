@@ -6,7 +6,7 @@ use Rattle.control_flow_theory.specs.graph_rules.Families.{Added, Never, Flag, S
 use Rattle.control_flow_theory.specs.graph_rules.Shapes.{Live, Targets, NoTarget, Only, Several, other_targets}
 use Rattle.control_flow_theory.specs.graph_rules.Reduced.{Graph, tree_in, kind_at, join_graph, inlines, lowest, loops, Form, form_of, close_form, close_by, inline_step, loop_step, rule_step, stepped, size, reduced, shaped}
 use Rattle.control_flow_theory.proofs.graph_rules_lemmas.shapes.Reducing.{kind-before}
-use Rattle.control_flow_theory.specs.closing.Closes.{has_exits, exits_step, or_exits, any_step, reduced_by_all, dispatch_graph, dispatch_rest, closed_graph}
+use Rattle.control_flow_theory.specs.structuring.Closes.{has_exits, exits_step, or_exits, any_step, reduced_by_all, dispatch_graph, dispatch_rest, closed_graph}
 
 -- the second has all cells of the first, each of its kind
 abbrev Keeps : Graph → Graph → Type 0

@@ -6,10 +6,10 @@ use Rattle.control_flow_theory.proofs.semantics_lemmas.Ranges.{same-range}
 use Rattle.control_flow_theory.specs.graph_rules.Families.{Added, Count}
 use Rattle.control_flow_theory.specs.graph_rules.Reduced.{Graphs, kind_at}
 use Rattle.control_flow_theory.specs.graph_rules.Walked.{is_in, In}
-use Rattle.control_flow_theory.specs.closing.Closes.{closed_graph}
-use Rattle.added_items.specs.item_table.Items.{is_never, or_never}
+use Rattle.control_flow_theory.specs.structuring.Closes.{closed_graph}
+use Rattle.added_items.specs.item_table.Owners.{is_never, or_never}
 use Rattle.added_items.specs.item_table.Laws.{cell_range, closed_ranges}
-use Rattle.added_items.specs.item_table.Names.{digits_of, is_signed}
+use Rattle.added_items.specs.item_table.Naming.{digits_of, is_signed}
 use Rattle.added_items.specs.item_table.Row.{of_range}
 use Rattle.procedure_split.specs.counter_serving.Laws.{ClosedCountersAreServed}
 use Rattle.procedure_split.proofs.counter_serving_lemmas.Kept.{closed-keeps}

@@ -8,9 +8,9 @@ use Rattle.control_flow_theory.specs.graph_rules.Loops.{Flagged, Endless}
 use Rattle.control_flow_theory.specs.graph_rules.Shapes.{Live, ToLabel, Back, Targets, NoTarget, Only, Several, both_targets, joined, inlined, leaves_to, other_targets, other_arms_targets}
 use Rattle.control_flow_theory.specs.graph_rules.Shapes as shapes
 use Rattle.control_flow_theory.specs.graph_rules.Reduced.{Node, Graph, Form, tree_in, count, each_tree, without, with_tree, join_graph, inline_graph, inlines, form_of, close_form, close_by, loops, lowest, inline_step, loop_step, rule_step, stepped, reduced, shaped, size}
-use Rattle.control_flow_theory.specs.closing.Closes.{none_left_out, are_several, has_exits, exits_graph, exits_step, or_exits, any_step, reduced_by_all, dispatch_graph, dispatch_rest, closed_graph}
-use Rattle.control_flow_theory.specs.closing.Dispatches.{labels_of, some_returns, tree_returns, state_jump, exit_jump, number_in, set_to, length_of, node_arms, return_if}
-use Rattle.control_flow_theory.specs.closing.Targets.{is_below, inserted, end_targets, tree_targets, trees_targets, targets_of, with_exits}
+use Rattle.control_flow_theory.specs.structuring.Closes.{none_left_out, are_several, has_exits, exits_graph, exits_step, or_exits, any_step, reduced_by_all, dispatch_graph, dispatch_rest, closed_graph}
+use Rattle.control_flow_theory.specs.structuring.Dispatches.{labels_of, some_returns, tree_returns, state_jump, exit_jump, number_in, set_to, length_of, node_arms, return_if}
+use Rattle.control_flow_theory.specs.structuring.Targets.{is_below, inserted, end_targets, tree_targets, trees_targets, targets_of, with_exits}
 use Rattle.procedure_split.specs.split_depth.Arms.{StmtsHaveArms, EachArmHas}
 use Rattle.procedure_split.specs.kept_arms.Trees.{TreeHasArms, EndHasArms, NodesHaveArms}
 use Rattle.procedure_split.proofs.kept_arms_lemmas.Rules.{joined-has, inlined-has, flat-has, FormHas, form-has, end-at-has, stated-has, bare-has, bare-some}

@@ -3,15 +3,15 @@ use Rattle.std.proofs.Common.{◌≤◌, List, [], ◌∷◌, subst}
 use Rattle.cob_tree.specs.Depth.{program_depth}
 use Rattle.cob_tree.specs.declared.program.Program.{Program}
 use Rattle.control_flow_theory.specs.graph_rules.Reduced.{Node}
-use Rattle.control_flow_theory.specs.closing.Closes.{closed_graph}
+use Rattle.control_flow_theory.specs.structuring.Closes.{closed_graph}
 use Rattle.pending_returns.specs.declared.facts.Summary.{Summary}
-use Rattle.branch_tree.specs.Graphs.{seen_graph}
-use Rattle.branch_tree.specs.Trees.{seen_tree}
+use Rattle.branch_tree.specs.Graph.{seen_graph}
+use Rattle.branch_tree.specs.Tree.{seen_tree}
 use Rattle.cob_base.specs.Limit.{max_nesting}
-use Rattle.region_rewrite.specs.Shape.{first_tree}
+use Rattle.region_rewrite.specs.Shaping.{first_tree}
 use Rattle.procedure_split.specs.shaped_ranges.Laws.{HasFlow}
 use Rattle.procedure_split.proofs.made_procedures_lemmas.Rows.{shaped-at}
-use Rattle.procedure_split.specs.Split.{IsSplit}
+use Rattle.procedure_split.specs.Splitting.{IsSplit}
 use Rattle.procedure_split.proofs.split_depth_lemmas.Split.{split-within}
 use Rattle.procedure_split.specs.kept_arms.Trees.{TreeHasArms, NodesHaveArms, GraphsHaveArms}
 use Rattle.procedure_split.proofs.kept_arms_lemmas.Rules.{body-has}

@@ -2,14 +2,14 @@
 use Rattle.std.proofs.Common.{◌≡◌, ℕ, ◌+◌, Bool, true, false, if◌then◌else◌, List, [], ◌∷◌, ◌++◌, refl, ◌∙◌}
 use Rattle.control_flow_theory.specs.language.Language.{Lower, Test, Above, Evaluate, Read, Arith, Depending, Picker, If, By, ByCell, Control, Times, Until, Varying, Stmt, Do, Choose, Loop, Perform, Go, GoDepending, NextSentence, ExitParagraph, ExitSection, ExitPerform, StopRun, Stmts, none, also, Arms, done, given, missing, Body, Nested, Performed}
 use Rattle.control_flow_theory.specs.semantics.Graph.{Tree, tree, End, Pick, Jump, Dead}
-use Rattle.control_flow_theory.specs.lowering.Told.{Told}
+use Rattle.control_flow_theory.specs.lowering.FlowFacts.{FlowFacts}
 use Rattle.control_flow_theory.specs.lowering.Completes.{first_is_dead, completes, cut, cuts, cut_arms, cut_body, whole, whole_body, size, sizes, skips}
-use Rattle.control_flow_theory.specs.lowering.Lower.{point, head, only, with_first, back, loop_start, Node, by_test, loop_nodes, Leaving, within_loop, loop_left, push, leaf_stmt, leaf, depending, build_stmt, build, build_arms, nodes_in, nodes, nodes_of_arms, nodes_of_body}
+use Rattle.control_flow_theory.specs.lowering.Lower.{point, loop_head_label, end_alone, with_first, loop_back_label, loop_start, Node, by_test, loop_nodes, EscapeTargets, within_loop, loop_left, push, leaf_stmt, leaf, depending, build_stmt, build, build_arms, nodes_in, nodes, nodes_of_arms, nodes_of_body}
 use Rattle.procedure_split.specs.split_depth.Arms.{begins_given, has_some, has_given, HasArms, StmtHasArms, StmtsHaveArms, EachArmHas, BodyHasArms}
 use Rattle.procedure_split.specs.kept_arms.Trees.{SomeTree, TreeHasArms, EndHasArms, TreesHaveArms}
 use Rattle.procedure_split.proofs.kept_arms_lemmas.Rules.{body-has, end-has}
 
-pub record LeavingHas (leaving : Leaving) : Type 0 where
+pub record LeavingHas (leaving : EscapeTargets) : Type 0 where
   pub sentence : EndHasArms leaving.sentence
   pub paragraph : EndHasArms leaving.paragraph
   pub section : (last : ℕ) → EndHasArms (leaving.section last)
@@ -47,7 +47,7 @@ some-of (ByCell cell) arms h = given-some arms h
 
 -- ---- cut statements
 
-module _ (told : Told) where
+module _ (told : FlowFacts) where
   begins-cut : (arms : Arms) → begins_given (cut_arms told arms) ≡ begins_given arms
   begins-cut done = refl
   begins-cut (given arm others) = refl
@@ -122,24 +122,24 @@ by-test-has test holds fails h g = (tt, (tt, (h, (g, tt))))
 loop-nodes-have : (control : Control) (place : ℕ) (body : Tree) (after : End) → TreeHasArms body →
     EndHasArms after → AllHave (loop_nodes control place body after)
 loop-nodes-have (Times amount) place body after b a = (
-  by-test-has (Above place) (with_first (Do (Lower place)) body) (only after)
+  by-test-has (Above place) (with_first (Do (Lower place)) body) (end_alone after)
       (with-first-has (Do (Lower place)) body tt b) (tt, a),
   tt,
 )
 loop-nodes-have (Until false test) place body after b a =
-    (by-test-has test (only after) body (tt, a) b, tt)
+    (by-test-has test (end_alone after) body (tt, a) b, tt)
 loop-nodes-have (Until true test) place body after b a =
-    (b, (by-test-has test (only after) (only (Jump (head place))) (tt, a) (tt, tt), tt))
+    (b, (by-test-has test (end_alone after) (end_alone (Jump (loop_head_label place))) (tt, a) (tt, tt), tt))
 loop-nodes-have (Varying false set step test) place body after b a =
-    (by-test-has test (only after) body (tt, a) b, (((tt, tt), tt), tt))
+    (by-test-has test (end_alone after) body (tt, a) b, (((tt, tt), tt), tt))
 loop-nodes-have (Varying true set step test) place body after b a =
-    (b, (by-test-has test (only after) (tree (also (Do step) none) (Jump (head place))) (tt, a) ((tt, tt), tt), tt))
+    (b, (by-test-has test (end_alone after) (tree (also (Do step) none) (Jump (loop_head_label place))) (tt, a) ((tt, tt), tt), tt))
 
-left-has : (cycle : Bool) (leaving : Leaving) → LeavingHas leaving → EndHasArms (loop_left cycle leaving)
+left-has : (cycle : Bool) (leaving : EscapeTargets) → LeavingHas leaving → EndHasArms (loop_left cycle leaving)
 left-has false leaving l = l.loop
 left-has true leaving l = l.cycle
 
-within-has : (leaving : Leaving) (after turn : End) → LeavingHas leaving → EndHasArms after →
+within-has : (leaving : EscapeTargets) (after turn : End) → LeavingHas leaving → EndHasArms after →
     EndHasArms turn → LeavingHas (within_loop leaving after turn)
 within-has leaving after turn l a t = record {
   sentence = l.sentence;
@@ -151,7 +151,7 @@ within-has leaving after turn l a t = record {
 
 -- ---- trees
 
-module _ (told : Told) (places : ℕ → ℕ) where
+module _ (told : FlowFacts) (places : ℕ → ℕ) where
   push-has : (stmt : Stmt) (behind : Tree) → StmtHasArms stmt → TreeHasArms behind →
       TreeHasArms (push told places stmt behind)
   push-has stmt behind s b =
@@ -190,14 +190,14 @@ module _ (told : Told) (places : ℕ → ℕ) where
   depending-some [] after = tt
   depending-some (to ∷ others) after = tt
 
-  some-built : (first : Bool) (arms : Arms) (place : ℕ) (leaving : Leaving) (after : End) →
+  some-built : (first : Bool) (arms : Arms) (place : ℕ) (leaving : EscapeTargets) (after : End) →
       has_some arms ≡ true → SomeTree (build_arms told places first arms place leaving after)
   some-built first done place leaving after h = cc
   some-built first (given arm others) place leaving after h = tt
   some-built first (missing others) place leaving after h = tt
 
   mutual
-    build-stmt-has : (stmt : Stmt) (place : ℕ) (leaving : Leaving) (after : End) (behind : Tree) →
+    build-stmt-has : (stmt : Stmt) (place : ℕ) (leaving : EscapeTargets) (after : End) (behind : Tree) →
         LeavingHas leaving → EndHasArms after → TreeHasArms behind → StmtHasArms stmt →
         TreeHasArms (build_stmt told places stmt place leaving after behind)
     build-stmt-has (Do act) place leaving after behind = λ l a b s.
@@ -207,7 +207,7 @@ module _ (told : Told) (places : ℕ → ℕ) where
         ]
     build-stmt-has (Choose picker arms) place leaving after behind = λ l a b s.
         elim (whole (cut told (Choose picker arms))) as (λ t. TreeHasArms (if t then push told places (Choose picker arms) behind
-        else only (Pick picker (build_arms told places (first_is_dead told picker) arms (place + 1) leaving after)))) [
+        else end_alone (Pick picker (build_arms told places (first_is_dead told picker) arms (place + 1) leaving after)))) [
           | true ↦ push-has (Choose picker arms) behind s b
           | false ↦ (
             tt,
@@ -232,7 +232,7 @@ module _ (told : Told) (places : ℕ → ℕ) where
     build-stmt-has (ExitPerform cycle) place leaving after behind = λ l a b s. (tt, left-has cycle leaving l)
     build-stmt-has StopRun place leaving after behind = λ l a b s. (tt, tt)
 
-    pub build-has : (stmts : Stmts) (place : ℕ) (leaving : Leaving) (after : End) (behind : Tree) →
+    pub build-has : (stmts : Stmts) (place : ℕ) (leaving : EscapeTargets) (after : End) (behind : Tree) →
         LeavingHas leaving → EndHasArms after → TreeHasArms behind → StmtsHaveArms stmts →
         TreeHasArms (build told places stmts place leaving after behind)
     build-has none place leaving after behind = λ l a b s. b
@@ -242,12 +242,12 @@ module _ (told : Told) (places : ℕ → ℕ) where
         (leaf-has stmts (place + size stmt) after a)
         (build-has stmts (place + size stmt) leaving after behind l a b s.1) s.0
 
-    build-arms-have : (first : Bool) (arms : Arms) (place : ℕ) (leaving : Leaving) (after : End) →
+    build-arms-have : (first : Bool) (arms : Arms) (place : ℕ) (leaving : EscapeTargets) (after : End) →
         LeavingHas leaving → EndHasArms after → EachArmHas arms →
         TreesHaveArms (build_arms told places first arms place leaving after)
     build-arms-have first done place leaving after = λ l a s. tt
     build-arms-have first (given arm others) place leaving after = λ l a s. (
-      build-has arm place leaving after (only after) l a (tt, a) s.0,
+      build-has arm place leaving after (end_alone after) l a (tt, a) s.0,
       build-arms-have false others (place + sizes arm) leaving after l a s.1,
     )
     build-arms-have first (missing others) place leaving after = λ l a s. (
@@ -256,7 +256,7 @@ module _ (told : Told) (places : ℕ → ℕ) where
     )
 
   mutual
-    nodes-in-have : (stmt : Stmt) (place : ℕ) (leaving : Leaving) (after : End) (behind : Tree) →
+    nodes-in-have : (stmt : Stmt) (place : ℕ) (leaving : EscapeTargets) (after : End) (behind : Tree) →
         LeavingHas leaving → EndHasArms after → TreeHasArms behind → StmtHasArms stmt →
         AllHave (nodes_in told places stmt place leaving after behind)
     nodes-in-have (Do act) place leaving after behind = λ l a b s. tt
@@ -273,7 +273,7 @@ module _ (told : Told) (places : ℕ → ℕ) where
     nodes-in-have (ExitPerform cycle) place leaving after behind = λ l a b s. tt
     nodes-in-have StopRun place leaving after behind = λ l a b s. tt
 
-    pub nodes-have : (stmts : Stmts) (place : ℕ) (leaving : Leaving) (after : End) (behind : Tree) →
+    pub nodes-have : (stmts : Stmts) (place : ℕ) (leaving : EscapeTargets) (after : End) (behind : Tree) →
         LeavingHas leaving → EndHasArms after → TreeHasArms behind → StmtsHaveArms stmts →
         AllHave (nodes told places stmts place leaving after behind)
     nodes-have none place leaving after behind = λ l a b s. tt
@@ -290,7 +290,7 @@ module _ (told : Told) (places : ℕ → ℕ) where
               (nodes-have stmts next leaving after behind l a b s.1),
         )
 
-    nodes-of-arms-have : (arms : Arms) (place : ℕ) (leaving : Leaving) (after : End) (behind : Tree) →
+    nodes-of-arms-have : (arms : Arms) (place : ℕ) (leaving : EscapeTargets) (after : End) (behind : Tree) →
         LeavingHas leaving → EndHasArms after → TreeHasArms behind → EachArmHas arms →
         AllHave (nodes_of_arms told places arms place leaving after behind)
     nodes-of-arms-have done place leaving after behind = λ l a b s. tt
@@ -302,17 +302,17 @@ module _ (told : Told) (places : ℕ → ℕ) where
     nodes-of-arms-have (missing others) place leaving after behind = λ l a b s.
         nodes-of-arms-have others place leaving after behind l a b s
 
-    nodes-of-body-have : (body : Body) (control : Control) (place : ℕ) (leaving : Leaving) (after : End) →
+    nodes-of-body-have : (body : Body) (control : Control) (place : ℕ) (leaving : EscapeTargets) (after : End) →
         LeavingHas leaving → EndHasArms after → BodyHasArms body →
         AllHave (nodes_of_body told places body control place leaving after)
     nodes-of-body-have (Nested stmts) control place leaving after = λ l a s.
-        let turn : End = Jump (back control place) in
+        let turn : End = Jump (loop_back_label control place) in
         let inner = within_loop leaving after turn in
         let w = within-has leaving after turn l a tt in
         append-have
-        (loop_nodes control place (build told places stmts (place + 1) inner turn (only turn)) after)
-        (nodes told places stmts (place + 1) inner turn (only turn))
-        (loop-nodes-have control place (build told places stmts (place + 1) inner turn (only turn)) after
-        (build-has stmts (place + 1) inner turn (only turn) w tt (tt, tt) s) a)
-        (nodes-have stmts (place + 1) inner turn (only turn) w tt (tt, tt) s)
+        (loop_nodes control place (build told places stmts (place + 1) inner turn (end_alone turn)) after)
+        (nodes told places stmts (place + 1) inner turn (end_alone turn))
+        (loop-nodes-have control place (build told places stmts (place + 1) inner turn (end_alone turn)) after
+        (build-has stmts (place + 1) inner turn (end_alone turn) w tt (tt, tt) s) a)
+        (nodes-have stmts (place + 1) inner turn (end_alone turn) w tt (tt, tt) s)
     nodes-of-body-have (Performed entry exit) control place leaving after = λ l a s. tt

@@ -9,19 +9,19 @@ use Rattle.cob_tree.specs.declared.program.Sentence as sentences
 use Rattle.control_flow_theory.specs.language.Control.{control_of, seen_paragraphs, seen_sentence, section_last}
 use Rattle.control_flow_theory.specs.language.Language.{Evaluate, Read, Arith, Depending, Picker, If, By, ByCell, Stmt, Do, Choose, Loop, Perform, Go, GoDepending, NextSentence, ExitParagraph, ExitSection, ExitPerform, StopRun, Stmts, none, also, Arms, done, given, missing, Body, Nested, Performed, Paragraph, Program, Range, Main, Part}
 use Rattle.control_flow_theory.specs.semantics.Graph.{Label, Tree, tree, End, Pick, Jump, Return, Stop, Dead, Trees, no_more, more}
-use Rattle.control_flow_theory.specs.lowering.Told.{Told}
+use Rattle.control_flow_theory.specs.lowering.FlowFacts.{FlowFacts}
 use Rattle.control_flow_theory.specs.lowering.Completes.{sizes}
-use Rattle.control_flow_theory.specs.lowering.Lower.{Node, nodes, Leaving, fall_leaf, end_leaf, leaving_at}
+use Rattle.control_flow_theory.specs.lowering.Lower.{Node, nodes, EscapeTargets, fall_leaf, paragraph_end_target, leaving_at}
 use Rattle.control_flow_theory.specs.lowering.Lowered.{total, place_in, nodes_left, nodes_from, nodes_of}
 use Rattle.control_flow_theory.specs.lowering.Reached.{kept_nodes}
 use Rattle.control_flow_theory.specs.lowering.Renamed.{picker_anew, stmt_anew, stmts_anew, arms_anew, body_anew, end_anew, trees_anew, tree_anew}
 use Rattle.control_flow_theory.specs.lowering.Rests.{Rest, Over, From, Sent, Turns, Cut, after_sentence, after_loop, at_loop, rest_from, leaf_of, leaving_of, tree_of}
 use Rattle.control_flow_theory.specs.graph_rules.Reduced.{Graph}
-use Rattle.control_flow_theory.specs.headline.Chain.{graph_nodes}
-use Rattle.control_flow_theory.specs.headline.Numbering.{numbers_by}
-use Rattle.program_facts.specs.completion.Told.{told_of}
-use Rattle.lowering_labels.specs.points.Fall.{seen_range}
-use Rattle.branch_tree.specs.Graphs.{seen_graph}
+use Rattle.control_flow_theory.specs.main_theorem.Chain.{graph_nodes}
+use Rattle.control_flow_theory.specs.main_theorem.Numbering.{numbers_by}
+use Rattle.program_facts.specs.completion.FlowFacts.{flow_facts_of}
+use Rattle.lowering_labels.specs.points.FallThrough.{seen_range}
+use Rattle.branch_tree.specs.Graph.{seen_graph}
 use Rattle.branch_tree.specs.declared.graph.Graph as coded
 use Rattle.program_facts.specs.well_scoped.Part.{Counts, is_filled}
 use Rattle.program_facts.specs.well_scoped.Named.{counts_of, stmts_named, sentence_named, sentences_named, paragraphs_named}
@@ -29,7 +29,7 @@ use Rattle.pending_returns.specs.declared.facts.Summary.{Summary}
 use Rattle.cob_base.specs.Limit.{max_nesting}
 use Rattle.procedure_split.specs.shaped_ranges.Graphs.{AreGraphsOf, IsGraphOf}
 use Rattle.procedure_split.specs.shaped_ranges.Laws.{HasFlow}
-use Rattle.procedure_split.specs.Split.{IsSplit}
+use Rattle.procedure_split.specs.Splitting.{IsSplit}
 use Rattle.procedure_split.specs.split_depth.Arms.{begins_given, has_some, has_given, HasArms, StmtHasArms, StmtsHaveArms, EachArmHas, BodyHasArms}
 use Rattle.procedure_split.proofs.split_depth_lemmas.Named.{list-has}
 use Rattle.procedure_split.specs.kept_arms.Trees.{SomeTree, TreeHasArms, EndHasArms, TreesHaveArms, NodesHaveArms, GraphsHaveArms}
@@ -53,13 +53,13 @@ abbrev ParagraphsHave : List Paragraph → Type 0
 ParagraphsHave [] = Unit {0}
 ParagraphsHave (paragraph ∷ others) = ParagraphHas paragraph × ParagraphsHave others
 
-rest-from-has : (told : Told) (place : ℕ) (paragraph : Paragraph) → ParagraphHas paragraph →
+rest-from-has : (told : FlowFacts) (place : ℕ) (paragraph : Paragraph) → ParagraphHas paragraph →
     RestHas (rest_from told place paragraph)
 rest-from-has told place [] h = tt
 rest-from-has told place (sentence ∷ sentences) h =
     (h.0, rest-from-has told (place + sizes sentence) sentences h.1)
 
-module _ (told : Told) (places : ℕ → ℕ) (end : Leaving) (l : LeavingHas end) where
+module _ (told : FlowFacts) (places : ℕ → ℕ) (end : EscapeTargets) (l : LeavingHas end) where
   leaf-of-has : (rest : Rest) → EndHasArms (leaf_of told places end rest)
   leaf-of-has Over = l.paragraph
   leaf-of-has (From place stmts others) =
@@ -88,11 +88,11 @@ module _ (told : Told) (places : ℕ → ℕ) (end : Leaving) (l : LeavingHas en
   tree-of-has (Turns place control left reached body others) h = (tt, tt)
   tree-of-has (Cut others) h = (tt, leaf-of-has others)
 
-module _ (told : Told) (program : Program) where
+module _ (told : FlowFacts) (program : Program) where
   abbrev places : ℕ → ℕ
   places number = place_in program number
 
-  nodes-left-have : (end : Leaving) → LeavingHas end → (rest : Rest) → RestHas rest →
+  nodes-left-have : (end : EscapeTargets) → LeavingHas end → (rest : Rest) → RestHas rest →
       AllHave (nodes_left told program end rest)
   nodes-left-have end l Over h = tt
   nodes-left-have end l (From place stmts others) h =
@@ -112,7 +112,7 @@ module _ (told : Told) (program : Program) where
   fall-has number None = tt
   fall-has number (Some next) = tt
 
-  end-leaf-has : (range : Range) (number : ℕ) → EndHasArms (end_leaf places program range number)
+  end-leaf-has : (range : Range) (number : ℕ) → EndHasArms (paragraph_end_target places program range number)
   end-leaf-has Main number = fall-has number (slice_get program.paragraphs (suc number))
   end-leaf-has (Part entry exit) number =
       elim (exit == number) as (λ t. EndHasArms (if t then Return else fall_leaf places number (slice_get program.paragraphs (suc number)))) [
@@ -233,7 +233,7 @@ module _ (number : ℕ → ℕ) where
 
 -- ---- the graphs of a program
 
-module _ (told : Told) (program : Program) (have : ParagraphsHave program.paragraphs) where
+module _ (told : FlowFacts) (program : Program) (have : ParagraphsHave program.paragraphs) where
   graph-has : (range : Range) (graph : Graph) → IsGraphOf told program range graph →
       NodesHaveArms graph.nodes
   graph-has range graph is =
@@ -280,6 +280,6 @@ pub split-nests : (program made : cobol.Program) (summary : Summary) → HasFlow
     (split : IsSplit program summary made) → program_depth made ≤ max_nesting
 split-nests program made summary flow named split =
     graphs-within program made summary flow split
-    (graphs-have (told_of program.files split.plan.returning) (control_of program)
+    (graphs-have (flow_facts_of program.files split.plan.returning) (control_of program)
     (paragraphs-have (counts_of program) 0 program.paragraphs named) split.plan.order split.graphs
     split.lowered.are)

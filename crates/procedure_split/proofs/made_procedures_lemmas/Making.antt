@@ -7,28 +7,28 @@ use Rattle.control_flow_theory.specs.language.Control.{control_of, seen_paragrap
 use Rattle.control_flow_theory.specs.language.Language as language
 use Rattle.control_flow_theory.specs.language.Language.{Range, Main, Part}
 use Rattle.control_flow_theory.specs.semantics.Graph.{Tree}
-use Rattle.control_flow_theory.specs.lowering.Told.{IsSource}
+use Rattle.control_flow_theory.specs.lowering.FlowFacts.{IsSource}
 use Rattle.control_flow_theory.specs.graph_rules.Reduced.{Graphs, tree_in}
-use Rattle.control_flow_theory.specs.closing.Closes.{closed_graph}
+use Rattle.control_flow_theory.specs.structuring.Closes.{closed_graph}
 use Rattle.control_flow_theory.specs.rendering.Rendering.{Empty, Naming, Procedure, place_of, rendered, written_paragraph}
-use Rattle.control_flow_theory.specs.headline.Chain.{procedures_of}
-use Rattle.control_flow_theory.specs.headline.Headline.{graphs_by, procedures_by}
-use Rattle.control_flow_theory.proofs.headline_lemmas.SomeResult.{every-kind}
-use Rattle.region_rewrite.specs.Shape.{first_tree}
+use Rattle.control_flow_theory.specs.main_theorem.Chain.{procedures_of}
+use Rattle.control_flow_theory.specs.main_theorem.MainTheorem.{graphs_by, procedures_by}
+use Rattle.control_flow_theory.proofs.main_theorem_lemmas.SomeResult.{every-kind}
+use Rattle.region_rewrite.specs.Shaping.{first_tree}
 use Rattle.meanings.specs.statements.Does.{declared_in}
 use Rattle.cobol_theory.specs.added_items.Own.{items}
 use Rattle.cobol_theory.proofs.cobol_parts_lemmas.Sources.{source}
 use Rattle.program_points.proofs.table_building_lemmas.Sections.{seen-length}
 use Rattle.procedure_split.proofs.plan_lemmas.CobolPlans.{cobol-planned}
-use Rattle.branch_tree.specs.Trees.{seen_tree}
-use Rattle.lowering_labels.specs.points.Fall.{seen_range}
+use Rattle.branch_tree.specs.Tree.{seen_tree}
+use Rattle.lowering_labels.specs.points.FallThrough.{seen_range}
 use Rattle.control_flow_theory.proofs.rendering_lemmas.Written.{map-get}
 use Rattle.cobol_theory.specs.cell_serving.Choosing.{written_chooser}
 use Rattle.cobol_theory.specs.cell_serving.Entries.{whole_literal}
 use Rattle.cobol_theory.specs.cell_serving.Naming.{cell_naming}
-use Rattle.statement_builders.specs.arms.Places.{ArePlaced}
+use Rattle.statement_builders.specs.arms.Placing.{ArePlaced}
 use Rattle.statement_builders.specs.arms.Written.{naming_in}
-use Rattle.body_rendering.specs.Procedures.{procedure_of}
+use Rattle.body_rendering.specs.Procedure.{procedure_of}
 use Rattle.cobol_theory.specs.cobol_headline.Alike.{Writing, naming_of}
 use Rattle.procedure_split.proofs.shaped_ranges_lemmas.Keeping.{AreApart}
 use Rattle.procedure_split.specs.made_procedures.Laws.{AreMade, MadeProceduresAreWritten}

@@ -3,20 +3,20 @@ use Rattle.std.proofs.Common.{◌≡◌, ◌<◌, ◌∷◌, length, if◌then�
 use Rattle.control_flow_theory.specs.language.Language.{none, Program, Range, Main}
 use Rattle.control_flow_theory.specs.semantics.Graph.{tree, Dead}
 use Rattle.control_flow_theory.proofs.semantics_lemmas.Ranges.{eq-self}
-use Rattle.control_flow_theory.specs.lowering.Told.{IsSource}
+use Rattle.control_flow_theory.specs.lowering.FlowFacts.{IsSource}
 use Rattle.control_flow_theory.specs.graph_rules.Walked.{In}
 use Rattle.control_flow_theory.specs.graph_rules.Families.{Has, MaySet}
 use Rattle.control_flow_theory.specs.graph_rules.Reduced.{Graph, Graphs, tree_in, family_of, kinds_of, size}
-use Rattle.control_flow_theory.specs.closing.Closes.{IsClosed, closed_graph}
-use Rattle.control_flow_theory.proofs.closing_lemmas.closing.ClosedEnding.{closed-ends}
+use Rattle.control_flow_theory.specs.structuring.Closes.{IsClosed, closed_graph}
+use Rattle.control_flow_theory.proofs.structuring_lemmas.closing.ClosedEnding.{closed-ends}
 use Rattle.control_flow_theory.specs.rendering.Rendering.{Naming}
-use Rattle.control_flow_theory.specs.headline.Chain.{IsPlan, IsNumberedPlan, EachCellServed, EachStands, GraphsServed}
-use Rattle.control_flow_theory.specs.headline.Headline.{Plan, graphs_by, procedures_by}
-use Rattle.control_flow_theory.specs.headline.Numbering.{numbers_by, added_by}
-use Rattle.control_flow_theory.proofs.headline_lemmas.graphs.Numbering.{counters-numbered}
-use Rattle.control_flow_theory.proofs.headline_lemmas.graphs.LoweredStand.{closed-graphs-stand, closed-at}
-use Rattle.control_flow_theory.proofs.headline_lemmas.SomeResult.{every-kind, every-cell, tree-served}
-use Rattle.region_rewrite.specs.Shape.{first_tree}
+use Rattle.control_flow_theory.specs.main_theorem.Chain.{IsPlan, IsNumberedPlan, EachCellServed, EachStands, GraphsServed}
+use Rattle.control_flow_theory.specs.main_theorem.MainTheorem.{Plan, graphs_by, procedures_by}
+use Rattle.control_flow_theory.specs.main_theorem.Numbering.{numbers_by, added_by}
+use Rattle.control_flow_theory.proofs.main_theorem_lemmas.graphs.Numbering.{counters-numbered}
+use Rattle.control_flow_theory.proofs.main_theorem_lemmas.graphs.LoweredStand.{closed-graphs-stand, closed-at}
+use Rattle.control_flow_theory.proofs.main_theorem_lemmas.SomeResult.{every-kind, every-cell, tree-served}
+use Rattle.region_rewrite.specs.Shaping.{first_tree}
 
 module _ (naming : Naming) (plan : Plan) (program : Program) (source : IsSource plan.told program)
     (some : 0 < length program.paragraphs)

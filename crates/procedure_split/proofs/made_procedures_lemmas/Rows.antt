@@ -9,17 +9,17 @@ use Rattle.control_flow_theory.specs.language.Language.{Range, same_range}
 use Rattle.control_flow_theory.proofs.semantics_lemmas.Ranges.{same-self, range-tells}
 use Rattle.control_flow_theory.specs.graph_rules.Walked.{In, is_in}
 use Rattle.control_flow_theory.specs.graph_rules.Reduced.{Graphs}
-use Rattle.control_flow_theory.specs.lowering.Told.{Told}
-use Rattle.control_flow_theory.specs.closing.Closes.{closed_graph}
+use Rattle.control_flow_theory.specs.lowering.FlowFacts.{FlowFacts}
+use Rattle.control_flow_theory.specs.structuring.Closes.{closed_graph}
 use Rattle.control_flow_theory.specs.rendering.Rendering.{Procedure, place_of}
 use Rattle.control_flow_theory.proofs.rendering_lemmas.Written.{or_else}
-use Rattle.control_flow_theory.specs.headline.Chain.{procedure_of, procedures_of, CallsStandLater}
+use Rattle.control_flow_theory.specs.main_theorem.Chain.{procedure_of, procedures_of, CallsStandLater}
 use Rattle.procedure_split.specs.plan.Laws.{as_control, ending_at}
-use Rattle.lowering_labels.specs.points.Fall.{range_by, seen_range}
-use Rattle.branch_tree.specs.Graphs.{seen_graph}
+use Rattle.lowering_labels.specs.points.FallThrough.{range_by, seen_range}
+use Rattle.branch_tree.specs.Graph.{seen_graph}
 use Rattle.branch_tree.specs.declared.graph.Graph.{Graph}
 use Rattle.procedure_split.proofs.shaped_ranges_lemmas.Keeping.{AreApart}
-use Rattle.procedure_split.specs.shaped_ranges.Shaped.{AllShaped, IsShapedTo}
+use Rattle.procedure_split.specs.shaped_ranges.Shaping.{AllShaped, IsShapedTo}
 use Rattle.procedure_split.specs.declared.shaped_ranges.shaping.Closed.{Closed}
 
 -- where there are as many, there is one beside each
@@ -53,7 +53,7 @@ all-as-planned (range ∷ ranges) =
     ap₂ (λ first others. first ∷ others) (as-planned range.entry range.exit)
     (all-as-planned ranges)
 
-pub later-apart : (told : Told) (program : language.Program) (ranges : List Range) →
+pub later-apart : (told : FlowFacts) (program : language.Program) (ranges : List Range) →
     CallsStandLater told program ranges → AreApart ranges
 later-apart told program [] later = tt
 later-apart told program (range ∷ ranges) later =

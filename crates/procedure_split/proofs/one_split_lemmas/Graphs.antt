@@ -3,18 +3,18 @@ use Rattle.std.proofs.Common.{◌≡◌, ◌≤◌, ◌<◌, ℕ, zero, suc, Lis
 use Rattle.cob_tree.specs.declared.program.Range as code
 use Rattle.control_flow_theory.specs.language.Language.{Program}
 use Rattle.control_flow_theory.specs.semantics.Graph.{Tree, body_of}
-use Rattle.control_flow_theory.specs.lowering.Told.{Told}
+use Rattle.control_flow_theory.specs.lowering.FlowFacts.{FlowFacts}
 use Rattle.control_flow_theory.specs.graph_rules.Families.{Added}
 use Rattle.control_flow_theory.specs.graph_rules.Reduced as reduced
-use Rattle.control_flow_theory.specs.closing.Closes.{closed_graph}
-use Rattle.branch_tree.specs.Graphs.{seen_graph}
+use Rattle.control_flow_theory.specs.structuring.Closes.{closed_graph}
+use Rattle.branch_tree.specs.Graph.{seen_graph}
 use Rattle.branch_tree.specs.declared.graph.Graph.{Graph}
-use Rattle.lowering_labels.specs.points.Fall.{seen_range}
+use Rattle.lowering_labels.specs.points.FallThrough.{seen_range}
 use Rattle.cob_base.specs.Limit.{max_nesting}
-use Rattle.region_rewrite.specs.Shape.{first_tree, result_nesting}
+use Rattle.region_rewrite.specs.Shaping.{first_tree, result_nesting}
 use Rattle.added_items.specs.item_table.Row.{CellRange}
 use Rattle.procedure_split.specs.shaped_ranges.Graphs.{HaveGraphs}
-use Rattle.procedure_split.specs.shaped_ranges.Shaped.{AllShaped, IsOneTooDeep, IsShapedTo}
+use Rattle.procedure_split.specs.shaped_ranges.Shaping.{AllShaped, IsOneTooDeep, IsShapedTo}
 use Rattle.procedure_split.specs.declared.shaped_ranges.shaping.Closed.{Closed}
 use Rattle.procedure_split.specs.Rows.{row_of, rows_of}
 use Rattle.procedure_split.proofs.one_split_lemmas.Kept.{one-graph}
@@ -23,7 +23,7 @@ abbrev pub all_seen : List Graph → List reduced.Graph
 all_seen = map seen_graph
 
 -- ranges have one list of graphs
-pub one-list : (told : Told) (program : Program) (order : List code.Range)
+pub one-list : (told : FlowFacts) (program : Program) (order : List code.Range)
     (graphs others : List reduced.Graph) → HaveGraphs told program order graphs →
     HaveGraphs told program order others → graphs ≡ others
 one-list told program [] [] [] have also_have = refl

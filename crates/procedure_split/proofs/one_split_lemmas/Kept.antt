@@ -2,15 +2,15 @@
 use Rattle.std.proofs.Common.{◌≡◌, ℕ, ◌+◌, Bool, true, false, if◌then◌else◌, List, [], ◌∷◌, ◌++◌, refl, ap, ap₂, sym, ◌∙◌}
 use Rattle.control_flow_theory.specs.language.Language.{Control, Times, Until, Varying, Stmt, Do, Choose, Loop, Perform, Go, GoDepending, NextSentence, ExitParagraph, ExitSection, ExitPerform, StopRun, Stmts, none, also, Arms, done, given, missing, Body, Nested, Performed, Paragraph, Program, Range}
 use Rattle.control_flow_theory.specs.semantics.Graph.{Label}
-use Rattle.control_flow_theory.specs.lowering.Told.{Told}
+use Rattle.control_flow_theory.specs.lowering.FlowFacts.{FlowFacts}
 use Rattle.control_flow_theory.specs.lowering.Completes.{size, sizes}
 use Rattle.control_flow_theory.specs.lowering.Lower as lower
 use Rattle.control_flow_theory.specs.lowering.Lower.{Node}
 use Rattle.control_flow_theory.specs.lowering.Lowered.{total, nodes_of, lowered}
 use Rattle.control_flow_theory.specs.lowering.Reached.{kept_nodes}
 use Rattle.control_flow_theory.specs.graph_rules.Reduced as reduced
-use Rattle.control_flow_theory.specs.headline.Chain.{graph_nodes}
-use Rattle.control_flow_theory.specs.headline.Numbering.{place_among, control_counters, stmt_counters, stmts_counters, arms_counters, body_counters, paragraph_counters, paragraphs_counters, counters_of, counts}
+use Rattle.control_flow_theory.specs.main_theorem.Chain.{graph_nodes}
+use Rattle.control_flow_theory.specs.main_theorem.Numbering.{place_among, control_counters, stmt_counters, stmts_counters, arms_counters, body_counters, paragraph_counters, paragraphs_counters, counters_of, counts}
 use Rattle.procedure_split.specs.shaped_ranges.Graphs.{IsGraphOf, graph_by}
 
 module _ (keep also_keep : Label → Bool) (same : (label : Label) → keep label ≡ also_keep label) where
@@ -23,7 +23,7 @@ module _ (keep also_keep : Label → Bool) (same : (label : Label) → keep labe
   control-same : (control : Control) (place : ℕ) →
       control_counters keep control place ≡ control_counters also_keep control place
   control-same (Times amount) place =
-      ap (λ (b : Bool). if b then place ∷ [] else []) (same (lower.head place))
+      ap (λ (b : Bool). if b then place ∷ [] else []) (same (lower.loop_head_label place))
   control-same (Until after test) place = refl
   control-same (Varying after set step test) place = refl
 
@@ -78,7 +78,7 @@ module _ (keep also_keep : Label → Bool) (same : (label : Label) → keep labe
   counters-same : (program : Program) → counters_of keep program ≡ counters_of also_keep program
   counters-same program = paragraphs-same program.paragraphs 0
 
-  graphs-alike : (told : Told) (program : Program) (range : Range) →
+  graphs-alike : (told : FlowFacts) (program : Program) (range : Range) →
       graph_by told program keep range ≡ graph_by told program also_keep range
   graphs-alike told program range =
       ap₂ (λ (counters : List ℕ) (kept : List Node). (
@@ -95,7 +95,7 @@ bools-same false true to from = from refl
 bools-same false false to from = refl
 
 -- a range has one graph
-pub one-graph : (told : Told) (program : Program) (range : Range) (graph other : reduced.Graph) →
+pub one-graph : (told : FlowFacts) (program : Program) (range : Range) (graph other : reduced.Graph) →
     IsGraphOf told program range graph → IsGraphOf told program range other → graph ≡ other
 one-graph told program range graph other is also_is =
     is.is

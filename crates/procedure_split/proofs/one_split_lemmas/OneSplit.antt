@@ -11,14 +11,14 @@ use Rattle.control_flow_theory.specs.language.Control.{control_of}
 use Rattle.control_flow_theory.specs.language.Language as language
 use Rattle.control_flow_theory.specs.language.Own.{OwnParagraphs}
 use Rattle.control_flow_theory.proofs.language_lemmas.Losing.{control-loses_nothing}
-use Rattle.control_flow_theory.specs.lowering.Told.{Told}
-use Rattle.program_facts.specs.completion.Told.{told_of}
+use Rattle.control_flow_theory.specs.lowering.FlowFacts.{FlowFacts}
+use Rattle.program_facts.specs.completion.FlowFacts.{flow_facts_of}
 use Rattle.control_flow_theory.specs.graph_rules.Reduced as reduced
 use Rattle.control_flow_theory.specs.rendering.Rendering.{Procedure, Naming, rendered}
 use Rattle.control_flow_theory.proofs.rendering_lemmas.Written.{or_else, map-get}
-use Rattle.control_flow_theory.specs.headline.Chain.{procedures_of}
-use Rattle.control_flow_theory.specs.headline.Headline.{Plan, graphs_by}
-use Rattle.program_points.specs.numbering.Kinds.{never_first_of}
+use Rattle.control_flow_theory.specs.main_theorem.Chain.{procedures_of}
+use Rattle.control_flow_theory.specs.main_theorem.MainTheorem.{Plan, graphs_by}
+use Rattle.program_points.specs.numbering.Kind.{never_first_of}
 use Rattle.pending_returns.specs.declared.facts.RangeFacts.{RangeFacts}
 use Rattle.pending_returns.specs.declared.facts.Summary.{Summary}
 use Rattle.procedure_split.proofs.one_summary_lemmas.Facts.{summaries-same}
@@ -31,24 +31,25 @@ use Rattle.cobol_theory.specs.added_items.Own.{items}
 use Rattle.cobol_theory.specs.cell_serving.Choosing.{written_chooser}
 use Rattle.cobol_theory.specs.cell_serving.Entries.{whole_literal, entries_of}
 use Rattle.cobol_theory.specs.cell_serving.Naming.{cell_naming}
-use Rattle.statement_builders.specs.arms.Empties.{empties}
-use Rattle.added_items.specs.item_table.Items.{item_kinds}
-use Rattle.added_items.specs.item_table.Names.{entries_for}
+use Rattle.statement_builders.specs.arms.EmptyArms.{empties}
+use Rattle.added_items.specs.item_table.Owners.{item_kinds}
+use Rattle.added_items.specs.item_table.Naming.{entries_for}
 use Rattle.procedure_split.specs.declared.report.report.AddedCounts.{AddedCounts}
 use Rattle.added_items.specs.item_table.Row.{CellRange}
 use Rattle.added_items.specs.item_table.Tables.{table_of_cells}
-use Rattle.branch_tree.specs.Graphs.{seen_graph}
+use Rattle.branch_tree.specs.Graph.{seen_graph}
 use Rattle.branch_tree.specs.declared.graph.Graph.{Graph}
-use Rattle.lowering_labels.specs.points.Fall.{seen_range}
+use Rattle.lowering_labels.specs.points.FallThrough.{seen_range}
 use Rattle.procedure_split.specs.shaped_ranges.Graphs.{AreGraphsOf, HaveGraphs, node_count, total_size}
 use Rattle.cob_base.specs.Limit.{max_nodes}
 use Rattle.procedure_split.specs.shaped_ranges.Limit.{nodes_passed}
 use Rattle.procedure_split.proofs.made_procedures_lemmas.Rows.{beside}
 use Rattle.procedure_split.specs.Rows.{rows_of}
-use Rattle.procedure_split.specs.Counted.{counts_of}
+use Rattle.procedure_split.specs.Counting.{counts_of}
 use Rattle.procedure_split.specs.declared.writing.Split.{Split}
-use Rattle.procedure_split.specs.Split.{Planned, IsSplit, IsSplitFault, IsSplitWith}
-use Rattle.procedure_split.specs.split_behaviour.Alike.{IsWellMade, FlowsSo}
+use Rattle.procedure_split.specs.Splitting.{Planned, IsSplit, IsSplitFault, IsSplitWith}
+use Rattle.procedure_split.specs.split_behaviour.Alike.{IsWellMade}
+use Rattle.pending_returns.specs.FaultFree.{IsFaultFree}
 use Rattle.procedure_split.proofs.split_behaviour_lemmas.FewNodes.{as-many-graphs}
 use Rattle.procedure_split.proofs.split_behaviour_lemmas.Joined as joined
 use Rattle.procedure_split.specs.one_split.Laws.{SplitsAreOne}
@@ -61,7 +62,7 @@ some-same : {A : Type 0} (x y : A) → Some x ≡ Some y → x ≡ y
 some-same x y e = ap (or_else x) e
 
 module _ (program : Program) (one other : Summary) (well : IsWellMade program)
-    (flows : FlowsSo program one) (also_flows : FlowsSo program other) where
+    (flows : IsFaultFree program one) (also_flows : IsFaultFree program other) where
   abbrev control : language.Program
   control = control_of program
 
@@ -84,18 +85,18 @@ module _ (program : Program) (one other : Summary) (well : IsWellMade program)
 
   graphs-same : (p : Planned program one) (q : Planned program other)
       (graphs others : List reduced.Graph) →
-      HaveGraphs (told_of program.files p.returning) control p.order graphs →
-      HaveGraphs (told_of program.files q.returning) control q.order others → graphs ≡ others
+      HaveGraphs (flow_facts_of program.files p.returning) control p.order graphs →
+      HaveGraphs (flow_facts_of program.files q.returning) control q.order others → graphs ≡ others
   graphs-same p q graphs others have also_have =
-      one-list (told_of program.files p.returning) control p.order graphs others have
+      one-list (flow_facts_of program.files p.returning) control p.order graphs others have
       (subst (λ (order : List code.Range).
-      HaveGraphs (told_of program.files p.returning) control order others) (order-same p q)
+      HaveGraphs (flow_facts_of program.files p.returning) control order others) (order-same p q)
       (subst (λ (table : List (List ℕ)).
-      HaveGraphs (told_of program.files table) control q.order others) (returning-same p q)
+      HaveGraphs (flow_facts_of program.files table) control q.order others) (returning-same p q)
       also_have))
 
-  abbrev told_in : (summary : Summary) → Planned program summary → Told
-  told_in summary p = told_of program.files p.returning
+  abbrev told_in : (summary : Summary) → Planned program summary → FlowFacts
+  told_in summary p = flow_facts_of program.files p.returning
 
   both-seen : (p : Planned program one) (q : Planned program other) (graphs others : List Graph)
       → AreGraphsOf (told_in one p) control p.order graphs →
@@ -186,9 +187,9 @@ module _ (program : Program) (one other : Summary) (well : IsWellMade program)
     graph-same : (at : ℕ) (range : code.Range) → slice_get h.plan.order at ≡ Some range →
         graphs_by plan control (seen_range range) ≡ graphs_by also_plan control (seen_range range)
     graph-same at range here =
-        let many = as-many-graphs (told_of program.files h.plan.returning) control h.plan.order
+        let many = as-many-graphs (flow_facts_of program.files h.plan.returning) control h.plan.order
         h.graphs h.lowered.are in
-        let also_many = as-many-graphs (told_of program.files g.plan.returning) control
+        let also_many = as-many-graphs (flow_facts_of program.files g.plan.returning) control
         g.plan.order g.graphs g.lowered.are in
         let there = subst (λ (order : List code.Range). slice_get order at ≡ Some range)
         (sym (order-same h.plan g.plan)) here in

@@ -7,11 +7,11 @@ use Rattle.cob_tree.specs.declared.program.Range as code
 use Rattle.cob_tree.specs.declared.program.Sentence.{Sentence}
 use Rattle.control_flow_theory.specs.language.Laws.{statements_of}
 use Rattle.control_flow_theory.specs.graph_rules.Reduced.{Graphs}
-use Rattle.control_flow_theory.specs.closing.Closes.{closed_graph}
+use Rattle.control_flow_theory.specs.structuring.Closes.{closed_graph}
 use Rattle.control_flow_theory.specs.rendering.Rendering.{Procedure}
 use Rattle.control_flow_theory.proofs.rendering_lemmas.Written.{or_else, map-get}
-use Rattle.control_flow_theory.specs.headline.Chain.{procedure_of, procedures_of}
-use Rattle.lowering_labels.specs.points.Fall.{seen_range}
+use Rattle.control_flow_theory.specs.main_theorem.Chain.{procedure_of, procedures_of}
+use Rattle.lowering_labels.specs.points.FallThrough.{seen_range}
 
 pub lists-same : {A : Type 0} (xs ys : List A) → length xs ≡ length ys →
     ((at : ℕ) (x y : A) → slice_get xs at ≡ Some x → slice_get ys at ≡ Some y → x ≡ y) → xs ≡ ys

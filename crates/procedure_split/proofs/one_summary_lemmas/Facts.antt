@@ -4,7 +4,7 @@ use Rattle.std.specs.Prelude.{map}
 use Rattle.cob_tree.specs.declared.program.Range.{Range}
 use Rattle.control_flow_theory.specs.language.Language.{Chooser, Program}
 use Rattle.program_points.specs.paths.Flow.{ReturnsIn, CallsIn, EndsIn, IsRange}
-use Rattle.pending_returns.specs.levels.Reaching.{Holds}
+use Rattle.pending_returns.specs.levels.Reach.{Holds}
 use Rattle.program_points.specs.perform_ranges.Named.{is_before, Has}
 use Rattle.pending_returns.specs.declared.facts.RangeFacts.{RangeFacts}
 use Rattle.pending_returns.specs.declared.facts.Summary.{Summary}

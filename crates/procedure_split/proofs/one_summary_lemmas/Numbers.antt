@@ -1,6 +1,6 @@
 -- Rising numbers.
 use Rattle.std.proofs.Common.{◌≡◌, ◌<◌, ℕ, zero, suc, List, [], ◌∷◌, Some, slice_get, refl, ap, sym, ◌∙◌, ◌⊎◌, inl, inr, arith}
-use Rattle.pending_returns.specs.levels.Reaching.{Holds}
+use Rattle.pending_returns.specs.levels.Reach.{Holds}
 use Rattle.pending_returns.specs.Summary.{Rises}
 
 some-in : (a b : ℕ) → Some a ≡ Some b → a ≡ b

@@ -7,18 +7,18 @@ use Rattle.cob_tree.specs.declared.program.Range as tree
 use Rattle.control_flow_theory.specs.language.Language.{Program, Range, Main, Part, Perform, same_range}
 use Rattle.control_flow_theory.specs.language.Items.{Do}
 use Rattle.control_flow_theory.proofs.semantics_lemmas.Ranges.{same-self, same-range, range-tells}
-use Rattle.control_flow_theory.specs.lowering.Told.{Told, IsSource}
+use Rattle.control_flow_theory.specs.lowering.FlowFacts.{FlowFacts, IsSource}
 use Rattle.control_flow_theory.specs.lowering.flow.Entered.{FreelyComes, IsEntered}
 use Rattle.control_flow_theory.specs.lowering.flow.Paths as theory
 use Rattle.control_flow_theory.specs.lowering.flow.Called.{IsCalled}
 use Rattle.control_flow_theory.specs.graph_rules.Walked.{is_in, In}
-use Rattle.control_flow_theory.specs.headline.Chain.{CallsStandLater}
-use Rattle.control_flow_theory.specs.headline.CallsReached.{GivesSome, CalledByPaths}
+use Rattle.control_flow_theory.specs.main_theorem.Chain.{CallsStandLater}
+use Rattle.control_flow_theory.specs.main_theorem.CallsReached.{GivesSome, CalledByPaths}
 use Rattle.program_points.specs.paths.Step.{Point, at, Calls, next}
 use Rattle.program_points.specs.paths.Flow.{main_range, part, Pending, FreePath, IsFaulty, CallsIn, ReturnsIn, IsRange}
 use Rattle.program_points.specs.paths.Levels.{Comes, Levels, bottom, called}
 use Rattle.program_points.proofs.paths_lemmas.Runs.{stands, levels-run}
-use Rattle.pending_returns.specs.levels.Reaching.{Holds}
+use Rattle.pending_returns.specs.levels.Reach.{Holds}
 use Rattle.pending_returns.proofs.levels_lemmas.Exact.{path-comes, comes-path}
 use Rattle.program_points.specs.machine_paths.Uncounted.{uncounted, point_at, range_of}
 use Rattle.program_points.proofs.machine_paths_lemmas.Ways.{next-calls, next-ends}
@@ -27,7 +27,7 @@ use Rattle.program_points.proofs.machine_paths_lemmas.Lifting.{faulty-there}
 use Rattle.pending_returns.specs.declared.facts.RangeFacts.{RangeFacts}
 use Rattle.pending_returns.specs.declared.facts.Summary.{Summary}
 use Rattle.pending_returns.specs.Summary.{IsSummary}
-use Rattle.program_facts.specs.completion.Told.{returns_by}
+use Rattle.program_facts.specs.completion.FlowFacts.{returns_by}
 use Rattle.out_names.specs.Ordering.{order_of}
 use Rattle.procedure_split.specs.plan.Planned.{calls_of, or_main, range_at, IsPlanOf}
 use Rattle.procedure_split.specs.plan.Ordered.{CalledStandLater, IsOrdered}
@@ -43,7 +43,7 @@ head-of : (ranges : List tree.Range) (first : tree.Range) → slice_get ranges 0
 head-of [] first e = absurd (let k : ⊥ = cc in k)
 head-of (range ∷ ranges) first e = (let same : range ≡ first = cc in ap (λ r. as_control r ∷ map as_control ranges) same)
 
-module _ (told : Told) (program : Program) (source : IsSource told program) (some : GivesSome told) (fine : theory.IsFaulty told program → ⊥) (summary : Summary) (is : IsSummary told.never_first program summary) where
+module _ (told : FlowFacts) (program : Program) (source : IsSource told program) (some : GivesSome told) (fine : theory.IsFaulty told program → ⊥) (summary : Summary) (is : IsSummary told.never_first program summary) where
   abbrev ranges : List RangeFacts
   ranges = summary.ranges
 

@@ -8,12 +8,12 @@ use Rattle.control_flow_theory.specs.language.Language.{Chooser, Evaluate, Read,
 use Rattle.control_flow_theory.specs.language.OwnItems.{NamesOwnItems}
 use Rattle.meanings.specs.statements.Does.{declared_in}
 use Rattle.control_flow_theory.specs.lowering.flow.Paths as theory
-use Rattle.program_facts.specs.completion.Told.{status_missing, never_ends, told_of}
+use Rattle.program_facts.specs.completion.FlowFacts.{status_missing, never_ends, flow_facts_of}
 use Rattle.cobol_theory.specs.cobol_parts.Named.{NamesOwnParagraphs}
 use Rattle.cobol_theory.proofs.cobol_parts_lemmas.Sources.{source}
 use Rattle.cobol_theory.proofs.cobol_parts_lemmas.SomeArm.{gives-some}
 use Rattle.program_points.specs.paths.Flow.{IsFaulty}
-use Rattle.program_points.specs.numbering.Kinds.{has_no_status, never_first_of}
+use Rattle.program_points.specs.numbering.Kind.{has_no_status, never_first_of}
 use Rattle.program_points.proofs.machine_paths_lemmas.SameFaults.{faulty-here}
 use Rattle.pending_returns.specs.declared.facts.Summary.{Summary}
 use Rattle.pending_returns.specs.Summary.{IsSummary}
@@ -37,15 +37,15 @@ same-told files = λ i chooser. same-first files chooser i
 
 module _ (program : cobol.Program) (summary : Summary) (returning : List (List ℕ)) (order : List tree.Range) (items : NamesOwnItems program) (paragraphs : NamesOwnParagraphs program) (some : 0 < length (control_of program).paragraphs)
     (fine : IsFaulty (never_first_of program.files) (control_of program) → ⊥) where
-  no-fault : theory.IsFaulty (told_of program.files returning) (control_of program) → ⊥
+  no-fault : theory.IsFaulty (flow_facts_of program.files returning) (control_of program) → ⊥
   no-fault faulty = fine (subst (λ never. IsFaulty never (control_of program)) (sym (same-told program.files))
-      (faulty-here (told_of program.files returning) (control_of program) (source (declared_in program) returning program items paragraphs) (gives-some (declared_in program) returning) faulty))
+      (faulty-here (flow_facts_of program.files returning) (control_of program) (source (declared_in program) returning program items paragraphs) (gives-some (declared_in program) returning) faulty))
 
   pub cobol-planned : IsSummary (never_first_of program.files) (control_of program) summary → IsPlanOf summary.ranges returning order →
-      (theory.IsFaulty (told_of program.files returning) (control_of program) → ⊥) × IsPlannedByPaths (told_of program.files returning) (control_of program) returning order
+      (theory.IsFaulty (flow_facts_of program.files returning) (control_of program) → ⊥) × IsPlannedByPaths (flow_facts_of program.files returning) (control_of program) returning order
   cobol-planned is plan = (
     no-fault,
-    planned (told_of program.files returning) (control_of program) (source (declared_in program) returning program items paragraphs) (gives-some (declared_in program) returning) no-fault summary
+    planned (flow_facts_of program.files returning) (control_of program) (source (declared_in program) returning program items paragraphs) (gives-some (declared_in program) returning) no-fault summary
         (subst (λ never. IsSummary never (control_of program) summary) (same-told program.files) is) returning order plan,
   )
 

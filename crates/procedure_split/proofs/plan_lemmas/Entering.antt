@@ -4,14 +4,14 @@ use Rattle.control_flow_theory.specs.language.Language.{Program, Range, Main, Pa
 use Rattle.control_flow_theory.specs.language.Items.{Do}
 use Rattle.control_flow_theory.specs.semantics.Source.{rest_of}
 use Rattle.control_flow_theory.proofs.semantics_lemmas.Ranges.{same-range}
-use Rattle.control_flow_theory.specs.lowering.Told.{Told, IsSource}
+use Rattle.control_flow_theory.specs.lowering.FlowFacts.{FlowFacts, IsSource}
 use Rattle.control_flow_theory.specs.lowering.flow.Called.{IsCalled}
 use Rattle.control_flow_theory.specs.lowering.flow.Paths.{free}
 use Rattle.control_flow_theory.specs.lowering.flow.Entered.{IsEntered, main, performed}
 use Rattle.control_flow_theory.proofs.lowering_lemmas.rests.Fits.{comes-fits, rest-fits}
 use Rattle.control_flow_theory.specs.graph_rules.Walked.{is_in, In}
-use Rattle.control_flow_theory.specs.headline.Chain.{CallsStandLater}
-use Rattle.control_flow_theory.specs.headline.CallsReached.{CalledByPaths}
+use Rattle.control_flow_theory.specs.main_theorem.Chain.{CallsStandLater}
+use Rattle.control_flow_theory.specs.main_theorem.CallsReached.{CalledByPaths}
 
 position-in : (ranges : List Range) (range : Range) → In range ranges → (place : ℕ) × (slice_get ranges place ≡ Some range)
 position-in [] range h = absurd (let k : ⊥ = cc in k)
@@ -20,7 +20,7 @@ position-in (first ∷ ranges) range h = (elim (same_range first range) as (λ t
   | false ↦ λ s e. (let p = position-in ranges range e in (suc p.0, p.1))
 ]) refl h
 
-module _ (told : Told) (program : Program) where
+module _ (told : FlowFacts) (program : Program) where
   -- what a range of the order calls stands in it
   called-stands : (ranges : List Range) (range : Range) (entry exit : ℕ) → CallsStandLater told program ranges → In range ranges → IsCalled told program range entry exit → In (Part entry exit) ranges
   called-stands [] range entry exit later h c = absurd (let k : ⊥ = cc in k)

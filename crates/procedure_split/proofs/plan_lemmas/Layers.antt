@@ -5,12 +5,12 @@ use Rattle.cob_tree.specs.declared.program.Range as tree
 use Rattle.control_flow_theory.specs.language.Language.{Chooser, Program}
 use Rattle.cob_tree.specs.declared.ending.FlowFault.TheVariants.{Overlap, Reentry}
 use Rattle.program_points.specs.paths.Flow.{part, IsFaulty}
-use Rattle.pending_returns.specs.levels.Reaching.{Holds}
+use Rattle.pending_returns.specs.levels.Reach.{Holds}
 use Rattle.pending_returns.specs.declared.facts.RangeFacts.{RangeFacts}
 use Rattle.pending_returns.specs.declared.facts.Summary.{Summary}
 use Rattle.pending_returns.specs.Summary.{IsSummary}
-use Rattle.pending_returns.specs.faults.Clashing.{LeadsFrom, NoClash}
-use Rattle.pending_returns.specs.faults.Clashing as clashing
+use Rattle.pending_returns.specs.faults.Clash.{LeadsFrom, NoClash}
+use Rattle.pending_returns.specs.faults.Clash as clashing
 use Rattle.pending_returns.proofs.faults_lemmas.Clashes.{clash-faulty}
 use Rattle.procedure_split.specs.plan.Planned.{calls_of}
 use Rattle.procedure_split.specs.plan.Ordered.{Calls, Leads, begins, on, IsLayered}

@@ -1,6 +1,6 @@
 -- Where calls stand later, each stands before those that it calls.
 use Rattle.std.proofs.Common.{◌≡◌, ◌<◌, ℕ, zero, suc, List, [], ◌∷◌, length, Some, slice_get, sym, subst, arith}
-use Rattle.pending_returns.specs.levels.Reaching.{Holds}
+use Rattle.pending_returns.specs.levels.Reach.{Holds}
 use Rattle.procedure_split.specs.plan.Ordered.{Calls, CalledStandLater}
 
 holds-later : (calls : List (List ℕ)) (order : List ℕ) → CalledStandLater calls order → (from to : ℕ) → Calls calls from to → to < length calls → (i : ℕ) → slice_get order i ≡ Some from → Holds order to

@@ -2,7 +2,7 @@
 use Rattle.std.proofs.Common.{◌≡◌, ◌<◌, ◌≤◌, ◌+◌, ℕ, zero, suc, Bool, true, false, not, ◌&&◌, ◌||◌, if◌then◌else◌, nat_eq, List, [], ◌∷◌, length, replicate, Option, Some, None, slice_get, refl, ap, sym, ◌∙◌, subst, ◌⊎◌, inl, inr, eqb-true, eq-eqb, arith}
 use Rattle.std.specs.Prelude.{slice_set, slice_index_or}
 use Rattle.std.proofs.lemmas.Option.{slice_get_within}
-use Rattle.pending_returns.specs.levels.Reaching.{Holds, trues}
+use Rattle.pending_returns.specs.levels.Reach.{Holds, trues}
 use Rattle.pending_returns.proofs.levels_lemmas.Searching.{trues-set, trues-most, set-get, no-mark}
 use Rattle.out_names.specs.Ordering.{calls_it, waits, is_ready, first_ready, order_from, order_of}
 use Rattle.procedure_split.specs.plan.Ordered.{Calls, Leads, begins, on, IsLayered, CalledStandLater, IsOrdered}

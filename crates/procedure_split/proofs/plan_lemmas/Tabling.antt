@@ -5,7 +5,7 @@ use Rattle.std.specs.List.{fold}
 use Rattle.cob_tree.specs.declared.program.Range.{Range}
 use Rattle.program_points.specs.paths.Flow.{part}
 use Rattle.pending_returns.specs.declared.facts.RangeFacts.{RangeFacts}
-use Rattle.program_facts.specs.completion.Told.{is_among, returns_by}
+use Rattle.program_facts.specs.completion.FlowFacts.{is_among, returns_by}
 use Rattle.procedure_split.specs.plan.Planned.{lengthened, with_exit, with_part, with_facts, table_by, Returns, NamesReturning}
 
 -- the table has this range too then

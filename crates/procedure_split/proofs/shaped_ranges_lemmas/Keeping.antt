@@ -4,17 +4,17 @@ use Rattle.cob_tree.specs.declared.program.Range as code
 use Rattle.control_flow_theory.specs.language.Language.{Program, Range, same_range}
 use Rattle.control_flow_theory.specs.semantics.Graph.{Label}
 use Rattle.control_flow_theory.proofs.semantics_lemmas.Ranges.{same-range, same-self}
-use Rattle.control_flow_theory.specs.lowering.Told.{Told}
+use Rattle.control_flow_theory.specs.lowering.FlowFacts.{FlowFacts}
 use Rattle.control_flow_theory.specs.lowering.Lowered.{lowered}
 use Rattle.control_flow_theory.specs.lowering.Reached.{AreReached, IsReached}
 use Rattle.control_flow_theory.specs.lowering.WellFormed.{AreJustReached}
 use Rattle.control_flow_theory.specs.graph_rules.Walked.{In, is_in}
 use Rattle.control_flow_theory.specs.graph_rules.Reduced as reduced
-use Rattle.control_flow_theory.specs.headline.Chain.{lowered_graphs}
-use Rattle.control_flow_theory.specs.headline.Numbering.{numbers_by, added_by}
-use Rattle.branch_tree.specs.Graphs.{seen_graph}
+use Rattle.control_flow_theory.specs.main_theorem.Chain.{lowered_graphs}
+use Rattle.control_flow_theory.specs.main_theorem.Numbering.{numbers_by, added_by}
+use Rattle.branch_tree.specs.Graph.{seen_graph}
 use Rattle.branch_tree.specs.declared.graph.Graph.{Graph}
-use Rattle.lowering_labels.specs.points.Fall.{seen_range}
+use Rattle.lowering_labels.specs.points.FallThrough.{seen_range}
 use Rattle.procedure_split.specs.shaped_ranges.Graphs.{AreGraphsOf, graph_by}
 
 abbrev pub Kept : Type 0
@@ -25,7 +25,7 @@ abbrev pub AreApart : List Range → Type 0
 AreApart [] = Unit {0}
 AreApart (range ∷ ranges) = (is_in range ranges ≡ false) × AreApart ranges
 
-module _ (told : Told) (program : Program) where
+module _ (told : FlowFacts) (program : Program) where
   -- a range that isn't there keeps all
   abbrev pub kept_by : (ranges : List code.Range) (graphs : List Graph) →
       AreGraphsOf told program ranges graphs → Kept

@@ -4,16 +4,16 @@ use Rattle.std.proofs.lemmas.List.Sums.{sum_by-cons}
 use Rattle.control_flow_theory.specs.language.Language as language
 use Rattle.control_flow_theory.specs.semantics.Graph as graph
 use Rattle.control_flow_theory.specs.graph_rules.Reduced as reduced
-use Rattle.control_flow_theory.specs.headline.Chain.{graph_nodes}
-use Rattle.control_flow_theory.specs.headline.Numbering.{numbers_by}
+use Rattle.control_flow_theory.specs.main_theorem.Chain.{graph_nodes}
+use Rattle.control_flow_theory.specs.main_theorem.Numbering.{numbers_by}
 use Rattle.control_flow_theory.specs.lowering.Completes.{size, size_arms, size_body, sizes}
 use Rattle.control_flow_theory.specs.lowering.Lower as lower
 use Rattle.control_flow_theory.specs.lowering.Lowered.{nodes_of}
 use Rattle.control_flow_theory.specs.lowering.Reached.{kept_nodes}
 use Rattle.control_flow_theory.specs.lowering.Renamed.{arms_anew, body_anew, end_anew, stmt_anew, stmts_anew, tree_anew, trees_anew}
-use Rattle.control_flow_theory.specs.lowering.Told.{Told}
+use Rattle.control_flow_theory.specs.lowering.FlowFacts.{FlowFacts}
 use Rattle.flow_graph.specs.Lowered.{lowered_graph, node_of}
-use Rattle.flow_graph.specs.graph_sizes.Sizes.{end_size, graph_size, node_size, tree_size, trees_size}
+use Rattle.flow_graph.specs.graph_sizes.Sizing.{end_size, graph_size, node_size, tree_size, trees_size}
 use Rattle.procedure_split.specs.shaped_ranges.Graphs.{graph_by}
 
 module _ (number : ℕ → ℕ) where
@@ -73,7 +73,7 @@ module _ (number : ℕ → ℕ) where
       ∙ ap₂ (λ (m n : ℕ). 1 + m + n) (tree_same one.tree) (nodes_same others)
       ∙ sym (sum_by-cons node_size placed (map node_of others))
 
-pub numbered-size : (told : Told) (program : language.Program) (keep : graph.Label → Bool)
+pub numbered-size : (told : FlowFacts) (program : language.Program) (keep : graph.Label → Bool)
     (range : language.Range) →
     graph_size (graph_by told program keep range)
     ≡ graph_size (lowered_graph told program range keep)

@@ -3,19 +3,19 @@ use Rattle.std.proofs.Common.{◌≡◌, ◌<◌, ℕ, List, [], ◌∷◌, map,
 use Rattle.cob_tree.specs.declared.program.Range as code
 use Rattle.control_flow_theory.specs.language.Control.{control_of}
 use Rattle.control_flow_theory.specs.language.Language.{Program, Range, Main}
-use Rattle.control_flow_theory.specs.lowering.Told.{Told}
+use Rattle.control_flow_theory.specs.lowering.FlowFacts.{FlowFacts}
 use Rattle.control_flow_theory.specs.graph_rules.Walked.{In}
-use Rattle.control_flow_theory.specs.headline.Chain.{CallsStandLater}
-use Rattle.control_flow_theory.specs.headline.Headline.{Plan}
-use Rattle.program_facts.specs.completion.Told.{told_of}
+use Rattle.control_flow_theory.specs.main_theorem.Chain.{CallsStandLater}
+use Rattle.control_flow_theory.specs.main_theorem.MainTheorem.{Plan}
+use Rattle.program_facts.specs.completion.FlowFacts.{flow_facts_of}
 use Rattle.program_points.proofs.table_building_lemmas.Sections.{seen-length}
 use Rattle.procedure_split.specs.plan.Laws.{as_control, ending_at, others_of}
 use Rattle.procedure_split.proofs.plan_lemmas.CobolPlans.{cobol-planned, has-plan}
-use Rattle.lowering_labels.specs.points.Fall.{range_by, seen_range}
+use Rattle.lowering_labels.specs.points.FallThrough.{range_by, seen_range}
 use Rattle.procedure_split.specs.shaped_ranges.Laws.{RangesArePlanned}
 use Rattle.procedure_split.proofs.shaped_ranges_lemmas.Keeping.{AreApart, kept_by, kept-reached, kept-just, kept-graphs, kept-graph}
 
-apart-later : (told : Told) (program : Program) (ranges : List Range) →
+apart-later : (told : FlowFacts) (program : Program) (ranges : List Range) →
     CallsStandLater told program ranges → AreApart ranges
 apart-later told program [] later = tt
 apart-later told program (range ∷ ranges) later =
@@ -32,7 +32,7 @@ all-seen (range ∷ ranges) =
 
 pub are-planned : RangesArePlanned
 are-planned = λ program summary returning order graphs flow by are.
-    let told = told_of program.files returning in
+    let told = flow_facts_of program.files returning in
     let control = control_of program in
     let some : 0 < length control.paragraphs = subst (λ n. 0 < n) (sym (seen-length 0 program.paragraphs)) flow.some in
     let first = cobol-planned program summary returning order flow.items flow.paragraphs some

@@ -3,13 +3,13 @@ use Rattle.std.proofs.Common.{◌≡◌, List, [], ◌∷◌, ◌++◌, reverse,
 use Rattle.std.proofs.lemmas.List.{append-nil, append_assoc, reverse-append, reverse-reverse}
 use Rattle.cob_tree.specs.declared.fault.SplitFault.{SplitFault}
 use Rattle.cob_tree.specs.declared.fault.SplitFault.TheVariants as faults
-use Rattle.branch_tree.specs.Graphs.{seen_added, seen_graph}
+use Rattle.branch_tree.specs.Graph.{seen_added, seen_graph}
 use Rattle.branch_tree.specs.declared.graph.Graph.{Graph}
-use Rattle.control_flow_theory.specs.closing.Closes.{IsClosed, closed_graph}
-use Rattle.region_rewrite.specs.Shape.{Shapes}
+use Rattle.control_flow_theory.specs.structuring.Closes.{IsClosed, closed_graph}
+use Rattle.region_rewrite.specs.Shaping.{Shapes}
 use Rattle.region_rewrite.specs.declared.shaping.Shaped.{Shaped}
 use Rattle.procedure_split.specs.declared.shaped_ranges.shaping.Closed.{Closed}
-use Rattle.procedure_split.specs.shaped_ranges.Shaped.{AllClosed, AllShaped, IsClosedFrom, IsShapedTo, IsTooDeep}
+use Rattle.procedure_split.specs.shaped_ranges.Shaping.{AllClosed, AllShaped, IsClosedFrom, IsShapedTo, IsTooDeep}
 
 -- those that aren't left were shaped to these
 pub record SoFar (graphs left : List Graph) (made : List Closed) : Type 0 where

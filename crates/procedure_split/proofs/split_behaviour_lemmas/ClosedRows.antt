@@ -8,16 +8,16 @@ use Rattle.control_flow_theory.specs.graph_rules.Families.{Added}
 use Rattle.control_flow_theory.specs.graph_rules.Reduced as reduced
 use Rattle.control_flow_theory.specs.graph_rules.Reduced.{Graphs, tree_in}
 use Rattle.control_flow_theory.specs.graph_rules.Walked.{is_in}
-use Rattle.control_flow_theory.specs.closing.Closes.{closed_graph}
+use Rattle.control_flow_theory.specs.structuring.Closes.{closed_graph}
 use Rattle.control_flow_theory.proofs.rendering_lemmas.Written.{or_else}
 use Rattle.control_flow_theory.specs.language.Language.{Stmts}
-use Rattle.lowering_labels.specs.points.Fall.{seen_range}
-use Rattle.region_rewrite.specs.Shape.{first_tree}
-use Rattle.added_items.specs.item_table.CellItems.{StandOnce}
+use Rattle.lowering_labels.specs.points.FallThrough.{seen_range}
+use Rattle.region_rewrite.specs.Shaping.{first_tree}
+use Rattle.added_items.specs.item_table.CellItem.{StandOnce}
 use Rattle.added_items.specs.item_table.Laws.{cell_range, closed_ranges}
 use Rattle.added_items.specs.item_table.Row.{CellRange}
 use Rattle.procedure_split.proofs.shaped_ranges_lemmas.Keeping.{AreApart}
-use Rattle.procedure_split.specs.shaped_ranges.Shaped.{IsShapedTo}
+use Rattle.procedure_split.specs.shaped_ranges.Shaping.{IsShapedTo}
 use Rattle.procedure_split.specs.declared.shaped_ranges.shaping.Closed.{Closed}
 use Rattle.procedure_split.specs.Rows.{row_of, rows_of}
 

@@ -5,15 +5,15 @@ use Rattle.cob_tree.specs.declared.program.Range as code
 use Rattle.control_flow_theory.specs.language.Language as language
 use Rattle.control_flow_theory.specs.language.Language.{Range}
 use Rattle.control_flow_theory.proofs.semantics_lemmas.Ranges.{range-tells}
-use Rattle.control_flow_theory.specs.lowering.Told.{Told}
+use Rattle.control_flow_theory.specs.lowering.FlowFacts.{FlowFacts}
 use Rattle.control_flow_theory.specs.graph_rules.Walked.{In, is_in}
 use Rattle.control_flow_theory.specs.graph_rules.Reduced as reduced
 use Rattle.control_flow_theory.specs.graph_rules.Reduced.{Graphs, Node, size}
 use Rattle.control_flow_theory.proofs.rendering_lemmas.Written.{or_else}
-use Rattle.branch_tree.specs.Graphs.{seen_graph}
+use Rattle.branch_tree.specs.Graph.{seen_graph}
 use Rattle.branch_tree.specs.declared.graph.Graph.{Graph}
-use Rattle.lowering_labels.specs.points.Fall.{seen_range}
-use Rattle.flow_graph.specs.graph_sizes.Sizes.{graph_size, node_size, tree_size}
+use Rattle.lowering_labels.specs.points.FallThrough.{seen_range}
+use Rattle.flow_graph.specs.graph_sizes.Sizing.{graph_size, node_size, tree_size}
 use Rattle.added_items.specs.item_table.Tables.{most_arms}
 use Rattle.procedure_split.specs.shaped_ranges.Graphs.{AreGraphsOf, node_count}
 use Rattle.cob_base.specs.Limit.{max_nodes}
@@ -42,7 +42,7 @@ one-counted (first ∷ graphs) (suc at) graph is =
     let fewer = one-counted graphs at graph is in
     omega (arith, more, fewer)
 
-pub as-many-graphs : (told : Told) (program : language.Program) (order : List code.Range)
+pub as-many-graphs : (told : FlowFacts) (program : language.Program) (order : List code.Range)
     (graphs : List Graph) → AreGraphsOf told program order graphs → length graphs ≡ length order
 as-many-graphs told program [] [] are = refl
 as-many-graphs told program [] (graph ∷ graphs) are = absurd are

@@ -7,13 +7,13 @@ use Rattle.control_flow_theory.specs.language.Control.{control_of}
 use Rattle.control_flow_theory.specs.language.Language as language
 use Rattle.control_flow_theory.specs.language.Language.{Range, Main}
 use Rattle.control_flow_theory.specs.language.Structured.{IsStructured}
-use Rattle.control_flow_theory.specs.lowering.Told.{IsSource}
+use Rattle.control_flow_theory.specs.lowering.FlowFacts.{IsSource}
 use Rattle.control_flow_theory.specs.graph_rules.Walked.{In}
 use Rattle.control_flow_theory.specs.graph_rules.Reduced.{Graphs, size}
-use Rattle.program_facts.specs.completion.Told.{told_of}
-use Rattle.control_flow_theory.specs.headline.Chain.{EachCellServed, GraphsServed}
-use Rattle.control_flow_theory.specs.headline.Headline.{Plan, graphs_by}
-use Rattle.control_flow_theory.specs.served_graphs.Laws.{CountersAreServed}
+use Rattle.program_facts.specs.completion.FlowFacts.{flow_facts_of}
+use Rattle.control_flow_theory.specs.main_theorem.Chain.{EachCellServed, GraphsServed}
+use Rattle.control_flow_theory.specs.main_theorem.MainTheorem.{Plan, graphs_by}
+use Rattle.control_flow_theory.specs.expressible_graphs.Laws.{CountersAreServed}
 use Rattle.cobol_theory.proofs.cobol_parts_lemmas.Sources.{source}
 use Rattle.cobol_theory.specs.cobol_meaning.Same.{SameBehaviour}
 use Rattle.meanings.specs.statements.Does.{declared_in}
@@ -26,15 +26,15 @@ use Rattle.procedure_split.proofs.plan_lemmas.CobolPlans.{cobol-planned}
 use Rattle.out_names.specs.Naming.{names_of}
 use Rattle.out_names.specs.Words.{program_words, table_of}
 use Rattle.program_facts.specs.well_scoped.Part.{is_filled}
-use Rattle.statement_builders.specs.arms.Empties.{empties}
+use Rattle.statement_builders.specs.arms.EmptyArms.{empties}
 use Rattle.statement_builders.specs.item_words.Words.{AreItems}
 use Rattle.added_items.proofs.item_table_lemmas.Entered.{are-entries}
 use Rattle.added_items.proofs.item_table_lemmas.Served.{are-served}
-use Rattle.added_items.specs.item_table.CellItems.{StandOnce}
+use Rattle.added_items.specs.item_table.CellItem.{StandOnce}
 use Rattle.added_items.specs.item_table.Laws.{closed_ranges}
 use Rattle.added_items.specs.item_table.Row.{CellRange}
 use Rattle.added_items.specs.item_table.Tables.{most_arms, table_of_cells}
-use Rattle.lowering_labels.specs.points.Fall.{seen_range}
+use Rattle.lowering_labels.specs.points.FallThrough.{seen_range}
 use Rattle.control_flow_theory.proofs.rendering_lemmas.Written.{map-get}
 use Rattle.procedure_split.proofs.counter_serving_lemmas.Served.{counters-served}
 use Rattle.cobol_theory.specs.cobol_headline.Alike.{Writing, naming_of, writable_of, CanBeWritten, IsWrittenOf}
@@ -42,7 +42,7 @@ use Rattle.cobol_theory.proofs.cobol_headline_lemmas.Joined.{alike}
 use Rattle.cobol_theory.specs.served_programs.Laws.{KeepsAtEnd}
 use Rattle.cobol_theory.proofs.served_programs_lemmas.Taken.{graphs-served}
 use Rattle.procedure_split.specs.shaped_ranges.Laws.{HasFlow, IsPlannedWith}
-use Rattle.procedure_split.specs.shaped_ranges.Shaped.{IsShapedTo}
+use Rattle.procedure_split.specs.shaped_ranges.Shaping.{IsShapedTo}
 use Rattle.procedure_split.specs.declared.shaped_ranges.shaping.Closed.{Closed}
 use Rattle.procedure_split.proofs.shaped_ranges_lemmas.Keeping.{AreApart}
 use Rattle.procedure_split.proofs.shaped_ranges_lemmas.Planning.{are-planned}
@@ -53,9 +53,10 @@ use Rattle.procedure_split.proofs.made_procedures_lemmas.Plans.{each-closed, ent
 use Rattle.procedure_split.proofs.made_procedures_lemmas.Rows.{beside, shaped-at, all-as-planned, later-apart, in-at}
 use Rattle.pending_returns.specs.declared.facts.Summary.{Summary}
 use Rattle.procedure_split.specs.Rows.{row_of, rows_of}
-use Rattle.procedure_split.specs.Split.{IsSplit}
-use Rattle.procedure_split.specs.Written.{added_entries}
-use Rattle.procedure_split.specs.split_behaviour.Alike.{IsWellMade, FlowsSo, SplitProgramsBehaveAlike}
+use Rattle.procedure_split.specs.Splitting.{IsSplit}
+use Rattle.procedure_split.specs.Writing.{added_entries}
+use Rattle.procedure_split.specs.split_behaviour.Alike.{IsWellMade, SplitProgramsBehaveAlike}
+use Rattle.pending_returns.specs.FaultFree.{IsFaultFree}
 use Rattle.procedure_split.proofs.split_behaviour_lemmas.ClosedRows.{closed_row, row-is, row-at, all-rows, stand-once}
 use Rattle.procedure_split.proofs.split_behaviour_lemmas.FewNodes.{as-many-graphs, few-nodes}
 
@@ -64,7 +65,7 @@ some-there [] some = cc
 some-there (paragraph ∷ paragraphs) some = omega arith
 
 module _ (program made : Program) (summary : Summary) (well : IsWellMade program)
-    (flows : FlowsSo program summary) (split : IsSplit program summary made) where
+    (flows : IsFaultFree program summary) (split : IsSplit program summary made) where
   abbrev pub control : language.Program
   control = control_of program
 
@@ -79,8 +80,7 @@ module _ (program made : Program) (summary : Summary) (well : IsWellMade program
     items = well.proper.own_items;
     paragraphs = well.proper.own_paragraphs;
     some = some-there program.paragraphs well.fit.own.some;
-    fair = flows.fair;
-    is = flows.is;
+    flow = flows;
   }
 
   pub some : 0 < length control.paragraphs
@@ -113,7 +113,7 @@ module _ (program made : Program) (summary : Summary) (well : IsWellMade program
   in-order =
       all-as-planned order
       ∙ (cobol-planned program summary split.plan.returning order flow.items flow.paragraphs some
-      flow.fair flow.is split.plan.is).1.main
+      flow.flow.never flow.flow.is split.plan.is).1.main
       ∙ ap (λ others. Main ∷ others) (sym planned.others)
 
   apart : AreApart ranges
@@ -180,7 +180,7 @@ module _ (program made : Program) (summary : Summary) (well : IsWellMade program
   few : (range : Range) → In range ranges → size (graphs range).nodes < most_arms
   few range here =
       few-nodes graphs order split.graphs
-      (as-many-graphs (told_of program.files split.plan.returning) control order split.graphs
+      (as-many-graphs (flow_facts_of program.files split.plan.returning) control order split.graphs
       split.lowered.are)
       split.lowered.within planned.each range
       (subst (λ all. In range all) (sym in-order) here)

@@ -6,7 +6,7 @@ use Rattle.cob_tree.specs.declared.program.Program.{Program}
 use Rattle.out_names.specs.Naming.{names_of}
 use Rattle.procedure_split.proofs.made_procedures_lemmas.Rows.{beside}
 use Rattle.pending_returns.specs.declared.facts.Summary.{Summary}
-use Rattle.procedure_split.specs.Split.{IsSplit}
+use Rattle.procedure_split.specs.Splitting.{IsSplit}
 use Rattle.procedure_split.specs.split_behaviour.Alike.{StandsAlone, SplitProgramsHaveNames}
 
 -- each at its place

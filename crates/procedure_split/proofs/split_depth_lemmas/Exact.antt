@@ -3,7 +3,7 @@ use Rattle.std.proofs.Common.{◌≡◌, ◌≤◌, ℕ, suc, max, Bool, true, f
 use Rattle.control_flow_theory.specs.language.Language.{Simple, Evaluate, Read, Arith, Depending, Picker, If, By, ByCell, Stmt, Do, Choose, Loop, Perform, Go, GoDepending, NextSentence, ExitParagraph, ExitSection, ExitPerform, StopRun, Stmts, none, also, Arms, done, given, missing, Body, Nested, Performed}
 use Rattle.control_flow_theory.specs.rendering.Rendering.{Empty, Continues, Stays, Goes, Naming, standing, required, written_picker, written_arm, picker_lacks, written_stmt, written_arms, written_body}
 use Rattle.region_rewrite.specs.written_nesting.Nesting.{leaves_out, is_nothing, arm_level, nesting, stmt_nesting, arms_nesting, body_nesting}
-use Rattle.statement_builders.specs.arms.Empties.{empties}
+use Rattle.statement_builders.specs.arms.EmptyArms.{empties}
 use Rattle.statement_builders.specs.arms.Written.{Way, naming_in, all_written}
 use Rattle.procedure_split.specs.written_depth.Levels.{least_levels, levels, stmt_levels, arms_levels, body_levels}
 use Rattle.procedure_split.proofs.written_depth_lemmas.Written.{required-levels, whole-levels, stmts-below}

@@ -5,7 +5,7 @@ use Rattle.control_flow_theory.specs.rendering.Rendering.{Empty, Continues, Stay
 use Rattle.region_rewrite.specs.written_nesting.Nesting.{leaves_out, is_nothing, arm_level, nesting, arms_nesting}
 use Rattle.cobol_theory.specs.cell_serving.Choosing.{written_chooser}
 use Rattle.cobol_theory.specs.cell_serving.Entries.{whole_literal}
-use Rattle.statement_builders.specs.arms.Empties.{empties}
+use Rattle.statement_builders.specs.arms.EmptyArms.{empties}
 use Rattle.statement_builders.specs.arms.Written.{Way, naming_in}
 use Rattle.procedure_split.specs.written_depth.Fits.{LeavesOut, MissingFits, StmtFits, StmtsFit, ArmsFit, BodyFits}
 use Rattle.procedure_split.specs.written_depth.Levels.{least_levels}

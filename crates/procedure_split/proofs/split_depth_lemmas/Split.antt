@@ -10,28 +10,28 @@ use Rattle.control_flow_theory.specs.semantics.Graph.{Tree, body_of}
 use Rattle.control_flow_theory.specs.graph_rules.Reduced.{Graphs}
 use Rattle.control_flow_theory.specs.rendering.Rendering.{place_of, written_paragraph}
 use Rattle.control_flow_theory.proofs.rendering_lemmas.Written.{map-get}
-use Rattle.control_flow_theory.specs.headline.Chain.{procedures_of}
-use Rattle.program_facts.specs.completion.Told.{told_of}
+use Rattle.control_flow_theory.specs.main_theorem.Chain.{procedures_of}
+use Rattle.program_facts.specs.completion.FlowFacts.{flow_facts_of}
 use Rattle.program_points.proofs.table_building_lemmas.Sections.{seen-length}
 use Rattle.pending_returns.specs.declared.facts.Summary.{Summary}
 use Rattle.procedure_split.specs.plan.Laws.{IsPlannedByPaths, others_of}
 use Rattle.procedure_split.proofs.plan_lemmas.CobolPlans.{cobol-planned}
-use Rattle.branch_tree.specs.Trees.{seen_tree}
-use Rattle.lowering_labels.specs.points.Fall.{seen_range}
+use Rattle.branch_tree.specs.Tree.{seen_tree}
+use Rattle.lowering_labels.specs.points.FallThrough.{seen_range}
 use Rattle.region_rewrite.specs.written_nesting.Nesting.{nesting}
 use Rattle.cob_base.specs.Limit.{max_nesting}
 use Rattle.cobol_theory.specs.cell_serving.Table.{CellTable}
-use Rattle.statement_builders.specs.arms.Places.{ArePlaced}
+use Rattle.statement_builders.specs.arms.Placing.{ArePlaced}
 use Rattle.statement_builders.specs.arms.Written.{Way, naming_in}
-use Rattle.statement_builders.specs.declared.arms.placing.Placed.{Placed}
+use Rattle.statement_builders.specs.declared.arms.placing.ProcedurePlace.{ProcedurePlace}
 use Rattle.statement_builders.specs.item_words.Words.{AreItems}
 use Rattle.statement_builders.specs.declared.item_words.cells.CellItem.{CellItem}
-use Rattle.body_rendering.specs.Procedures.{is_main, procedure_of}
+use Rattle.body_rendering.specs.Procedure.{is_main, procedure_of}
 use Rattle.procedure_split.specs.shaped_ranges.Laws.{HasFlow}
 use Rattle.procedure_split.proofs.shaped_ranges_lemmas.Keeping.{AreApart}
 use Rattle.procedure_split.specs.made_procedures.Made.{IsParagraphOf, ArePlacesIn}
 use Rattle.procedure_split.proofs.made_procedures_lemmas.Rows.{beside, shaped-at, all-as-planned, later-apart, place-at}
-use Rattle.procedure_split.specs.Split.{IsSplit}
+use Rattle.procedure_split.specs.Splitting.{IsSplit}
 use Rattle.procedure_split.specs.written_depth.Levels.{paragraph_levels}
 use Rattle.procedure_split.proofs.written_depth_lemmas.Seen.{paragraph-agrees}
 use Rattle.procedure_split.proofs.written_depth_lemmas.Whole.{paragraph-below}
@@ -78,7 +78,7 @@ module _ (own : List CellItem) (place : Range → ℕ) (range : Range) where
   }
 
   -- the paragraph of a range nests as its body is judged to
-  paragraph-within : (places : List Placed) → ArePlaced place places → (whole : Tree)
+  paragraph-within : (places : List ProcedurePlace) → ArePlaced place places → (whole : Tree)
       (name : List ℕ) (made : Paragraph) → IsParagraphOf own places (is_main range) whole name made →
       StmtsHaveArms (body_of whole) → (limit : ℕ) → nesting (body_of whole) ≤ limit →
       paragraph_depth made ≤ limit
@@ -103,7 +103,7 @@ module _ (order : List code.Range) (apart : AreApart (map seen_range order)) whe
   abbrev placing : Range → ℕ
   placing = place_of (procedures_of (map seen_range order) no_graphs)
 
-  are-placed : (places : List Placed) → ArePlacesIn order places → ArePlaced placing places
+  are-placed : (places : List ProcedurePlace) → ArePlacesIn order places → ArePlaced placing places
   are-placed places are = λ at placed is.
       place-at no_graphs (map seen_range order) apart placed.place (Part placed.entry placed.exit)
       (map-get seen_range order placed.place
@@ -132,15 +132,15 @@ module _ (program made : Program) (summary : Summary) (flow : HasFlow program su
   some : 0 < length (control_of program).paragraphs
   some = subst (λ n. 0 < n) (sym (seen-length 0 program.paragraphs)) flow.some
 
-  planned : IsPlannedByPaths (told_of program.files split.plan.returning) (control_of program) split.plan.returning order
+  planned : IsPlannedByPaths (flow_facts_of program.files split.plan.returning) (control_of program) split.plan.returning order
   planned =
       (cobol-planned program summary split.plan.returning order flow.items flow.paragraphs some
-      flow.fair flow.is split.plan.is).1
+      flow.flow.never flow.flow.is split.plan.is).1
 
   apart : AreApart (map seen_range order)
   apart =
       subst AreApart (sym (all-as-planned order ∙ planned.main))
-      (later-apart (told_of program.files split.plan.returning) (control_of program)
+      (later-apart (flow_facts_of program.files split.plan.returning) (control_of program)
       (Main ∷ others_of order) planned.later)
 
   pub split-within : ClosedHaveArms split.closed → program_depth made ≤ max_nesting

@@ -9,15 +9,16 @@ use Rattle.control_flow_theory.specs.language.Control.{control_of, seen_paragrap
 use Rattle.control_flow_theory.specs.language.Language as language
 use Rattle.struct_form.specs.Structured.{NoExit, IsProcedure, stmts_exitless}
 use Rattle.grammar_laws.specs.short_lists.lone_exits.Alone.{is_exit, exits_alone}
-use Rattle.program_facts.specs.completion.Told.{told_of}
+use Rattle.program_facts.specs.completion.FlowFacts.{flow_facts_of}
 use Rattle.control_flow_theory.specs.rendering.Rendering.{Naming, Procedure, place_of, written_paragraph}
 use Rattle.control_flow_theory.proofs.rendering_lemmas.Written.{or_else}
-use Rattle.control_flow_theory.specs.headline.Headline.{procedures_by}
-use Rattle.control_flow_theory.specs.served_graphs.Served.{ProgramIsServed}
+use Rattle.control_flow_theory.specs.main_theorem.MainTheorem.{procedures_by}
+use Rattle.control_flow_theory.specs.expressible_graphs.Served.{ProgramIsServed}
 use Rattle.pending_returns.specs.declared.facts.Summary.{Summary}
 use Rattle.cobol_theory.specs.cobol_headline.Alike.{naming_of}
-use Rattle.procedure_split.specs.Split.{IsSplit}
-use Rattle.procedure_split.specs.split_behaviour.Alike.{IsWellMade, FlowsSo}
+use Rattle.procedure_split.specs.Splitting.{IsSplit}
+use Rattle.procedure_split.specs.split_behaviour.Alike.{IsWellMade}
+use Rattle.pending_returns.specs.FaultFree.{IsFaultFree}
 use Rattle.procedure_split.proofs.split_behaviour_lemmas.Joined.{plan, planned, is-source, some, writing, is-written, behave-alike}
 use Rattle.procedure_split.proofs.split_behaviour_lemmas.Named.{all-at, stands-alone-at}
 use Rattle.procedure_split.specs.split_form.Laws.{SplitProgramsAreStructured}
@@ -70,7 +71,7 @@ no-exit simple = turned (is_exit simple)
 -- ---- the paragraphs that are made
 
 module _ (program made : Program) (summary : Summary) (well : IsWellMade program)
-    (alone : exits_alone program ≡ true) (flows : FlowsSo program summary)
+    (alone : exits_alone program ≡ true) (flows : IsFaultFree program summary)
     (split : IsSplit program summary made) where
   abbrev naming : Naming
   naming = naming_of program (writing program made summary well flows split)
@@ -95,7 +96,7 @@ module _ (program made : Program) (summary : Summary) (well : IsWellMade program
   served range =
       subst (λ told. ProgramIsServed naming no_exits told range (control_of program))
       (sym (planned program made summary well flows split).told)
-      (paragraphs-are naming (told_of program.files split.plan.returning) range refl 0
+      (paragraphs-are naming (flow_facts_of program.files split.plan.returning) range refl 0
       program.paragraphs alone)
 
   exitless-at : (at : ℕ) (paragraph : Paragraph) → slice_get made.paragraphs at ≡ Some paragraph →

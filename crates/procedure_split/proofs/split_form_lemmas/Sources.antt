@@ -18,10 +18,10 @@ use Rattle.cob_tree.specs.declared.stmt.Stmt.TheVariants as stmts
 use Rattle.control_flow_theory.specs.language.All.{all}
 use Rattle.control_flow_theory.specs.language.Language as language
 use Rattle.control_flow_theory.specs.language.Control.{cell_of, number_written, setting, move_to, move_of, lowered_cell, arith_act, arith_stmt, arm_before, else_of, stmts_of, control_in, loop_of, perform_of, test_of, evaluate_of, tests_of, Branch, branches_before, Both, both_arms, both_step, branch_step, seen_step, seen, seen_when, seen_both, seen_stmts, seen_sentence, seen_paragraphs, section_last}
-use Rattle.control_flow_theory.specs.lowering.Told.{Told}
+use Rattle.control_flow_theory.specs.lowering.FlowFacts.{FlowFacts}
 use Rattle.control_flow_theory.specs.rendering.Rendering.{Naming, count_arms}
 use Rattle.control_flow_theory.specs.rendering.Procedures.{Writable}
-use Rattle.control_flow_theory.specs.served_graphs.Served.{ActIsServed, TestIsServed, PickerIsServed, StmtIsServed, StmtsAreServed, ArmsAreServed, IsIdle, SentenceIsServed, ParagraphIsServed, ParagraphsAreServed}
+use Rattle.control_flow_theory.specs.expressible_graphs.Served.{ActIsServed, TestIsServed, PickerIsServed, StmtIsServed, StmtsAreServed, ArmsAreServed, IsIdle, SentenceIsServed, ParagraphIsServed, ParagraphsAreServed}
 use Rattle.struct_form.specs.Structured.{exitless_step, exitless_arms, exitless_when, exitless, arms_exitless, when_exitless, stmts_exitless}
 use Rattle.grammar_laws.specs.short_lists.lone_exits.Alone.{is_exit, is_lone_exit, sentence_exits_alone, sentences_exit_alone, paragraph_exits_alone, paragraphs_exit_alone}
 
@@ -39,7 +39,7 @@ no_exits = record {
   chooses = λ range cell arms. true;
 }
 
-module _ (naming : Naming) (told : Told) (range : language.Range) where
+module _ (naming : Naming) (told : FlowFacts) (range : language.Range) where
   abbrev Served : language.Stmt → Type 0
   Served stmt = StmtIsServed naming no_exits told range stmt
 

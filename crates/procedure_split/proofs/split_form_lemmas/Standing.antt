@@ -2,18 +2,18 @@
 use Rattle.std.proofs.Common.{◌<◌, ℕ, suc, ◌∷◌, length, refl}
 use Rattle.control_flow_theory.specs.language.Language.{Stmts, Program, Range, Main}
 use Rattle.control_flow_theory.specs.semantics.Graph.{body_of}
-use Rattle.control_flow_theory.specs.lowering.Told.{IsSource}
+use Rattle.control_flow_theory.specs.lowering.FlowFacts.{IsSource}
 use Rattle.control_flow_theory.specs.graph_rules.Families.{Added, Never, Flag, Count, State, Exit}
 use Rattle.control_flow_theory.specs.graph_rules.Reduced.{Graph, Graphs, tree_in, size}
-use Rattle.control_flow_theory.specs.closing.Closes.{closed_graph}
+use Rattle.control_flow_theory.specs.structuring.Closes.{closed_graph}
 use Rattle.control_flow_theory.specs.rendering.Rendering.{Naming}
-use Rattle.control_flow_theory.specs.headline.Chain.{IsPlan, IsNumberedPlan, CellsServed, KindServed, EachCellServed, EachStands, GraphsServed}
-use Rattle.control_flow_theory.specs.headline.Headline.{Plan, graphs_by, procedures_by}
-use Rattle.control_flow_theory.specs.headline.Numbering.{numbers_by, added_by}
-use Rattle.control_flow_theory.proofs.headline_lemmas.graphs.Numbering.{counters-numbered}
-use Rattle.control_flow_theory.proofs.headline_lemmas.graphs.LoweredStand.{closed-graphs-stand}
-use Rattle.control_flow_theory.specs.served_graphs.Served.{ProgramIsServed}
-use Rattle.control_flow_theory.proofs.served_graphs_lemmas.Graphs.{served-graphs}
+use Rattle.control_flow_theory.specs.main_theorem.Chain.{IsPlan, IsNumberedPlan, CellsServed, KindServed, EachCellServed, EachStands, GraphsServed}
+use Rattle.control_flow_theory.specs.main_theorem.MainTheorem.{Plan, graphs_by, procedures_by}
+use Rattle.control_flow_theory.specs.main_theorem.Numbering.{numbers_by, added_by}
+use Rattle.control_flow_theory.proofs.main_theorem_lemmas.graphs.Numbering.{counters-numbered}
+use Rattle.control_flow_theory.proofs.main_theorem_lemmas.graphs.LoweredStand.{closed-graphs-stand}
+use Rattle.control_flow_theory.specs.expressible_graphs.Served.{ProgramIsServed}
+use Rattle.control_flow_theory.proofs.expressible_graphs_lemmas.Graphs.{served-graphs}
 use Rattle.procedure_split.proofs.split_form_lemmas.Sources.{no_exits}
 
 any-kind : (range : Range) (body : Stmts) (nodes cell : ℕ) (kind : Added) →

@@ -5,9 +5,9 @@ use Rattle.meanings.specs.statements.Filing.{Declared}
 use Rattle.cobol_theory.specs.added_items.Widened.{AddedItems}
 use Rattle.control_flow_theory.specs.graph_rules.Families.{Added}
 use Rattle.control_flow_theory.specs.graph_rules.Reduced.{Graph, Graphs, kind_at}
-use Rattle.control_flow_theory.specs.closing.Closes.{closed_graph}
+use Rattle.control_flow_theory.specs.structuring.Closes.{closed_graph}
 use Rattle.cobol_theory.specs.cell_serving.Tested.{kinds_of}
-use Rattle.control_flow_theory.specs.served_graphs.Laws.{CountersAreServed}
+use Rattle.control_flow_theory.specs.expressible_graphs.Laws.{CountersAreServed}
 use Rattle.added_items.specs.item_table.Laws.{closed_ranges}
 use Rattle.added_items.specs.item_table.Tables.{table_of_cells}
 

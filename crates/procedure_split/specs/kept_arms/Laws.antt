@@ -3,11 +3,11 @@ use Rattle.std.specs.Prelude.{◌≤◌}
 use Rattle.cob_tree.specs.Depth.{program_depth}
 use Rattle.cob_tree.specs.declared.program.Program.{Program}
 use Rattle.control_flow_theory.specs.graph_rules.Reduced.{Graph}
-use Rattle.control_flow_theory.specs.closing.Closes.{closed_graph}
+use Rattle.control_flow_theory.specs.structuring.Closes.{closed_graph}
 use Rattle.pending_returns.specs.declared.facts.Summary.{Summary}
 use Rattle.cob_base.specs.Limit.{max_nesting}
 use Rattle.procedure_split.specs.shaped_ranges.Laws.{HasFlow}
-use Rattle.procedure_split.specs.Split.{IsSplit}
+use Rattle.procedure_split.specs.Splitting.{IsSplit}
 use Rattle.procedure_split.specs.kept_arms.Trees.{NodesHaveArms, GraphsHaveArms}
 
 -- where its nodes' choices have arms, those of what the rules leave of the graph have

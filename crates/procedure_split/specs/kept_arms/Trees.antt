@@ -2,7 +2,7 @@
 use Rattle.std.specs.Prelude.{ℕ, ◌≡◌, List, [], ◌∷◌, Some, slice_get}
 use Rattle.control_flow_theory.specs.semantics.Graph.{Tree, tree, End, Pick, Jump, Return, Stop, Dead, Trees, no_more, more}
 use Rattle.control_flow_theory.specs.graph_rules.Reduced.{Node}
-use Rattle.branch_tree.specs.Graphs.{seen_graph}
+use Rattle.branch_tree.specs.Graph.{seen_graph}
 use Rattle.branch_tree.specs.declared.graph.Graph as code
 use Rattle.procedure_split.specs.split_depth.Arms.{StmtsHaveArms}
 

@@ -6,7 +6,7 @@ use Rattle.program_facts.specs.well_scoped.Named.{counts_of, paragraphs_named}
 use Rattle.pending_returns.specs.declared.facts.Summary.{Summary}
 use Rattle.cob_base.specs.Limit.{max_nesting}
 use Rattle.procedure_split.specs.shaped_ranges.Laws.{HasFlow}
-use Rattle.procedure_split.specs.Split.{IsSplit}
+use Rattle.procedure_split.specs.Splitting.{IsSplit}
 
 -- within the limit, where the program's statements are as they are read
 abbrev pub ProgramsSplitNestWithinTheLimit : Type 0

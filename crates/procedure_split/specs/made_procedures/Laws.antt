@@ -4,16 +4,16 @@ use Rattle.cob_tree.specs.declared.program.Program.{Program}
 use Rattle.cob_tree.specs.declared.program.Range.{Range}
 use Rattle.control_flow_theory.specs.language.Control.{control_of}
 use Rattle.control_flow_theory.specs.rendering.Rendering.{rendered}
-use Rattle.control_flow_theory.specs.headline.Headline.{procedures_by}
+use Rattle.control_flow_theory.specs.main_theorem.MainTheorem.{procedures_by}
 use Rattle.pending_returns.specs.declared.facts.Summary.{Summary}
 use Rattle.procedure_split.specs.plan.Planned.{IsPlanOf}
 use Rattle.branch_tree.specs.declared.graph.Graph.{Graph}
-use Rattle.statement_builders.specs.arms.Empties.{empties}
-use Rattle.statement_builders.specs.declared.arms.placing.Placed.{Placed}
+use Rattle.statement_builders.specs.arms.EmptyArms.{empties}
+use Rattle.statement_builders.specs.declared.arms.placing.ProcedurePlace.{ProcedurePlace}
 use Rattle.statement_builders.specs.declared.item_words.cells.CellItem.{CellItem}
 use Rattle.cobol_theory.specs.cobol_headline.Alike.{Writing, naming_of}
 use Rattle.procedure_split.specs.shaped_ranges.Laws.{HasFlow, IsPlannedWith}
-use Rattle.procedure_split.specs.shaped_ranges.Shaped.{AllShaped}
+use Rattle.procedure_split.specs.shaped_ranges.Shaping.{AllShaped}
 use Rattle.procedure_split.specs.declared.shaped_ranges.shaping.Closed.{Closed}
 use Rattle.procedure_split.specs.made_procedures.Made.{AreAsMany, ArePlacesIn, AreParagraphsOf, HaveItems}
 
@@ -31,7 +31,7 @@ pub record AreMade (program result : Program) (writing : Writing) : Type 0 where
   pub empty : writing.empty ≡ empties writing.table
   pub cells : List (List CellItem)
   pub items : HaveItems program writing order cells
-  pub places : List Placed
+  pub places : List ProcedurePlace
   pub placed : ArePlacesIn order places
   pub names : List (List ℕ)
   pub many : AreAsMany order closed cells names

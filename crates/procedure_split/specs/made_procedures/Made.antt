@@ -7,21 +7,21 @@ use Rattle.cob_tree.specs.declared.program.Sentence.{Sentence}
 use Rattle.control_flow_theory.specs.language.Control.{control_of}
 use Rattle.control_flow_theory.specs.semantics.Graph.{Tree}
 use Rattle.control_flow_theory.specs.rendering.Rendering.{place_of}
-use Rattle.control_flow_theory.specs.headline.Headline.{procedures_by}
+use Rattle.control_flow_theory.specs.main_theorem.MainTheorem.{procedures_by}
 use Rattle.meanings.specs.statements.Does.{declared_in}
 use Rattle.cobol_theory.specs.added_items.Own.{items}
-use Rattle.branch_tree.specs.Trees.{seen_tree}
-use Rattle.lowering_labels.specs.points.Fall.{seen_range}
+use Rattle.branch_tree.specs.Tree.{seen_tree}
+use Rattle.lowering_labels.specs.points.FallThrough.{seen_range}
 use Rattle.statement_builders.specs.arms.Written.{Way}
-use Rattle.statement_builders.specs.declared.arms.placing.Placed.{Placed}
+use Rattle.statement_builders.specs.declared.arms.placing.ProcedurePlace.{ProcedurePlace}
 use Rattle.statement_builders.specs.item_words.Words.{AreItems}
 use Rattle.statement_builders.specs.declared.item_words.cells.CellItem.{CellItem}
-use Rattle.body_rendering.specs.Procedures.{IsProcedure, is_main}
+use Rattle.body_rendering.specs.Procedure.{IsProcedure, is_main}
 use Rattle.cobol_theory.specs.cobol_headline.Alike.{Writing}
 use Rattle.procedure_split.specs.declared.shaped_ranges.shaping.Closed.{Closed}
 
 -- a paragraph of this name, in no section, that holds one sentence, a procedure
-pub record IsParagraphOf (cells : List CellItem) (places : List Placed) (main : Bool)
+pub record IsParagraphOf (cells : List CellItem) (places : List ProcedurePlace) (main : Bool)
     (whole : Tree) (name : List ℕ) (made : Paragraph) : Type 0 where
   pub named : made.name ≡ Some name
   pub bare : made.section ≡ None
@@ -31,7 +31,7 @@ pub record IsParagraphOf (cells : List CellItem) (places : List Placed) (main : 
 
 -- one for each range, with its name and the items of its cells
 pub record AreParagraphsOf (order : List Range) (closed : List Closed)
-    (cells : List (List CellItem)) (places : List Placed) (names : List (List ℕ))
+    (cells : List (List CellItem)) (places : List ProcedurePlace) (names : List (List ℕ))
     (paragraphs : List Paragraph) : Type 0 where
   pub count : length paragraphs ≡ length order
   pub each : (at : ℕ) (range : Range) (one : Closed) (own : List CellItem) (name : List ℕ)
@@ -48,8 +48,8 @@ pub record AreAsMany (order : List Range) (closed : List Closed) (cells : List (
   pub words : length names ≡ length order
 
 -- each place in the list is that of a range in the order
-abbrev pub ArePlacesIn : List Range → List Placed → Type 0
-ArePlacesIn order places = (at : ℕ) (placed : Placed) → slice_get places at ≡ Some placed →
+abbrev pub ArePlacesIn : List Range → List ProcedurePlace → Type 0
+ArePlacesIn order places = (at : ℕ) (placed : ProcedurePlace) → slice_get places at ≡ Some placed →
     slice_get order placed.place
     ≡ Some (record { entry = placed.entry; exit = Some placed.exit })
 

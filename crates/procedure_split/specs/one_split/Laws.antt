@@ -5,8 +5,9 @@ use Rattle.cob_tree.specs.declared.fault.SplitFault.TheVariants as fault
 use Rattle.cob_tree.specs.declared.program.Program.{Program}
 use Rattle.pending_returns.specs.declared.facts.Summary.{Summary}
 use Rattle.procedure_split.specs.declared.writing.Split.{Split}
-use Rattle.procedure_split.specs.Split.{IsSplit, IsSplitFault, IsSplitWith}
-use Rattle.procedure_split.specs.split_behaviour.Alike.{IsWellMade, FlowsSo}
+use Rattle.procedure_split.specs.Splitting.{IsSplit, IsSplitFault, IsSplitWith}
+use Rattle.procedure_split.specs.split_behaviour.Alike.{IsWellMade}
+use Rattle.pending_returns.specs.FaultFree.{IsFaultFree}
 
 -- by two summaries of one flow: one structured program, one limit, or a program and no limit
 pub record IsSplitOnce (program : Program) (one other : Summary) : Type 0 where
@@ -19,4 +20,4 @@ pub record IsSplitOnce (program : Program) (one other : Summary) : Type 0 where
 
 abbrev pub SplitsAreOne : Type 0
 SplitsAreOne = (program : Program) (one other : Summary) → IsWellMade program →
-    FlowsSo program one → FlowsSo program other → IsSplitOnce program one other
+    IsFaultFree program one → IsFaultFree program other → IsSplitOnce program one other

@@ -6,19 +6,19 @@ use Rattle.control_flow_theory.specs.language.Control.{control_of}
 use Rattle.control_flow_theory.specs.language.OwnItems.{NamesOwnItems}
 use Rattle.control_flow_theory.specs.language.Language.{Program, Range, Main, Part}
 use Rattle.control_flow_theory.specs.semantics.Graph.{Label}
-use Rattle.control_flow_theory.specs.lowering.Told.{Told, IsSource}
+use Rattle.control_flow_theory.specs.lowering.FlowFacts.{FlowFacts, IsSource}
 use Rattle.control_flow_theory.specs.lowering.Lowered.{lowered}
 use Rattle.control_flow_theory.specs.lowering.Reached.{AreReached}
 use Rattle.control_flow_theory.specs.lowering.WellFormed.{AreJustReached}
 use Rattle.control_flow_theory.specs.lowering.flow.Entered.{FreelyComes, IsEntered}
 use Rattle.control_flow_theory.specs.lowering.flow.Paths.{IsFaulty}
 use Rattle.control_flow_theory.specs.graph_rules.Walked.{In}
-use Rattle.control_flow_theory.specs.headline.Chain.{CallsStandLater, IsPlan}
-use Rattle.control_flow_theory.specs.headline.CallsReached.{GivesSome, CalledByPaths}
-use Rattle.program_facts.specs.completion.Told.{told_of, returns_by}
+use Rattle.control_flow_theory.specs.main_theorem.Chain.{CallsStandLater, IsPlan}
+use Rattle.control_flow_theory.specs.main_theorem.CallsReached.{GivesSome, CalledByPaths}
+use Rattle.program_facts.specs.completion.FlowFacts.{flow_facts_of, returns_by}
 use Rattle.cobol_theory.specs.cobol_parts.Named.{NamesOwnParagraphs}
 use Rattle.program_points.specs.paths.Flow as flow
-use Rattle.program_points.specs.numbering.Kinds.{never_first_of}
+use Rattle.program_points.specs.numbering.Kind.{never_first_of}
 use Rattle.pending_returns.specs.declared.facts.Summary.{Summary}
 use Rattle.pending_returns.specs.Summary.{IsSummary}
 use Rattle.procedure_split.specs.plan.Planned.{IsPlanOf}
@@ -38,7 +38,7 @@ others_of order = map as_control (drop 1 order)
 -- what a plan is by flow paths: main first, each range but main performed by a path of an earlier
 -- one's level, none twice, and each that is performed in a range's level behind it; the table names
 -- the ranges that are entered and return, and none that doesn't return
-pub record IsPlannedByPaths (told : Told) (program : Program) (returning : List (List ℕ))
+pub record IsPlannedByPaths (told : FlowFacts) (program : Program) (returning : List (List ℕ))
     (order : List tree.Range) : Type 0 where
   pub main : map as_control order ≡ Main ∷ others_of order
   pub entered : (entry exit : ℕ) → In (Part entry exit) (Main ∷ others_of order) →
@@ -54,7 +54,7 @@ pub record IsPlannedByPaths (told : Told) (program : Program) (returning : List 
 -- a source that isn't faulty is planned so by its summary, whatever else is told of it
 abbrev pub PlansAreByPaths : Type 0
 PlansAreByPaths =
-    (told : Told) (program : Program) (summary : Summary) (returning : List (List ℕ))
+    (told : FlowFacts) (program : Program) (summary : Summary) (returning : List (List ℕ))
     (order : List tree.Range) → IsSource told program → GivesSome told →
     0 < length program.paragraphs → (IsFaulty told program → ⊥) →
     IsSummary told.never_first program summary → IsPlanOf summary.ranges returning order →
@@ -70,8 +70,8 @@ CobolPlansAreByPaths =
     (flow.IsFaulty (never_first_of program.files) (control_of program) → ⊥) →
     IsSummary (never_first_of program.files) (control_of program) summary →
     IsPlanOf summary.ranges returning order →
-    (IsFaulty (told_of program.files returning) (control_of program) → ⊥)
-    × IsPlannedByPaths (told_of program.files returning) (control_of program) returning order
+    (IsFaulty (flow_facts_of program.files returning) (control_of program) → ⊥)
+    × IsPlannedByPaths (flow_facts_of program.files returning) (control_of program) returning order
 
 -- and with the nodes that are reached such a program has what the headline asks of its flow: it
 -- isn't faulty, this is a plan for it, and each range of the order is performed by an earlier one
@@ -84,7 +84,7 @@ CobolProgramsHavePlans =
     (flow.IsFaulty (never_first_of program.files) (control_of program) → ⊥) →
     IsSummary (never_first_of program.files) (control_of program) summary →
     IsPlanOf summary.ranges returning order →
-    let told = told_of program.files returning in
+    let told = flow_facts_of program.files returning in
     let control = control_of program in
     AreReached (lowered told control) keep →
     ((range : Range) → In range (Main ∷ others_of order) →

@@ -1,6 +1,6 @@
 -- Orders in which each number stands before those that it calls.
 use Rattle.std.specs.Prelude.{ℕ, ◌≡◌, ◌<◌, List, [], ◌∷◌, length, Some, slice_get}
-use Rattle.pending_returns.specs.levels.Reaching.{Holds}
+use Rattle.pending_returns.specs.levels.Reach.{Holds}
 use Rattle.out_names.specs.Ordering.{order_of}
 
 -- the number calls the other

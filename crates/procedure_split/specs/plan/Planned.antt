@@ -4,7 +4,7 @@ use Rattle.std.specs.List.{fold}
 use Rattle.cob_tree.specs.declared.program.Range.{Range}
 use Rattle.program_points.specs.paths.Flow.{main_range, part}
 use Rattle.pending_returns.specs.declared.facts.RangeFacts.{RangeFacts}
-use Rattle.program_facts.specs.completion.Told.{returns_by}
+use Rattle.program_facts.specs.completion.FlowFacts.{returns_by}
 use Rattle.out_names.specs.Ordering.{order_of}
 
 -- the table, with a row for this entry

@@ -3,31 +3,31 @@ use Rattle.std.specs.Prelude.{ℕ, ◌≡◌, Bool, List, [], ◌∷◌, sum_by}
 use Rattle.cob_tree.specs.declared.program.Range as code
 use Rattle.control_flow_theory.specs.language.Language.{Program, Range}
 use Rattle.control_flow_theory.specs.semantics.Graph.{Label}
-use Rattle.control_flow_theory.specs.lowering.Told.{Told}
+use Rattle.control_flow_theory.specs.lowering.FlowFacts.{FlowFacts}
 use Rattle.control_flow_theory.specs.lowering.WellFormed.{AreJustReached}
 use Rattle.control_flow_theory.specs.graph_rules.Reduced as reduced
-use Rattle.control_flow_theory.specs.headline.Chain.{lowered_graphs}
-use Rattle.control_flow_theory.specs.headline.Numbering.{numbers_by, added_by}
-use Rattle.branch_tree.specs.Graphs.{seen_graph}
+use Rattle.control_flow_theory.specs.main_theorem.Chain.{lowered_graphs}
+use Rattle.control_flow_theory.specs.main_theorem.Numbering.{numbers_by, added_by}
+use Rattle.branch_tree.specs.Graph.{seen_graph}
 use Rattle.branch_tree.specs.declared.graph.Graph.{Graph}
-use Rattle.lowering_labels.specs.points.Fall.{seen_range}
-use Rattle.flow_graph.specs.graph_sizes.Sizes.{graph_size}
+use Rattle.lowering_labels.specs.points.FallThrough.{seen_range}
+use Rattle.flow_graph.specs.graph_sizes.Sizing.{graph_size}
 
 -- the nodes that this keeps, and counters numbered from 0
-abbrev pub graph_by : Told → Program → (Label → Bool) → Range → reduced.Graph
+abbrev pub graph_by : FlowFacts → Program → (Label → Bool) → Range → reduced.Graph
 graph_by told program keep range =
     let all : Range → Label → Bool = λ other. keep in
     lowered_graphs told program all (numbers_by all program) (added_by all program) range
 
 -- it has exactly the nodes that are reached
-pub record IsGraphOf (told : Told) (program : Program) (range : Range) (graph : reduced.Graph)
+pub record IsGraphOf (told : FlowFacts) (program : Program) (range : Range) (graph : reduced.Graph)
     : Type 0 where
   pub keep : Label → Bool
   pub just : AreJustReached told program range keep
   pub is : graph ≡ graph_by told program keep range
 
 -- one for each range
-abbrev pub AreGraphsOf : Told → Program → List code.Range → List Graph → Type 0
+abbrev pub AreGraphsOf : FlowFacts → Program → List code.Range → List Graph → Type 0
 AreGraphsOf told program [] [] = Unit {0}
 AreGraphsOf told program [] (graph ∷ graphs) = ⊥
 AreGraphsOf told program (range ∷ ranges) [] = ⊥
@@ -36,7 +36,7 @@ AreGraphsOf told program (range ∷ ranges) (graph ∷ graphs) =
     × AreGraphsOf told program ranges graphs
 
 -- the same of graphs as the theory has them, of which nothing need be made
-abbrev pub HaveGraphs : Told → Program → List code.Range → List reduced.Graph → Type 0
+abbrev pub HaveGraphs : FlowFacts → Program → List code.Range → List reduced.Graph → Type 0
 HaveGraphs told program [] [] = Unit {0}
 HaveGraphs told program [] (graph ∷ graphs) = ⊥
 HaveGraphs told program (range ∷ ranges) [] = ⊥

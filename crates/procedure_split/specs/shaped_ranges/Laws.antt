@@ -6,20 +6,18 @@ use Rattle.control_flow_theory.specs.language.Control.{control_of}
 use Rattle.control_flow_theory.specs.language.Language.{Main}
 use Rattle.control_flow_theory.specs.language.OwnItems.{NamesOwnItems}
 use Rattle.control_flow_theory.specs.lowering.flow.Paths as theory
-use Rattle.program_facts.specs.completion.Told.{told_of}
+use Rattle.program_facts.specs.completion.FlowFacts.{flow_facts_of}
 use Rattle.cobol_theory.specs.cobol_parts.Named.{NamesOwnParagraphs}
-use Rattle.control_flow_theory.specs.headline.Chain.{IsPlan}
-use Rattle.control_flow_theory.specs.headline.CallsReached.{CalledByPaths}
-use Rattle.control_flow_theory.specs.headline.Headline.{Plan, graphs_by}
-use Rattle.program_points.specs.paths.Flow.{IsFaulty}
-use Rattle.program_points.specs.numbering.Kinds.{never_first_of}
+use Rattle.control_flow_theory.specs.main_theorem.Chain.{IsPlan}
+use Rattle.control_flow_theory.specs.main_theorem.CallsReached.{CalledByPaths}
+use Rattle.control_flow_theory.specs.main_theorem.MainTheorem.{Plan, graphs_by}
 use Rattle.pending_returns.specs.declared.facts.Summary.{Summary}
-use Rattle.pending_returns.specs.Summary.{IsSummary}
+use Rattle.pending_returns.specs.FaultFree.{IsFaultFree}
 use Rattle.procedure_split.specs.plan.Planned.{IsPlanOf}
 use Rattle.procedure_split.specs.plan.Laws.{others_of}
-use Rattle.branch_tree.specs.Graphs.{seen_graph}
+use Rattle.branch_tree.specs.Graph.{seen_graph}
 use Rattle.branch_tree.specs.declared.graph.Graph.{Graph}
-use Rattle.lowering_labels.specs.points.Fall.{seen_range}
+use Rattle.lowering_labels.specs.points.FallThrough.{seen_range}
 use Rattle.procedure_split.specs.shaped_ranges.Graphs.{AreGraphsOf}
 
 -- a program whose flow has this summary, without a fault
@@ -27,13 +25,12 @@ pub record HasFlow (program : cobol.Program) (summary : Summary) : Type 0 where
   pub items : NamesOwnItems program
   pub paragraphs : NamesOwnParagraphs program
   pub some : 0 < length program.paragraphs
-  pub fair : IsFaulty (never_first_of program.files) (control_of program) → ⊥
-  pub is : IsSummary (never_first_of program.files) (control_of program) summary
+  pub flow : IsFaultFree program summary
 
 -- a plan whose graphs these are
 pub record IsPlannedWith (program : cobol.Program) (returning : List (List ℕ))
     (order : List code.Range) (graphs : List Graph) (plan : Plan) : Type 0 where
-  pub told : plan.told ≡ told_of program.files returning
+  pub told : plan.told ≡ flow_facts_of program.files returning
   pub others : plan.others ≡ others_of order
   pub fair : theory.IsFaulty plan.told (control_of program) → ⊥
   pub planned : IsPlan plan.told (control_of program) plan.keep plan.others
@@ -47,5 +44,5 @@ RangesArePlanned =
     (program : cobol.Program) (summary : Summary) (returning : List (List ℕ))
     (order : List code.Range) (graphs : List Graph) → HasFlow program summary →
     IsPlanOf summary.ranges returning order →
-    AreGraphsOf (told_of program.files returning) (control_of program) order graphs →
+    AreGraphsOf (flow_facts_of program.files returning) (control_of program) order graphs →
     (plan : Plan) × IsPlannedWith program returning order graphs plan

@@ -7,7 +7,7 @@ use Rattle.cob_tree.specs.declared.fault.SplitFault.{SplitFault}
 use Rattle.cob_tree.specs.declared.fault.SplitFault.TheVariants as fault
 use Rattle.cob_tree.specs.declared.program.Range.{Range}
 use Rattle.control_flow_theory.specs.language.Language.{Program}
-use Rattle.control_flow_theory.specs.lowering.Told.{Told}
+use Rattle.control_flow_theory.specs.lowering.FlowFacts.{FlowFacts}
 use Rattle.control_flow_theory.specs.graph_rules.Reduced as reduced
 use Rattle.branch_tree.specs.declared.graph.Graph.{Graph}
 use Rattle.procedure_split.specs.shaped_ranges.Graphs.{AreGraphsOf, HaveGraphs, node_count, total_size}
@@ -16,13 +16,14 @@ abbrev pub nodes_passed : ℕ → Limit
 nodes_passed counted = past Nodes false counted
 
 -- the graphs of the ranges, where they aren't past the limit
-pub record AreLowered (told : Told) (program : Program) (ranges : List Range) (graphs : List Graph)
+pub record AreLowered (told : FlowFacts) (program : Program) (ranges : List Range)
+    (graphs : List Graph)
     : Type 0 where
   pub are : AreGraphsOf told program ranges graphs
   pub within : node_count graphs ≤ max_nodes
 
 -- the graphs that they have are past it
-pub record ArePast (told : Told) (program : Program) (ranges : List Range) (limit : Limit)
+pub record ArePast (told : FlowFacts) (program : Program) (ranges : List Range) (limit : Limit)
     : Type 0 where
   pub graphs : List reduced.Graph
   pub have : HaveGraphs told program ranges graphs
@@ -30,6 +31,6 @@ pub record ArePast (told : Told) (program : Program) (ranges : List Range) (limi
   pub is : limit ≡ nodes_passed (total_size graphs)
 
 -- why they aren't lowered: they are past the limit; want of memory may come at any place
-abbrev pub IsLoweringFault : Told → Program → List Range → SplitFault → Type 0
+abbrev pub IsLoweringFault : FlowFacts → Program → List Range → SplitFault → Type 0
 IsLoweringFault told program ranges (fault.Limit limit) = ArePast told program ranges limit
 IsLoweringFault told program ranges fault.NoMemory = Unit {0}

@@ -2,17 +2,14 @@
 use Rattle.std.specs.Prelude.{◌≡◌, true, All, IsSome, None}
 use Rattle.cob_tree.specs.declared.program.Paragraph.{Paragraph}
 use Rattle.cob_tree.specs.declared.program.Program.{Program}
-use Rattle.control_flow_theory.specs.language.Control.{control_of}
 use Rattle.control_flow_theory.specs.language.Structured.{IsStructured}
 use Rattle.program_facts.specs.whole_counts.Whole.{counts_whole}
 use Rattle.cobol_theory.specs.fit_programs.Fit.{IsFit}
-use Rattle.program_points.specs.paths.Flow.{IsFaulty}
-use Rattle.program_points.specs.numbering.Kinds.{never_first_of}
 use Rattle.pending_returns.specs.declared.facts.Summary.{Summary}
-use Rattle.pending_returns.specs.Summary.{IsSummary}
+use Rattle.pending_returns.specs.FaultFree.{IsFaultFree}
 use Rattle.cobol_theory.specs.cobol_meaning.Same.{SameBehaviour}
 use Rattle.cobol_theory.specs.cobol_headline.Alike.{IsProper}
-use Rattle.procedure_split.specs.Split.{IsSplit}
+use Rattle.procedure_split.specs.Splitting.{IsSplit}
 
 -- a program as it is read
 pub record IsWellMade (program : Program) : Type 0 where
@@ -20,16 +17,11 @@ pub record IsWellMade (program : Program) : Type 0 where
   pub whole : counts_whole program ≡ true
   pub fit : IsFit program
 
--- its flow has this summary, without a fault
-pub record FlowsSo (program : Program) (summary : Summary) : Type 0 where
-  pub fair : IsFaulty (never_first_of program.files) (control_of program) → ⊥
-  pub is : IsSummary (never_first_of program.files) (control_of program) summary
-
 -- then what it is split into is structured, and behaves as it did over all files
 abbrev pub SplitProgramsBehaveAlike : Type 0
 SplitProgramsBehaveAlike =
     (program made : Program) (summary : Summary) →
-    IsWellMade program → FlowsSo program summary → IsSplit program summary made →
+    IsWellMade program → IsFaultFree program summary → IsSplit program summary made →
     IsStructured (control_of made) × SameBehaviour program made
 
 -- it has a name, and stands in no section

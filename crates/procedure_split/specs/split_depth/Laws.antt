@@ -12,7 +12,7 @@ use Rattle.region_rewrite.specs.written_nesting.Nesting.{nesting}
 use Rattle.statement_builders.specs.arms.Written.{Way, all_written}
 use Rattle.cob_base.specs.Limit.{max_nesting}
 use Rattle.procedure_split.specs.shaped_ranges.Laws.{HasFlow}
-use Rattle.procedure_split.specs.Split.{IsSplit}
+use Rattle.procedure_split.specs.Splitting.{IsSplit}
 use Rattle.procedure_split.specs.written_depth.Levels.{levels}
 use Rattle.procedure_split.specs.split_depth.Arms.{StmtsHaveArms, ClosedHaveArms}
 

@@ -4,11 +4,12 @@ use Rattle.cob_tree.specs.declared.program.Program.{Program}
 use Rattle.struct_form.specs.Structured.{IsStructured}
 use Rattle.grammar_laws.specs.short_lists.lone_exits.Alone.{exits_alone}
 use Rattle.pending_returns.specs.declared.facts.Summary.{Summary}
-use Rattle.procedure_split.specs.Split.{IsSplit}
-use Rattle.procedure_split.specs.split_behaviour.Alike.{IsWellMade, FlowsSo}
+use Rattle.procedure_split.specs.Splitting.{IsSplit}
+use Rattle.procedure_split.specs.split_behaviour.Alike.{IsWellMade}
+use Rattle.pending_returns.specs.FaultFree.{IsFaultFree}
 
 abbrev pub SplitProgramsAreStructured : Type 0
 SplitProgramsAreStructured =
     (program made : Program) (summary : Summary) →
-    IsWellMade program → exits_alone program ≡ true → FlowsSo program summary →
+    IsWellMade program → exits_alone program ≡ true → IsFaultFree program summary →
     IsSplit program summary made → IsStructured made

@@ -4,16 +4,16 @@ ghost use Rattle.std.specs.Prelude.{[], ◌∷◌, ◌++◌, ◌≡◌, ◌<◌,
 ghost use Rattle.cob_tree.specs.declared.program.Program.{Program};
 ghost use Rattle.control_flow_theory.specs.language.Control.{control_of};
 ghost use Rattle.control_flow_theory.specs.language.OwnItems.{NamesOwnItems};
-ghost use Rattle.control_flow_theory.specs.closing.Closes.{IsClosed};
-ghost use Rattle.branch_tree.specs.Graphs.{seen_graph};
-ghost use Rattle.program_facts.specs.completion.Told.{told_of};
+ghost use Rattle.control_flow_theory.specs.structuring.Closes.{IsClosed};
+ghost use Rattle.branch_tree.specs.Graph.{seen_graph};
+ghost use Rattle.program_facts.specs.completion.FlowFacts.{flow_facts_of};
 ghost use Rattle.cobol_theory.specs.cobol_parts.Named.{NamesOwnParagraphs};
-ghost use Rattle.pending_returns.specs.levels.Reaching.{IsMarked};
-ghost use Rattle.flow_graph.specs.label_trees.Nodes.{IsWhole};
+ghost use Rattle.pending_returns.specs.levels.Reach.{IsMarked};
+ghost use Rattle.flow_graph.specs.label_trees.Node.{IsWhole};
 ghost use Rattle.flow_graph.specs.Reaching.{IsRangeIn};
 ghost use Rattle.procedure_split.specs.shaped_ranges.Limit.{AreLowered, IsLoweringFault, nodes_passed};
-ghost use Rattle.procedure_split.specs.shaped_ranges.Shaped.{AllClosed};
-ghost use Rattle.procedure_split.specs.shaped_ranges.Steps.{AreLoweredIn, AreRangesIn, AreRangesOf, IsCountedOn, IsGraphWithin, IsLoweringFaultIn, IsPastBy};
+ghost use Rattle.procedure_split.specs.shaped_ranges.Shaping.{AllClosed};
+ghost use Rattle.procedure_split.specs.shaped_ranges.Graphing.{AreLoweredIn, AreRangesIn, AreRangesOf, IsCountedOn, IsGraphWithin, IsLoweringFaultIn, IsPastBy};
 
 use crate::plan::RangePlan;
 use added_items::counters::number_counters;
@@ -23,11 +23,11 @@ use cob_base::{Limit, LimitKind, NoMemory};
 use cob_tree::{Program, Range, SplitFault};
 use flow_graph::graph_sizes::graph_size;
 use flow_graph::lower_within;
-use flow_graph::range_sizes::{Known, range_size};
+use flow_graph::range_sizes::{TreeSizeCache, range_size};
 use lowering_labels::points::layout_of;
 use pending_returns::levels::Reach;
-use statement_lowering::Telling;
-use statement_lowering::continuations::{Spot, spots_of};
+use statement_lowering::LoweringContext;
+use statement_lowering::continuations::{Continuation, continuations_of};
 use std::alloc::Global;
 
 /// Labels have numbers below three times this.
@@ -44,22 +44,22 @@ fn nodes_passed(counted: u64) -> Limit
 fn graph_of(
     alloc: Global,
     reach: &mut Reach,
-    spots: &[Spot<'_>],
+    spots: &[Continuation<'_>],
     range: Range,
-    telling: &Telling<'_>,
+    context: &LoweringContext<'_>,
     most: u64,
 ) -> Result<Option<Graph>, NoMemory>
     requires marked { IsMarked reach.old.places.items reach.old.marks.items }
-    requires whole { IsWhole telling.now spots.now }
+    requires whole { IsWhole context.now spots.now }
     requires size { length reach.old.marks.items ≡ 3 * length spots.now }
-    requires range { (program : Program) × IsRangeIn telling.now spots.now range program }
+    requires range { (program : Program) × IsRangeIn context.now spots.now range program }
     requires small { most < 2 ^ 64 - 1 }
-    ensures graph { IfOk result (IsGraphWithin telling.now spots.now range most) }
+    ensures graph { IfOk result (IsGraphWithin context.now spots.now range most) }
     ensures closed { IfOk result (λ found. IfSome found (λ graph. IsClosed (seen_graph graph))) }
     ensures marked { IsMarked reach.new.places.items reach.new.marks.items }
     ensures size { length reach.new.marks.items ≡ length reach.old.marks.items }
 {
-    match lower_within(alloc, reach, spots, range, telling, most)? {
+    match lower_within(alloc, reach, spots, range, context, most)? {
         None => Ok(None),
         Some(graph) => {
             let mut graph = graph;
@@ -91,21 +91,21 @@ fn keep_graph(graphs: &mut Vec<Graph>, graph: Graph) -> Result<(), NoMemory>
 fn counted_on(
     alloc: Global,
     reach: &mut Reach,
-    spots: &[Spot<'_>],
+    spots: &[Continuation<'_>],
     ranges: &[Range],
-    telling: &Telling<'_>,
+    context: &LoweringContext<'_>,
     others: u64,
 ) -> Result<u64, NoMemory>
     requires marked { IsMarked reach.old.places.items reach.old.marks.items }
-    requires whole { IsWhole telling.now spots.now }
+    requires whole { IsWhole context.now spots.now }
     requires size { length reach.old.marks.items ≡ 3 * length spots.now }
-    requires ranges { (program : Program) × AreRangesIn telling.now spots.now program ranges.now }
-    ensures { IfOk result (IsCountedOn telling.now spots.now ranges.now others) }
+    requires ranges { (program : Program) × AreRangesIn context.now spots.now program ranges.now }
+    ensures { IfOk result (IsCountedOn context.now spots.now ranges.now others) }
 {
-    let mut known = Known::new(alloc, spots)?;
+    let mut known = TreeSizeCache::new(alloc, spots)?;
     let mut count = others;
     for range in ranges {
-        let size = range_size(alloc, reach, &mut known, spots, *range, telling)?;
+        let size = range_size(alloc, reach, &mut known, spots, *range, context)?;
         count = count.saturating_add(size);
     }
     Ok(count)
@@ -127,30 +127,30 @@ fn past_limit(counted: Result<u64, NoMemory>) -> SplitFault
 fn graphs_of(
     alloc: Global,
     reach: &mut Reach,
-    spots: &[Spot<'_>],
+    spots: &[Continuation<'_>],
     ranges: &[Range],
-    telling: &Telling<'_>,
+    context: &LoweringContext<'_>,
 ) -> Result<Vec<Graph>, SplitFault>
     requires marked { IsMarked reach.old.places.items reach.old.marks.items }
-    requires whole { IsWhole telling.now spots.now }
+    requires whole { IsWhole context.now spots.now }
     requires size { length reach.old.marks.items ≡ 3 * length spots.now }
-    requires ranges { (program : Program) × AreRangesIn telling.now spots.now program ranges.now }
+    requires ranges { (program : Program) × AreRangesIn context.now spots.now program ranges.now }
     ensures lowered { MatchResult result
-        (λ graphs. AreLoweredIn telling.now spots.now ranges.now graphs.items)
-        (λ fault. IsLoweringFaultIn telling.now spots.now ranges.now fault) }
+        (λ graphs. AreLoweredIn context.now spots.now ranges.now graphs.items)
+        (λ fault. IsLoweringFaultIn context.now spots.now ranges.now fault) }
     ensures closed { IfOk result (λ graphs. AllClosed graphs.items) }
 {
     let mut graphs = Vec::new(alloc);
     let mut count = 0u64;
     for at in 0..ranges.len() {
-        match graph_of(alloc, reach, spots, ranges[at], telling, MAX_NODES - count) {
+        match graph_of(alloc, reach, spots, ranges[at], context, MAX_NODES - count) {
             Err(_) => {
                 drop(graphs);
                 return Err(SplitFault::NoMemory);
             }
             Ok(None) => {
                 drop(graphs);
-                let counted = counted_on(alloc, reach, spots, &ranges[at..], telling, count);
+                let counted = counted_on(alloc, reach, spots, &ranges[at..], context, count);
                 return Err(past_limit(counted));
             }
             Ok(Some(graph)) => {
@@ -179,9 +179,9 @@ pub fn lower_ranges(
     requires paragraphs { NamesOwnParagraphs program.now }
     requires ranges { AreRangesOf (control_of program.now) plan.now.order }
     ensures lowered { MatchResult result
-        (λ graphs. AreLowered (told_of program.now.files plan.now.returning)
+        (λ graphs. AreLowered (flow_facts_of program.now.files plan.now.returning)
         (control_of program.now) plan.now.order graphs.items)
-        (λ fault. IsLoweringFault (told_of program.now.files plan.now.returning)
+        (λ fault. IsLoweringFault (flow_facts_of program.now.files plan.now.returning)
         (control_of program.now) plan.now.order fault) }
     ensures closed { IfOk result (λ graphs. AllClosed graphs.items) }
 {
@@ -192,18 +192,18 @@ pub fn lower_ranges(
     if layout.end as u64 >= PLACES {
         return Err(SplitFault::NoMemory);
     }
-    let telling = Telling {
+    let context = LoweringContext {
         files: program.files.as_slice(),
         returning: plan.returning.as_slice(),
         layout: &layout,
     };
-    let spots = spots_of(alloc, program, &telling)?;
+    let spots = continuations_of(alloc, program, &context)?;
     let mut reach = Reach::new(alloc, spots.len() * 3)?;
     graphs_of(
         alloc,
         &mut reach,
         spots.as_slice(),
         plan.order.as_slice(),
-        &telling,
+        &context,
     )
 }

@@ -1,7 +1,7 @@
 //! What the graphs of ranges are shaped to.
 
 ghost use Rattle.std.specs.Prelude.{OnOk, MatchResult};
-ghost use Rattle.procedure_split.specs.shaped_ranges.Shaped.{AddsClosed, AllClosed, AllShaped, IsTooDeep};
+ghost use Rattle.procedure_split.specs.shaped_ranges.Shaping.{AddsClosed, AllClosed, AllShaped, IsTooDeep};
 
 use branch_tree::{Added, Graph, Tree};
 use cob_base::NoMemory;

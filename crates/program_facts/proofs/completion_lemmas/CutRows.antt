@@ -16,7 +16,7 @@ use Rattle.cob_tree.specs.declared.stmt.Stmt.TheVariants.{If, Evaluate, Loop, Ar
 use Rattle.control_flow_theory.specs.language.Language as language
 use Rattle.control_flow_theory.specs.language.Control.{test_of, arm_before, else_of, stmts_of, arith_stmt, evaluate_of, control_in, loop_of, tests_of, Branch, branches_before, Both, both_arms, both_step, branch_step, seen_step, seen, seen_when, seen_both, seen_stmts}
 use Rattle.control_flow_theory.proofs.language_lemmas.Rows.{seen_if_any, seen_if, seen_evaluate, seen_loop, seen_arith, seen_read, seen_both_is, seen_when_is}
-use Rattle.control_flow_theory.specs.lowering.Told.{Told}
+use Rattle.control_flow_theory.specs.lowering.FlowFacts.{FlowFacts}
 use Rattle.control_flow_theory.specs.lowering.Completes.{completes, cut, cuts, cut_arms}
 use Rattle.program_facts.specs.completion.Cutting.{cut_if_any, cut_both, cut_branch}
 use Rattle.program_facts.proofs.completion_lemmas.CutLemmas.{joined, joined_one, joined_none}
@@ -30,7 +30,7 @@ else_is : (stmts : List language.Stmt) → arm_before (else_of stmts) language.d
 else_is [] = refl
 else_is (stmt ∷ stmts) = refl
 
-module _ (told : Told) where
+module _ (told : FlowFacts) where
   else_cut : (stmts : language.Stmts) → else_arms (cuts told stmts) ≡ cut_arms told (else_arms stmts)
   else_cut language.none = refl
   else_cut (language.also stmt stmts) = refl

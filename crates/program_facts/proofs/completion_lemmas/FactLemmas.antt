@@ -2,7 +2,7 @@
 use Rattle.std.proofs.Common.{◌≡◌, Bool, true, false, if◌then◌else◌, inl, inr, refl, ap, sym, ◌∙◌}
 use Rattle.std.proofs.lemmas.Bool.{cases_Bool}
 use Rattle.control_flow_theory.specs.language.Language.{Stmt, Stmts, none, also, Arms, done, given, missing}
-use Rattle.control_flow_theory.specs.lowering.Told.{Told}
+use Rattle.control_flow_theory.specs.lowering.FlowFacts.{FlowFacts}
 use Rattle.control_flow_theory.specs.lowering.Completes.{completes, complete, leaves_loop, leave_loop, whole, wholes, cut, cuts, leaves_sentence, leave_sentence}
 use Rattle.program_facts.specs.declared.completion.facts.Facts.{Facts}
 use Rattle.program_facts.specs.completion.Facts.{facts_of, facts_of_all, facts_of_arms, acting, no_arms, beside, both, behind, missing_arm}
@@ -67,7 +67,7 @@ behind_nothing a = elim (cases_Bool a.completes) [
   | inr stops ↦ behind_shut a acting stops
 ]
 
-pub all_begin : (told : Told) (stmt : Stmt) (stmts : Stmts) →
+pub all_begin : (told : FlowFacts) (stmt : Stmt) (stmts : Stmts) →
     facts_of_all told (also stmt stmts) ≡ behind (facts_of told stmt) (facts_of_all told stmts)
 all_begin told stmt stmts = elim (cases_Bool (completes told stmt)) [
   | inl goes ↦
@@ -85,10 +85,10 @@ all_begin told stmt stmts = elim (cases_Bool (completes told stmt)) [
 ]
 
 -- a missing arm, and one that stands
-pub missing_begins : (told : Told) (is_dead : Bool) (others : Arms) →
+pub missing_begins : (told : FlowFacts) (is_dead : Bool) (others : Arms) →
     facts_of_arms told is_dead (missing others) ≡ missing_arm is_dead (facts_of_arms told false others)
 missing_begins told true others = refl
 missing_begins told false others = refl
 
-pub last_given : (told : Told) (is_dead : Bool) (arm : Stmts) → facts_of_arms told is_dead (given arm done) ≡ facts_of_all told arm
+pub last_given : (told : FlowFacts) (is_dead : Bool) (arm : Stmts) → facts_of_arms told is_dead (given arm done) ≡ facts_of_all told arm
 last_given told is_dead arm = beside_none (facts_of_all told arm)

@@ -16,15 +16,15 @@ use Rattle.cob_tree.specs.declared.stmt.Stmt.TheVariants.{If, Evaluate, Loop, Ar
 use Rattle.control_flow_theory.specs.language.Language as language
 use Rattle.control_flow_theory.specs.language.Control.{arm_before, else_of, arith_stmt, picker_by, cell_chosen, count_from, control_in, loop_of, tests_of, Branch, branches_before, Both, both_arms, seen, seen_when, seen_both, seen_stmts}
 use Rattle.control_flow_theory.proofs.language_lemmas.Rows.{seen_if_any, seen_if, seen_evaluate, seen_loop, seen_arith, seen_read, seen_both_is, seen_when_is}
-use Rattle.control_flow_theory.specs.lowering.Told.{Told}
+use Rattle.control_flow_theory.specs.lowering.FlowFacts.{FlowFacts}
 use Rattle.control_flow_theory.specs.lowering.Completes.{first_is_dead}
 use Rattle.program_facts.specs.declared.completion.facts.Facts.{Facts}
-use Rattle.program_facts.specs.completion.Told.{told_of, status_missing}
+use Rattle.program_facts.specs.completion.FlowFacts.{flow_facts_of, status_missing}
 use Rattle.program_facts.specs.completion.Facts.{facts_of, facts_of_all, facts_of_arms, no_arms, beside, behind, missing_arm}
 use Rattle.program_facts.specs.completion.Seen.{loop_facts}
 use Rattle.program_facts.proofs.completion_lemmas.FactLemmas.{beside_none, beside_assoc, missing_begins, last_given, all_begin}
 
-module _ (told : Told) (last : ℕ) where
+module _ (told : FlowFacts) (last : ℕ) where
   -- of an arm that may be missing
   abbrev pub arm_facts : Bool → Option (List Stmt) → Facts
   arm_facts is_dead arm = facts_of_arms told is_dead (arm_before (seen_if_any last arm) language.done)
@@ -83,17 +83,17 @@ module _ (told : Told) (last : ℕ) where
 
 module _ (files : List FileEntry) (returning : List (List ℕ)) (last : ℕ) where
   alive : (cell : Option ℕ) (counted : Bool) (subject : Subject) (tests : List (List Test)) (has_other : Bool) →
-      first_is_dead (told_of files returning) (picker_by cell counted (language.Evaluate subject tests has_other)) ≡ false
+      first_is_dead (flow_facts_of files returning) (picker_by cell counted (language.Evaluate subject tests has_other)) ≡ false
   alive None counted subject tests has_other = refl
   alive (Some cell) true subject tests has_other = refl
   alive (Some cell) false subject tests has_other = refl
 
   pub evaluate_row : (subject : Subject) (whens : List When) (other : Option (List Stmt)) →
-      beside (facts_of_arms (told_of files returning) false (branches_before (map (seen_when last) whens) language.done))
-      (arm_facts (told_of files returning) last false other)
-      ≡ facts_of (told_of files returning) (seen last (Evaluate subject whens other))
+      beside (facts_of_arms (flow_facts_of files returning) false (branches_before (map (seen_when last) whens) language.done))
+      (arm_facts (flow_facts_of files returning) last false other)
+      ≡ facts_of (flow_facts_of files returning) (seen last (Evaluate subject whens other))
   evaluate_row subject whens other =
-      let told = told_of files returning in
+      let told = flow_facts_of files returning in
       let tests = tests_of (map (seen_when last) whens) in
       let arms = branches_before (map (seen_when last) whens) (arm_before (seen_if_any last other) language.done) in
       sym (branches_facts told last (map (seen_when last) whens) (arm_before (seen_if_any last other) language.done))
@@ -102,16 +102,16 @@ module _ (files : List FileEntry) (returning : List (List ℕ)) (last : ℕ) whe
 
   dead_read : (file : ℕ) (into : Option Place) (first : Option (List Stmt)) (is_dead : Bool) →
       is_dead ≡ (if is_some first then false else status_missing (slice_get files file)) →
-      is_dead ≡ first_is_dead (told_of files returning) (language.By (language.Read file into (is_some (seen_if_any last first))))
+      is_dead ≡ first_is_dead (flow_facts_of files returning) (language.By (language.Read file into (is_some (seen_if_any last first))))
   dead_read file into None is_dead e = e
   dead_read file into (Some stmts) is_dead e = e
 
   pub read_row : (file : ℕ) (into : Option Place) (arms : Arms) (is_dead : Bool) →
       is_dead ≡ (if is_some (out-Arms arms).first then false else status_missing (slice_get files file)) →
-      facts_of_arms (told_of files returning) is_dead (both_arms (seen_both last arms))
-      ≡ facts_of (told_of files returning) (seen last (Read file into arms))
+      facts_of_arms (flow_facts_of files returning) is_dead (both_arms (seen_both last arms))
+      ≡ facts_of (flow_facts_of files returning) (seen last (Read file into arms))
   read_row file into arms is_dead e =
-      let told = told_of files returning in
+      let told = flow_facts_of files returning in
       let some_first : is_some (seen_both last arms).first ≡ is_some (seen_if_any last (out-Arms arms).first) =
       ap (λ (both : Both). is_some both.first) (seen_both_is last arms) in
       ap (λ dead. facts_of_arms told dead (both_arms (seen_both last arms)))
@@ -120,26 +120,26 @@ module _ (files : List FileEntry) (returning : List (List ℕ)) (last : ℕ) whe
       ∙ ap (facts_of told) (sym (seen_read last file into arms))
 
   arith_choice : (calc : Calc) (into : List Target) (first second : Option language.Stmts) →
-      facts_of_arms (told_of files returning) false (both_arms (record { first = first; second = second }))
-      ≡ facts_of (told_of files returning) (arith_stmt calc into (record { first = first; second = second }))
+      facts_of_arms (flow_facts_of files returning) false (both_arms (record { first = first; second = second }))
+      ≡ facts_of (flow_facts_of files returning) (arith_stmt calc into (record { first = first; second = second }))
   arith_choice calc into None None = refl
   arith_choice calc into None (Some second) = refl
   arith_choice calc into (Some first) None = refl
   arith_choice calc into (Some first) (Some second) = refl
 
   pub arith_row : (calc : Calc) (into : List Target) (arms : Arms) →
-      facts_of_arms (told_of files returning) false (both_arms (seen_both last arms))
-      ≡ facts_of (told_of files returning) (seen last (Arith calc into arms))
+      facts_of_arms (flow_facts_of files returning) false (both_arms (seen_both last arms))
+      ≡ facts_of (flow_facts_of files returning) (seen last (Arith calc into arms))
   arith_row calc into arms =
       arith_choice calc into (seen_both last arms).first (seen_both last arms).second
-      ∙ ap (facts_of (told_of files returning)) (sym (seen_arith last calc into arms))
+      ∙ ap (facts_of (flow_facts_of files returning)) (sym (seen_arith last calc into arms))
 
 -- one more statement, and one more WHEN
 
 drop_step : {X : Type 0} (xs : List X) (i : ℕ) (d : X) → i < length xs → drop i xs ≡ get_or xs i d ∷ drop (i + 1) xs
 drop_step xs i d lt = rw (add-one i) (drop-cons xs i d lt)
 
-pub stmts_step : (told : Told) (last : ℕ) (stmts : List Stmt) (i : ℕ) (stmt : Stmt) (facts : Facts) → i < length stmts →
+pub stmts_step : (told : FlowFacts) (last : ℕ) (stmts : List Stmt) (i : ℕ) (stmt : Stmt) (facts : Facts) → i < length stmts →
     stmt ≡ get_or stmts i stmt → facts ≡ facts_of told (seen last stmt) →
     behind facts (facts_of_all told (seen_stmts last (drop (i + 1) stmts))) ≡ facts_of_all told (seen_stmts last (drop i stmts))
 stmts_step told last stmts i stmt facts lt is f =
@@ -147,7 +147,7 @@ stmts_step told last stmts i stmt facts lt is f =
     ∙ sym (ap (λ ss. facts_of_all told (seen_stmts last ss)) (drop_step stmts i stmt lt)
     ∙ all_begin told (seen last (get_or stmts i stmt)) (seen_stmts last (drop (i + 1) stmts)))
 
-pub whens_step : (told : Told) (last : ℕ) (whens : List When) (i : ℕ) (when : When) (facts : Facts) → i < length whens →
+pub whens_step : (told : FlowFacts) (last : ℕ) (whens : List When) (i : ℕ) (when : When) (facts : Facts) → i < length whens →
     when ≡ get_or whens i when → facts ≡ facts_of_all told (seen_stmts last (out-When when).stmts) →
     beside facts (facts_of_arms told false (branches_before (map (seen_when last) (drop (i + 1) whens)) language.done))
     ≡ facts_of_arms told false (branches_before (map (seen_when last) (drop i whens)) language.done)

@@ -5,10 +5,10 @@ use Rattle.cob_tree.specs.declared.stmt.Arms.{Arms}
 use Rattle.cob_tree.specs.declared.stmt.When.{When}
 use Rattle.control_flow_theory.specs.language.Language as language
 use Rattle.control_flow_theory.specs.language.Control.{seen, seen_stmts, seen_both, seen_when, Both, Branch}
-use Rattle.control_flow_theory.specs.lowering.Told.{Told}
+use Rattle.control_flow_theory.specs.lowering.FlowFacts.{FlowFacts}
 use Rattle.control_flow_theory.specs.lowering.Completes.{cut, cuts}
 
-module _ (told : Told) where
+module _ (told : FlowFacts) where
   abbrev pub IsCut : (stmt made : Stmt) → Type 0
   IsCut stmt made = (last : ℕ) → seen last made ≡ cut told (seen last stmt)
 

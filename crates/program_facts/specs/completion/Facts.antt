@@ -1,11 +1,11 @@
 -- What lowering asks of a statement. What stands in it is asked of what cutting leaves of it.
 use Rattle.std.specs.Prelude.{Bool, true, false, if◌then◌else◌}
 use Rattle.control_flow_theory.specs.language.Language.{Stmt, Stmts, Arms}
-use Rattle.control_flow_theory.specs.lowering.Told.{Told}
+use Rattle.control_flow_theory.specs.lowering.FlowFacts.{FlowFacts}
 use Rattle.control_flow_theory.specs.lowering.Completes.{completes, complete, choice_completes, leaves_loop, leave_loop, arms_leave_loop, cut, cuts, cut_arms, whole, wholes, whole_arms, leaves_sentence, leave_sentence, arms_leave_sentence}
 use Rattle.program_facts.specs.declared.completion.facts.Facts.{Facts}
 
-module _ (told : Told) where
+module _ (told : FlowFacts) where
   abbrev pub facts_of : Stmt → Facts
   facts_of stmt = record {
     completes = completes told stmt;

@@ -5,7 +5,7 @@ use Rattle.cob_tree.specs.declared.stmt.Arms.{Arms}
 use Rattle.cob_tree.specs.declared.stmt.When.{When}
 use Rattle.control_flow_theory.specs.language.Language as language
 use Rattle.control_flow_theory.specs.language.Control.{seen, seen_stmts, seen_both, seen_when, both_arms, branches_before, arm_before, else_of}
-use Rattle.control_flow_theory.specs.lowering.Told.{Told}
+use Rattle.control_flow_theory.specs.lowering.FlowFacts.{FlowFacts}
 use Rattle.control_flow_theory.specs.lowering.Completes.{is_after}
 use Rattle.program_facts.specs.completion.Facts.{facts_of, facts_of_all, facts_of_arms, looped, performing}
 use Rattle.program_facts.specs.declared.completion.facts.Facts.{Facts}
@@ -23,7 +23,7 @@ abbrev pub perform_facts : Option language.Control → Bool → Facts
 perform_facts None returns = performing returns
 perform_facts (Some control) returns = looped (is_after control) (performing returns)
 
-module _ (told : Told) where
+module _ (told : FlowFacts) where
   abbrev pub AreFacts : Stmt → Facts → Type 0
   AreFacts stmt facts = (last : ℕ) → facts ≡ facts_of told (seen last stmt)
 

@@ -1,7 +1,7 @@
 //! Statements whose lists are cut behind what can't complete.
 
 ghost use Rattle.std.specs.Prelude.{IfOk};
-ghost use Rattle.program_facts.specs.completion.Told.{told_of};
+ghost use Rattle.program_facts.specs.completion.FlowFacts.{flow_facts_of};
 ghost use Rattle.program_facts.specs.completion.Cutting.{IsCut, AreCut, BothAreCut, WhensAreCut};
 
 use crate::completion::facts::stmt_facts;
@@ -17,7 +17,7 @@ pub fn cut_stmt(
     files: &[FileEntry],
     returning: &[Items<u32>],
 ) -> Result<Stmt, NoMemory>
-    ensures { IfOk result (λ made. IsCut (told_of files.now returning.now) stmt.now made) }
+    ensures { IfOk result (λ made. IsCut (flow_facts_of files.now returning.now) stmt.now made) }
 {
     match stmt {
         Stmt::Arith { calc, into, arms } => {
@@ -96,7 +96,7 @@ fn cut_arms(
     files: &[FileEntry],
     returning: &[Items<u32>],
 ) -> Result<Arms, NoMemory>
-    ensures { IfOk result (λ made. BothAreCut (told_of files.now returning.now) arms.now made) }
+    ensures { IfOk result (λ made. BothAreCut (flow_facts_of files.now returning.now) arms.now made) }
 {
     match &arms.first {
         None => match &arms.second {
@@ -139,7 +139,7 @@ pub fn cut_stmts(
     files: &[FileEntry],
     returning: &[Items<u32>],
 ) -> Result<Items<Stmt>, NoMemory>
-    ensures { IfOk result (λ made. AreCut (told_of files.now returning.now) stmts.now made) }
+    ensures { IfOk result (λ made. AreCut (flow_facts_of files.now returning.now) stmts.now made) }
 {
     let mut made = Items::new(alloc);
     for stmt in stmts {
@@ -159,7 +159,8 @@ fn cut_whens(
     files: &[FileEntry],
     returning: &[Items<u32>],
 ) -> Result<Items<When>, NoMemory>
-    ensures { IfOk result (λ made. WhensAreCut (told_of files.now returning.now) whens.now made) }
+    ensures { IfOk result
+        (λ made. WhensAreCut (flow_facts_of files.now returning.now) whens.now made) }
 {
     let mut made = Items::new(alloc);
     for when in whens {

@@ -2,7 +2,7 @@
 
 ghost use Rattle.std.specs.Prelude.{◌≡◌};
 ghost use Rattle.control_flow_theory.specs.language.Control.{control_in};
-ghost use Rattle.program_facts.specs.completion.Told.{told_of};
+ghost use Rattle.program_facts.specs.completion.FlowFacts.{flow_facts_of};
 ghost use Rattle.program_facts.specs.completion.Facts.{acting, no_arms, beside, behind, missing_arm, looped, performing, escaping, leaving_sentence, leaving_loop};
 ghost use Rattle.program_facts.specs.completion.Seen.{AreFacts, AreFactsOfAll, AreFactsOfBoth, AreFactsOfElse, AreFactsOfWhens, is_after_seen, loop_facts, perform_facts};
 
@@ -178,7 +178,7 @@ fn perform_facts(control: &Control, returns: bool) -> Facts
 /// What lowering asks of a statement, told these files and the exits of the ranges that return.
 #[cycle(facts)]
 pub fn stmt_facts(stmt: &Stmt, files: &[FileEntry], returning: &[Items<u32>]) -> Facts
-    ensures { AreFacts (told_of files.now returning.now) stmt.now result }
+    ensures { AreFacts (flow_facts_of files.now returning.now) stmt.now result }
 {
     match stmt {
         Stmt::Arith { arms, .. } => both_facts(arms, false, files, returning),
@@ -229,7 +229,7 @@ pub fn stmt_facts(stmt: &Stmt, files: &[FileEntry], returning: &[Items<u32>]) ->
 
 #[cycle(facts)]
 fn both_facts(arms: &Arms, is_dead: bool, files: &[FileEntry], returning: &[Items<u32>]) -> Facts
-    ensures { AreFactsOfBoth (told_of files.now returning.now) is_dead arms.now result }
+    ensures { AreFactsOfBoth (flow_facts_of files.now returning.now) is_dead arms.now result }
 {
     let second = match &arms.second {
         None => missing_arm(false, no_arms()),
@@ -244,7 +244,7 @@ fn both_facts(arms: &Arms, is_dead: bool, files: &[FileEntry], returning: &[Item
 /// Of statements, in order; what stands behind one that can't complete isn't looked at.
 #[cycle(facts)]
 pub fn stmts_facts(stmts: &[Stmt], files: &[FileEntry], returning: &[Items<u32>]) -> Facts
-    ensures { AreFactsOfAll (told_of files.now returning.now) stmts.now result }
+    ensures { AreFactsOfAll (flow_facts_of files.now returning.now) stmts.now result }
 {
     let mut facts = acting();
     for stmt in stmts {
@@ -259,7 +259,7 @@ pub fn stmts_facts(stmts: &[Stmt], files: &[FileEntry], returning: &[Items<u32>]
 /// Of the ELSE, which is missing where it is empty.
 #[cycle(facts)]
 fn else_facts(stmts: &[Stmt], files: &[FileEntry], returning: &[Items<u32>]) -> Facts
-    ensures { AreFactsOfElse (told_of files.now returning.now) stmts.now result }
+    ensures { AreFactsOfElse (flow_facts_of files.now returning.now) stmts.now result }
 {
     if stmts.len() == 0 {
         return missing_arm(false, no_arms());
@@ -269,7 +269,7 @@ fn else_facts(stmts: &[Stmt], files: &[FileEntry], returning: &[Items<u32>]) -> 
 
 #[cycle(facts)]
 fn whens_facts(whens: &[When], files: &[FileEntry], returning: &[Items<u32>]) -> Facts
-    ensures { AreFactsOfWhens (told_of files.now returning.now) whens.now result }
+    ensures { AreFactsOfWhens (flow_facts_of files.now returning.now) whens.now result }
 {
     let mut facts = no_arms();
     for when in whens {

@@ -1,7 +1,7 @@
 //! What lowering is told.
 
 ghost use Rattle.std.specs.Prelude.{◌≡◌, false, slice_get};
-ghost use Rattle.program_facts.specs.completion.Told.{is_among, returns_by, status_missing};
+ghost use Rattle.program_facts.specs.completion.FlowFacts.{is_among, returns_by, status_missing};
 
 use cob_base::Items;
 use cob_tree::FileEntry;

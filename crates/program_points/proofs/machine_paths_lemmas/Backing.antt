@@ -8,7 +8,7 @@ use Rattle.control_flow_theory.specs.language.Items.{Turning, Counted, Tests, St
 use Rattle.control_flow_theory.specs.semantics.Items.{On, To, ToEnd, way_after, tried, on, to_one, item_way}
 use Rattle.control_flow_theory.specs.semantics.Source.{rest_of}
 use Rattle.control_flow_theory.specs.language.Language.{paragraph_at}
-use Rattle.control_flow_theory.specs.lowering.Told.{Told, MayGive, OwnPicker, arm_count}
+use Rattle.control_flow_theory.specs.lowering.FlowFacts.{FlowFacts, MayGive, OwnPicker, arm_count}
 use Rattle.control_flow_theory.specs.lowering.flow.Paths.{free_pick, free}
 use Rattle.control_flow_theory.proofs.lowering_lemmas.rests.Wholes.{OwnItem}
 use Rattle.control_flow_theory.proofs.lowering_lemmas.flow.Freely.{arm-told}
@@ -20,7 +20,7 @@ use Rattle.program_points.proofs.machine_paths_lemmas.Telling.{none-given}
 use Rattle.program_points.specs.machine_paths.Laws.{SomeArmIsGiven}
 use Rattle.control_flow_theory.specs.lowering.Completes.{first_is_dead}
 
-module _ (told : Told) (program : Program) (number : ℕ) where
+module _ (told : FlowFacts) (program : Program) (number : ℕ) where
   abbrev U : List Item → List Item
   U xs = uncounted xs
 

@@ -11,7 +11,7 @@ use Rattle.control_flow_theory.specs.language.Items.{Item, Do, ends_at}
 use Rattle.control_flow_theory.specs.language.Items as language
 use Rattle.control_flow_theory.specs.semantics.Source.{rest_of, comes_to, source_step}
 use Rattle.control_flow_theory.specs.semantics.Source as machine
-use Rattle.control_flow_theory.specs.lowering.Told.{Told, IsSource}
+use Rattle.control_flow_theory.specs.lowering.FlowFacts.{FlowFacts, IsSource}
 use Rattle.control_flow_theory.specs.lowering.flow.Paths.{Flow, free, nothing_left}
 use Rattle.control_flow_theory.specs.lowering.flow.Paths as theory
 use Rattle.cob_tree.specs.declared.ending.FlowFault.{FlowFault}
@@ -71,7 +71,7 @@ pending-is one end paragraph rest e p r =
     ∙ ap (λ (n : ℕ). let a : language.Pending = record { end = one.end; paragraph = n; rest = rest } in a) (sym p)
     ∙ ap (λ (z : List Item). let a : language.Pending = record { end = one.end; paragraph = one.paragraph; rest = z } in a) (sym r)
 
-module _ (told : Told) (program : Program) (source : IsSource told program) (some : SomeArmIsGiven told) where
+module _ (told : FlowFacts) (program : Program) (source : IsSource told program) (some : SomeArmIsGiven told) where
   abbrev pub stepped : Flow → Flow
   stepped f = source_step (free told) nothing_left program f
 

@@ -10,7 +10,7 @@ use Rattle.control_flow_theory.specs.language.Items.{Item, ends_at}
 use Rattle.control_flow_theory.specs.language.Items as language
 use Rattle.control_flow_theory.specs.semantics.Items.{Way, On, Halts, Into, To, ToEnd, item_way}
 use Rattle.control_flow_theory.specs.semantics.Source.{rest_of, comes_to, goes, falls, source_step}
-use Rattle.control_flow_theory.specs.lowering.Told.{Told, IsSource}
+use Rattle.control_flow_theory.specs.lowering.FlowFacts.{FlowFacts, IsSource}
 use Rattle.control_flow_theory.specs.lowering.flow.Paths.{Flow, free, nothing_left}
 use Rattle.control_flow_theory.specs.lowering.flow.Paths as theory
 use Rattle.control_flow_theory.proofs.lowering_lemmas.flow.Faults.{over-stays}
@@ -46,7 +46,7 @@ pub level-range : (never_first : Chooser → Bool) (program : Program) (r : tree
 level-range never_first program r pending (bottom) = (Main, refl)
 level-range never_first program r pending (called under others from after entry exit l c e) = (Part entry exit, refl)
 
-module _ (told : Told) (program : Program) (source : IsSource told program) (some : SomeArmIsGiven told) where
+module _ (told : FlowFacts) (program : Program) (source : IsSource told program) (some : SomeArmIsGiven told) where
   abbrev stepped : Flow → Flow
   stepped f = source_step (free told) nothing_left program f
 

@@ -6,7 +6,7 @@ use Rattle.control_flow_theory.specs.language.Language.{Paragraph, Program, para
 use Rattle.control_flow_theory.specs.language.Items.{Item, Do}
 use Rattle.control_flow_theory.specs.semantics.Items.{Way, On, To, ToEnd, Into, item_way}
 use Rattle.control_flow_theory.specs.semantics.Source.{rest_of}
-use Rattle.control_flow_theory.specs.lowering.Told.{Told, IsSource}
+use Rattle.control_flow_theory.specs.lowering.FlowFacts.{FlowFacts, IsSource}
 use Rattle.control_flow_theory.specs.lowering.flow.Comes.{IsNoExit, entry_of, begins}
 use Rattle.control_flow_theory.specs.lowering.flow.Comes as theory
 use Rattle.control_flow_theory.specs.lowering.flow.Paths.{free}
@@ -35,7 +35,7 @@ exit-no : (range : Range) (number : ℕ) → is_exit (range_of range).exit numbe
 exit-no Main number out = tt
 exit-no (Part entry exit) number out = out
 
-module _ (told : Told) (program : Program) (source : IsSource told program) (some : SomeArmIsGiven told) where
+module _ (told : FlowFacts) (program : Program) (source : IsSource told program) (some : SomeArmIsGiven told) where
   abbrev count : ℕ
   count = length program.paragraphs
 

@@ -6,7 +6,7 @@ use Rattle.control_flow_theory.specs.language.Language.{Chooser, Picker, If, By,
 use Rattle.control_flow_theory.specs.language.Language as language
 use Rattle.control_flow_theory.specs.language.Items.{Turning, Counted, Tests, Steps, StepsAfter, Item, Do, SentenceEnd, Turn, before_body, before_arm, past_sentence, from_loop}
 use Rattle.control_flow_theory.specs.semantics.Items.{Way, On, Halts, Into, To, ToEnd, way_after, on, turns, steps_on, to_one, item_way}
-use Rattle.control_flow_theory.specs.lowering.Told.{Told, MayGive, OwnPicker, arm_count}
+use Rattle.control_flow_theory.specs.lowering.FlowFacts.{FlowFacts, MayGive, OwnPicker, arm_count}
 use Rattle.control_flow_theory.specs.lowering.flow.Paths.{next_way, later_ways, is_first, is_below, first_arm, not_dead, arm_for, free}
 use Rattle.control_flow_theory.proofs.lowering_lemmas.rests.Wholes.{OwnItem}
 use Rattle.program_points.specs.paths.Step.{Point, at, start, Next, Ways, Calls, Stops, turning_by, by_way, way_of, led, some_given, way_count, first_is_barred, ways_of, next_in, way_at}
@@ -52,7 +52,7 @@ none-given (given arm others) k xs e = absurd (let h : ⊥ = cc in h)
 none-given (missing others) zero xs e = refl
 none-given (missing others) (suc k) xs e = none-given others k xs e
 
-pub unbarred : (told : Told) (picker : Picker) (arms : Arms) → some_given arms ≡ false → first_is_barred told.never_first (Do (Choose picker arms)) ≡ true → ⊥
+pub unbarred : (told : FlowFacts) (picker : Picker) (arms : Arms) → some_given arms ≡ false → first_is_barred told.never_first (Do (Choose picker arms)) ≡ true → ⊥
 unbarred told (If test) arms e f = (let h : ⊥ = cc in h)
 unbarred told (By chooser) arms e f = (let g : false ≡ true = ap (λ b. if b then told.never_first chooser else false) (sym e) ∙ f in let h : ⊥ = cc in h)
 unbarred told (ByCell cell) arms e f = (let h : ⊥ = cc in h)
@@ -61,7 +61,7 @@ two : (b : Bool) → arm_of b < 2
 two true = omega arith
 two false = omega arith
 
-module _ (told : Told) (program : Program) (number : ℕ) where
+module _ (told : FlowFacts) (program : Program) (number : ℕ) where
   abbrev Here : List Item → Next
   Here rest = next_in told.never_first program number rest
 

@@ -18,13 +18,13 @@ use Rattle.control_flow_theory.specs.language.Language as language
 use Rattle.control_flow_theory.specs.language.Items.{Do}
 use Rattle.control_flow_theory.specs.language.Control.{test_of, always, arith_of, arith_stmt, Both, both_arms, arm_before, else_of, Branch, branches_before, tests_of, picker_by, evaluate_of, cell_chosen, count_from, stmts_of, seen, seen_when, seen_stmts}
 use Rattle.control_flow_theory.proofs.language_lemmas.Rows.{seen_if_any, seen_when_is}
-use Rattle.control_flow_theory.specs.lowering.Told.{arm_count}
+use Rattle.control_flow_theory.specs.lowering.FlowFacts.{arm_count}
 use Rattle.program_points.specs.paths.Step.{at, some_given, first_is_barred}
-use Rattle.program_points.specs.declared.point_table.table.Place.{Place}
-use Rattle.program_points.specs.declared.point_table.table.Place.TheVariants.{Goes, Chooses}
+use Rattle.program_points.specs.declared.point_table.table.ProgramPoint.{ProgramPoint}
+use Rattle.program_points.specs.declared.point_table.table.ProgramPoint.TheVariants.{Goes, Chooses}
 use Rattle.program_points.specs.declared.numbering.build.Exits.{Exits}
-use Rattle.program_points.specs.numbering.Kinds.{is_silent, never_first_of}
-use Rattle.program_points.specs.numbering.Building.{BuildsChoice, BuildsBoth, two_ways, barring, branches_of, no_arms, seen_maybe, seen_branches}
+use Rattle.program_points.specs.numbering.Kind.{is_silent, never_first_of}
+use Rattle.program_points.specs.numbering.Build.{BuildsChoice, BuildsBoth, two_ways, barring, branches_of, no_arms, seen_maybe, seen_branches}
 use Rattle.program_points.proofs.numbering_lemmas.Growing.{Built, Branched, build-none, branches-none, branches-more, moved, build-goes, if-added, if-ok, take-at, take-all}
 use Rattle.program_points.proofs.numbering_lemmas.Steps.{build-act, build-choose}
 
@@ -48,49 +48,49 @@ and-false true = refl
 and-false false = refl
 
 module _ (never_first : Chooser → Bool) (count number : ℕ) where
-  abbrev B : List Place → List Place → List Range → List Range → Stmts → Exits → ℕ → Type 0
+  abbrev B : List ProgramPoint → List ProgramPoint → List Range → List Range → Stmts → Exits → ℕ → Type 0
   B old new r0 r1 stmts exits begin = Built never_first count number old new r0 r1 stmts exits begin
 
-  abbrev C : List Place → List Place → List Range → List Range → List Stmts → Bool → Exits → ℕ → Type 0
+  abbrev C : List ProgramPoint → List ProgramPoint → List Range → List Range → List Stmts → Bool → Exits → ℕ → Type 0
   C old new r0 r1 branches barred exits begin = BuildsChoice never_first count number old new r0 r1 branches barred exits begin
 
-  pub recount : (c1 : ℕ) (old new : List Place) (r0 r1 : List Range) (stmts : Stmts) (exits : Exits) (begin : ℕ) → c1 ≡ count → Built never_first c1 number old new r0 r1 stmts exits begin → B old new r0 r1 stmts exits begin
+  pub recount : (c1 : ℕ) (old new : List ProgramPoint) (r0 r1 : List Range) (stmts : Stmts) (exits : Exits) (begin : ℕ) → c1 ≡ count → Built never_first c1 number old new r0 r1 stmts exits begin → B old new r0 r1 stmts exits begin
   recount c1 old new r0 r1 stmts exits begin e builds = subst (λ (n : ℕ). Built never_first n number old new r0 r1 stmts exits begin) e builds
 
   -- a choice that was added behind its branches
-  pub choice-added : {E : Type 0} → (r : Result ℕ E) (old mid new : List Place) (r0 r1 r2 : List Range) (branches : List Stmts) (barred : Bool) (exits : Exits) (ways told : List (Option ℕ)) → Branched never_first count number old mid r0 r1 branches exits ways →
+  pub choice-added : {E : Type 0} → (r : Result ℕ E) (old mid new : List ProgramPoint) (r0 r1 r2 : List Range) (branches : List Stmts) (barred : Bool) (exits : Exits) (ways told : List (Option ℕ)) → Branched never_first count number old mid r0 r1 branches exits ways →
       told ≡ barring barred ways → r2 ≡ r1 → IfOk r (λ n. (n ≡ length mid) × (new ≡ mid ++ Chooses told ∷ [])) → IfOk r (λ begin. C old new r0 r2 branches barred exits begin)
   choice-added r old mid new r0 r1 r2 branches barred exits ways told built is e h =
       if-ok r (λ n. (n ≡ length mid) × (new ≡ mid ++ Chooses told ∷ [])) (λ begin. C old new r0 r2 branches barred exits begin)
       (λ begin k. subst (λ (rs : List Range). C old new r0 rs branches barred exits begin) (sym e) (mid, ways, built, k.1 ∙ ap (λ (ws : List (Option ℕ)). mid ++ Chooses ws ∷ []) is, k.0)) h
 
-  pub two-branched : (old p1 p2 : List Place) (r0 r1 r2 : List Range) (first second : Stmts) (exits : Exits) (a b : ℕ) → B old p1 r0 r1 first exits a → B p1 p2 r1 r2 second exits b → Branched never_first count number old p2 r0 r2 (first ∷ second ∷ []) exits (Some a ∷ Some b ∷ [])
+  pub two-branched : (old p1 p2 : List ProgramPoint) (r0 r1 r2 : List Range) (first second : Stmts) (exits : Exits) (a b : ℕ) → B old p1 r0 r1 first exits a → B p1 p2 r1 r2 second exits b → Branched never_first count number old p2 r0 r2 (first ∷ second ∷ []) exits (Some a ∷ Some b ∷ [])
   two-branched old p1 p2 r0 r1 r2 first second exits a b built builds =
       branches-more never_first count number old p1 p2 r0 r1 r2 (first ∷ []) second exits b (Some a ∷ [])
       (branches-more never_first count number old old p1 r0 r0 r1 [] first exits a [] (branches-none never_first count number old r0 exits) built) builds
 
-  pub two-added : {E : Type 0} → (r : Result ℕ E) (old p1 p2 new : List Place) (r0 r1 r2 r3 : List Range) (first second : Stmts) (flag barred : Bool) (exits : Exits) (a b : ℕ) → B old p1 r0 r1 first exits a → B p1 p2 r1 r2 second exits b → flag ≡ barred → r3 ≡ r2 →
+  pub two-added : {E : Type 0} → (r : Result ℕ E) (old p1 p2 new : List ProgramPoint) (r0 r1 r2 r3 : List Range) (first second : Stmts) (flag barred : Bool) (exits : Exits) (a b : ℕ) → B old p1 r0 r1 first exits a → B p1 p2 r1 r2 second exits b → flag ≡ barred → r3 ≡ r2 →
       IfOk r (λ n. (n ≡ length p2) × (new ≡ p2 ++ Chooses (two_ways flag a b) ∷ [])) → IfOk r (λ begin. C old new r0 r3 (first ∷ second ∷ []) barred exits begin)
   two-added r old p1 p2 new r0 r1 r2 r3 first second flag barred exits a b built builds same e h =
       choice-added r old p2 new r0 r2 r3 (first ∷ second ∷ []) barred exits (Some a ∷ Some b ∷ []) (two_ways flag a b) (two-branched old p1 p2 r0 r1 r2 first second exits a b built builds)
       (two-barring flag a b ∙ ap (λ f. barring f (Some a ∷ Some b ∷ [])) same) e h
 
   -- a statement that chooses among them
-  pub choice-stmt : (old new : List Place) (r0 r1 : List Range) (branches : List Stmts) (barred : Bool) (exits : Exits) (begin : ℕ) (s : Stmt) (picker : Picker) (arms : Arms) → s ≡ Choose picker arms → branches_of arms ≡ branches → IsCounted arms →
+  pub choice-stmt : (old new : List ProgramPoint) (r0 r1 : List Range) (branches : List Stmts) (barred : Bool) (exits : Exits) (begin : ℕ) (s : Stmt) (picker : Picker) (arms : Arms) → s ≡ Choose picker arms → branches_of arms ≡ branches → IsCounted arms →
       first_is_barred never_first (Do (Choose picker arms)) ≡ barred → C old new r0 r1 branches barred exits begin → B old new r0 r1 (also s none) exits begin
   choice-stmt old new r0 r1 branches barred exits begin s picker arms e same some is c =
       let built = subst (λ (bs : List Stmts). Branched never_first count number old c.0 r0 r1 bs exits c.1) (sym same) c.2 in
       moved never_first count number old (c.0 ++ Chooses (barring barred c.1) ∷ []) new r0 r1 r1 (also s none) (also (Choose picker arms) none) exits (length c.0) begin c.3 refl c.4 (ap (λ (x : Stmt). also x none) e)
       (build-choose never_first count number old c.0 r0 r1 picker arms exits barred c.1 built some is)
 
-  pub act-stmt : {E : Type 0} → (r : Result ℕ E) (old new : List Place) (r0 r1 : List Range) (exits : Exits) (s : Stmt) (act : Act) → s ≡ language.Do act → r1 ≡ r0 → IfOk r (λ n. (n ≡ length old) × (new ≡ old ++ Goes exits.after ∷ [])) →
+  pub act-stmt : {E : Type 0} → (r : Result ℕ E) (old new : List ProgramPoint) (r0 r1 : List Range) (exits : Exits) (s : Stmt) (act : Act) → s ≡ language.Do act → r1 ≡ r0 → IfOk r (λ n. (n ≡ length old) × (new ≡ old ++ Goes exits.after ∷ [])) →
       IfOk r (λ begin. B old new r0 r1 (also s none) exits begin)
   act-stmt r old new r0 r1 exits s act e same h =
       if-added r old new (Goes exits.after) r0 r1 (λ ps rs n. B old ps r0 rs (also s none) exits n)
       (subst (λ (x : Stmt). B old (old ++ Goes exits.after ∷ []) r0 r0 (also x none) exits (length old)) (sym e) (build-act never_first count number old r0 act exits)) same h
 
   -- what was built of another statement that this one is
-  pub same-stmt : {E : Type 0} → (r : Result ℕ E) (old new : List Place) (r0 r1 : List Range) (exits : Exits) (s t : Stmt) → s ≡ t → IfOk r (λ begin. B old new r0 r1 (also t none) exits begin) → IfOk r (λ begin. B old new r0 r1 (also s none) exits begin)
+  pub same-stmt : {E : Type 0} → (r : Result ℕ E) (old new : List ProgramPoint) (r0 r1 : List Range) (exits : Exits) (s t : Stmt) → s ≡ t → IfOk r (λ begin. B old new r0 r1 (also t none) exits begin) → IfOk r (λ begin. B old new r0 r1 (also s none) exits begin)
   same-stmt r old new r0 r1 exits s t e h = if-ok r (λ begin. B old new r0 r1 (also t none) exits begin) (λ begin. B old new r0 r1 (also s none) exits begin) (λ begin b. subst (λ (x : Stmt). B old new r0 r1 (also x none) exits begin) (sym e) b) h
 
 module _ (files : List FileEntry) (count number last : ℕ) where
@@ -127,7 +127,7 @@ module _ (files : List FileEntry) (count number last : ℕ) where
   barred-arith : (calc : Calc) (into : List Target) (arms : Arms) → first_is_barred never (Do (Choose (By (Arith calc into)) arms)) ≡ false
   barred-arith calc into arms = elim (some_given arms) as (λ b. (if b then false else false) ≡ false) [ true ↦ refl | false ↦ refl ]
 
-  pub arith-built : (old new : List Place) (r0 r1 : List Range) (calc : Calc) (into : List Target) (first second : Option (List tree.Stmt)) (exits : Exits) (begin : ℕ) → BuildsBoth never count number old new r0 r1 last first second false exits begin →
+  pub arith-built : (old new : List ProgramPoint) (r0 r1 : List Range) (calc : Calc) (into : List Target) (first second : Option (List tree.Stmt)) (exits : Exits) (begin : ℕ) → BuildsBoth never count number old new r0 r1 last first second false exits begin →
       Built never count number old new r0 r1 (also (arith_stmt calc into (both first second)) none) exits begin
   arith-built old new r0 r1 calc into first second exits begin h =
       elim (no_arms first second) as (λ b. no_arms first second ≡ b → Built never count number old new r0 r1 (also (arith_stmt calc into (both first second)) none) exits begin) [
@@ -150,7 +150,7 @@ module _ (files : List FileEntry) (count number last : ℕ) where
   read-barred file into (Some a) None e = sym (and-false (is_silent files file))
   read-barred file into (Some a) (Some b) e = sym (and-false (is_silent files file))
 
-  read-next : (old new : List Place) (r0 r1 : List Range) (file : ℕ) (into : Option places.Place) (first second : Option (List tree.Stmt)) (exits : Exits) (begin : ℕ) → no_arms first second ≡ true → (begin ≡ length old) × (new ≡ old ++ Goes exits.after ∷ []) × (r1 ≡ r0) →
+  read-next : (old new : List ProgramPoint) (r0 r1 : List Range) (file : ℕ) (into : Option places.Place) (first second : Option (List tree.Stmt)) (exits : Exits) (begin : ℕ) → no_arms first second ≡ true → (begin ≡ length old) × (new ≡ old ++ Goes exits.after ∷ []) × (r1 ≡ r0) →
       Built never count number old new r0 r1 (also (Reading file into first second) none) exits begin
   read-next old new r0 r1 file into None None exits begin e h =
       moved never count number old (old ++ Goes exits.after ∷ []) new r0 r0 r1 (also (Reading file into None None) none) (also (Reading file into None None) none) exits (length old) begin h.1 h.2 h.0 refl
@@ -159,7 +159,7 @@ module _ (files : List FileEntry) (count number last : ℕ) where
   read-next old new r0 r1 file into (Some a) None exits begin e h = absurd (let k : ⊥ = cc in k)
   read-next old new r0 r1 file into (Some a) (Some b) exits begin e h = absurd (let k : ⊥ = cc in k)
 
-  pub read-built : (old new : List Place) (r0 r1 : List Range) (file : ℕ) (into : Option places.Place) (first second : Option (List tree.Stmt)) (silent : Bool) (exits : Exits) (begin : ℕ) → silent ≡ is_silent files file → BuildsBoth never count number old new r0 r1 last first second silent exits begin →
+  pub read-built : (old new : List ProgramPoint) (r0 r1 : List Range) (file : ℕ) (into : Option places.Place) (first second : Option (List tree.Stmt)) (silent : Bool) (exits : Exits) (begin : ℕ) → silent ≡ is_silent files file → BuildsBoth never count number old new r0 r1 last first second silent exits begin →
       Built never count number old new r0 r1 (also (Reading file into first second) none) exits begin
   read-built old new r0 r1 file into first second silent exits begin is h =
       elim (no_arms first second) as (λ b. no_arms first second ≡ b → Built never count number old new r0 r1 (also (Reading file into first second) none) exits begin) [
@@ -175,7 +175,7 @@ module _ (files : List FileEntry) (count number last : ℕ) where
   else-branches [] = refl
   else-branches (s ∷ ss) = refl
 
-  pub if-built : (old new : List Place) (r0 r1 : List Range) (cond : Cond) (met unmet : List tree.Stmt) (exits : Exits) (begin : ℕ) → BuildsChoice never count number old new r0 r1 (seen_stmts last met ∷ seen_stmts last unmet ∷ []) false exits begin →
+  pub if-built : (old new : List ProgramPoint) (r0 r1 : List Range) (cond : Cond) (met unmet : List tree.Stmt) (exits : Exits) (begin : ℕ) → BuildsChoice never count number old new r0 r1 (seen_stmts last met ∷ seen_stmts last unmet ∷ []) false exits begin →
       Built never count number old new r0 r1 (also (Choose (If (test_of cond)) (given (seen_stmts last met) (arm_before (else_of (map (seen last) unmet)) done))) none) exits begin
   if-built old new r0 r1 cond met unmet exits begin h =
       choice-stmt never count number old new r0 r1 (seen_stmts last met ∷ seen_stmts last unmet ∷ []) false exits begin (Choose (If (test_of cond)) (given (seen_stmts last met) (arm_before (else_of (map (seen last) unmet)) done))) (If (test_of cond)) (given (seen_stmts last met) (arm_before (else_of (map (seen last) unmet)) done))
@@ -206,7 +206,7 @@ module _ (files : List FileEntry) (count number last : ℕ) where
   evaluate-barred None true subject tests has_other arms = elim (some_given arms) as (λ b. (if b then false else false) ≡ false) [ true ↦ refl | false ↦ refl ]
   evaluate-barred None false subject tests has_other arms = elim (some_given arms) as (λ b. (if b then false else false) ≡ false) [ true ↦ refl | false ↦ refl ]
 
-  pub evaluate-built : (old new : List Place) (r0 r1 : List Range) (subject : Subject) (whens : List When) (other : Option (List tree.Stmt)) (exits : Exits) (begin : ℕ) → BuildsChoice never count number old new r0 r1 (seen_branches last whens ++ seen_maybe last other ∷ []) false exits begin →
+  pub evaluate-built : (old new : List ProgramPoint) (r0 r1 : List Range) (subject : Subject) (whens : List When) (other : Option (List tree.Stmt)) (exits : Exits) (begin : ℕ) → BuildsChoice never count number old new r0 r1 (seen_branches last whens ++ seen_maybe last other ∷ []) false exits begin →
       Built never count number old new r0 r1 (also (Choose (evaluate_of subject (tests_of (map (seen_when last) whens)) (is_some other)) (branches_before (map (seen_when last) whens) (arm_before (seen_if_any last other) done))) none) exits begin
   evaluate-built old new r0 r1 subject whens other exits begin h =
       let tests = tests_of (map (seen_when last) whens) in
@@ -217,19 +217,19 @@ module _ (files : List FileEntry) (count number last : ℕ) where
       (evaluate-counted (map (seen_when last) whens) other) (evaluate-barred (cell_chosen subject) (count_from 1 tests) subject tests (is_some other) arms) h
 
   -- an inline PERFORM without control
-  pub once-built : (old new : List Place) (r0 r1 : List Range) (body : Stmts) (exits : Exits) (begin : ℕ) → BuildsChoice never count number old new r0 r1 (body ∷ []) false exits begin → Built never count number old new r0 r1 (also (Choose (If (Holds always)) (given body done)) none) exits begin
+  pub once-built : (old new : List ProgramPoint) (r0 r1 : List Range) (body : Stmts) (exits : Exits) (begin : ℕ) → BuildsChoice never count number old new r0 r1 (body ∷ []) false exits begin → Built never count number old new r0 r1 (also (Choose (If (Holds always)) (given body done)) none) exits begin
   once-built old new r0 r1 body exits begin h =
       choice-stmt never count number old new r0 r1 (body ∷ []) false exits begin (Choose (If (Holds always)) (given body done)) (If (Holds always)) (given body done) refl refl refl refl h
 
   -- the two arms of a READ or of arithmetic
 
-  abbrev W : List Place → List Place → List Range → List Range → Stmts → Exits → ℕ → Type 0
+  abbrev W : List ProgramPoint → List ProgramPoint → List Range → List Range → Stmts → Exits → ℕ → Type 0
   W old new r0 r1 stmts exits begin = Built never count number old new r0 r1 stmts exits begin
 
-  abbrev Both_ : List Place → List Place → List Range → List Range → Option (List tree.Stmt) → Option (List tree.Stmt) → Bool → Exits → ℕ → Type 0
+  abbrev Both_ : List ProgramPoint → List ProgramPoint → List Range → List Range → Option (List tree.Stmt) → Option (List tree.Stmt) → Bool → Exits → ℕ → Type 0
   Both_ old new r0 r1 first second silent exits begin = BuildsBoth never count number old new r0 r1 last first second silent exits begin
 
-  as-both : {E : Type 0} → (r : Result ℕ E) (old new : List Place) (r0 r1 : List Range) (f s first second : Option (List tree.Stmt)) (silent : Bool) (exits : Exits) → first ≡ f → second ≡ s → no_arms f s ≡ false →
+  as-both : {E : Type 0} → (r : Result ℕ E) (old new : List ProgramPoint) (r0 r1 : List Range) (f s first second : Option (List tree.Stmt)) (silent : Bool) (exits : Exits) → first ≡ f → second ≡ s → no_arms f s ≡ false →
       IfOk r (λ begin. BuildsChoice never count number old new r0 r1 (seen_maybe last f ∷ seen_maybe last s ∷ []) (silent && not (is_some f)) exits begin) → IfOk r (λ begin. Both_ old new r0 r1 first second silent exits begin)
   as-both r old new r0 r1 f s first second silent exits e g some h =
       if-ok r (λ begin. BuildsChoice never count number old new r0 r1 (seen_maybe last f ∷ seen_maybe last s ∷ []) (silent && not (is_some f)) exits begin) (λ begin. Both_ old new r0 r1 first second silent exits begin)
@@ -238,19 +238,19 @@ module _ (files : List FileEntry) (count number last : ℕ) where
       (subst (λ (x : Option (List tree.Stmt)). Both_ old new r0 r1 f x silent exits begin) (sym g)
       ((λ no. absurd (let clash : true ≡ false = sym no ∙ some in let k : ⊥ = cc in k)), (λ not_none. c)))) h
 
-  pub both-second : {E : Type 0} → (r : Result ℕ E) (old p1 new : List Place) (r0 r1 r2 : List Range) (first second : Option (List tree.Stmt)) (stmts : List tree.Stmt) (silent : Bool) (exits : Exits) (b : ℕ) → first ≡ None → second ≡ Some stmts → W old p1 r0 r1 (seen_stmts last stmts) exits b → r2 ≡ r1 →
+  pub both-second : {E : Type 0} → (r : Result ℕ E) (old p1 new : List ProgramPoint) (r0 r1 r2 : List Range) (first second : Option (List tree.Stmt)) (stmts : List tree.Stmt) (silent : Bool) (exits : Exits) (b : ℕ) → first ≡ None → second ≡ Some stmts → W old p1 r0 r1 (seen_stmts last stmts) exits b → r2 ≡ r1 →
       IfOk r (λ n. (n ≡ length p1) × (new ≡ p1 ++ Chooses (two_ways silent exits.after b) ∷ [])) → IfOk r (λ begin. Both_ old new r0 r2 first second silent exits begin)
   both-second r old p1 new r0 r1 r2 first second stmts silent exits b e g built same h =
       as-both r old new r0 r2 None (Some stmts) first second silent exits e g refl
       (two-added never count number r old old p1 new r0 r0 r1 r2 none (seen_stmts last stmts) silent (silent && true) exits exits.after b (build-none never count number old r0 exits) built (sym (and-true silent)) same h)
 
-  pub both-first : {E : Type 0} → (r : Result ℕ E) (old p1 new : List Place) (r0 r1 r2 : List Range) (first second : Option (List tree.Stmt)) (stmts : List tree.Stmt) (silent : Bool) (exits : Exits) (a : ℕ) → first ≡ Some stmts → second ≡ None → W old p1 r0 r1 (seen_stmts last stmts) exits a → r2 ≡ r1 →
+  pub both-first : {E : Type 0} → (r : Result ℕ E) (old p1 new : List ProgramPoint) (r0 r1 r2 : List Range) (first second : Option (List tree.Stmt)) (stmts : List tree.Stmt) (silent : Bool) (exits : Exits) (a : ℕ) → first ≡ Some stmts → second ≡ None → W old p1 r0 r1 (seen_stmts last stmts) exits a → r2 ≡ r1 →
       IfOk r (λ n. (n ≡ length p1) × (new ≡ p1 ++ Chooses (two_ways false a exits.after) ∷ [])) → IfOk r (λ begin. Both_ old new r0 r2 first second silent exits begin)
   both-first r old p1 new r0 r1 r2 first second stmts silent exits a e g built same h =
       as-both r old new r0 r2 (Some stmts) None first second silent exits e g refl
       (two-added never count number r old p1 p1 new r0 r1 r1 r2 (seen_stmts last stmts) none false (silent && false) exits a exits.after built (build-none never count number p1 r1 exits) (sym (and-false silent)) same h)
 
-  pub both-both : {E : Type 0} → (r : Result ℕ E) (old p1 p2 new : List Place) (r0 r1 r2 r3 : List Range) (first second : Option (List tree.Stmt)) (stmts others : List tree.Stmt) (silent : Bool) (exits : Exits) (a b : ℕ) → first ≡ Some stmts → second ≡ Some others → W old p1 r0 r1 (seen_stmts last stmts) exits a → W p1 p2 r1 r2 (seen_stmts last others) exits b → r3 ≡ r2 →
+  pub both-both : {E : Type 0} → (r : Result ℕ E) (old p1 p2 new : List ProgramPoint) (r0 r1 r2 r3 : List Range) (first second : Option (List tree.Stmt)) (stmts others : List tree.Stmt) (silent : Bool) (exits : Exits) (a b : ℕ) → first ≡ Some stmts → second ≡ Some others → W old p1 r0 r1 (seen_stmts last stmts) exits a → W p1 p2 r1 r2 (seen_stmts last others) exits b → r3 ≡ r2 →
       IfOk r (λ n. (n ≡ length p2) × (new ≡ p2 ++ Chooses (two_ways false a b) ∷ [])) → IfOk r (λ begin. Both_ old new r0 r3 first second silent exits begin)
   both-both r old p1 p2 new r0 r1 r2 r3 first second stmts others silent exits a b e g built builds same h =
       as-both r old new r0 r3 (Some stmts) (Some others) first second silent exits e g refl

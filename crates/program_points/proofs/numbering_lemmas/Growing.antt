@@ -8,11 +8,11 @@ use Rattle.control_flow_theory.specs.language.Items.{Item, Do, before, past_sent
 use Rattle.program_points.specs.paths.Step.{Point, at, Next, next}
 use Rattle.program_points.specs.paths.Step as lang
 use Rattle.program_points.specs.paths.Flow.{part}
-use Rattle.program_points.specs.declared.point_table.table.Place.{Place}
-use Rattle.program_points.specs.declared.point_table.table.Place.TheVariants.{Goes, Chooses, Calls, Stops, Ends}
+use Rattle.program_points.specs.declared.point_table.table.ProgramPoint.{ProgramPoint}
+use Rattle.program_points.specs.declared.point_table.table.ProgramPoint.TheVariants.{Goes, Chooses, Calls, Stops, Ends}
 use Rattle.program_points.specs.point_table.Table.{Describes, AllBelow}
 use Rattle.program_points.specs.declared.numbering.build.Exits.{Exits}
-use Rattle.program_points.specs.numbering.Building.{part_of, Grown, HasParagraphs, IsAt, IsBehind, Builds, BuildsBranches, after_at}
+use Rattle.program_points.specs.numbering.Build.{part_of, Grown, HasParagraphs, IsAt, IsBehind, Builds, BuildsBranches, after_at}
 
 -- the points, with one more
 abbrev pub with_point : (ℕ → Point) → ℕ → Point → ℕ → Point
@@ -28,12 +28,12 @@ point-other points number point other lt =
       | false ↦ λ e. refl
     ]) refl
 
-pub get-front : (xs ys : List Place) (number : ℕ) → number < length xs → slice_get (xs ++ ys) number ≡ slice_get xs number
+pub get-front : (xs ys : List ProgramPoint) (number : ℕ) → number < length xs → slice_get (xs ++ ys) number ≡ slice_get xs number
 get-front [] ys number lt = absurd (omega arith)
 get-front (x ∷ xs) ys zero lt = refl
 get-front (x ∷ xs) ys (suc number) lt = get-front xs ys number (omega arith)
 
-pub get-last : (xs : List Place) (x : Place) → slice_get (xs ++ x ∷ []) (length xs) ≡ Some x
+pub get-last : (xs : List ProgramPoint) (x : ProgramPoint) → slice_get (xs ++ x ∷ []) (length xs) ≡ Some x
 get-last [] x = refl
 get-last (y ∷ xs) x = get-last xs x
 
@@ -50,7 +50,7 @@ same-ways most points later (Some way ∷ ways) below same =
     ap (λ (p : Point). Some p ∷ map (λ (w : Option ℕ). option_map points w) ways) (sym (same way below.0)) ∙ ap (λ (ws : List (Option Point)). Some (later way) ∷ ws) (same-ways most points later ways below.1 same)
 
 -- what a place says still holds among more places
-pub describes-more : (old new : List Place) (old_ranges new_ranges : List Range) (points later : ℕ → Point) (place : Place) (now : Next) → length old ≤ length new →
+pub describes-more : (old new : List ProgramPoint) (old_ranges new_ranges : List Range) (points later : ℕ → Point) (place : ProgramPoint) (now : Next) → length old ≤ length new →
     ((number : ℕ) (range : Range) → slice_get old_ranges number ≡ Some range → slice_get new_ranges number ≡ Some range) → ((number : ℕ) → number < length old → later number ≡ points number) →
     Describes (part_of old old_ranges) points place now → Describes (part_of new new_ranges) later place now
 describes-more old new old_ranges new_ranges points later (Goes to) now le ranges same d =
@@ -63,7 +63,7 @@ describes-more old new old_ranges new_ranges points later Stops now le ranges sa
 describes-more old new old_ranges new_ranges points later (Ends paragraph) now le ranges same d = d
 
 module _ (never_first : Chooser → Bool) (program : Program) (home : ℕ) where
-  pub grown-none : (old : List Place) (ranges : List Range) (points : ℕ → Point) → Grown never_first program home old old ranges ranges points points
+  pub grown-none : (old : List ProgramPoint) (ranges : List Range) (points : ℕ → Point) → Grown never_first program home old old ranges ranges points points
   grown-none old ranges points = record {
     longer = omega arith;
     kept = λ number lt. refl;
@@ -79,7 +79,7 @@ module _ (never_first : Chooser → Bool) (program : Program) (home : ℕ) where
   split-at (suc number) zero = inr (omega arith)
   split-at (suc number) (suc most) = elim (split-at number most) [ inl lt ↦ inl (omega arith) | inr le ↦ inr (omega arith) ]
 
-  pub grown-then : (old mid new : List Place) (r0 r1 r2 : List Range) (points via later : ℕ → Point) → Grown never_first program home old mid r0 r1 points via → Grown never_first program home mid new r1 r2 via later → Grown never_first program home old new r0 r2 points later
+  pub grown-then : (old mid new : List ProgramPoint) (r0 r1 r2 : List Range) (points via later : ℕ → Point) → Grown never_first program home old mid r0 r1 points via → Grown never_first program home mid new r1 r2 via later → Grown never_first program home old new r0 r2 points later
   grown-then old mid new r0 r1 r2 points via later first second = record {
     longer = omega (arith, first.longer, second.longer);
     kept = λ number lt. second.kept number (omega (arith, first.longer)) ∙ first.kept number lt;
@@ -104,7 +104,7 @@ module _ (never_first : Chooser → Bool) (program : Program) (home : ℕ) where
   }
 
   -- one place more
-  pub grown-add : (old : List Place) (r0 r1 : List Range) (points : ℕ → Point) (place : Place) (point : Point) → point.paragraph ≡ home → ((number : ℕ) (range : Range) → slice_get r0 number ≡ Some range → slice_get r1 number ≡ Some range) →
+  pub grown-add : (old : List ProgramPoint) (r0 r1 : List Range) (points : ℕ → Point) (place : ProgramPoint) (point : Point) → point.paragraph ≡ home → ((number : ℕ) (range : Range) → slice_get r0 number ≡ Some range → slice_get r1 number ≡ Some range) →
       Describes (part_of old r1) points place (next never_first program point) → Grown never_first program home old (old ++ place ∷ []) r0 r1 points (with_point points (length old) point)
   grown-add old r0 r1 points place point inside ranges d =
       let new = old ++ place ∷ [] in
@@ -127,19 +127,19 @@ module _ (never_first : Chooser → Bool) (program : Program) (home : ℕ) where
             ap (λ (n : ℕ). (later n).paragraph) here ∙ ap (λ (p : Point). p.paragraph) (point-here points (length old) point) ∙ inside;
       }
 
-pub set-here : (places : List Place) (at : ℕ) (place : Place) → at < length places → slice_get (set places at place) at ≡ Some place
+pub set-here : (places : List ProgramPoint) (at : ℕ) (place : ProgramPoint) → at < length places → slice_get (set places at place) at ≡ Some place
 set-here [] at place lt = absurd (omega arith)
 set-here (p ∷ places) zero place lt = refl
 set-here (p ∷ places) (suc at) place lt = set-here places at place (omega arith)
 
-pub set-other : (places : List Place) (at other : ℕ) (place : Place) → (other ≡ at → ⊥) → slice_get (set places at place) other ≡ slice_get places other
+pub set-other : (places : List ProgramPoint) (at other : ℕ) (place : ProgramPoint) → (other ≡ at → ⊥) → slice_get (set places at place) other ≡ slice_get places other
 set-other [] at other place ne = refl
 set-other (p ∷ places) zero zero place ne = absurd (ne refl)
 set-other (p ∷ places) zero (suc other) place ne = refl
 set-other (p ∷ places) (suc at) zero place ne = refl
 set-other (p ∷ places) (suc at) (suc other) place ne = set-other places at other place (λ e. ne (ap (λ (n : ℕ). suc n) e))
 
-module _ (never_first : Chooser → Bool) (program : Program) (count number : ℕ) (old new : List Place) (r0 r1 : List Range) (points later : ℕ → Point) (grown : Grown never_first program number old new r0 r1 points later) where
+module _ (never_first : Chooser → Bool) (program : Program) (count number : ℕ) (old new : List ProgramPoint) (r0 r1 : List Range) (points later : ℕ → Point) (grown : Grown never_first program number old new r0 r1 points later) where
   pub still-at : (place : ℕ) (point : Point) → IsAt old points place point → IsAt new later place point
   still-at place point is = (grown.same place is.1 ∙ is.0, omega (arith, is.1, grown.longer))
 
@@ -168,10 +168,10 @@ pub loop-before : (cycle : Bool) (stmts : Stmts) (rest : List Item) → from_loo
 loop-before cycle none rest = refl
 loop-before cycle (also stmt stmts) rest = loop-before cycle stmts rest
 
-same-at : (places : List Place) (points : ℕ → Point) (place number : ℕ) (a b : List Item) → a ≡ b → IsAt places points place (at number b) → IsAt places points place (at number a)
+same-at : (places : List ProgramPoint) (points : ℕ → Point) (place number : ℕ) (a b : List Item) → a ≡ b → IsAt places points place (at number b) → IsAt places points place (at number a)
 same-at places points place number a b e is = subst (λ r. IsAt places points place (at number r)) (sym e) is
 
-pub before-behind : (program : Program) (count number : ℕ) (places : List Place) (points : ℕ → Point) (stmts : Stmts) (rest : List Item) (exits : Exits) (place : ℕ) → IsBehind program count number places points rest exits → IsAt places points place (at number (before stmts rest)) →
+pub before-behind : (program : Program) (count number : ℕ) (places : List ProgramPoint) (points : ℕ → Point) (stmts : Stmts) (rest : List Item) (exits : Exits) (place : ℕ) → IsBehind program count number places points rest exits → IsAt places points place (at number (before stmts rest)) →
     IsBehind program count number places points (before stmts rest) (after_at exits place)
 before-behind program count number places points stmts rest exits place behind is = record {
   paragraphs = behind.paragraphs;
@@ -211,10 +211,10 @@ pub one-below : (most : ℕ) (ways : List (Option ℕ)) (way : ℕ) → AllBelow
 one-below most ways way below lt = below-append most ways (Some way ∷ []) below (lt, tt)
 
 -- what a call leaves that added one place
-pub if-added : {E : Type 0} → (r : Result ℕ E) (mid new : List Place) (place : Place) (r1 r2 : List Range) (P : List Place → List Range → ℕ → Type 0) → P (mid ++ place ∷ []) r1 (length mid) → r2 ≡ r1 →
+pub if-added : {E : Type 0} → (r : Result ℕ E) (mid new : List ProgramPoint) (place : ProgramPoint) (r1 r2 : List Range) (P : List ProgramPoint → List Range → ℕ → Type 0) → P (mid ++ place ∷ []) r1 (length mid) → r2 ≡ r1 →
     IfOk r (λ n. (n ≡ length mid) × (new ≡ mid ++ place ∷ [])) → IfOk r (λ n. P new r2 n)
 if-added (Ok n) mid new place r1 r2 P base e h =
-    subst (λ (k : ℕ). P new r2 k) (sym h.0) (subst (λ (rs : List Range). P new rs (length mid)) (sym e) (subst (λ (ps : List Place). P ps r1 (length mid)) (sym h.1) base))
+    subst (λ (k : ℕ). P new r2 k) (sym h.0) (subst (λ (rs : List Range). P new rs (length mid)) (sym e) (subst (λ (ps : List ProgramPoint). P ps r1 (length mid)) (sym h.1) base))
 if-added (Err error) mid new place r1 r2 P base e h = h
 
 pub if-ok : {A E : Type 0} → (r : Result A E) (P Q : A → Type 0) → ((x : A) → P x → Q x) → IfOk r P → IfOk r Q
@@ -222,17 +222,17 @@ if-ok (Ok x) P Q f h = f x h
 if-ok (Err e) P Q f h = h
 
 module _ (never_first : Chooser → Bool) (count number : ℕ) where
-  abbrev pub Built : List Place → List Place → List Range → List Range → Stmts → Exits → ℕ → Type 0
+  abbrev pub Built : List ProgramPoint → List ProgramPoint → List Range → List Range → Stmts → Exits → ℕ → Type 0
   Built old new r0 r1 stmts exits begin = Builds never_first count number old new r0 r1 stmts exits begin
 
-  abbrev pub Branched : List Place → List Place → List Range → List Range → List Stmts → Exits → List (Option ℕ) → Type 0
+  abbrev pub Branched : List ProgramPoint → List ProgramPoint → List Range → List Range → List Stmts → Exits → List (Option ℕ) → Type 0
   Branched old new r0 r1 branches exits ways = BuildsBranches never_first count number old new r0 r1 branches exits ways
 
-  pub build-none : (old : List Place) (ranges : List Range) (exits : Exits) → Built old old ranges ranges none exits exits.after
+  pub build-none : (old : List ProgramPoint) (ranges : List Range) (exits : Exits) → Built old old ranges ranges none exits exits.after
   build-none old ranges exits = λ program points rest behind. (points, grown-none never_first program number old ranges points, behind.after)
 
   -- a statement in front of others
-  pub build-also : (old mid new : List Place) (r0 r1 r2 : List Range) (stmt : Stmt) (more : Stmts) (exits : Exits) (later begin : ℕ) → Built old mid r0 r1 more exits later → Built mid new r1 r2 (also stmt none) (after_at exits later) begin →
+  pub build-also : (old mid new : List ProgramPoint) (r0 r1 r2 : List Range) (stmt : Stmt) (more : Stmts) (exits : Exits) (later begin : ℕ) → Built old mid r0 r1 more exits later → Built mid new r1 r2 (also stmt none) (after_at exits later) begin →
       Built old new r0 r2 (also stmt more) exits begin
   build-also old mid new r0 r1 r2 stmt more exits later begin behind_it first = λ program points rest behind.
       let b = behind_it program points rest behind in
@@ -241,7 +241,7 @@ module _ (never_first : Chooser → Bool) (count number : ℕ) where
       (f.0, grown-then never_first program number old mid new r0 r1 r2 points b.0 f.0 b.1 f.1, f.2)
 
   -- one statement that takes one place
-  pub one-place : (old : List Place) (r0 r1 : List Range) (place : Place) (stmt : Stmt) (exits : Exits) → ((n : ℕ) (range : Range) → slice_get r0 n ≡ Some range → slice_get r1 n ≡ Some range) →
+  pub one-place : (old : List ProgramPoint) (r0 r1 : List Range) (place : ProgramPoint) (stmt : Stmt) (exits : Exits) → ((n : ℕ) (range : Range) → slice_get r0 n ≡ Some range → slice_get r1 n ≡ Some range) →
       ((program : Program) (points : ℕ → Point) (rest : List Item) → IsBehind program count number old points rest exits → Describes (part_of old r1) points place (next never_first program (at number (Do stmt ∷ rest)))) →
       Built old (old ++ place ∷ []) r0 r1 (also stmt none) exits (length old)
   one-place old r0 r1 place stmt exits kept describes = λ program points rest behind.
@@ -252,7 +252,7 @@ module _ (never_first : Chooser → Bool) (count number : ℕ) where
       )
 
   -- one that goes one way, to a place
-  pub build-goes : (old : List Place) (ranges : List Range) (stmt : Stmt) (exits : Exits) (to : ℕ) (where_to : Program → List Item → Point) →
+  pub build-goes : (old : List ProgramPoint) (ranges : List Range) (stmt : Stmt) (exits : Exits) (to : ℕ) (where_to : Program → List Item → Point) →
       ((program : Program) (points : ℕ → Point) (rest : List Item) → IsBehind program count number old points rest exits →
       (next never_first program (at number (Do stmt ∷ rest)) ≡ lang.Ways (Some (where_to program rest) ∷ [])) × IsAt old points to (where_to program rest)) →
       Built old (old ++ Goes to ∷ []) ranges ranges (also stmt none) exits (length old)
@@ -262,19 +262,19 @@ module _ (never_first : Chooser → Bool) (count number : ℕ) where
       (s.0 ∙ ap (λ (p : Point). lang.Ways (Some p ∷ [])) (sym s.1.0), s.1.1))
 
   -- the same, whatever the call that left it says
-  pub moved : (old new other : List Place) (r0 r1 r2 : List Range) (s t : Stmts) (exits : Exits) (begin same : ℕ) → other ≡ new → r2 ≡ r1 → same ≡ begin → s ≡ t → Built old new r0 r1 t exits begin → Built old other r0 r2 s exits same
+  pub moved : (old new other : List ProgramPoint) (r0 r1 r2 : List Range) (s t : Stmts) (exits : Exits) (begin same : ℕ) → other ≡ new → r2 ≡ r1 → same ≡ begin → s ≡ t → Built old new r0 r1 t exits begin → Built old other r0 r2 s exits same
   moved old new other r0 r1 r2 s t exits begin same a b c e builds =
       subst (λ (x : Stmts). Built old other r0 r2 x exits same) (sym e)
       (subst (λ (n : ℕ). Built old other r0 r2 t exits n) (sym c)
       (subst (λ (rs : List Range). Built old other r0 rs t exits begin) (sym b)
-      (subst (λ (ps : List Place). Built old ps r0 r1 t exits begin) (sym a) builds)))
+      (subst (λ (ps : List ProgramPoint). Built old ps r0 r1 t exits begin) (sym a) builds)))
 
   -- branches
 
-  pub branches-none : (old : List Place) (ranges : List Range) (exits : Exits) → Branched old old ranges ranges [] exits []
+  pub branches-none : (old : List ProgramPoint) (ranges : List Range) (exits : Exits) → Branched old old ranges ranges [] exits []
   branches-none old ranges exits = λ program points rest behind. (points, grown-none never_first program number old ranges points, refl, tt)
 
-  pub branches-more : (old mid new : List Place) (r0 r1 r2 : List Range) (branches : List Stmts) (stmts : Stmts) (exits : Exits) (begin : ℕ) (ways : List (Option ℕ)) → Branched old mid r0 r1 branches exits ways →
+  pub branches-more : (old mid new : List ProgramPoint) (r0 r1 r2 : List Range) (branches : List Stmts) (stmts : Stmts) (exits : Exits) (begin : ℕ) (ways : List (Option ℕ)) → Branched old mid r0 r1 branches exits ways →
       Built mid new r1 r2 stmts exits begin → Branched old new r0 r2 (branches ++ stmts ∷ []) exits (ways ++ Some begin ∷ [])
   branches-more old mid new r0 r1 r2 branches stmts exits begin ways built builds = λ program points rest behind.
       let a = built program points rest behind in

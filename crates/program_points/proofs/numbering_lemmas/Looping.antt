@@ -7,14 +7,14 @@ use Rattle.control_flow_theory.specs.language.Control.{perform_of, loop_of, alwa
 use Rattle.control_flow_theory.specs.language.Items.{Item, Do, Turn, Steps, before, before_body, past_sentence}
 use Rattle.program_points.specs.paths.Step.{Point, at, start, next}
 use Rattle.program_points.specs.paths.Step as lang
-use Rattle.program_points.specs.declared.point_table.table.Place.{Place}
-use Rattle.program_points.specs.declared.point_table.table.Place.TheVariants.{Goes, Chooses, Stops}
+use Rattle.program_points.specs.declared.point_table.table.ProgramPoint.{ProgramPoint}
+use Rattle.program_points.specs.declared.point_table.table.ProgramPoint.TheVariants.{Goes, Chooses, Stops}
 use Rattle.program_points.specs.point_table.Table.{Describes}
 use Rattle.program_points.specs.declared.numbering.build.Exits.{Exits}
-use Rattle.program_points.specs.declared.numbering.kind.Kind.{Kind}
-use Rattle.program_points.specs.declared.numbering.kind.Kind.TheVariants.{Before, Again, After}
-use Rattle.program_points.specs.numbering.Kinds.{kind_in, remainder}
-use Rattle.program_points.specs.numbering.Building.{part_of, Grown, HasParagraphs, IsAt, IsBehind, two_ways, turned_at, IsClosed, inside}
+use Rattle.program_points.specs.declared.numbering.kind.LoopStart.{LoopStart}
+use Rattle.program_points.specs.declared.numbering.kind.LoopStart.TheVariants.{Before, Again, After}
+use Rattle.program_points.specs.numbering.Kind.{kind_in, remainder}
+use Rattle.program_points.specs.numbering.Build.{part_of, Grown, HasParagraphs, IsAt, IsBehind, two_ways, turned_at, IsClosed, inside}
 use Rattle.program_points.proofs.numbering_lemmas.Growing.{Built, with_point, point-here, point-other, get-front, set-here, set-other, describes-more, grown-then, grown-add}
 
 abbrev pub body_stmts : Body → Stmts
@@ -64,7 +64,7 @@ module _ (never_first : Chooser → Bool) (program : Program) (number : ℕ) whe
   again-next (Varying true set step test) body rest e = absurd (let k : ⊥ = cc in k)
 
 -- the remainder is told
-record Turned (never_first : Chooser → Bool) (program : Program) (number : ℕ) (old new : List Place) (r0 r1 : List Range) (points : ℕ → Point) (rest : List Item) (after turn begin : ℕ) (control : Control) (body : Body) : Type 0 where
+record Turned (never_first : Chooser → Bool) (program : Program) (number : ℕ) (old new : List ProgramPoint) (r0 r1 : List Range) (points : ℕ → Point) (rest : List Item) (after turn begin : ℕ) (control : Control) (body : Body) : Type 0 where
   later : ℕ → Point
   grown : Grown never_first program number old new r0 r1 points later
   turn_at : IsAt new later turn (at number (Turn (remainder control) body ∷ rest))
@@ -72,10 +72,10 @@ record Turned (never_first : Chooser → Bool) (program : Program) (number : ℕ
   after_at : IsAt new later after (at number rest)
 
 module _ (never_first : Chooser → Bool) (count number : ℕ) where
-  abbrev B : List Place → List Place → List Range → List Range → Stmts → Exits → ℕ → Type 0
+  abbrev B : List ProgramPoint → List ProgramPoint → List Range → List Range → Stmts → Exits → ℕ → Type 0
   B old new r0 r1 stmts exits begin = Built never_first count number old new r0 r1 stmts exits begin
 
-  turned : (old mid : List Place) (r0 r1 : List Range) (control : Control) (body : Body) (exits : Exits) (begin : ℕ) → B (old ++ Stops ∷ []) mid r0 r1 (body_stmts body) (inside exits (length old)) begin →
+  turned : (old mid : List ProgramPoint) (r0 r1 : List Range) (control : Control) (body : Body) (exits : Exits) (begin : ℕ) → B (old ++ Stops ∷ []) mid r0 r1 (body_stmts body) (inside exits (length old)) begin →
       (program : Program) (points : ℕ → Point) (rest : List Item) → IsBehind program count number old points rest exits →
       Turned never_first program number old (turned_at (length old) exits.after begin mid) r0 r1 points rest exits.after (length old) begin control body
   turned old mid r0 r1 control body exits begin built program points rest behind =
@@ -118,7 +118,7 @@ module _ (never_first : Chooser → Bool) (count number : ℕ) where
           ranges = b.1.ranges;
           same = λ n lt. b.1.same n (omega (arith, long)) ∙ point-other points turn turning n lt;
           described = λ n le lt.
-              (elim (n == turn) as (λ z. (n == turn) ≡ z → (place : Place) × (slice_get new n ≡ Some place) × Describes (part_of new r1) b.0 place (next never_first program (b.0 n))) [
+              (elim (n == turn) as (λ z. (n == turn) ≡ z → (place : ProgramPoint) × (slice_get new n ≡ Some place) × Describes (part_of new r1) b.0 place (next never_first program (b.0 n))) [
                 | true ↦ λ e.
                     let here : n ≡ turn = eqb-true n turn e in (
                       told,
@@ -151,7 +151,7 @@ module _ (never_first : Chooser → Bool) (count number : ℕ) where
       }
 
   -- the loop goes on to a place that is there
-  goes-on : (program : Program) (old new : List Place) (r0 r1 : List Range) (points later : ℕ → Point) (rest : List Item) (control : Control) (body : Body) (to : ℕ) (point : Point) → Grown never_first program number old new r0 r1 points later → IsAt new later to point →
+  goes-on : (program : Program) (old new : List ProgramPoint) (r0 r1 : List Range) (points later : ℕ → Point) (rest : List Item) (control : Control) (body : Body) (to : ℕ) (point : Point) → Grown never_first program number old new r0 r1 points later → IsAt new later to point →
       next never_first program (at number (Do (Loop control body) ∷ rest)) ≡ lang.Ways (Some point ∷ []) →
       (last : ℕ → Point) × Grown never_first program number old (new ++ Goes to ∷ []) r0 r1 points last × IsAt (new ++ Goes to ∷ []) last (length new) (at number (Do (Loop control body) ∷ rest))
   goes-on program old new r0 r1 points later rest control body to point grown is e =
@@ -163,10 +163,10 @@ module _ (never_first : Chooser → Bool) (count number : ℕ) where
         (point-here later (length new) loop, omega (arith, length-append new (Goes to ∷ []))),
       )
 
-  abbrev Ends_ : Kind → List Place → List Place → List Range → List Range → Control → Body → Exits → ℕ → ℕ → Type 0
-  Ends_ kind old mid r0 r1 control body exits start begin = (new : List Place) → IsClosed kind (length old) exits.after start begin mid new → B old new r0 r1 (also (Loop control body) none) exits begin
+  abbrev Ends_ : LoopStart → List ProgramPoint → List ProgramPoint → List Range → List Range → Control → Body → Exits → ℕ → ℕ → Type 0
+  Ends_ kind old mid r0 r1 control body exits start begin = (new : List ProgramPoint) → IsClosed kind (length old) exits.after start begin mid new → B old new r0 r1 (also (Loop control body) none) exits begin
 
-  closed-at : (old mid : List Place) (r0 r1 : List Range) (control : Control) (body : Body) (exits : Exits) (kind : Kind) (start begin : ℕ) → kind_in control ≡ kind → B (old ++ Stops ∷ []) mid r0 r1 (body_stmts body) (inside exits (length old)) start → Ends_ kind old mid r0 r1 control body exits start begin
+  closed-at : (old mid : List ProgramPoint) (r0 r1 : List Range) (control : Control) (body : Body) (exits : Exits) (kind : LoopStart) (start begin : ℕ) → kind_in control ≡ kind → B (old ++ Stops ∷ []) mid r0 r1 (body_stmts body) (inside exits (length old)) start → Ends_ kind old mid r0 r1 control body exits start begin
   closed-at old mid r0 r1 control body exits Before start begin is built new closed = λ program points rest behind.
       let t = turned old mid r0 r1 control body exits start built program points rest behind in
       let size : length (turned_at (length old) exits.after start mid) ≡ length mid = length-set mid (length old) (Chooses (two_ways false exits.after start)) in
@@ -196,11 +196,11 @@ module _ (never_first : Chooser → Bool) (count number : ℕ) where
       let at_end : length more ≡ begin = (let c = closed.0 in omega (arith, long, size, c)) in
       (g.0, subst (λ ps. Grown never_first program number old ps r0 r1 points g.0) (sym closed.1) g.1, subst (λ n. IsAt new g.0 n (at number (Do (Loop control body) ∷ rest))) at_end (subst (λ ps. IsAt ps g.0 (length more) (at number (Do (Loop control body) ∷ rest))) (sym closed.1) g.2))
 
-  pub loop-built : (c1 : ℕ) (old p1 mid new : List Place) (r0 ra r1 r2 : List Range) (control : Control) (body : Body) (exits : Exits) (kind : Kind) (turn start begin : ℕ) → kind_in control ≡ kind → turn ≡ length old → p1 ≡ old ++ Stops ∷ [] → ra ≡ r0 → c1 ≡ count →
+  pub loop-built : (c1 : ℕ) (old p1 mid new : List ProgramPoint) (r0 ra r1 r2 : List Range) (control : Control) (body : Body) (exits : Exits) (kind : LoopStart) (turn start begin : ℕ) → kind_in control ≡ kind → turn ≡ length old → p1 ≡ old ++ Stops ∷ [] → ra ≡ r0 → c1 ≡ count →
       Built never_first c1 number p1 mid ra r1 (body_stmts body) (inside exits turn) start → IsClosed kind turn exits.after start begin mid new → r2 ≡ r1 → B old new r0 r2 (also (Loop control body) none) exits begin
   loop-built c1 old p1 mid new r0 ra r1 r2 control body exits kind turn start begin is t p r c built closed same =
       let one = subst (λ (n : ℕ). Built never_first n number p1 mid ra r1 (body_stmts body) (inside exits turn) start) c built in
-      let two = subst (λ (ps : List Place). B ps mid ra r1 (body_stmts body) (inside exits turn) start) p one in
+      let two = subst (λ (ps : List ProgramPoint). B ps mid ra r1 (body_stmts body) (inside exits turn) start) p one in
       let three = subst (λ (rs : List Range). B (old ++ Stops ∷ []) mid rs r1 (body_stmts body) (inside exits turn) start) r two in
       let four = subst (λ (n : ℕ). B (old ++ Stops ∷ []) mid r0 r1 (body_stmts body) (inside exits n) start) t three in
       subst (λ (rs : List Range). B old new r0 rs (also (Loop control body) none) exits begin) (sym same)
@@ -212,7 +212,7 @@ pub perform-once : (control : Option Control) (entry exit : ℕ) → None ≡ op
 perform-once None entry exit e = refl
 perform-once (Some control) entry exit e = absurd (let k : ⊥ = cc in k)
 
-pub perform-loop : (control : Option Control) (entry exit : ℕ) (kind : Kind) → Some kind ≡ option_map kind_in control → (one : Control) × (kind_in one ≡ kind) × (perform_of control entry exit ≡ Loop one (Performed entry exit))
+pub perform-loop : (control : Option Control) (entry exit : ℕ) (kind : LoopStart) → Some kind ≡ option_map kind_in control → (one : Control) × (kind_in one ≡ kind) × (perform_of control entry exit ≡ Loop one (Performed entry exit))
 perform-loop None entry exit kind e = absurd (let k : ⊥ = cc in k)
 perform-loop (Some control) entry exit kind e = (control, (let k : kind ≡ kind_in control = cc in sym k), refl)
 
@@ -220,6 +220,6 @@ pub loop-none : (control : Option Control) (body : Stmts) → None ≡ option_ma
 loop-none None body e = refl
 loop-none (Some control) body e = absurd (let k : ⊥ = cc in k)
 
-pub loop-some : (control : Option Control) (body : Stmts) (kind : Kind) → Some kind ≡ option_map kind_in control → (one : Control) × (kind_in one ≡ kind) × (loop_of control body ≡ Loop one (Nested body))
+pub loop-some : (control : Option Control) (body : Stmts) (kind : LoopStart) → Some kind ≡ option_map kind_in control → (one : Control) × (kind_in one ≡ kind) × (loop_of control body ≡ Loop one (Nested body))
 loop-some None body kind e = absurd (let k : ⊥ = cc in k)
 loop-some (Some control) body kind e = (control, (let k : kind ≡ kind_in control = cc in sym k), refl)

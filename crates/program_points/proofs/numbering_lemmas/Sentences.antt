@@ -8,10 +8,10 @@ use Rattle.control_flow_theory.specs.language.Items.{Item, SentenceEnd, items_of
 use Rattle.control_flow_theory.specs.language.Control.{seen_stmts, seen_sentence}
 use Rattle.program_points.specs.paths.Step.{Point, at}
 use Rattle.program_points.specs.paths.Step as lang
-use Rattle.program_points.specs.declared.point_table.table.Place.{Place}
-use Rattle.program_points.specs.declared.point_table.table.Place.TheVariants.{Goes}
+use Rattle.program_points.specs.declared.point_table.table.ProgramPoint.{ProgramPoint}
+use Rattle.program_points.specs.declared.point_table.table.ProgramPoint.TheVariants.{Goes}
 use Rattle.program_points.specs.declared.numbering.build.Exits.{Exits}
-use Rattle.program_points.specs.numbering.Building.{IsAt, IsBehind, BuildsRest}
+use Rattle.program_points.specs.numbering.Build.{IsAt, IsBehind, BuildsRest}
 use Rattle.program_points.proofs.numbering_lemmas.Growing.{Built, with_point, point-here, grown-none, grown-then, grown-add, still-at, still-paragraphs, loop-before}
 use Rattle.program_points.proofs.numbering_lemmas.Choosing.{drop-at}
 
@@ -20,13 +20,13 @@ loop-items cycle [] = refl
 loop-items cycle (s ∷ ss) = loop-before cycle s (SentenceEnd ∷ items_of ss) ∙ loop-items cycle ss
 
 module _ (never_first : Chooser → Bool) (count number : ℕ) where
-  abbrev R : List Place → List Place → List Range → List Range → Paragraph → ℕ → Type 0
+  abbrev R : List ProgramPoint → List ProgramPoint → List Range → List Range → Paragraph → ℕ → Type 0
   R old new r0 r1 sentences begin = BuildsRest never_first count number old new r0 r1 sentences begin
 
-  pub rest-none : (old : List Place) (ranges : List Range) (end : ℕ) → end ≡ count + number → R old old ranges ranges [] end
+  pub rest-none : (old : List ProgramPoint) (ranges : List Range) (end : ℕ) → end ≡ count + number → R old old ranges ranges [] end
   rest-none old ranges end is = λ program points has lt. (points, grown-none never_first program number old ranges points, (ap points is ∙ has.ends number lt, omega (arith, has.room, lt, is)))
 
-  pub rest-also : (c1 : ℕ) (old mid p1 new : List Place) (r0 r1 ra r2 : List Range) (stmts : Stmts) (more : Paragraph) (exits : Exits) (end later closing begin : ℕ) → end ≡ count + number →
+  pub rest-also : (c1 : ℕ) (old mid p1 new : List ProgramPoint) (r0 r1 ra r2 : List Range) (stmts : Stmts) (more : Paragraph) (exits : Exits) (end later closing begin : ℕ) → end ≡ count + number →
       exits ≡ record { after = closing; leave = later; broken = end; cycled = end } → c1 ≡ count → closing ≡ length mid → p1 ≡ mid ++ Goes later ∷ [] → ra ≡ r1 →
       R old mid r0 r1 more later → Built never_first c1 number p1 new ra r2 stmts exits begin → R old new r0 r2 (stmts ∷ more) begin
   rest-also c1 old mid p1 new r0 r1 ra r2 stmts more exits end later closing begin is ex c cl p r behind_it first = λ program points has lt.
@@ -51,7 +51,7 @@ module _ (never_first : Chooser → Bool) (count number : ℕ) where
         cycled = looped true;
       } in
       let one = subst (λ (n : ℕ). Built never_first n number p1 new ra r2 stmts exits begin) c first in
-      let two = subst (λ (ps : List Place). Built never_first count number ps new ra r2 stmts exits begin) p one in
+      let two = subst (λ (ps : List ProgramPoint). Built never_first count number ps new ra r2 stmts exits begin) p one in
       let three = subst (λ (rs : List Range). Built never_first count number closed new rs r2 stmts exits begin) r two in
       let same : exits ≡ inside = ex ∙ ap (λ (n : ℕ). let x : Exits = record { after = n; leave = later; broken = end; cycled = end } in x) cl in
       let four = subst (λ (x : Exits). Built never_first count number closed new r1 r2 stmts x begin) same three in

@@ -5,15 +5,15 @@ use Rattle.control_flow_theory.specs.language.Language.{Act, Picker, Chooser, Ch
 use Rattle.control_flow_theory.specs.language.Language as language
 use Rattle.control_flow_theory.specs.language.Items.{Item, Do, before, before_arm, past_sentence, from_loop}
 use Rattle.control_flow_theory.specs.semantics.Items.{way_after, to_one}
-use Rattle.control_flow_theory.specs.lowering.Told.{arm_count}
+use Rattle.control_flow_theory.specs.lowering.FlowFacts.{arm_count}
 use Rattle.program_points.specs.paths.Step.{Point, at, start, by_way, led, some_given, first_is_barred, without_first, ways_from, ways_of, next}
 use Rattle.program_points.specs.paths.Step as lang
 use Rattle.program_points.specs.paths.Flow.{part}
-use Rattle.program_points.specs.declared.point_table.table.Place.{Place}
-use Rattle.program_points.specs.declared.point_table.table.Place.TheVariants.{Goes, Chooses, Calls, Stops}
+use Rattle.program_points.specs.declared.point_table.table.ProgramPoint.{ProgramPoint}
+use Rattle.program_points.specs.declared.point_table.table.ProgramPoint.TheVariants.{Goes, Chooses, Calls, Stops}
 use Rattle.program_points.specs.point_table.Table.{AllBelow}
 use Rattle.program_points.specs.declared.numbering.build.Exits.{Exits}
-use Rattle.program_points.specs.numbering.Building.{HasParagraphs, branches_of, branch_points, barring}
+use Rattle.program_points.specs.numbering.Build.{HasParagraphs, branches_of, branch_points, barring}
 use Rattle.program_points.proofs.numbering_lemmas.Growing.{Built, Branched, one-place, build-goes, with_point, point-here, grown-add, grown-then, below-append, below-more}
 
 -- the ways of a choice are where its branches begin
@@ -66,7 +66,7 @@ depending-next : (never_first : Chooser → Bool) (program : Program) (number : 
 depending-next never_first program number on_it rest [] = refl
 depending-next never_first program number on_it rest (name ∷ names) = refl
 
-named-told : (program : Program) (count : ℕ) (places : List Place) (points : ℕ → Point) (names : List ℕ) (point : Point) (after : ℕ) → HasParagraphs program count places points → points after ≡ point → AllBelow count (map (λ (n : ℕ). Some n) names) →
+named-told : (program : Program) (count : ℕ) (places : List ProgramPoint) (points : ℕ → Point) (names : List ℕ) (point : Point) (after : ℕ) → HasParagraphs program count places points → points after ≡ point → AllBelow count (map (λ (n : ℕ). Some n) names) →
     map (λ (n : ℕ). Some (start program n)) names ++ Some point ∷ [] ≡ map (λ (way : Option ℕ). option_map points way) (map (λ (n : ℕ). Some n) names ++ Some after ∷ [])
 named-told program count places points [] point after has same below = ap (λ (p : Point). Some p ∷ []) (sym same)
 named-told program count places points (name ∷ names) point after has same below =
@@ -74,40 +74,40 @@ named-told program count places points (name ∷ names) point after has same bel
     ∙ ap (λ (ws : List (Option Point)). Some (points name) ∷ ws) (named-told program count places points names point after has same below.1)
 
 module _ (never_first : Chooser → Bool) (count number : ℕ) where
-  abbrev B : List Place → List Place → List Range → List Range → Stmts → Exits → ℕ → Type 0
+  abbrev B : List ProgramPoint → List ProgramPoint → List Range → List Range → Stmts → Exits → ℕ → Type 0
   B old new r0 r1 stmts exits begin = Built never_first count number old new r0 r1 stmts exits begin
 
-  pub build-act : (old : List Place) (ranges : List Range) (act : Act) (exits : Exits) → B old (old ++ Goes exits.after ∷ []) ranges ranges (also (language.Do act) none) exits (length old)
+  pub build-act : (old : List ProgramPoint) (ranges : List Range) (act : Act) (exits : Exits) → B old (old ++ Goes exits.after ∷ []) ranges ranges (also (language.Do act) none) exits (length old)
   build-act old ranges act exits = build-goes never_first count number old ranges (language.Do act) exits exits.after (λ program rest. at number rest) (λ program points rest behind. (refl, behind.after))
 
-  pub build-go : (old : List Place) (ranges : List Range) (to : ℕ) (exits : Exits) → to < count → B old (old ++ Goes to ∷ []) ranges ranges (also (Go to) none) exits (length old)
+  pub build-go : (old : List ProgramPoint) (ranges : List Range) (to : ℕ) (exits : Exits) → to < count → B old (old ++ Goes to ∷ []) ranges ranges (also (Go to) none) exits (length old)
   build-go old ranges to exits lt = build-goes never_first count number old ranges (Go to) exits to (λ program rest. start program to)
       (λ program points rest behind. (refl, (behind.paragraphs.starts to lt, omega (arith, behind.paragraphs.room))))
 
-  pub build-leave : (old : List Place) (ranges : List Range) (exits : Exits) → B old (old ++ Goes exits.leave ∷ []) ranges ranges (also NextSentence none) exits (length old)
+  pub build-leave : (old : List ProgramPoint) (ranges : List Range) (exits : Exits) → B old (old ++ Goes exits.leave ∷ []) ranges ranges (also NextSentence none) exits (length old)
   build-leave old ranges exits = build-goes never_first count number old ranges NextSentence exits exits.leave (λ program rest. at number (past_sentence rest)) (λ program points rest behind. (refl, behind.leave))
 
-  pub build-exit-paragraph : (old : List Place) (ranges : List Range) (exits : Exits) (place : ℕ) → place ≡ count + number → B old (old ++ Goes place ∷ []) ranges ranges (also ExitParagraph none) exits (length old)
+  pub build-exit-paragraph : (old : List ProgramPoint) (ranges : List Range) (exits : Exits) (place : ℕ) → place ≡ count + number → B old (old ++ Goes place ∷ []) ranges ranges (also ExitParagraph none) exits (length old)
   build-exit-paragraph old ranges exits place is = build-goes never_first count number old ranges ExitParagraph exits place (λ program rest. at number [])
       (λ program points rest behind. (refl, (ap points is ∙ behind.paragraphs.ends number behind.here, omega (arith, behind.paragraphs.room, behind.here, is))))
 
-  pub build-exit-section : (old : List Place) (ranges : List Range) (exits : Exits) (last place : ℕ) → place ≡ count + last → last < count → B old (old ++ Goes place ∷ []) ranges ranges (also (ExitSection last) none) exits (length old)
+  pub build-exit-section : (old : List ProgramPoint) (ranges : List Range) (exits : Exits) (last place : ℕ) → place ≡ count + last → last < count → B old (old ++ Goes place ∷ []) ranges ranges (also (ExitSection last) none) exits (length old)
   build-exit-section old ranges exits last place is lt = build-goes never_first count number old ranges (ExitSection last) exits place (λ program rest. at last [])
       (λ program points rest behind. (refl, (ap points is ∙ behind.paragraphs.ends last lt, omega (arith, behind.paragraphs.room, lt, is))))
 
-  pub build-exit-loop : (old : List Place) (ranges : List Range) (exits : Exits) (cycle : Bool) → B old (old ++ Goes (if cycle then exits.cycled else exits.broken) ∷ []) ranges ranges (also (ExitPerform cycle) none) exits (length old)
+  pub build-exit-loop : (old : List ProgramPoint) (ranges : List Range) (exits : Exits) (cycle : Bool) → B old (old ++ Goes (if cycle then exits.cycled else exits.broken) ∷ []) ranges ranges (also (ExitPerform cycle) none) exits (length old)
   build-exit-loop old ranges exits true = build-goes never_first count number old ranges (ExitPerform true) exits exits.cycled (λ program rest. at number (from_loop true rest)) (λ program points rest behind. (refl, behind.cycled))
   build-exit-loop old ranges exits false = build-goes never_first count number old ranges (ExitPerform false) exits exits.broken (λ program rest. at number (from_loop false rest)) (λ program points rest behind. (refl, behind.broken))
 
-  pub build-stop : (old : List Place) (ranges : List Range) (exits : Exits) → B old (old ++ Stops ∷ []) ranges ranges (also StopRun none) exits (length old)
+  pub build-stop : (old : List ProgramPoint) (ranges : List Range) (exits : Exits) → B old (old ++ Stops ∷ []) ranges ranges (also StopRun none) exits (length old)
   build-stop old ranges exits = one-place never_first count number old ranges ranges Stops StopRun exits (λ n r e. e) (λ program points rest behind. refl)
 
-  pub build-call : (old : List Place) (r0 r1 : List Range) (range entry exit : ℕ) (exits : Exits) → ((n : ℕ) (known : Range) → slice_get r0 n ≡ Some known → slice_get r1 n ≡ Some known) → slice_get r1 range ≡ Some (part entry exit) →
+  pub build-call : (old : List ProgramPoint) (r0 r1 : List Range) (range entry exit : ℕ) (exits : Exits) → ((n : ℕ) (known : Range) → slice_get r0 n ≡ Some known → slice_get r1 n ≡ Some known) → slice_get r1 range ≡ Some (part entry exit) →
       B old (old ++ Calls range exits.after ∷ []) r0 r1 (also (Perform entry exit) none) exits (length old)
   build-call old r0 r1 range entry exit exits kept is = one-place never_first count number old r0 r1 (Calls range exits.after) (Perform entry exit) exits kept
       (λ program points rest behind. (entry, exit, ap (λ (p : Point). lang.Calls entry exit p) (sym behind.after.0), is, behind.after.1))
 
-  pub build-depending : (old : List Place) (ranges : List Range) (names : List ℕ) (on_it : Chooser) (exits : Exits) → AllBelow count (map (λ (n : ℕ). Some n) names) →
+  pub build-depending : (old : List ProgramPoint) (ranges : List Range) (names : List ℕ) (on_it : Chooser) (exits : Exits) → AllBelow count (map (λ (n : ℕ). Some n) names) →
       B old (old ++ Chooses (map (λ (n : ℕ). Some n) names ++ Some exits.after ∷ []) ∷ []) ranges ranges (also (GoDepending names on_it) none) exits (length old)
   build-depending old ranges names on_it exits below = one-place never_first count number old ranges ranges (Chooses (map (λ (n : ℕ). Some n) names ++ Some exits.after ∷ [])) (GoDepending names on_it) exits (λ n r e. e)
       (λ program points rest behind. (
@@ -118,7 +118,7 @@ module _ (never_first : Chooser → Bool) (count number : ℕ) where
       ))
 
   -- a choice among what was built
-  pub build-choose : (old mid : List Place) (r0 r1 : List Range) (picker : Picker) (arms : Arms) (exits : Exits) (barred : Bool) (ways : List (Option ℕ)) → Branched never_first count number old mid r0 r1 (branches_of arms) exits ways →
+  pub build-choose : (old mid : List ProgramPoint) (r0 r1 : List Range) (picker : Picker) (arms : Arms) (exits : Exits) (barred : Bool) (ways : List (Option ℕ)) → Branched never_first count number old mid r0 r1 (branches_of arms) exits ways →
       (if some_given arms then arm_count arms else 1) ≡ arm_count arms → first_is_barred never_first (Do (Choose picker arms)) ≡ barred → B old (mid ++ Chooses (barring barred ways) ∷ []) r0 r1 (also (Choose picker arms) none) exits (length mid)
   build-choose old mid r0 r1 picker arms exits barred ways built some is = λ program points rest behind.
       let a = built program points rest behind in

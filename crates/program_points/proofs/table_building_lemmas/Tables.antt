@@ -11,12 +11,12 @@ use Rattle.control_flow_theory.specs.semantics.Items.{Way, On, Halts, Into, To, 
 use Rattle.program_points.specs.paths.Step.{Point, Next, next, next_in, next_by, way_of, is_paragraph, is_present}
 use Rattle.program_points.specs.paths.Step as lang
 use Rattle.program_points.specs.paths.Flow.{part}
-use Rattle.program_points.specs.declared.point_table.table.Place.{Place}
-use Rattle.program_points.specs.declared.point_table.table.Place.TheVariants.{Goes, Chooses, Calls, Stops, Ends}
+use Rattle.program_points.specs.declared.point_table.table.ProgramPoint.{ProgramPoint}
+use Rattle.program_points.specs.declared.point_table.table.ProgramPoint.TheVariants.{Goes, Chooses, Calls, Stops, Ends}
 use Rattle.program_points.specs.declared.point_table.table.Table.{Table}
 use Rattle.program_points.specs.point_table.Table.{Describes, IsTable, IsTidy, IsTidyPlace}
-use Rattle.program_points.specs.numbering.Building.{part_of}
-use Rattle.program_points.specs.numbering.Kinds.{never_first_of}
+use Rattle.program_points.specs.numbering.Build.{part_of}
+use Rattle.program_points.specs.numbering.Kind.{never_first_of}
 use Rattle.program_points.specs.table_building.Numbering.{HasEnds, CountsTwice, Numbered, KeepsRanges, NumbersAll, BoundsEntries, Counts, HasTable}
 use Rattle.program_points.proofs.table_building_lemmas.Beginning.{before-or-now}
 use Rattle.program_points.proofs.table_building_lemmas.Paragraphs.{numbers-begin}
@@ -43,7 +43,7 @@ paragraph-below : (program : Program) (number : ℕ) → is_paragraph program nu
 paragraph-below program number e = (let found = present-is (slice_get program.paragraphs number) e in get-below program.paragraphs number found.0 found.1)
 
 -- a place of the builder is one of the table
-same-place : (table : Table) (points : ℕ → Point) (place : Place) (now : Next) → Describes (part_of table.places table.ranges) points place now → Describes table points place now
+same-place : (table : Table) (points : ℕ → Point) (place : ProgramPoint) (now : Next) → Describes (part_of table.places table.ranges) points place now → Describes table points place now
 same-place table points (Goes to) now d = d
 same-place table points (Chooses ways) now d = d
 same-place table points (Calls range after) now d = d
@@ -89,7 +89,7 @@ module _ (never_first : Chooser → Bool) (program : Program) (count : ℕ) (tab
             let d = is.told number (omega arith) (get-below table.places number place e) in
             let both : Some d.0 ≡ Some place = sym d.1 ∙ e in
             let k : d.0 ≡ place = cc in
-            same-place table points place (next never_first program (points number)) (subst (λ (p : Place). Describes (part_of table.places table.ranges) points p (next never_first program (points number))) k d.2);
+            same-place table points place (next never_first program (points number)) (subst (λ (p : ProgramPoint). Describes (part_of table.places table.ranges) points p (next never_first program (points number))) k d.2);
         owned = λ number place e. (is.owned number (get-below table.places number place e)).0;
         entries = λ number range e. is-paragraph program range.entry (omega (arith, entries number range e, size));
       }
@@ -97,7 +97,7 @@ module _ (never_first : Chooser → Bool) (program : Program) (count : ℕ) (tab
   pub has-table : Numbered never_first program count table.places table.ranges table.owners 0 → BoundsEntries count table.ranges → HasTable never_first program table
   has-table numbered entries = (numbered.0, table-is numbered entries)
 
-  tidy-place : (points : ℕ → Point) (place : Place) (point : Point) → point.paragraph < count → Describes table points place (next never_first program point) → IsTidyPlace table place
+  tidy-place : (points : ℕ → Point) (place : ProgramPoint) (point : Point) → point.paragraph < count → Describes table points place (next never_first program point) → IsTidyPlace table place
   tidy-place points (Goes to) point less d = d.1
   tidy-place points (Chooses ways) point less d = d.1
   tidy-place points (Calls range after) point less d = (get-below table.ranges range (part d.0 d.1) d.3, d.4)
@@ -151,7 +151,7 @@ pub bounds-all : (count most : ℕ) (ranges : List Range) → length ranges ≤ 
 bounds-all count most ranges le bounds = λ number range e. (let less : number < length ranges = get-below ranges number range e in bounds number range (omega (arith, le, less)) e)
 
 -- the whole, from the places with which numbering begins, by the lists as they are lent
-module _ (program : tree.Program) (files : List FileEntry) (paragraphs : List tree_paragraph.Paragraph) (count n0 n1 : ℕ) (old new : List Place) (r0 r1 : List Range) (o0 o1 : List ℕ) (table : Table) (files_are : files ≡ program.files) (paragraphs_are : paragraphs ≡ program.paragraphs) (size : count ≡ length program.paragraphs)
+module _ (program : tree.Program) (files : List FileEntry) (paragraphs : List tree_paragraph.Paragraph) (count n0 n1 : ℕ) (old new : List ProgramPoint) (r0 r1 : List Range) (o0 o1 : List ℕ) (table : Table) (files_are : files ≡ program.files) (paragraphs_are : paragraphs ≡ program.paragraphs) (size : count ≡ length program.paragraphs)
     (first : n0 ≡ count) (second : n1 ≡ n0) (ends : HasEnds count old) (twice : CountsTwice count o0) (builds : NumbersAll (never_first_of files) (seen_paragraphs 0 paragraphs) n0 old new r0 r1 o0 o1) (places_are : table.places ≡ new) (owners_are : table.owners ≡ o1) (ranges_are : table.ranges ≡ r1) (starts : Counts n1 table.starts) where
   abbrev never : Chooser → Bool
   never = never_first_of program.files
@@ -165,7 +165,7 @@ module _ (program : tree.Program) (files : List FileEntry) (paragraphs : List tr
 
   whole-numbered : Numbered never (control_of program) count table.places table.ranges table.owners 0
   whole-numbered =
-      subst (λ (ps : List Place). Numbered never (control_of program) count ps table.ranges table.owners 0) (sym places_are)
+      subst (λ (ps : List ProgramPoint). Numbered never (control_of program) count ps table.ranges table.owners 0) (sym places_are)
       (subst (λ (rs : List Range). Numbered never (control_of program) count new rs table.owners 0) (sym ranges_are)
       (subst (λ (os : List ℕ). Numbered never (control_of program) count new r1 os 0) (sym owners_are) whole-builds.0))
 
@@ -182,7 +182,7 @@ module _ (program : tree.Program) (files : List FileEntry) (paragraphs : List tr
   whole-table entries = has-table never (control_of program) count table whole-size whole-starts whole-numbered (whole-entries entries)
 
   pub whole-tidy : BoundsEntries n1 table.ranges → length o1 ≡ length new → IsTidy table
-  whole-tidy entries long = is-tidy never (control_of program) count table whole-size whole-starts (ap (λ (os : List ℕ). length os) owners_are ∙ long ∙ sym (ap (λ (ps : List Place). length ps) places_are)) whole-numbered (whole-entries entries)
+  whole-tidy entries long = is-tidy never (control_of program) count table whole-size whole-starts (ap (λ (os : List ℕ). length os) owners_are ∙ long ∙ sym (ap (λ (ps : List ProgramPoint). length ps) places_are)) whole-numbered (whole-entries entries)
 
   pub whole-ranges : (given : List Range) → r0 ≡ given → length r1 ≡ length given → table.ranges ≡ given
   whole-ranges given is long = ranges_are ∙ same-ranges given r1 long (subst (λ (rs : List Range). KeepsRanges rs r1) is whole-builds.1)

@@ -2,7 +2,7 @@
 use Rattle.std.specs.Prelude.{ℕ, List}
 use Rattle.control_flow_theory.specs.language.Language.{Chooser, Program, Range}
 use Rattle.control_flow_theory.specs.language.Items.{Item}
-use Rattle.control_flow_theory.specs.lowering.Told.{Told, MayGive, IsSource}
+use Rattle.control_flow_theory.specs.lowering.FlowFacts.{FlowFacts, MayGive, IsSource}
 use Rattle.control_flow_theory.specs.lowering.flow.Entered.{FreelyComes}
 use Rattle.control_flow_theory.specs.lowering.flow.Paths as theory
 use Rattle.program_points.specs.paths.Flow.{IsFaulty}
@@ -10,7 +10,7 @@ use Rattle.program_points.specs.paths.Levels.{Comes}
 use Rattle.program_points.specs.machine_paths.Uncounted.{point_at, range_of}
 
 -- what chooses gives some arm
-abbrev pub SomeArmIsGiven : Told → Type 0
+abbrev pub SomeArmIsGiven : FlowFacts → Type 0
 SomeArmIsGiven told =
     (chooser : Chooser) → (arm : ℕ) × MayGive (told.width chooser) (told.never_first chooser) arm
 
@@ -18,7 +18,7 @@ SomeArmIsGiven told =
 -- with any numbers of turns left in the counted loops of the rest.
 abbrev pub LevelsAreTheTheorys : Type 0
 LevelsAreTheTheorys =
-    (told : Told) (program : Program) → IsSource told program → SomeArmIsGiven told →
+    (told : FlowFacts) (program : Program) → IsSource told program → SomeArmIsGiven told →
     (range : Range) (number : ℕ) (rest : List Item) →
     (FreelyComes told program range number rest →
     Comes told.never_first program (range_of range) (point_at number rest))
@@ -28,6 +28,6 @@ LevelsAreTheTheorys =
 -- A program is faulty in the theory exactly where it is here.
 abbrev pub FaultyIsTheTheorys : Type 0
 FaultyIsTheTheorys =
-    (told : Told) (program : Program) → IsSource told program → SomeArmIsGiven told →
+    (told : FlowFacts) (program : Program) → IsSource told program → SomeArmIsGiven told →
     (theory.IsFaulty told program → IsFaulty told.never_first program)
     × (IsFaulty told.never_first program → theory.IsFaulty told program)

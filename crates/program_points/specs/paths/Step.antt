@@ -6,7 +6,7 @@ use Rattle.control_flow_theory.specs.semantics.Outcome.{Got}
 use Rattle.control_flow_theory.specs.semantics.Doing.{Doing}
 use Rattle.control_flow_theory.specs.semantics.Items.{Way, On, Halts, Into, To, ToEnd, item_way}
 use Rattle.control_flow_theory.specs.semantics.Source.{rest_of}
-use Rattle.control_flow_theory.specs.lowering.Told.{arm_count}
+use Rattle.control_flow_theory.specs.lowering.FlowFacts.{arm_count}
 use Rattle.control_flow_theory.specs.lowering.flow.Paths.{is_first}
 
 -- where control is: a paragraph, and what is still to do there

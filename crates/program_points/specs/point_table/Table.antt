@@ -5,8 +5,8 @@ use Rattle.control_flow_theory.specs.language.Language.{Chooser, Program}
 use Rattle.program_points.specs.paths.Step.{Point, start, Next, next, is_paragraph}
 use Rattle.program_points.specs.paths.Step as lang
 use Rattle.program_points.specs.paths.Flow.{part, is_exit, ReturnsIn}
-use Rattle.program_points.specs.declared.point_table.table.Place.{Place}
-use Rattle.program_points.specs.declared.point_table.table.Place.TheVariants.{Goes, Chooses, Calls, Stops, Ends}
+use Rattle.program_points.specs.declared.point_table.table.ProgramPoint.{ProgramPoint}
+use Rattle.program_points.specs.declared.point_table.table.ProgramPoint.TheVariants.{Goes, Chooses, Calls, Stops, Ends}
 use Rattle.program_points.specs.declared.point_table.table.Table.{Table}
 
 abbrev pub AllBelow : ℕ → List (Option ℕ) → Type 0
@@ -15,7 +15,7 @@ AllBelow most (None ∷ ways) = AllBelow most ways
 AllBelow most (Some way ∷ ways) = (way < most) × AllBelow most ways
 
 -- a place says what control does at its point
-abbrev pub Describes : Table → (ℕ → Point) → Place → Next → Type 0
+abbrev pub Describes : Table → (ℕ → Point) → ProgramPoint → Next → Type 0
 Describes table points (Goes to) now = (now ≡ lang.Ways (Some (points to) ∷ []))
     × (to < length table.places)
 Describes table points (Chooses ways) now =
@@ -35,9 +35,9 @@ pub record IsTable (never_first : Chooser → Bool) (program : Program) (table :
       × (is_paragraph program paragraph ≡ true)
   pub started : (paragraph : ℕ) → is_paragraph program paragraph ≡ true → (place : ℕ)
       × (slice_get table.starts paragraph ≡ Some place)
-  pub places : (number : ℕ) (place : Place) → slice_get table.places number ≡ Some place →
+  pub places : (number : ℕ) (place : ProgramPoint) → slice_get table.places number ≡ Some place →
       Describes table points place (next never_first program (points number))
-  pub owned : (number : ℕ) (place : Place) → slice_get table.places number ≡ Some place →
+  pub owned : (number : ℕ) (place : ProgramPoint) → slice_get table.places number ≡ Some place →
       slice_get table.owners number ≡ Some (points number).paragraph
   pub entries : (number : ℕ) (range : Range) → slice_get table.ranges number ≡ Some range →
       is_paragraph program range.entry ≡ true
@@ -75,7 +75,7 @@ IsClosed table returns = (number : ℕ) (range : Range) →
     slice_get table.ranges number ≡ Some range → ReturnsHere table returns range →
     slice_get returns number ≡ Some true
 
-abbrev pub IsTidyPlace : Table → Place → Type 0
+abbrev pub IsTidyPlace : Table → ProgramPoint → Type 0
 IsTidyPlace table (Goes to) = to < length table.places
 IsTidyPlace table (Chooses ways) = AllBelow (length table.places) ways
 IsTidyPlace table (Calls range after) = (range < length table.ranges)
@@ -85,7 +85,7 @@ IsTidyPlace table (Ends paragraph) = paragraph < length table.starts
 
 -- each number in a table is one of its places, ranges or paragraphs
 pub record IsTidy (table : Table) : Type 0 where
-  pub places : (number : ℕ) (place : Place) → slice_get table.places number ≡ Some place →
+  pub places : (number : ℕ) (place : ProgramPoint) → slice_get table.places number ≡ Some place →
       IsTidyPlace table place
   pub starts : (paragraph place : ℕ) → slice_get table.starts paragraph ≡ Some place →
       place < length table.places

@@ -3,14 +3,14 @@ use Rattle.std.specs.Prelude.{ℕ, suc, ◌≡◌, ◌<◌, ◌≤◌, ◌+◌, 
 use Rattle.cob_tree.specs.declared.program.Range.{Range}
 use Rattle.control_flow_theory.specs.language.Language.{Chooser, Paragraph, Program, paragraph_at}
 use Rattle.program_points.specs.paths.Step.{Point, next}
-use Rattle.program_points.specs.declared.point_table.table.Place.{Place}
-use Rattle.program_points.specs.declared.point_table.table.Place.TheVariants.{Ends}
+use Rattle.program_points.specs.declared.point_table.table.ProgramPoint.{ProgramPoint}
+use Rattle.program_points.specs.declared.point_table.table.ProgramPoint.TheVariants.{Ends}
 use Rattle.program_points.specs.declared.point_table.table.Table.{Table}
 use Rattle.program_points.specs.point_table.Table.{Describes, IsTable}
-use Rattle.program_points.specs.numbering.Building.{HasParagraphs, part_of}
+use Rattle.program_points.specs.numbering.Build.{HasParagraphs, part_of}
 
 -- as many places as starts and ends, and the ends behind the starts
-pub record HasEnds (count : ℕ) (places : List Place) : Type 0 where
+pub record HasEnds (count : ℕ) (places : List ProgramPoint) : Type 0 where
   pub size : length places ≡ count + count
   pub ends : (number : ℕ) → number < count → slice_get places (count + number) ≡ Some (Ends number)
 
@@ -23,16 +23,17 @@ pub record CountsTwice (count : ℕ) (owners : List ℕ) : Type 0 where
 -- the places of the starts from this one on, and those behind the starts, say what control does at
 -- their points, and each place stands in the paragraph that is told
 pub record IsNumbered (never_first : Chooser → Bool) (program : Program) (count : ℕ) (places : List
-    Place) (ranges : List Range) (owners : List ℕ) (from : ℕ) (points : ℕ → Point) : Type 0 where
-  pub paragraphs : HasParagraphs program count places points
-  pub told : (number : ℕ) → from ≤ number → number < length places →
-      (place : Place) × (slice_get places number ≡ Some place)
-      × Describes (part_of places ranges) points place (next never_first program (points number))
-  pub owned : (number : ℕ) → number < length places →
-      (slice_get owners number ≡ Some (points number).paragraph)
-      × ((points number).paragraph < count)
+    ProgramPoint) (ranges : List Range) (owners : List ℕ) (from : ℕ) (points : ℕ → Point) : Type 0
+  where
+    pub paragraphs : HasParagraphs program count places points
+    pub told : (number : ℕ) → from ≤ number → number < length places →
+        (place : ProgramPoint) × (slice_get places number ≡ Some place)
+        × Describes (part_of places ranges) points place (next never_first program (points number))
+    pub owned : (number : ℕ) → number < length places →
+        (slice_get owners number ≡ Some (points number).paragraph)
+        × ((points number).paragraph < count)
 
-abbrev pub Numbered : (Chooser → Bool) → Program → ℕ → List Place → List Range → List ℕ → ℕ →
+abbrev pub Numbered : (Chooser → Bool) → Program → ℕ → List ProgramPoint → List Range → List ℕ → ℕ →
     Type 0
 Numbered never_first program count places ranges owners from = (points : ℕ → Point)
     × IsNumbered never_first program count places ranges owners from points
@@ -50,7 +51,8 @@ pub record Extends (old new : List ℕ) (until paragraph : ℕ) : Type 0 where
       slice_get new number ≡ Some paragraph
 
 -- with this paragraph, one start more is told
-abbrev pub BuildsParagraph : (Chooser → Bool) → ℕ → List Place → List Place → List Range →
+abbrev pub BuildsParagraph : (Chooser → Bool) → ℕ → List ProgramPoint → List ProgramPoint →
+    List Range →
     List Range → List ℕ → List ℕ → Paragraph → ℕ → Type 0
 BuildsParagraph never_first count old new old_ranges new_ranges old_owners new_owners paragraph
     number =
@@ -60,7 +62,8 @@ BuildsParagraph never_first count old new old_ranges new_ranges old_owners new_o
     × KeepsRanges old_ranges new_ranges
 
 -- with these paragraphs, all starts are told
-abbrev pub NumbersAll : (Chooser → Bool) → List Paragraph → ℕ → List Place → List Place →
+abbrev pub NumbersAll : (Chooser → Bool) → List Paragraph → ℕ → List ProgramPoint →
+    List ProgramPoint →
     List Range → List Range → List ℕ → List ℕ → Type 0
 NumbersAll never_first paragraphs count old new old_ranges new_ranges old_owners new_owners =
     (program : Program) → program.paragraphs ≡ paragraphs →

@@ -1,17 +1,17 @@
 //! Places, from the last statement of a list to its first.
 
 ghost use Rattle.std.specs.Prelude.{ℕ, Bool, ◌≡◌, ◌<◌, ◌≤◌, ◌+◌, ◌++◌, ◌∷◌, [], false, Some, None, length, slice_get, IfOk};
-ghost use Rattle.program_points.specs.declared.point_table.table.Place.TheVariants.{Chooses, Goes};
+ghost use Rattle.program_points.specs.declared.point_table.table.ProgramPoint.TheVariants.{Chooses, Goes};
 ghost use Rattle.control_flow_theory.specs.language.Language.{Chooser, also, none, Loop, Perform, Performed, Go, GoDepending, ExitParagraph, ExitSection};
 ghost use Rattle.control_flow_theory.specs.language.Language as language;
 ghost use Rattle.cob_tree.specs.declared.stmt.Arms.{out-Arms};
 ghost use Rattle.control_flow_theory.specs.language.Control.{control_in, loop_of, perform_of, seen, seen_stmts};
-ghost use Rattle.program_points.specs.numbering.Kinds.{kind_in, never_first_of};
-ghost use Rattle.program_points.specs.numbering.Building.{Builds, BuildsBoth, BuildsBranches, IsClosed, after_at, inside, seen_branches, two_ways};
+ghost use Rattle.program_points.specs.numbering.Kind.{kind_in, never_first_of};
+ghost use Rattle.program_points.specs.numbering.Build.{Builds, BuildsBoth, BuildsBranches, IsClosed, after_at, inside, seen_branches, two_ways};
 
-use crate::numbering::kind::{Kind, is_silent, kind_of};
+use crate::numbering::kind::{LoopStart, is_silent, kind_of};
 use crate::perform_ranges::place_of;
-use crate::point_table::Place;
+use crate::point_table::ProgramPoint;
 use cob_base::{Items, NoMemory};
 use cob_tree::{Arms, Control, FileEntry, Range, Stmt, When};
 use std::alloc::Global;
@@ -19,7 +19,7 @@ use std::alloc::Global;
 /// Places so far, and the ranges that they perform.
 #[derive(Debug, Drop)]
 pub struct Builder {
-    pub places: Vec<Place>,
+    pub places: Vec<ProgramPoint>,
     pub ranges: Vec<Range>,
     /// How many paragraphs there are; the first places are their starts, and the next their ends.
     pub count: u32,
@@ -70,7 +70,7 @@ impl Exits {
 
 impl Builder {
     /// Adds a place.
-    pub fn add(&mut self, place: Place) -> Result<u32, NoMemory>
+    pub fn add(&mut self, place: ProgramPoint) -> Result<u32, NoMemory>
         ensures added { IfOk result (λ number. (number ≡ length self.old.places.items)
             × (self.new.places.items ≡ self.old.places.items ++ place ∷ [])) }
         ensures ranges { self.new.ranges.items ≡ self.old.ranges.items }
@@ -149,7 +149,7 @@ impl Builder {
         let before = if barred { None } else { Some(first) };
         ways.push(before)?;
         ways.push(Some(second))?;
-        self.add(Place::Chooses(ways))
+        self.add(ProgramPoint::Chooses(ways))
     }
 
     /// Adds a place with these ways and one more.
@@ -163,14 +163,14 @@ impl Builder {
     {
         let mut all = ways;
         all.push(Some(last))?;
-        self.add(Place::Chooses(all))
+        self.add(ProgramPoint::Chooses(all))
     }
 
     /// Tells what is left of a loop, and adds the loop.
     pub fn close_loop(
         &mut self,
         alloc: Global,
-        kind: Kind,
+        kind: LoopStart,
         turn: u32,
         after: u32,
         start: u32,
@@ -186,13 +186,13 @@ impl Builder {
         let mut ways = Items::new(alloc);
         ways.push(Some(after))?;
         ways.push(Some(start))?;
-        self.places[turn as usize] = Place::Chooses(ways);
+        self.places[turn as usize] = ProgramPoint::Chooses(ways);
         match kind {
-            Kind::Before => self.add(Place::Goes(turn)),
-            Kind::After => self.add(Place::Goes(start)),
-            Kind::Again => {
+            LoopStart::Before => self.add(ProgramPoint::Goes(turn)),
+            LoopStart::After => self.add(ProgramPoint::Goes(start)),
+            LoopStart::Again => {
                 let first = self.choose_two(alloc, false, after, start)?;
-                self.add(Place::Goes(first))
+                self.add(ProgramPoint::Goes(first))
             }
         }
     }
@@ -216,7 +216,7 @@ impl Builder {
             entry,
             exit: Some(exit),
         })?;
-        self.add(Place::Calls {
+        self.add(ProgramPoint::Calls {
             range,
             after: exits.after,
         })
@@ -229,7 +229,7 @@ impl Builder {
         here: Here,
         entry: u32,
         exit: u32,
-        kind: Kind,
+        kind: LoopStart,
         exits: Exits,
     ) -> Result<u32, NoMemory>
         ensures builds { IfOk result
@@ -241,7 +241,7 @@ impl Builder {
         ensures count { self.new.count ≡ self.old.count }
         ensures longer { length self.old.places.items ≤ length self.new.places.items }
     {
-        let turn = self.add(Place::Stops)?;
+        let turn = self.add(ProgramPoint::Stops)?;
         let inner = exits.inside(turn);
         let start = self.build_call(here, entry, exit, inner)?;
         self.close_loop(alloc, kind, turn, exits.after, start)
@@ -294,7 +294,7 @@ impl Builder {
             ways.push(Some(*name))?;
         }
         ways.push(Some(exits.after))?;
-        self.add(Place::Chooses(ways))
+        self.add(ProgramPoint::Chooses(ways))
     }
 
     /// The place of a GO TO.
@@ -309,7 +309,7 @@ impl Builder {
         if to >= self.count {
             return Err(NoMemory);
         }
-        self.add(Place::Goes(to))
+        self.add(ProgramPoint::Goes(to))
     }
 
     /// The place of an EXIT PARAGRAPH.
@@ -322,7 +322,7 @@ impl Builder {
         ensures longer { length self.old.places.items ≤ length self.new.places.items }
     {
         let end = self.end_place(here.number)?;
-        self.add(Place::Goes(end))
+        self.add(ProgramPoint::Goes(end))
     }
 
     /// The place of an EXIT SECTION.
@@ -335,7 +335,7 @@ impl Builder {
         ensures longer { length self.old.places.items ≤ length self.new.places.items }
     {
         let end = self.end_place(here.last)?;
-        self.add(Place::Goes(end))
+        self.add(ProgramPoint::Goes(end))
     }
 
     /// The place of a statement.
@@ -388,24 +388,24 @@ impl Builder {
             Stmt::GoDepending { to, .. } => {
                 self.build_depending(alloc, here, to.as_slice(), exits)
             }
-            Stmt::NextSentence => self.add(Place::Goes(exits.leave)),
-            Stmt::StopRun => self.add(Place::Stops),
+            Stmt::NextSentence => self.add(ProgramPoint::Goes(exits.leave)),
+            Stmt::StopRun => self.add(ProgramPoint::Stops),
             Stmt::ExitParagraph => self.build_exit_paragraph(here, exits),
             Stmt::ExitSection => self.build_exit_section(here, exits),
-            Stmt::ExitPerform { cycle } => self.add(Place::Goes(if *cycle {
+            Stmt::ExitPerform { cycle } => self.add(ProgramPoint::Goes(if *cycle {
                 exits.cycled
             } else {
                 exits.broken
             })),
-            Stmt::Display { .. } => self.add(Place::Goes(exits.after)),
-            Stmt::Move { .. } => self.add(Place::Goes(exits.after)),
-            Stmt::SetTrue(_) => self.add(Place::Goes(exits.after)),
-            Stmt::Opens(_) => self.add(Place::Goes(exits.after)),
-            Stmt::Closes(_) => self.add(Place::Goes(exits.after)),
-            Stmt::Write { .. } => self.add(Place::Goes(exits.after)),
-            Stmt::Rewrite { .. } => self.add(Place::Goes(exits.after)),
-            Stmt::Exit => self.add(Place::Goes(exits.after)),
-            Stmt::Continue => self.add(Place::Goes(exits.after)),
+            Stmt::Display { .. } => self.add(ProgramPoint::Goes(exits.after)),
+            Stmt::Move { .. } => self.add(ProgramPoint::Goes(exits.after)),
+            Stmt::SetTrue(_) => self.add(ProgramPoint::Goes(exits.after)),
+            Stmt::Opens(_) => self.add(ProgramPoint::Goes(exits.after)),
+            Stmt::Closes(_) => self.add(ProgramPoint::Goes(exits.after)),
+            Stmt::Write { .. } => self.add(ProgramPoint::Goes(exits.after)),
+            Stmt::Rewrite { .. } => self.add(ProgramPoint::Goes(exits.after)),
+            Stmt::Exit => self.add(ProgramPoint::Goes(exits.after)),
+            Stmt::Continue => self.add(ProgramPoint::Goes(exits.after)),
         }
     }
 
@@ -454,7 +454,7 @@ impl Builder {
     {
         match &arms.first {
             None => match &arms.second {
-                None => self.add(Place::Goes(exits.after)),
+                None => self.add(ProgramPoint::Goes(exits.after)),
                 Some(stmts) => {
                     let unmet = self.build_stmts(alloc, files, here, stmts, exits)?;
                     self.choose_two(alloc, silent, exits.after, unmet)
@@ -522,10 +522,10 @@ impl Builder {
                 let start = self.build_stmts(alloc, files, here, body, exits)?;
                 let mut ways = Items::new(alloc);
                 ways.push(Some(start))?;
-                self.add(Place::Chooses(ways))
+                self.add(ProgramPoint::Chooses(ways))
             }
             Some(kind) => {
-                let turn = self.add(Place::Stops)?;
+                let turn = self.add(ProgramPoint::Stops)?;
                 let start = self.build_stmts(alloc, files, here, body, exits.inside(turn))?;
                 self.close_loop(alloc, kind, turn, exits.after, start)
             }

@@ -2,13 +2,13 @@
 
 ghost use Rattle.std.specs.Prelude.{◌≡◌, option_map};
 ghost use Rattle.control_flow_theory.specs.language.Control.{control_in};
-ghost use Rattle.program_points.specs.numbering.Kinds.{kind_in, is_silent};
+ghost use Rattle.program_points.specs.numbering.Kind.{kind_in, is_silent};
 
 use cob_tree::{Control, FileEntry};
 
 /// Where a loop begins.
 #[derive(Clone, Copy, Debug, PartialEq, Eq)]
-pub enum Kind {
+pub enum LoopStart {
     /// At its test, or at its count.
     Before,
     /// At its first test, behind which each test comes after the augmenting ADD.
@@ -18,14 +18,22 @@ pub enum Kind {
 }
 
 /// Where the loop of a control begins; none of `Once`.
-pub fn kind_of(control: &Control) -> Option<Kind>
+pub fn kind_of(control: &Control) -> Option<LoopStart>
     ensures { result ≡ option_map kind_in (control_in control.now) }
 {
     match control {
         Control::Once => None,
-        Control::Times(_) => Some(Kind::Before),
-        Control::Until { after, .. } => Some(if *after { Kind::After } else { Kind::Before }),
-        Control::Varying { after, .. } => Some(if *after { Kind::After } else { Kind::Again }),
+        Control::Times(_) => Some(LoopStart::Before),
+        Control::Until { after, .. } => Some(if *after {
+            LoopStart::After
+        } else {
+            LoopStart::Before
+        }),
+        Control::Varying { after, .. } => Some(if *after {
+            LoopStart::After
+        } else {
+            LoopStart::Again
+        }),
     }
 }
 

@@ -2,11 +2,11 @@
 
 ghost use Rattle.std.specs.Prelude.{◌≡◌, ◌≤◌, length, map, IfOk};
 ghost use Rattle.control_flow_theory.specs.language.Control.{seen_sentence};
-ghost use Rattle.program_points.specs.numbering.Kinds.{never_first_of};
-ghost use Rattle.program_points.specs.numbering.Building.{BuildsRest};
+ghost use Rattle.program_points.specs.numbering.Kind.{never_first_of};
+ghost use Rattle.program_points.specs.numbering.Build.{BuildsRest};
 
 use crate::numbering::build::{Builder, Exits, Here};
-use crate::point_table::Place;
+use crate::point_table::ProgramPoint;
 use cob_base::{Items, NoMemory};
 use cob_tree::{FileEntry, Sentence};
 use std::alloc::Global;
@@ -31,7 +31,7 @@ impl Builder {
         let mut next = end;
         let list = sentences.as_slice();
         for at in (0..list.len()).rev() {
-            let closing = self.add(Place::Goes(next))?;
+            let closing = self.add(ProgramPoint::Goes(next))?;
             let exits = Exits {
                 after: closing,
                 leave: next,

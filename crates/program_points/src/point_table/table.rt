@@ -5,7 +5,7 @@ use cob_tree::Range;
 
 /// What control does at a place.
 #[derive(Debug, Drop)]
-pub enum Place {
+pub enum ProgramPoint {
     /// It goes on to the place with this number.
     Goes(u32),
     /// It goes on to one of these; a missing arm has none.
@@ -21,7 +21,7 @@ pub enum Place {
 /// starts, and main and the ranges that its PERFORM statements name.
 #[derive(Debug, Drop)]
 pub struct Table {
-    pub places: Items<Place>,
+    pub places: Items<ProgramPoint>,
     pub owners: Items<u32>,
     pub starts: Items<u32>,
     pub ranges: Items<Range>,

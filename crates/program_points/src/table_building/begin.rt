@@ -4,7 +4,7 @@ ghost use Rattle.std.specs.Prelude.{◌≡◌, IfOk};
 ghost use Rattle.program_points.specs.table_building.Numbering.{HasEnds, CountsTwice};
 
 use crate::numbering::Builder;
-use crate::point_table::Place;
+use crate::point_table::ProgramPoint;
 use cob_base::NoMemory;
 use cob_tree::Range;
 use std::alloc::Global;
@@ -17,15 +17,15 @@ pub struct Numbering {
 }
 
 /// A place for the start of each of so many paragraphs, and behind them one for the end of each.
-pub fn first_places(alloc: Global, count: u32) -> Result<Vec<Place>, NoMemory>
+pub fn first_places(alloc: Global, count: u32) -> Result<Vec<ProgramPoint>, NoMemory>
     ensures { IfOk result (λ places. HasEnds count places.items) }
 {
     let mut places = Vec::new(alloc);
     for start in 0..count {
-        places.push(Place::Stops)?;
+        places.push(ProgramPoint::Stops)?;
     }
     for number in 0..count {
-        places.push(Place::Ends(number))?;
+        places.push(ProgramPoint::Ends(number))?;
     }
     Ok(places)
 }

@@ -2,7 +2,7 @@
 
 ghost use Rattle.std.specs.Prelude.{◌≡◌, ◌<◌, suc, drop, length, IfOk, OnOk};
 ghost use Rattle.control_flow_theory.specs.language.Control.{control_of, section_last, seen_paragraphs};
-ghost use Rattle.program_points.specs.numbering.Kinds.{never_first_of};
+ghost use Rattle.program_points.specs.numbering.Kind.{never_first_of};
 ghost use Rattle.program_points.specs.point_table.Table.{IsTidy};
 ghost use Rattle.program_points.specs.table_building.Numbering.{Counts, HasTable, NumbersAll};
 

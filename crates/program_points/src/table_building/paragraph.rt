@@ -2,32 +2,32 @@
 
 ghost use Rattle.std.specs.Prelude.{◌≡◌, ◌<◌, ◌≤◌, length, map, IfOk, OnOk};
 ghost use Rattle.control_flow_theory.specs.language.Control.{seen_sentence};
-ghost use Rattle.program_points.specs.numbering.Kinds.{never_first_of};
+ghost use Rattle.program_points.specs.numbering.Kind.{never_first_of};
 ghost use Rattle.program_points.specs.table_building.Numbering.{BuildsParagraph, Extends};
 
 use crate::numbering::Here;
-use crate::point_table::Place;
+use crate::point_table::ProgramPoint;
 use crate::table_building::begin::Numbering;
 use cob_base::{Items, NoMemory};
 use cob_tree::{FileEntry, Sentence};
 use std::alloc::Global;
 
 /// A place like this one.
-pub fn copied(alloc: Global, place: &Place) -> Result<Place, NoMemory>
+pub fn copied(alloc: Global, place: &ProgramPoint) -> Result<ProgramPoint, NoMemory>
     ensures { IfOk result (λ copy. copy ≡ place.now) }
 {
     match place {
-        Place::Goes(to) => Ok(Place::Goes(*to)),
-        Place::Chooses(ways) => {
+        ProgramPoint::Goes(to) => Ok(ProgramPoint::Goes(*to)),
+        ProgramPoint::Chooses(ways) => {
             let ways = Items::from_slice(alloc, ways.as_slice())?;
-            Ok(Place::Chooses(ways))
+            Ok(ProgramPoint::Chooses(ways))
         }
-        Place::Calls { range, after } => Ok(Place::Calls {
+        ProgramPoint::Calls { range, after } => Ok(ProgramPoint::Calls {
             range: *range,
             after: *after,
         }),
-        Place::Stops => Ok(Place::Stops),
-        Place::Ends(paragraph) => Ok(Place::Ends(*paragraph)),
+        ProgramPoint::Stops => Ok(ProgramPoint::Stops),
+        ProgramPoint::Ends(paragraph) => Ok(ProgramPoint::Ends(*paragraph)),
     }
 }
 

@@ -6,9 +6,9 @@ use Rattle.control_flow_theory.specs.semantics.Graph.{Label, Tree, tree, End, Pi
 use Rattle.control_flow_theory.specs.graph_rules.Families.{Exit}
 use Rattle.control_flow_theory.specs.graph_rules.Shapes.{alone}
 use Rattle.control_flow_theory.specs.graph_rules.Reduced.{Graph, tree_in, count, looped_graph}
-use Rattle.control_flow_theory.specs.closing.Closes.{none_left_out, exits_graph}
-use Rattle.control_flow_theory.specs.closing.Dispatches.{bare, exited, tree_returns}
-use Rattle.control_flow_theory.specs.closing.Targets.{inserted, is_below, targets_of, with_exits}
+use Rattle.control_flow_theory.specs.structuring.Closes.{none_left_out, exits_graph}
+use Rattle.control_flow_theory.specs.structuring.Dispatches.{bare, exited, tree_returns}
+use Rattle.control_flow_theory.specs.structuring.Targets.{inserted, is_below, targets_of, with_exits}
 use Rattle.branch_tree.specs.declared.chooser.Picker.TheVariants as picker
 use Rattle.branch_tree.specs.declared.chooser.Test.TheVariants as test
 use Rattle.branch_tree.specs.declared.tree.Tree as code_tree
@@ -16,7 +16,7 @@ use Rattle.branch_tree.specs.declared.tree.End.TheVariants as end
 use Rattle.branch_tree.specs.declared.tree.Leaves.TheVariants as leaves
 use Rattle.branch_tree.specs.declared.tree.Piece.{Piece}
 use Rattle.branch_tree.specs.declared.tree.Piece.TheVariants as piece
-use Rattle.branch_tree.specs.Trees.{seen_tree, seen_trees, seen_body, seen_end, trees_of}
+use Rattle.branch_tree.specs.Tree.{seen_tree, seen_trees, seen_body, seen_end, trees_of}
 use Rattle.branch_tree.proofs.TreeRows.{seen_tree_is, seen_pick, seen_jump, seen_return, seen_set}
 use Rattle.loop_rules.specs.declared.forms.Turning.{Turning}
 use Rattle.loop_rules.specs.Forms.{looped_by}

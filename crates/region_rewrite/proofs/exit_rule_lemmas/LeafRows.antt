@@ -3,9 +3,9 @@ use Rattle.std.proofs.Common.{◌≡◌, ℕ, ◌+◌, ◌≤◌, Bool, true, fa
 use Rattle.std.specs.Prelude.{OnOk, OnErr}
 use Rattle.cob_base.specs.declared.memory.NoMemory.{NoMemory}
 use Rattle.control_flow_theory.specs.semantics.Graph.{Label, Tree, tree, End, Pick, Jump, Return, Stop, Dead, Trees, no_more, more}
-use Rattle.control_flow_theory.specs.closing.Closes.{none_left_out}
-use Rattle.control_flow_theory.specs.closing.Dispatches.{bare, tree_returns}
-use Rattle.control_flow_theory.specs.closing.Targets.{inserted, is_below, end_targets, tree_targets, trees_targets, targets_of, with_exits}
+use Rattle.control_flow_theory.specs.structuring.Closes.{none_left_out}
+use Rattle.control_flow_theory.specs.structuring.Dispatches.{bare, tree_returns}
+use Rattle.control_flow_theory.specs.structuring.Targets.{inserted, is_below, end_targets, tree_targets, trees_targets, targets_of, with_exits}
 use Rattle.control_flow_theory.specs.graph_rules.Shapes.{leaves_to, end_leaves_to, arms_leaves_to}
 
 module _ (l : Label) where

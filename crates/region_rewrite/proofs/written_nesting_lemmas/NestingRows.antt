@@ -7,13 +7,13 @@ use Rattle.control_flow_theory.specs.graph_rules.Shapes.{followed, arm_stmts, ar
 use Rattle.branch_tree.specs.declared.tree.Leaves.{Leaves}
 use Rattle.branch_tree.specs.declared.tree.Leaves.TheVariants as leaves
 use Rattle.branch_tree.specs.declared.tree.Tree as code
-use Rattle.branch_tree.specs.Trees.{seen_piece, seen_tree, seen_trees, seen_body, seen_end, jump_within, return_within, stated}
+use Rattle.branch_tree.specs.Tree.{seen_piece, seen_tree, seen_trees, seen_body, seen_end, jump_within, return_within, stated}
 use Rattle.branch_tree.specs.declared.tree.Piece.TheVariants as piece
 use Rattle.branch_tree.proofs.TreeRows.{seen_tree_is, seen_own}
 use Rattle.cob_tree.specs.declared.stmt.Stmt.{Stmt}
 use Rattle.region_rewrite.specs.written_nesting.Own.{own_nesting}
 use Rattle.region_rewrite.proofs.written_nesting_lemmas.OwnAgrees.{stmt-agrees}
-use Rattle.control_flow_theory.specs.closing.Dispatches.{set_to, number_in}
+use Rattle.control_flow_theory.specs.structuring.Dispatches.{set_to, number_in}
 use Rattle.branch_tree.specs.declared.tree.Piece.{Piece}
 use Rattle.region_rewrite.specs.written_nesting.Nesting.{leaves_out, is_nothing, arm_level, nesting, stmt_nesting, arms_nesting}
 use Rattle.branch_tree.specs.Within.{end_within, arms_within}
@@ -149,8 +149,13 @@ module _ (picker : Picker) where
 
 -- lemmas that are named together
 pub ruleset leaf_is_nothing = (flag_is_nothing, exit_is_nothing)
+
 pub ruleset choice_is_capped = (chosen_next, capped_max)
+
 pub ruleset arm_is_capped = (level_capped, arm_nesting_is)
+
 pub ruleset tree_is_capped = (capped_max, tree_nesting_is)
+
 pub ruleset leaf_nesting = (jump_nesting, return_nesting)
+
 pub ruleset arms_are_capped = (within_next, capped_max)

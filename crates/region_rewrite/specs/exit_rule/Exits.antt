@@ -6,7 +6,7 @@ use Rattle.control_flow_theory.specs.semantics.Doing.{is_above}
 use Rattle.control_flow_theory.specs.semantics.Graph.{Label, Tree, tree, Jump, Return}
 use Rattle.control_flow_theory.specs.graph_rules.Shapes.{leaves_to, other_targets}
 use Rattle.control_flow_theory.specs.graph_rules.Reduced.{Graph, has_node}
-use Rattle.control_flow_theory.specs.closing.Closes.{are_several, has_exits, exits_graph}
+use Rattle.control_flow_theory.specs.structuring.Closes.{are_several, has_exits, exits_graph}
 
 -- bare jumps to labels
 abbrev pub jump_trees : List Label → List Tree

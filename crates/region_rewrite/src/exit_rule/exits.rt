@@ -3,12 +3,12 @@
 ghost use Rattle.std.specs.Prelude.{◌≡◌, ◌<◌, ◌≤◌, ◌+◌, ◌++◌, ◌^◌, true, map, length, OnOk, OnErr};
 ghost use Rattle.std.specs.Vec.{vec_len, vec_capacity};
 ghost use Rattle.control_flow_theory.specs.graph_rules.Reduced.{has_node};
-ghost use Rattle.control_flow_theory.specs.closing.Closes.{exits_graph, are_several, none_left_out};
-ghost use Rattle.control_flow_theory.specs.closing.Dispatches.{bare};
-ghost use Rattle.control_flow_theory.specs.closing.Targets.{with_exits};
-ghost use Rattle.branch_tree.specs.Graphs.{seen_nodes};
+ghost use Rattle.control_flow_theory.specs.structuring.Closes.{exits_graph, are_several, none_left_out};
+ghost use Rattle.control_flow_theory.specs.structuring.Dispatches.{bare};
+ghost use Rattle.control_flow_theory.specs.structuring.Targets.{with_exits};
+ghost use Rattle.branch_tree.specs.Graph.{seen_nodes};
 ghost use Rattle.graph_rewriting.specs.Helds.{seen_work};
-ghost use Rattle.branch_tree.specs.Trees.{seen_tree, seen_trees};
+ghost use Rattle.branch_tree.specs.Tree.{seen_tree, seen_trees};
 ghost use Rattle.tree_rules.specs.Targets.{seen_targets};
 ghost use Rattle.region_rewrite.specs.exit_rule.Exits.{CloseExits, leaves_by_exits, may_exit, return_trees};
 

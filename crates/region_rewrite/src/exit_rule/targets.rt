@@ -2,8 +2,8 @@
 
 ghost use Rattle.std.specs.Prelude.{◌≡◌, OnOk};
 ghost use Rattle.cob_base.specs.Answers.{Makes};
-ghost use Rattle.control_flow_theory.specs.closing.Targets.{inserted, tree_targets, trees_targets, targets_of};
-ghost use Rattle.branch_tree.specs.Trees.{seen_tree, seen_trees};
+ghost use Rattle.control_flow_theory.specs.structuring.Targets.{inserted, tree_targets, trees_targets, targets_of};
+ghost use Rattle.branch_tree.specs.Tree.{seen_tree, seen_trees};
 
 use branch_tree::{End, Label, Tree};
 use cob_base::{Items, NoMemory};

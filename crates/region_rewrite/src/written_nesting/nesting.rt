@@ -4,7 +4,7 @@ ghost use Rattle.std.specs.Prelude.{◌≡◌, ◌-◌, ◌^◌, ◌&&◌, min, 
 ghost use Rattle.control_flow_theory.specs.language.Language.{By};
 ghost use Rattle.control_flow_theory.specs.graph_rules.Shapes.{arms_stmts, arm_stmts, last_stmts};
 ghost use Rattle.branch_tree.specs.Choosers.{seen_picker, seen_chooser};
-ghost use Rattle.branch_tree.specs.Trees.{seen_piece, seen_body, seen_end, seen_tree, seen_trees, jump_within, return_within, stated};
+ghost use Rattle.branch_tree.specs.Tree.{seen_piece, seen_body, seen_end, seen_tree, seen_trees, jump_within, return_within, stated};
 ghost use Rattle.region_rewrite.specs.written_nesting.Nesting.{nesting, stmt_nesting, arms_nesting, arm_level, leaves_out, is_nothing};
 ghost use Rattle.branch_tree.specs.Within.{end_within, arms_within};
 

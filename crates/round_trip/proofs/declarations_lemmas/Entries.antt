@@ -19,7 +19,7 @@ use Rattle.parser_combinators.specs.declared.note.Position.{Position}
 use Rattle.parser_combinators.specs.Note.{precedes, earliest}
 use Rattle.picture_data.specs.declared.fault.PictureFault.{PictureFault}
 use Rattle.picture_data.specs.Reading.{picture_of as picture_of_text}
-use Rattle.declaration_checks.specs.declared.literal.Target.{Target}
+use Rattle.declaration_checks.specs.declared.literal.LiteralTarget.{LiteralTarget}
 use Rattle.declaration_checks.specs.Base.{level_by, is_count, count_of, number_of, picture_if, picture_by, picture_in, sign_in, sign_by as sign_of_words, occurs_in, spans_in, span_of, to_of, value_of}
 use Rattle.declaration_checks.specs.Fault.{fault_at, fault_unless, first_of}
 use Rattle.declaration_checks.specs.Item.{picture_by as picture_fault_by, is_signed, sign_stands, sign_by, may_repeat, occurs_by}
@@ -145,17 +145,17 @@ repeated level dims (Some (clauses.Value at spans)) e = tt
 
 -- ---- values
 
-abbrev pub Valued : Entry → Target → Bool → Operand → Type 0
+abbrev pub Valued : Entry → LiteralTarget → Bool → Operand → Type 0
 Valued entry target barred value = (may_have_value entry target.group barred ≡ true) × (fits value target ≡ true)
 
-first-fits : (entry : Entry) (target : Target) (barred : Bool) (spans : List SpanDraft) → may_have_value entry target.group barred ≡ true → literals_fault target spans ≡ None →
+first-fits : (entry : Entry) (target : LiteralTarget) (barred : Bool) (spans : List SpanDraft) → may_have_value entry target.group barred ≡ true → literals_fault target spans ≡ None →
     IfAny (Valued entry target barred) (value_of spans)
 first-fits entry target barred [] may e = tt
 first-fits entry target barred (span ∷ spans) may e =
     let h = first-none (fault_unless (fits span.from target) Value span.from_at ∷ thru_fault span.thru ∷ second_fault spans ∷ []) e in
     (may, held (fits span.from target) Value span.from_at h.0)
 
-pub valued : (entry : Entry) (target : Target) (barred : Bool) (clause : Option Clause) → value_by entry target barred clause ≡ None → IfAny (Valued entry target barred) (value_of (spans_in clause))
+pub valued : (entry : Entry) (target : LiteralTarget) (barred : Bool) (clause : Option Clause) → value_by entry target barred clause ≡ None → IfAny (Valued entry target barred) (value_of (spans_in clause))
 valued entry target barred (Some (clauses.Value at spans)) e =
     let h = first-none (fault_unless (may_have_value entry target.group barred) Value at ∷ literals_fault target spans ∷ []) e in
     first-fits entry target barred spans (held (may_have_value entry target.group barred) Value at h.0) h.1.0
@@ -222,7 +222,7 @@ named-so bases name entry (Some at) number e = go (slice_get bases at) refl e
 
 -- ---- the spans of a level 88
 
-span-fits : (target : Target) (draft : SpanDraft) → span_fault target draft ≡ None → SpanFits target (span_of draft)
+span-fits : (target : LiteralTarget) (draft : SpanDraft) → span_fault target draft ≡ None → SpanFits target (span_of draft)
 span-fits target draft e =
     let h = first-none (fault_unless (fits draft.from target) Value draft.from_at ∷ to_fault target draft.thru ∷ []) e in
     (held (fits draft.from target) Value draft.from_at h.0, thru draft.thru h.1.0)
@@ -231,7 +231,7 @@ span-fits target draft e =
     thru None e = tt
     thru (Some t) e = held (fits t.to target) Value t.to_at e
 
-pub spans-fit : (target : Target) (fault : Option Note) (drafts : List SpanDraft) → fold (and_span target) fault drafts ≡ None → (fault ≡ None) × SpansFit target (map span_of drafts)
+pub spans-fit : (target : LiteralTarget) (fault : Option Note) (drafts : List SpanDraft) → fold (and_span target) fault drafts ≡ None → (fault ≡ None) × SpansFit target (map span_of drafts)
 spans-fit target fault [] e = (e, tt)
 spans-fit target fault (draft ∷ drafts) e =
     let behind = spans-fit target (and_span target fault draft) drafts e in

@@ -21,7 +21,7 @@ use Rattle.grammar_laws.specs.well_scoped.named_data.Drafts.{entries_literal, fd
 use Rattle.declaration_checks.specs.Base.{base_of}
 use Rattle.declaration_checks.specs.Declaring.{settled}
 use Rattle.declaration_checks.specs.Fault.{fault_at}
-use Rattle.declaration_checks.specs.File.{is_selected, is_described, again_fault, named_fault, select_fault, selects_from, fd_fault, fds_from, number_by, file_number, file_of}
+use Rattle.declaration_checks.specs.File.{is_selected, is_described, duplicate_fault, named_fault, select_fault, selects_from, fd_fault, fds_from, number_by, file_number, file_of}
 use Rattle.round_trip.specs.spelling.data_spelling.Drafts.{file_title}
 use Rattle.round_trip.specs.spelling.data_spelling.Sections.{Fd, records, all_records, StandIn, AreFiled, AreApart}
 use Rattle.round_trip.specs.declarations.printed_declarations.FileRules.{is_named, AreDistinct, fd_title, is_titled, AreThere, AreApartFds, AreDescribed}
@@ -50,7 +50,7 @@ all-named fds fault before [] e = (e, tt)
 all-named fds fault before (select ∷ selects) e =
     let behind = all-named fds (earliest fault (select_fault fds before select)) (before ++ select ∷ []) selects e in
     let here = none_of fault (select_fault fds before select) behind.0 in
-    let named = (first-none (named_fault fds before select ∷ again_fault select.statuses ∷ []) here.1).0 in
+    let named = (first-none (named_fault fds before select ∷ duplicate_fault select.statuses ∷ []) here.1).0 in
     (here.0, (once (list_any (is_selected select.name) before) (list_any (is_described select.name) fds) (fault_at Duplicate select.at) (fault_at Usage select.at) named a-note a-note, behind.1))
 
 abbrev pub AllSelected : List SelectDraft → (before fds : List FdDraft) → Type 0

@@ -19,7 +19,7 @@ use Rattle.grammar_laws.specs.well_scoped.named_data.Drafts.{clause_literal, ent
 use Rattle.unparser.specs.Place.{entry_name, item_name}
 use Rattle.declaration_checks.specs.declared.clause.ClauseKind.TheVariants as kinds
 use Rattle.declaration_checks.specs.Base.{base_of, condition_of, item_of, level_of, number_of, spans_in, spans_of, span_of, redefines_of as marks_of}
-use Rattle.declaration_checks.specs.Clause.{again_fault, other_fault, is_of, clause_of}
+use Rattle.declaration_checks.specs.Clause.{duplicate_fault, other_fault, is_of, clause_of}
 use Rattle.declaration_checks.specs.Declaring.{settled}
 use Rattle.declaration_checks.specs.Fault.{fault_at}
 use Rattle.declaration_checks.specs.Item.{level_stands, picture_fault, sign_fault, occurs_fault}
@@ -90,7 +90,7 @@ module _ (list : List Entry) (long : List ℕ) (at : ℕ) where
       let standing = standing_of entry (before list at) in
       let h = first-none (clauses_fault entry target standing draft ∷ redefines_fault list long at entry draft.clauses ∷ []) e in
       let k = first-none
-      (again_fault draft.clauses
+      (duplicate_fault draft.clauses
       ∷ picture_fault entry.picture target.group draft.at draft.clauses
       ∷ sign_fault entry.picture target.group draft.clauses
       ∷ occurs_fault entry.level standing.dims draft.clauses
@@ -194,7 +194,7 @@ module _ (program : Program) (at : ℕ) (file : Option ℕ) (draft : EntryDraft)
   condition-keeps literal e same =
       let holder = holder_of (condition_of draft file) (before (bases program) at) in
       let h = first-none
-      (again_fault draft.clauses ∷ other_fault draft.clauses ∷ missing_fault draft.at draft.clauses
+      (duplicate_fault draft.clauses ∷ other_fault draft.clauses ∷ missing_fault draft.at draft.clauses
       ∷ fits_fault (bases program) (sizes program) draft holder ∷ []) e in
       record {
         no_redefines = refl;

@@ -9,8 +9,8 @@ use Rattle.cob_tree.specs.declared.picture.Picture.{Picture}
 use Rattle.cob_tree.specs.declared.picture.Picture.TheVariants as pictures
 use Rattle.picture_data.specs.declared.fault.Flaw.{Flaw}
 use Rattle.picture_data.specs.declared.fault.Flaw.TheVariants as flaws
-use Rattle.picture_data.specs.declared.reading.Place.{Place}
-use Rattle.picture_data.specs.declared.reading.Place.TheVariants as places
+use Rattle.picture_data.specs.declared.reading.SymbolPosition.{SymbolPosition}
+use Rattle.picture_data.specs.declared.reading.SymbolPosition.TheVariants as places
 use Rattle.picture_data.specs.declared.reading.Reading.{Reading}
 use Rattle.picture_data.specs.declared.symbols.Shape.{Shape}
 use Rattle.picture_data.specs.declared.symbols.Shape.TheVariants as shapes
@@ -43,7 +43,7 @@ IsSome shapes.Any count = 1 ≤ count
 IsSome _ count = Unit {0}
 
 -- so many more of the last symbol
-added-keeps : (place : Place) (count whole part : ℕ) (shape : Shape) → IsSome shape (whole + count) → Keeps (placed place (added count (some_symbols shape whole part)))
+added-keeps : (place : SymbolPosition) (count whole part : ℕ) (shape : Shape) → IsSome shape (whole + count) → Keeps (placed place (added count (some_symbols shape whole part)))
 added-keeps place count whole part shape some = go shape some (nat_le (whole + part + count) (most shape)) refl
   where
     go : (s : Shape) → IsSome s (whole + count) → (b : Bool) → nat_le (whole + part + count) (most s) ≡ b →
@@ -155,7 +155,7 @@ step-keeps byte reading h = go reading.place
     open_paren true = h
     open_paren false = symbol-keeps byte reading.symbols
 
-    go : (place : Place) → Keeps (step_by place byte reading)
+    go : (place : SymbolPosition) → Keeps (step_by place byte reading)
     go places.Open = symbol-keeps byte reading.symbols
     go places.Behind = open_paren (byte == left_parenthesis)
     go (places.Count count) = count-keeps count byte reading h
@@ -188,7 +188,7 @@ finish-writable : (reading : Reading) → AreSized reading.symbols → Writable 
 unfolding finish
 finish-writable reading h = go reading.place
   where
-    go : (place : Place) → Writable (finish_by place reading.symbols)
+    go : (place : SymbolPosition) → Writable (finish_by place reading.symbols)
     go (places.Count count) = tt
     go places.Open = picture-writable reading.symbols.shape reading.symbols h
     go places.Behind = picture-writable reading.symbols.shape reading.symbols h

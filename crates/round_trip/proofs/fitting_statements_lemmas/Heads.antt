@@ -244,7 +244,7 @@ module _ {Side Known : Type 0} {parts : Parts Side Known} {kept : Kept Side} {fi
 
   module _ (Held : Scope → List Stmt → Type 0) (scope : Scope) where
     abbrev pub PerformFine : PerformHead → Type 0
-    PerformFine (heads.Whole stmt not_read) = FitsStmt fits Held scope stmt
+    PerformFine (heads.Whole stmt pending_not) = FitsStmt fits Held scope stmt
     PerformFine (heads.Inline control) = FitsTurns fits control
 
     perform_named : (name : List ℕ) (position : Position) → Gives Kind (loops.perform_named parts name position) PerformFine

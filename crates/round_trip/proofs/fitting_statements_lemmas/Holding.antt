@@ -155,7 +155,7 @@ module _ {Side Known : Type 0} {parts : Parts Side Known} {kept : Kept Side} {fi
 
       whens_turn : (state : Whens) → Gives Kind (choice.whens_turn parts level scope known state) (λ last. Branches state.whens → Branches last.whens)
       unfolding choice.whens_turn
-      whens_turn state = chosen (state.other || state.not_read) refuse (when_next state.whens)
+      whens_turn state = chosen (state.other || state.pending_not) refuse (when_next state.whens)
 
       whens : Gives Kind (choice.whens parts level scope known) (λ state. Branches state.whens)
       unfolding choice.whens
@@ -181,7 +181,7 @@ module _ {Side Known : Type 0} {parts : Parts Side Known} {kept : Kept Side} {fi
 
     perform_by : (found : PerformHead) → Gives Kind (loops.perform_by level scope found) (λ last. head.PerformFine F Held scope found → IsFine last.0)
     unfolding loops.perform_by loops.loop_body loops.loop_end loops.loop_closed
-    perform_by (heads.Whole stmt not_read) = pure (λ h. h)
+    perform_by (heads.Whole stmt pending_not) = pure (λ h. h)
     perform_by (heads.Inline control) =
         L.stmts (loops.looped scope) >>= (λ held. chosen held.1 refuse (key (codes "END-PERFORM") >>
         pure (λ _ b c. shaped (Stmt-F.Loop control held.0) (stmts.Loop control held.0) (stmts.rolls-Loop control held.0) (c, b))))

@@ -22,7 +22,7 @@ use Rattle.symbol_tables.specs.declared.procedure_names.scan.Scan.{Scan}
 use Rattle.symbol_tables.specs.declared.procedure_names.table.Header.{Header}
 use Rattle.symbol_tables.specs.declared.procedure_names.table.ProcedureTable.{ProcedureTable}
 use Rattle.symbol_tables.specs.procedure_names.Procedures as procedures
-use Rattle.symbol_tables.specs.procedure_names.Procedures.{scanned, unheaded, headed, whole_count, closed, procedures_of, again_fault, header_of}
+use Rattle.symbol_tables.specs.procedure_names.Procedures.{scanned, unheaded, headed, whole_count, closed, procedures_of, duplicate_fault, header_of}
 use Rattle.cobol_grammar.specs.declared.stmt_forms.outline.Outline.{Outline}
 use Rattle.cobol_grammar.specs.stmt_forms.Jump.{begins_procedure}
 use Rattle.cobol_grammar.specs.stmt_forms.Paragraph as paragraphs
@@ -32,7 +32,7 @@ use Rattle.cobol_grammar.specs.stmt_forms.Laws.{PartsAreLawful}
 use Rattle.cobol_grammar.proofs.stmt_forms_lemmas.ParagraphLaws as paragraph_laws
 use Rattle.cobol_grammar.specs.declared.expr_forms.side.Side.{Side}
 use Rattle.cobol_grammar.specs.stmt_forms.Part.{Parts}
-use Rattle.cobol_grammar.specs.declared.known.Known.{Known}
+use Rattle.cobol_grammar.specs.declared.subject_kind.SubjectKind.{SubjectKind}
 use Rattle.cobol_grammar.specs.Name as words
 use Rattle.cobol_grammar.specs.Whole.{parts_of}
 use Rattle.cobol_grammar.proofs.PartLaws as part_laws
@@ -236,7 +236,7 @@ below-more : (headers : List Header) (m n : ℕ) → m < n + 1 → Below headers
 below-more headers m n less below k header is = let at = below k header is in omega (arith, at, less)
 
 module _ (names : Names) (entries : List Entry) (table : ProcedureTable) (all : Scan) (whole : table ≡ closed all) where
-  abbrev here : Parts Side Known
+  abbrev here : Parts Side SubjectKind
   here = parts_of names entries table
 
   abbrev lawful : PartsAreLawful here
@@ -312,7 +312,7 @@ module _ (names : Names) (entries : List Entry) (table : ProcedureTable) (all : 
 
   -- the name of a header that is the first with it
   new-here : (tokens : List Token) (scan : Scan) (place : ℕ) (name : List ℕ) (position : Position) → all ≡ scanned tokens true place scan → length scan.found.headers ≡ length scan.found.names → Below scan.found.headers place →
-      position.index ≡ place → again_fault (header_of table name) position ≡ None → list_any (bytes_eq name) scan.found.names ≡ false
+      position.index ≡ place → duplicate_fault (header_of table name) position ≡ None → list_any (bytes_eq name) scan.found.names ≡ false
   new-here tokens scan place name position is paired below at e =
       let grown : Grows scan.found all.found = subst (λ (s : Scan). Grows scan.found s.found) (sym is) (scan-grows tokens true place scan) in
       let in_table : Grows scan.found table = record {
@@ -368,15 +368,15 @@ module _ (names : Names) (entries : List Entry) (table : ProcedureTable) (all : 
           (named-below name header (record F.next.found { count = F.next.found.count + 1 }) new p.taken refl F.below)
 
       noted : (name : List ℕ × Position) (mid : Input) (t : Token) → p.rest ≡ t ∷ mid.rest → procedures.header_name t.kind ≡ Some name.0 → name.1.index ≡ p.taken →
-          (form.◌>>◌ (note (here.again_fault name.0 name.1)) (where_next (is_key (codes "SECTION")) (paragraphs.section here name.0 state) (paragraphs.paragraph here name.0 state))).reads mid ≡ Got last q →
+          (form.◌>>◌ (note (here.duplicate_fault name.0 name.1)) (where_next (is_key (codes "SECTION")) (paragraphs.section here name.0 state) (paragraphs.paragraph here name.0 state))).reads mid ≡ Got last q →
           IsReadTo last q all
       noted name mid t is n at e =
           let parts = where_next (is_key (codes "SECTION")) (paragraphs.section here name.0 state) (paragraphs.paragraph here name.0 state) in
           let laws : maker_laws.Law true parts = maker_laws.where_next (paragraph_laws.section lawful name.0 state) (paragraph_laws.paragraph lawful name.0 state) in
-          let u = then_got ((note (here.again_fault name.0 name.1)).reads mid) (λ _ r. parts.reads r) last q e in
-          let same = note-is (here.again_fault name.0 name.1) mid u.0 u.1 u.2 in
+          let u = then_got ((note (here.duplicate_fault name.0 name.1)).reads mid) (λ _ r. parts.reads r) last q e in
+          let same = note-is (here.duplicate_fault name.0 name.1) mid u.0 u.1 u.2 in
           let before : u.1.fault ≡ None = clean laws.lawful u.1 last q u.3 none in
-          let free = neither mid.fault (here.again_fault name.0 name.1) (ap (λ r. r.fault) same ∙ before) in
+          let free = neither mid.fault (here.duplicate_fault name.0 name.1) (ap (λ r. r.fault) same ∙ before) in
           behind t name.0 u.1 (is ∙ ap (λ r. t ∷ r.rest) same) n
           (new-here p.rest F.next p.taken name.0 name.1 F.is F.core.paired F.below at free.1)
           (where-got (is_key (codes "SECTION")) (paragraphs.section here name.0 state) (paragraphs.paragraph here name.0 state) u.1 last q u.3)

@@ -18,7 +18,7 @@ use Rattle.symbol_tables.specs.declared.procedure_names.scan.Scan.{Scan}
 use Rattle.symbol_tables.specs.declared.procedure_names.table.Header.{Header}
 use Rattle.symbol_tables.specs.declared.procedure_names.table.ProcedureTable.{ProcedureTable}
 use Rattle.symbol_tables.specs.procedure_names.Procedures as procedures
-use Rattle.symbol_tables.specs.procedure_names.Procedures.{header_name, named_by, with_name, header_at, header_of, begun_by, turned, scanned, again_fault}
+use Rattle.symbol_tables.specs.procedure_names.Procedures.{header_name, named_by, with_name, header_at, header_of, begun_by, turned, scanned, duplicate_fault}
 use Rattle.round_trip.proofs.procedures_lemmas.Finding.{split-first, found-at}
 
 -- the second table has what the first has, and more
@@ -98,7 +98,7 @@ get-front (y ∷ list) more (suc k) x e = get-front list more k x e
 abbrev pub Below : List Header → ℕ → Type 0
 Below headers place = (k : ℕ) (header : Header) → slice_get headers k ≡ Some header → header.index < place
 
-other-place : (header : Header) (position : Position) → header.index < position.index → again_fault (Some header) position ≡ None → ⊥
+other-place : (header : Header) (position : Position) → header.index < position.index → duplicate_fault (Some header) position ≡ None → ⊥
 other-place header position less e =
     let apart : (header.index == position.index) ≡ false = ne_eqb header.index position.index (λ same. omega (arith, less, same)) in
     some-none (sym (ap (λ (b : Bool). if b then None else Some (record { kind = Duplicate; position = position })) apart) ∙ e)
@@ -107,7 +107,7 @@ other-place header position less e =
     some-none e = cc
 
 pub header-new : (table : ProcedureTable) (scan : Scan) (name : List ℕ) (position : Position) → Grows scan.found table → length scan.found.headers ≡ length scan.found.names → Below scan.found.headers position.index →
-    again_fault (header_of table name) position ≡ None → list_any (bytes_eq name) scan.found.names ≡ false
+    duplicate_fault (header_of table name) position ≡ None → list_any (bytes_eq name) scan.found.names ≡ false
 header-new table scan name place G paired below e = go (list_any (bytes_eq name) scan.found.names) refl
   where
     again : list_any (bytes_eq name) scan.found.names ≡ true → ⊥
@@ -120,7 +120,7 @@ header-new table scan name place G paired below e = go (list_any (bytes_eq name)
         let h = there-get scan.found.headers (length s.before) inside in
         let is : header_of table name ≡ Some h.0 =
         ap (λ o. header_at o table) found ∙ (ap (λ l. slice_get l (length s.before)) G.headers ∙ get-front scan.found.headers G.new_headers (length s.before) h.0 h.1) in
-        other-place h.0 place (below (length s.before) h.0 h.1) (sym (ap (λ o. again_fault o place) is) ∙ e)
+        other-place h.0 place (below (length s.before) h.0 h.1) (sym (ap (λ o. duplicate_fault o place) is) ∙ e)
 
     go : (b : Bool) → list_any (bytes_eq name) scan.found.names ≡ b → list_any (bytes_eq name) scan.found.names ≡ false
     go true is = absurd (again is)

@@ -68,14 +68,14 @@ module _ (names : Names) (entries : List Entry) (table : ProcedureTable) (progra
 
   -- ---- headers
 
-  at-index : (header : Header) (position : Position) → header.index ≡ position.index → procedures.again_fault (Some header) position ≡ None
+  at-index : (header : Header) (position : Position) → header.index ≡ position.index → procedures.duplicate_fault (Some header) position ≡ None
   at-index header position e =
       ap (λ b. if b then None else Some (record { kind = Duplicate; position = position })) (eq-eqb header.index position.index e)
 
   module _ (name : List ℕ) (taken : ℕ) (h : IsHeader table name taken) where
-    first-here : (found : List ℕ) (position : Position) → found ≡ name → position.index ≡ taken → procedures.again_fault (procedures.header_of table found) position ≡ None
+    first-here : (found : List ℕ) (position : Position) → found ≡ name → position.index ≡ taken → procedures.duplicate_fault (procedures.header_of table found) position ≡ None
     first-here found position e i =
-        ap (λ word. procedures.again_fault (procedures.header_of table word) position) e ∙ ap (λ header. procedures.again_fault header position) h.found
+        ap (λ word. procedures.duplicate_fault (procedures.header_of table word) position) e ∙ ap (λ header. procedures.duplicate_fault header position) h.found
         ∙ at-index h.header position (h.index ∙ sym i)
 
     pub header_spelled : SpellsHeader (parts_of names entries table) (kept_of names program) program name taken

@@ -12,7 +12,7 @@ use Rattle.parser_combinators.specs.Form.{begins_by}
 use Rattle.unparser.specs.File.{file_name, file_tokens}
 use Rattle.unparser.specs.Place.{item_name}
 use Rattle.parser_combinators.specs.words.Word.{is_data_word, is_free, is_name}
-use Rattle.symbol_tables.specs.declared.data_names.name.Found.TheVariants as found
+use Rattle.symbol_tables.specs.declared.data_names.name.Referent.TheVariants as found
 use Rattle.symbol_tables.specs.data_names.Look.{look, look_file}
 use Rattle.symbol_tables.specs.data_names.Names.{Names}
 use Rattle.symbol_tables.specs.declared.procedure_names.table.ProcedureTable.{ProcedureTable}

@@ -8,8 +8,8 @@ use Rattle.cob_tree.specs.declared.program.Program.{Program}
 use Rattle.parser_combinators.specs.declared.note.Position.{Position}
 use Rattle.symbol_tables.specs.data_names.Names.{Names}
 use Rattle.symbol_tables.specs.declared.procedure_names.table.ProcedureTable.{ProcedureTable}
-use Rattle.cobol_grammar.specs.declared.expr_forms.side.Make.{Make}
-use Rattle.cobol_grammar.specs.declared.expr_forms.side.Make.TheVariants as makes
+use Rattle.cobol_grammar.specs.declared.expr_forms.side.ExprContent.{ExprContent}
+use Rattle.cobol_grammar.specs.declared.expr_forms.side.ExprContent.TheVariants as makes
 use Rattle.cobol_grammar.specs.declared.expr_forms.side.Side.{Side}
 use Rattle.cobol_grammar.specs.declared.expr_forms.side.ValueKind.{ValueKind}
 use Rattle.cobol_grammar.specs.declared.expr_forms.side.ValueKind.TheVariants as values
@@ -32,13 +32,13 @@ condition-free judged side known e = condition-none side.leaf side.kind (subst (
 
 -- ---- moves
 
-move-free : (make other : Make) (from to seen met : ValueKind) (position : Position) → other ≡ make → seen ≡ from → met ≡ to → MayMove make from to → moved_fault other seen met position ≡ None
+move-free : (make other : ExprContent) (from to seen met : ValueKind) (position : Position) → other ≡ make → seen ≡ from → met ≡ to → MayMove make from to → moved_fault other seen met position ≡ None
 move-free make other from to seen met position m s t h =
     ap (λ x. moved_fault x seen met position) m ∙ ap (λ x. moved_fault make x met position) s ∙ ap (λ x. moved_fault make from x position) t ∙ h position
 
 -- ---- comparisons
 
-inexact-none : (make : Make) (kind : ValueKind) (position : Position) → is_plain make kind ≡ true → inexact_fault make kind position ≡ None
+inexact-none : (make : ExprContent) (kind : ValueKind) (position : Position) → is_plain make kind ≡ true → inexact_fault make kind position ≡ None
 inexact-none makes.Joined kind position e = absurd (both_ways false refl e)
 inexact-none makes.Item kind position e = whole-none position kind e
 inexact-none makes.Literal kind position e = whole-none position kind e

@@ -4,7 +4,7 @@ use Rattle.std.specs.Prelude.{ℕ, ◌≡◌, []}
 use Rattle.cob_tree.specs.declared.program.Program.{Program}
 use Rattle.symbol_tables.specs.data_names.Names.{Names}
 use Rattle.cobol_grammar.specs.declared.expr_forms.side.Side.{Side}
-use Rattle.cobol_grammar.specs.declared.expr_forms.side.What.TheVariants as whats
+use Rattle.cobol_grammar.specs.declared.expr_forms.side.ParsedExpr.TheVariants as whats
 use Rattle.cobol_grammar.specs.expr_forms.Fault.{kind_of}
 use Rattle.cobol_grammar.specs.Use.{bare_place}
 use Rattle.round_trip.specs.spelling.expr_spelling.Printable.{reference}

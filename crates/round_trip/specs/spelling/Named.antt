@@ -6,8 +6,8 @@ use Rattle.cob_tree.specs.declared.program.Program.{Program}
 use Rattle.unparser.specs.File.{label_tokens}
 use Rattle.unparser.specs.Token.{procedure_token}
 use Rattle.parser_combinators.specs.words.Word.{is_data_word}
-use Rattle.symbol_tables.specs.declared.data_names.name.Found.TheVariants as found
-use Rattle.symbol_tables.specs.declared.data_names.name.Kind.{Kind}
+use Rattle.symbol_tables.specs.declared.data_names.name.Referent.TheVariants as found
+use Rattle.symbol_tables.specs.declared.data_names.name.ItemKind.{ItemKind}
 use Rattle.symbol_tables.specs.data_names.Look.{look_file}
 use Rattle.symbol_tables.specs.data_names.Names.{Names}
 use Rattle.symbol_tables.specs.declared.procedure_names.table.Header.{Header}
@@ -28,7 +28,7 @@ module _ (names : Names) (program : Program) where
   -- a record of a file, found by its name alone
   pub record IsNamedRecord (entries : List Entry) (entry : ℕ) : Type 0 where
     pub word : is_data_word (item_name program entry) ≡ true
-    pub kind : Kind
+    pub kind : ItemKind
     pub dims : ℕ
     pub found : reference names program entry [] ≡ found.Item entry kind dims
     pub is : is_record entries entry ≡ true

@@ -8,8 +8,8 @@ use Rattle.cob_tree.specs.declared.program.Program.{Program}
 use Rattle.parser_combinators.specs.declared.note.Position.{Position}
 use Rattle.symbol_tables.specs.data_names.Names.{Names}
 use Rattle.symbol_tables.specs.declared.procedure_names.table.ProcedureTable.{ProcedureTable}
-use Rattle.cobol_grammar.specs.declared.expr_forms.side.Make.{Make}
-use Rattle.cobol_grammar.specs.declared.expr_forms.side.Make.TheVariants as makes
+use Rattle.cobol_grammar.specs.declared.expr_forms.side.ExprContent.{ExprContent}
+use Rattle.cobol_grammar.specs.declared.expr_forms.side.ExprContent.TheVariants as makes
 use Rattle.cobol_grammar.specs.declared.expr_forms.side.Side.{Side}
 use Rattle.cobol_grammar.specs.declared.expr_forms.side.ValueKind.{ValueKind}
 use Rattle.cobol_grammar.specs.expr_forms.Fault.{compared_as, is_condition, kind_of, value_fault, number_fault, whole_fault, condition_fault}
@@ -22,7 +22,7 @@ use Rattle.round_trip.specs.spelling.Kept.{IsEntrySide, kept_of}
 use Rattle.round_trip.specs.spelling.expr_spelling.Spelled.{IsExprSide, IsOperandSide}
 
 -- such a value may be moved to such a receiver, wherever they stand
-abbrev pub MayMove : Make → (from to : ValueKind) → Type 0
+abbrev pub MayMove : ExprContent → (from to : ValueKind) → Type 0
 MayMove make from to = (position : Position) → moved_fault make from to position ≡ None
 
 -- a subject of EVALUATE may be compared with it

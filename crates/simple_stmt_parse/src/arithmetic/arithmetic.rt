@@ -15,7 +15,7 @@ use std::alloc::Global;
 type Goal = (Option<Operand>, Items<Target>);
 
 /// What is worked out, and where it goes.
-pub type Work = (Calc, Items<Target>);
+pub type ArithmeticWork = (Calc, Items<Target>);
 
 /// One more operand.
 fn operand_behind<P: Parts>(
@@ -277,7 +277,7 @@ fn goal<P: Parts>(parts: &P, alloc: Global, cursor: &mut Cursor<'_>) -> Result<G
 }
 
 /// What ADD works out, by whether an operand stands before GIVING.
-fn added_to(operands: Items<Operand>, found: Goal) -> Result<Work, NoMemory>
+fn added_to(operands: Items<Operand>, found: Goal) -> Result<ArithmeticWork, NoMemory>
     ensures { Makes (forms.added_to operands found) result }
 {
     let (to, into) = found;
@@ -299,7 +299,7 @@ fn add_to<P: Parts>(
     alloc: Global,
     cursor: &mut Cursor<'_>,
     operands: Items<Operand>,
-) -> Result<Work, Unread>
+) -> Result<ArithmeticWork, Unread>
     ensures { Reads ((forms.add_to (P.parts parts.now) operands).reads cursor.old)
         result cursor.new }
 {
@@ -322,7 +322,7 @@ fn add_giving<P: Parts>(
     alloc: Global,
     cursor: &mut Cursor<'_>,
     operands: Items<Operand>,
-) -> Result<Work, Unread>
+) -> Result<ArithmeticWork, Unread>
     ensures { Reads ((forms.add_giving (P.parts parts.now) operands).reads cursor.old)
         result cursor.new }
 {
@@ -337,7 +337,11 @@ fn add_giving<P: Parts>(
 
 /// ADD up to its arms.
 #[tactic(auto, unfolding(cobol_grammar::specs::stmt_forms::Arithmetic::add))]
-pub fn add<P: Parts>(parts: &P, alloc: Global, cursor: &mut Cursor<'_>) -> Result<Work, Unread>
+pub fn add<P: Parts>(
+    parts: &P,
+    alloc: Global,
+    cursor: &mut Cursor<'_>,
+) -> Result<ArithmeticWork, Unread>
     ensures { Reads ((forms.add (P.parts parts.now)).reads cursor.old) result cursor.new }
 {
     cursor.key(b"ADD")?;
@@ -351,7 +355,11 @@ pub fn add<P: Parts>(parts: &P, alloc: Global, cursor: &mut Cursor<'_>) -> Resul
 
 /// SUBTRACT up to its arms.
 #[tactic(auto, unfolding(cobol_grammar::specs::stmt_forms::Arithmetic::subtract))]
-pub fn subtract<P: Parts>(parts: &P, alloc: Global, cursor: &mut Cursor<'_>) -> Result<Work, Unread>
+pub fn subtract<P: Parts>(
+    parts: &P,
+    alloc: Global,
+    cursor: &mut Cursor<'_>,
+) -> Result<ArithmeticWork, Unread>
     ensures { Reads ((forms.subtract (P.parts parts.now)).reads cursor.old) result cursor.new }
 {
     cursor.key(b"SUBTRACT")?;
@@ -375,7 +383,11 @@ pub fn subtract<P: Parts>(parts: &P, alloc: Global, cursor: &mut Cursor<'_>) -> 
 
 /// MULTIPLY up to its arms.
 #[tactic(auto, unfolding(cobol_grammar::specs::stmt_forms::Arithmetic::multiply))]
-pub fn multiply<P: Parts>(parts: &P, alloc: Global, cursor: &mut Cursor<'_>) -> Result<Work, Unread>
+pub fn multiply<P: Parts>(
+    parts: &P,
+    alloc: Global,
+    cursor: &mut Cursor<'_>,
+) -> Result<ArithmeticWork, Unread>
     ensures { Reads ((forms.multiply (P.parts parts.now)).reads cursor.old) result cursor.new }
 {
     cursor.key(b"MULTIPLY")?;
@@ -403,7 +415,7 @@ fn divide_into<P: Parts>(
     alloc: Global,
     cursor: &mut Cursor<'_>,
     by: Operand,
-) -> Result<Work, Unread>
+) -> Result<ArithmeticWork, Unread>
     ensures { Reads ((forms.divide_into (P.parts parts.now) by).reads cursor.old)
         result cursor.new }
 {
@@ -430,7 +442,7 @@ fn divide_by<P: Parts>(
     alloc: Global,
     cursor: &mut Cursor<'_>,
     dividend: Operand,
-) -> Result<Work, Unread>
+) -> Result<ArithmeticWork, Unread>
     ensures { Reads ((forms.divide_by (P.parts parts.now) dividend).reads cursor.old)
         result cursor.new }
 {
@@ -457,7 +469,11 @@ fn divide_by<P: Parts>(
 
 /// DIVIDE up to its arms.
 #[tactic(auto, unfolding(cobol_grammar::specs::stmt_forms::Arithmetic::divide))]
-pub fn divide<P: Parts>(parts: &P, alloc: Global, cursor: &mut Cursor<'_>) -> Result<Work, Unread>
+pub fn divide<P: Parts>(
+    parts: &P,
+    alloc: Global,
+    cursor: &mut Cursor<'_>,
+) -> Result<ArithmeticWork, Unread>
     ensures { Reads ((forms.divide (P.parts parts.now)).reads cursor.old) result cursor.new }
 {
     cursor.key(b"DIVIDE")?;
@@ -483,7 +499,11 @@ fn equals(cursor: &mut Cursor<'_>) -> Result<(), Unread>
 
 /// COMPUTE up to its arms.
 #[tactic(auto, unfolding(cobol_grammar::specs::stmt_forms::Arithmetic::compute))]
-pub fn compute<P: Parts>(parts: &P, alloc: Global, cursor: &mut Cursor<'_>) -> Result<Work, Unread>
+pub fn compute<P: Parts>(
+    parts: &P,
+    alloc: Global,
+    cursor: &mut Cursor<'_>,
+) -> Result<ArithmeticWork, Unread>
     ensures { Reads ((forms.compute (P.parts parts.now)).reads cursor.old) result cursor.new }
 {
     cursor.key(b"COMPUTE")?;

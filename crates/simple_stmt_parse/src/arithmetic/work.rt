@@ -3,14 +3,14 @@
 ghost use Rattle.parser_combinators.specs.Reading.{Reads};
 ghost use Rattle.cobol_grammar.specs.stmt_forms.Arms as forms;
 
-use crate::arithmetic::arithmetic::{Work, add, compute, divide, multiply, subtract};
+use crate::arithmetic::arithmetic::{ArithmeticWork, add, compute, divide, multiply, subtract};
 use cobol_grammar::part_readers::{Parts, at_adding, at_multiplying};
 use cobol_grammar::stmt_forms::ArithmeticVerb;
 use parser_combinators::{Cursor, Unread};
 use std::alloc::Global;
 
 /// What is worked out, and by which statement.
-pub type Worked = (ArithmeticVerb, Work);
+pub type Worked = (ArithmeticVerb, ArithmeticWork);
 
 #[tactic(auto, unfolding(cobol_grammar::specs::stmt_forms::Arms::adding_work))]
 fn adding_work<P: Parts>(

@@ -13,8 +13,8 @@ use Rattle.control_flow_theory.specs.language.Language as language
 use Rattle.control_flow_theory.specs.language.Control.{test_of, arm_before, else_of, stmts_of, arith_stmt, evaluate_of, tests_of, Branch, branches_before, Both, both_arms, both_step, branch_step, seen_step, seen, seen_when, seen_both, seen_stmts}
 use Rattle.control_flow_theory.proofs.language_lemmas.Rows.{seen_if_any, seen_if, seen_evaluate, seen_arith, seen_read, seen_continue}
 use Rattle.control_flow_theory.specs.rendering.Rendering.{Continues, Stays, Goes, required}
-use Rattle.statement_builders.specs.arms.Empties.{if_had, put_arm, stands_so, kept_stmts}
-use Rattle.statement_builders.specs.arms.Choices.{seen_arm, IsKept, IsIf, IsEvaluate, IsRead, IsArith}
+use Rattle.statement_builders.specs.arms.EmptyArms.{if_had, put_arm, stands_so, kept_stmts}
+use Rattle.statement_builders.specs.arms.Choosing.{seen_arm, IsKept, IsIf, IsEvaluate, IsRead, IsArith}
 
 -- Lists that are required.
 

@@ -21,8 +21,8 @@ use Rattle.cobol_theory.specs.cell_items.Laws.{number_tests}
 use Rattle.cobol_theory.specs.cell_serving.Choosing.{place_expr}
 use Rattle.cobol_theory.specs.cell_serving.Entries.{whole_literal}
 use Rattle.cobol_theory.specs.cell_serving.Naming.{numbers_from, whens_of, last_stands}
-use Rattle.statement_builders.specs.arms.Choices.{IsIf, IsRead, IsArith}
-use Rattle.statement_builders.specs.arms.Empties.{if_had, of_whens, of_cell, put_arm}
+use Rattle.statement_builders.specs.arms.Choosing.{IsIf, IsRead, IsArith}
+use Rattle.statement_builders.specs.arms.EmptyArms.{if_had, of_whens, of_cell, put_arm}
 use Rattle.statement_builders.proofs.arms_lemmas.ChoiceRows.{stays_is}
 use Rattle.statement_builders.specs.item_words.Words.{IsItemOf, IsTest}
 use Rattle.statement_builders.specs.item_words.Lists.{put_arms, stand_so, continued, chosen, IsChosen, IsOwnChoice, item_chosen, IsItemChoice, IsAmongAll, numbered, IsNumbered, IsNumberedAll}

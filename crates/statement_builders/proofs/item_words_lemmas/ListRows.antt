@@ -13,8 +13,8 @@ use Rattle.control_flow_theory.specs.language.Language as language
 use Rattle.control_flow_theory.specs.language.Language.{Stmts, none, also, Arms, done, given}
 use Rattle.control_flow_theory.specs.language.Control.{Branch, tests_of, branches_before, evaluate_of, picker_by, cell_chosen, count_from, seen, seen_stmts, seen_when}
 use Rattle.control_flow_theory.specs.rendering.Rendering.{Empty, Continues, Goes, arm_stands, required, and_missing}
-use Rattle.statement_builders.specs.arms.Empties.{if_had, of_whens, of_cell, put_arm, stands_so}
-use Rattle.statement_builders.specs.arms.Choices.{IsEvaluate}
+use Rattle.statement_builders.specs.arms.EmptyArms.{if_had, of_whens, of_cell, put_arm, stands_so}
+use Rattle.statement_builders.specs.arms.Choosing.{IsEvaluate}
 use Rattle.statement_builders.proofs.arms_lemmas.ChoiceRows.{continues_is}
 use Rattle.cobol_theory.specs.cell_serving.Naming.{last_stands, whens_of}
 use Rattle.statement_builders.specs.item_words.Lists.{put_arms, stand_so, branch, branches_of, AreWhens, continued, IsAmong}

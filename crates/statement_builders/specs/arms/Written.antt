@@ -11,9 +11,9 @@ use Rattle.cobol_theory.specs.cell_serving.Choosing.{written_chooser}
 use Rattle.cobol_theory.specs.cell_serving.Entries.{whole_literal}
 use Rattle.cobol_theory.specs.cell_serving.Naming.{cell_naming}
 use Rattle.cobol_theory.specs.cell_serving.Table.{CellTable}
-use Rattle.statement_builders.specs.arms.Places.{ArePlaced}
-use Rattle.statement_builders.specs.arms.Empties.{empties}
-use Rattle.statement_builders.specs.declared.arms.placing.Placed.{Placed}
+use Rattle.statement_builders.specs.arms.Placing.{ArePlaced}
+use Rattle.statement_builders.specs.arms.EmptyArms.{empties}
+use Rattle.statement_builders.specs.declared.arms.placing.ProcedurePlace.{ProcedurePlace}
 
 -- the first added item and the items of cells, and the places of procedures, for the body of a
 -- range
@@ -46,23 +46,23 @@ module _ (way : Way) where
   written_branch branch = record { tests = branch.tests; arm = or_nothing branch.arm }
 
 -- whatever the items of cells, and wherever such procedures stand
-abbrev pub IsWritten : List Placed → (stmt made : Stmt) → Type 0
+abbrev pub IsWritten : List ProcedurePlace → (stmt made : Stmt) → Type 0
 IsWritten places stmt made =
     (way : Way) → ArePlaced way.place places → seen 0 made ≡ written way (seen 0 stmt)
 
-abbrev pub AreWritten : List Placed → (stmts made : List Stmt) → Type 0
+abbrev pub AreWritten : List ProcedurePlace → (stmts made : List Stmt) → Type 0
 AreWritten places stmts made = (way : Way) → ArePlaced way.place places →
     seen_stmts 0 made ≡ all_written way (seen_stmts 0 stmts)
 
-abbrev pub AreRequired : List Placed → (stmts made : List Stmt) → Type 0
+abbrev pub AreRequired : List ProcedurePlace → (stmts made : List Stmt) → Type 0
 AreRequired places stmts made = (way : Way) → ArePlaced way.place places →
     seen_stmts 0 made ≡ or_nothing way (seen_stmts 0 stmts)
 
-abbrev pub IsArmWritten : List Placed → Option (List Stmt) → (made : List Stmt) → Type 0
+abbrev pub IsArmWritten : List ProcedurePlace → Option (List Stmt) → (made : List Stmt) → Type 0
 IsArmWritten places arm made =
     (way : Way) → ArePlaced way.place places → seen_stmts 0 made ≡ written_if_any way arm
 
-abbrev pub AreWhensWritten : List Placed → (whens made : List When) → Type 0
+abbrev pub AreWhensWritten : List ProcedurePlace → (whens made : List When) → Type 0
 AreWhensWritten places whens made = (way : Way) → ArePlaced way.place places →
     map (seen_when 0) made ≡ map (written_branch way) (map (seen_when 0) whens)
 

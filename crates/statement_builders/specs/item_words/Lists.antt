@@ -18,7 +18,7 @@ use Rattle.cobol_theory.specs.cell_items.Cell.{cell_operand, operand_expr}
 use Rattle.cobol_theory.specs.cell_items.Laws.{number_tests}
 use Rattle.cobol_theory.specs.cell_serving.Entries.{whole_literal}
 use Rattle.cobol_theory.specs.cell_serving.Naming.{numbers_from, whens_of, other_stands}
-use Rattle.statement_builders.specs.arms.Empties.{if_had, of_cell, put_arm, stands_so}
+use Rattle.statement_builders.specs.arms.EmptyArms.{if_had, of_cell, put_arm, stands_so}
 use Rattle.statement_builders.specs.arms.Written.{Way, naming_in}
 use Rattle.statement_builders.specs.item_words.Words.{EachWay}
 use Rattle.statement_builders.specs.declared.item_words.cells.CellItem.{CellItem}

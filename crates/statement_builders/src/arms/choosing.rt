@@ -3,9 +3,9 @@
 ghost use Rattle.std.specs.Prelude.{◌≡◌, ◌||◌, is_some, IfOk, IsOk, IsTrue};
 ghost use Rattle.control_flow_theory.specs.language.Control.{seen_stmts};
 ghost use Rattle.control_flow_theory.specs.language.OwnItems.{control_own};
-ghost use Rattle.statement_builders.specs.arms.Choices.{IsIf, IsEvaluate, IsRead, IsArith, IsOwnPerform, IsOwnLoop};
+ghost use Rattle.statement_builders.specs.arms.Choosing.{IsIf, IsEvaluate, IsRead, IsArith, IsOwnPerform, IsOwnLoop};
 
-use crate::arms::empties::{kept, or_continue};
+use crate::arms::empty_arms::{arm_unless_empty, or_continue};
 use cob_base::{Items, NoMemory};
 use cob_tree::{Arms, Calc, Cond, Control, Place, Stmt, Subject, Target, When};
 use program_facts::own_items::is_own_control;
@@ -27,7 +27,7 @@ pub fn evaluate_stmt(
 ) -> Result<Stmt, NoMemory>
     ensures { IfOk result (λ made. IsEvaluate subject whens has_other (seen_stmts 0 other) made) }
 {
-    match kept(other, has_other) {
+    match arm_unless_empty(other, has_other) {
         Ok(other) => Ok(Stmt::Evaluate {
             subject,
             whens,
@@ -48,8 +48,8 @@ pub fn read_stmt(
     ensures { IfOk result
         (λ made. IsRead file into has_end (seen_stmts 0 first) (seen_stmts 0 second) made) }
 {
-    let first = kept(first, has_end)?;
-    let second = kept(second, false)?;
+    let first = arm_unless_empty(first, has_end)?;
+    let second = arm_unless_empty(second, false)?;
     let arms = Arms { first, second };
     Ok(Stmt::Read { file, into, arms })
 }
@@ -72,8 +72,8 @@ pub fn arith_stmt(
     ensures { IfOk result
         (λ made. IsArith calc into has_first (seen_stmts 0 first) (seen_stmts 0 second) made) }
 {
-    let first = kept(first, has_first)?;
-    let second = kept(second, false)?;
+    let first = arm_unless_empty(first, has_first)?;
+    let second = arm_unless_empty(second, false)?;
     if has_arm(&first, &second) {
         let arms = Arms { first, second };
         Ok(Stmt::Arith { calc, into, arms })

@@ -1,17 +1,17 @@
 //! Where the procedures of ranges stand.
 
 ghost use Rattle.std.specs.Prelude.{Decides, MatchOption};
-ghost use Rattle.statement_builders.specs.arms.Places.{HasNone, HasPlace, IsBefore};
+ghost use Rattle.statement_builders.specs.arms.Placing.{HasNone, HasPlace, IsBefore};
 
 /// A range of paragraphs, and the place of its procedure in the structured program, from 0.
 #[derive(Clone, Copy, Debug, PartialEq, Eq)]
-pub struct Placed {
+pub struct ProcedurePlace {
     pub entry: u32,
     pub exit: u32,
     pub place: u32,
 }
 
-fn is_before(placed: Placed, entry: u32, exit: u32) -> bool
+fn is_before(placed: ProcedurePlace, entry: u32, exit: u32) -> bool
     ensures { Decides result (IsBefore placed.entry placed.exit entry exit) }
 {
     placed.entry < entry || placed.entry == entry && placed.exit < exit
@@ -19,7 +19,7 @@ fn is_before(placed: Placed, entry: u32, exit: u32) -> bool
 
 /// The place of the range's procedure. Where the ranges stand by entry and then by exit, it is
 /// found if it is there.
-pub fn place_of(places: &[Placed], entry: u32, exit: u32) -> Option<u32>
+pub fn place_of(places: &[ProcedurePlace], entry: u32, exit: u32) -> Option<u32>
     ensures { MatchOption result (HasNone places.now entry exit)
         (λ place. HasPlace places.now entry exit place) }
 {

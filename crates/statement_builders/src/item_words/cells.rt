@@ -7,7 +7,7 @@ ghost use Rattle.cobol_theory.specs.cell_serving.Entries.{whole_literal};
 ghost use Rattle.cobol_theory.specs.cell_serving.Naming.{move_to, subtract_from};
 ghost use Rattle.statement_builders.specs.item_words.Words.{IsItemOf, IsAct, subtract};
 
-use crate::item_words::numbers::{item_place, number_operand, only};
+use crate::item_words::numbers::{item_place, number_operand, single};
 use cob_base::{Items, NoMemory};
 use cob_tree::{Arms, Calc, Operand, Stmt, Target};
 use std::alloc::Global;
@@ -40,7 +40,7 @@ pub fn item_of(cells: &[CellItem], cell: u32) -> Result<CellItem, NoMemory>
 fn move_to(alloc: Global, item: u32, from: Operand) -> Result<Stmt, NoMemory>
     ensures { Makes (move_to item from) result }
 {
-    match only(alloc, item_place(alloc, item)) {
+    match single(alloc, item_place(alloc, item)) {
         Ok(to) => Ok(Stmt::Move { from, to }),
         Err(fault) => {
             drop(from);
@@ -60,7 +60,7 @@ fn subtract(alloc: Global, parts: Items<Operand>, item: u32) -> Result<Stmt, NoM
         first: None,
         second: None,
     };
-    match only(alloc, target) {
+    match single(alloc, target) {
         Ok(into) => Ok(Stmt::Arith {
             calc: Calc::Subtract(parts),
             into,
@@ -78,7 +78,7 @@ fn subtract_one(alloc: Global, item: u32) -> Result<Stmt, NoMemory>
     ensures { Makes (subtract_from item (whole_literal 1)) result }
 {
     match number_operand(alloc, 1) {
-        Ok(number) => match only(alloc, number) {
+        Ok(number) => match single(alloc, number) {
             Ok(parts) => subtract(alloc, parts, item),
             Err(fault) => Err(fault),
         },

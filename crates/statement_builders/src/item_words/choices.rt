@@ -18,17 +18,17 @@ use std::alloc::Global;
 
 /// The lists of two arms.
 #[derive(Drop)]
-pub struct Two {
+pub struct BothArms {
     pub first: Items<Stmt>,
     pub second: Items<Stmt>,
 }
 
-fn two_of(first: Option<Items<Stmt>>, second: Option<Items<Stmt>>) -> Result<Two, NoMemory>
+fn two_of(first: Option<Items<Stmt>>, second: Option<Items<Stmt>>) -> Result<BothArms, NoMemory>
     ensures { IfOk result (λ two. (first ≡ Some two.first) × (second ≡ Some two.second)) }
 {
     match first {
         Some(first) => match second {
-            Some(second) => Ok(Two { first, second }),
+            Some(second) => Ok(BothArms { first, second }),
             None => {
                 drop(first);
                 Err(NoMemory)
@@ -41,7 +41,7 @@ fn two_of(first: Option<Items<Stmt>>, second: Option<Items<Stmt>>) -> Result<Two
     }
 }
 
-fn two_arms(arms: Vec<Items<Stmt>>) -> Result<Two, NoMemory>
+fn two_arms(arms: Vec<Items<Stmt>>) -> Result<BothArms, NoMemory>
     ensures { IfOk result (λ two. arms.items ≡ two.first ∷ two.second ∷ []) }
 {
     let mut arms = arms;
@@ -66,7 +66,7 @@ fn choose_if(
 {
     match written_test(alloc, test, false, cells) {
         Ok(cond) => match two_arms(arms) {
-            Ok(Two { first, second }) => if_stmt(cond, first, second),
+            Ok(BothArms { first, second }) => if_stmt(cond, first, second),
             Err(fault) => {
                 drop(cond);
                 Err(fault)
@@ -89,7 +89,7 @@ fn choose_read(
         (λ made. IsOwnChoice (choosers.Read file into has_end) arms.items made) }
 {
     match two_arms(arms) {
-        Ok(Two { first, second }) => read_stmt(file, into, first, second, has_end),
+        Ok(BothArms { first, second }) => read_stmt(file, into, first, second, has_end),
         Err(fault) => {
             drop(into);
             Err(fault)
@@ -101,7 +101,7 @@ fn choose_arith(calc: Calc, into: Items<Target>, arms: Vec<Items<Stmt>>) -> Resu
     ensures { IfOk result (λ made. IsOwnChoice (choosers.Arith calc into) arms.items made) }
 {
     match two_arms(arms) {
-        Ok(Two { first, second }) => arith_stmt(calc, into, first, second, true),
+        Ok(BothArms { first, second }) => arith_stmt(calc, into, first, second, true),
         Err(fault) => {
             drop(calc);
             drop(into);

@@ -71,7 +71,7 @@ pub fn relation(alloc: Global, item: u32, rel: Rel, value: u32) -> Result<Cond, 
 }
 
 /// One alone.
-pub fn only<T: Drop>(alloc: Global, one: T) -> Result<Items<T>, NoMemory>
+pub fn single<T: Drop>(alloc: Global, one: T) -> Result<Items<T>, NoMemory>
     ensures { Makes (one ∷ []) result }
 {
     let mut items = Items::new(alloc);
@@ -86,7 +86,7 @@ fn number_tests(alloc: Global, value: u32) -> Result<Items<WhenTest>, NoMemory>
     ensures { Makes (number_tests (whole_literal value)) result }
 {
     let from = number_side(alloc, value)?;
-    only(
+    single(
         alloc,
         WhenTest::Value {
             not: false,

@@ -2,7 +2,7 @@
 
 ghost use Rattle.std.specs.Prelude.{◌≡◌, false, length, map, is_some, IfOk, OnOk, ◌++◌};
 ghost use Rattle.control_flow_theory.specs.language.Control.{cell_chosen, seen_stmts, seen_when};
-ghost use Rattle.statement_builders.specs.arms.Choices.{IsEvaluate};
+ghost use Rattle.statement_builders.specs.arms.Choosing.{IsEvaluate};
 ghost use Rattle.statement_builders.specs.item_words.Lists.{branch, branches_of, AreWhens, IsAmong};
 
 use crate::arms::{evaluate_stmt, or_continue};

@@ -4,7 +4,7 @@ use Rattle.std.proofs.Math.Seq.{drop-cons}
 use Rattle.std.proofs.lemmas.List.{drop_all, reverse-append}
 use Rattle.std.proofs.lemmas.List.Sums.{sum_by-cons}
 use Rattle.cob_tree.specs.declared.program.Sentence.{Sentence}
-use Rattle.lowering_labels.specs.declared.points.layout.Layout.{Layout}
+use Rattle.lowering_labels.specs.declared.points.layout.PlaceTable.{PlaceTable}
 use Rattle.statement_lowering.specs.declared.continuations.paragraphs.Begin.{Begin}
 use Rattle.statement_lowering.specs.continuations.Paragraphs.{AreBegins, AreStacked, IsBegin, paragraph_end, sentence_size, sentence_sizes}
 
@@ -16,7 +16,7 @@ sizes_left i [] = omega (arith, ap sentence_sizes (drop_all i [] (omega arith)))
 sizes_left zero (sentence ∷ others) = omega arith
 sizes_left (suc i) (sentence ∷ others) = omega (arith, sizes_left i others, sum_by-cons sentence_size sentence others)
 
-module _ (layout : Layout) (sentences : List Sentence) where
+module _ (layout : PlaceTable) (sentences : List Sentence) where
   pub begins_first : (count end : ℕ) → count ≡ length sentences →
       (end + sentence_sizes (drop (count - 0) sentences) ≡ end) × AreBegins layout end (drop (count - 0) sentences) (paragraph_end ∷ [])
   begins_first count end is =

@@ -7,32 +7,32 @@ use Rattle.cob_tree.specs.declared.stmt.Stmt.{Stmt}
 use Rattle.control_flow_theory.specs.language.Control.{seen_sentence, seen_stmts}
 use Rattle.control_flow_theory.specs.language.Language as language
 use Rattle.control_flow_theory.specs.semantics.Graph as graph
-use Rattle.control_flow_theory.specs.lowering.Told.{Told}
+use Rattle.control_flow_theory.specs.lowering.FlowFacts.{FlowFacts}
 use Rattle.control_flow_theory.specs.lowering.Completes.{cuts, leave_sentence, sizes}
 use Rattle.control_flow_theory.specs.lowering.Lower as lower
 use Rattle.control_flow_theory.specs.lowering.Lowered.{Within}
 use Rattle.control_flow_theory.specs.lowering.Rests.{Rest, Over, Sent, after_loop, at_loop, leaf_of, leaving_of, rest_from, tree_of}
 use Rattle.lowering_labels.proofs.points_lemmas.SizeLemmas.{sizes-seen, stmt_above}
-use Rattle.lowering_labels.specs.declared.points.layout.Layout.{Layout}
+use Rattle.lowering_labels.specs.declared.points.layout.PlaceTable.{PlaceTable}
 use Rattle.statement_lowering.specs.declared.continuations.paragraphs.Begin.{Begin}
-use Rattle.statement_lowering.specs.continuations.Onward.{Lowering, GoesLater, after_by, begun, behind_by, ended, leaving_by, tree_behind}
+use Rattle.statement_lowering.specs.continuations.Successors.{Lowering, GoesLater, after_by, begun, behind_by, ended, leaving_by, tree_behind}
 use Rattle.statement_lowering.specs.continuations.Paragraphs.{AreBegins, IsBegin, inside, left_at, nodes_of_sentences, paragraph_end, rest_behind, sentence_size, sentence_sizes}
-use Rattle.statement_lowering.specs.continuations.Spots.{Agrees, HasNodes, told}
+use Rattle.statement_lowering.specs.continuations.Statements.{Agrees, HasNodes, told}
 use Rattle.statement_lowering.proofs.continuations_lemmas.Leaves.{leaf_ended}
 use Rattle.statement_lowering.proofs.continuations_lemmas.Steps.{later_less}
 use Rattle.statement_lowering.proofs.continuations_lemmas.Within.{agrees_left, agrees_right, find_first, within-append, within-nodes}
 
 -- no loop is held at the begin of a sentence
-pub no_loop : (told : Told) (place : ℕ) (sentences : List language.Stmts) → after_loop (rest_from told place sentences) ≡ Over
+pub no_loop : (told : FlowFacts) (place : ℕ) (sentences : List language.Stmts) → after_loop (rest_from told place sentences) ≡ Over
 no_loop told place [] = refl
 no_loop told place (sentence ∷ others) = no_loop told (place + sizes sentence) others
 
-pub no_turn : (told : Told) (place : ℕ) (sentences : List language.Stmts) → at_loop (rest_from told place sentences) ≡ Over
+pub no_turn : (told : FlowFacts) (place : ℕ) (sentences : List language.Stmts) → at_loop (rest_from told place sentences) ≡ Over
 no_turn told place [] = refl
 no_turn told place (sentence ∷ others) = no_turn told (place + sizes sentence) others
 
 -- the labels of sentences
-pub within-sentences : (told : Told) (place_of : ℕ → ℕ) (leaving : lower.Leaving) (last place : ℕ) (sentences : List Sentence) →
+pub within-sentences : (told : FlowFacts) (place_of : ℕ → ℕ) (leaving : lower.EscapeTargets) (last place : ℕ) (sentences : List Sentence) →
     Within (3 * place) (3 * (place + sentence_sizes sentences)) (nodes_of_sentences told place_of leaving place (map (seen_sentence last) sentences))
 within-sentences told place_of leaving last place [] = omega arith
 within-sentences told place_of leaving last place (sentence ∷ others) =
@@ -50,7 +50,7 @@ begun_first : (stmts : List Stmt) (place end : ℕ) (next : Option ℕ) → plac
 begun_first [] place end next le h = later_less (place + sum_by stmt_places []) place end next (omega arith) h
 begun_first (stmt ∷ others) place end next le h = (omega arith, omega (arith, le, sum_by-cons stmt_places stmt others, stmt_above stmt))
 
-pub begins_later : (layout : Layout) (place : ℕ) (sentences : List Sentence) (first : Begin) (found : List Begin) → AreBegins layout place sentences (first ∷ found) →
+pub begins_later : (layout : PlaceTable) (place : ℕ) (sentences : List Sentence) (first : Begin) (found : List Begin) → AreBegins layout place sentences (first ∷ found) →
     place + sentence_sizes sentences ≤ layout.end → GoesLater place layout.end first.behind
 begins_later layout place [] first found h le =
     let is : first ≡ paragraph_end = cc in
@@ -62,8 +62,8 @@ begins_later layout place (sentence ∷ others) first (next ∷ found) h le =
     subst (GoesLater place layout.end) (sym one.behind)
     (begun_first sentence.stmts place layout.end next.behind (omega (arith, sums, le)) (begins_later layout (place + sentence_size sentence) others next found h.1 (omega (arith, sums, le))))
 
-module _ (layout : Layout) (g : Lowering layout) (number last : ℕ) where
-  abbrev leaving : lower.Leaving
+module _ (layout : PlaceTable) (g : Lowering layout) (number last : ℕ) where
+  abbrev leaving : lower.EscapeTargets
   leaving = left_at g.ends number
 
   abbrev rest_at : ℕ → List Sentence → Rest
@@ -138,7 +138,7 @@ module _ (layout : Layout) (g : Lowering layout) (number last : ℕ) where
         (agrees_right g.node (3 * place) (3 * (place + sizes stmts)) (3 * (place + sentence_sizes (sentence ∷ others))) nodes_first nodes_next within_first (omega arith) has))
 
   -- the tree where a sentence begins
-  begun_tree : (place : ℕ) (list : List Stmt) (next : Option ℕ) (after end : graph.End) (behind : graph.Tree) (high : ℕ) (l : lower.Leaving) →
+  begun_tree : (place : ℕ) (list : List Stmt) (next : Option ℕ) (after end : graph.End) (behind : graph.Tree) (high : ℕ) (l : lower.EscapeTargets) →
       Agrees g.node (3 * place) (3 * (place + sum_by stmt_places list)) (lower.nodes (told layout g) g.place_of (seen_stmts last list) place l end behind) →
       ((list ≡ []) → tree_behind layout g next after ≡ behind) →
       tree_behind layout g (begun list place next) after ≡ lower.build (told layout g) g.place_of (seen_stmts last list) place l end behind
@@ -180,7 +180,7 @@ module _ (layout : Layout) (g : Lowering layout) (number last : ℕ) where
 
   sent_tree : (leaves : Bool) (behind : Rest) (next : Begin) → leaf_at behind ≡ ended (g.ends number) next.after → tree_at behind ≡ tree_behind layout g next.behind (ended (g.ends number) next.after) →
       tree_at (Sent leaves behind) ≡ tree_behind layout g (if leaves then None else next.behind) (ended (g.ends number) next.after)
-  sent_tree true behind next leaf tree = ap lower.only leaf
+  sent_tree true behind next leaf tree = ap lower.end_alone leaf
   sent_tree false behind next leaf tree = tree
 
   -- the nodes of a sentence are those of its rests

@@ -4,16 +4,16 @@ use Rattle.cob_tree.specs.declared.stmt.Stmt.{Stmt}
 use Rattle.control_flow_theory.specs.language.Control.{seen_stmts}
 use Rattle.control_flow_theory.specs.language.Language as language
 use Rattle.control_flow_theory.specs.semantics.Graph as graph
-use Rattle.control_flow_theory.specs.lowering.Told.{Told}
+use Rattle.control_flow_theory.specs.lowering.FlowFacts.{FlowFacts}
 use Rattle.control_flow_theory.specs.lowering.Completes.{size, skips}
 use Rattle.control_flow_theory.specs.lowering.Lower as lower
-use Rattle.program_facts.specs.completion.Told.{told_of}
-use Rattle.lowering_labels.specs.points.Leaf.{seen_leaf}
-use Rattle.lowering_labels.specs.declared.points.layout.Layout.{Layout}
-use Rattle.lowering_labels.specs.declared.points.leaf.Leaf.{Leaf}
-use Rattle.lowering_labels.specs.declared.points.leaf.Leaf.TheVariants as leaf
-use Rattle.statement_lowering.specs.declared.continuations.spot.Onward.{Onward}
-use Rattle.statement_lowering.specs.continuations.Onward.{Lowering, after_by, behind_by, begun, ended, IsBefore, leaving_by, tree_behind}
+use Rattle.program_facts.specs.completion.FlowFacts.{flow_facts_of}
+use Rattle.lowering_labels.specs.points.JumpTarget.{seen_target}
+use Rattle.lowering_labels.specs.declared.points.layout.PlaceTable.{PlaceTable}
+use Rattle.lowering_labels.specs.declared.points.jump_target.JumpTarget.{JumpTarget}
+use Rattle.lowering_labels.specs.declared.points.jump_target.JumpTarget.TheVariants as leaf
+use Rattle.statement_lowering.specs.declared.continuations.continuation.Successors.{Successors}
+use Rattle.statement_lowering.specs.continuations.Successors.{Lowering, after_by, behind_by, begun, ended, IsBefore, leaving_by, tree_behind}
 
 -- this end in the place of returns
 abbrev pub replaced : graph.End → graph.End → graph.End
@@ -23,12 +23,12 @@ replaced end graph.Return = end
 replaced end graph.Stop = graph.Stop
 replaced end graph.Dead = graph.Dead
 
-pub ended_is : (end : graph.End) (at : Leaf) → ended end at ≡ replaced end (seen_leaf at)
+pub ended_is : (end : graph.End) (at : JumpTarget) → ended end at ≡ replaced end (seen_target at)
 ended_is end (leaf.Jump to) = refl
 ended_is end leaf.Return = refl
 ended_is end leaf.Stop = refl
 
-module _ (told : Told) (place_of : ℕ → ℕ) (end : graph.End) where
+module _ (told : FlowFacts) (place_of : ℕ → ℕ) (end : graph.End) where
   stmt_replaced : (stmt : language.Stmt) (place : ℕ) (after : graph.End) → replaced end (lower.leaf_stmt told place_of stmt place after) ≡ lower.leaf_stmt told place_of stmt place (replaced end after)
   stmt_replaced (language.Do act) place after = elim (skips told act) as (λ b. replaced end (if b then after else graph.Jump (lower.point place)) ≡ (if b then replaced end after else graph.Jump (lower.point place))) [
     | true ↦ refl
@@ -51,26 +51,26 @@ module _ (told : Told) (place_of : ℕ → ℕ) (end : graph.End) where
       stmt_replaced stmt place (lower.leaf told place_of stmts (place + size stmt) after)
       ∙ ap (lower.leaf_stmt told place_of stmt place) (leaf_replaced stmts (place + size stmt) after)
 
-  pub leaf_ended : (stmts : language.Stmts) (place : ℕ) (after found : Leaf) → seen_leaf found ≡ lower.leaf told place_of stmts place (seen_leaf after) →
+  pub leaf_ended : (stmts : language.Stmts) (place : ℕ) (after found : JumpTarget) → seen_target found ≡ lower.leaf told place_of stmts place (seen_target after) →
       ended end found ≡ lower.leaf told place_of stmts place (ended end after)
   leaf_ended stmts place after found h =
-      ended_is end found ∙ ap (replaced end) h ∙ leaf_replaced stmts place (seen_leaf after)
+      ended_is end found ∙ ap (replaced end) h ∙ leaf_replaced stmts place (seen_target after)
       ∙ ap (lower.leaf told place_of stmts place) (sym (ended_is end after))
 
 -- before a rest
-module _ (layout : Layout) (g : Lowering layout) (rest : List Stmt) (place : ℕ) (old new : Onward) (h : IsBefore layout rest place old new) where
-  abbrev told : Told
-  told = told_of g.files g.returning
+module _ (layout : PlaceTable) (g : Lowering layout) (rest : List Stmt) (place : ℕ) (old new : Successors) (h : IsBefore layout rest place old new) where
+  abbrev told : FlowFacts
+  told = flow_facts_of g.files g.returning
 
   pub leaving_before : leaving_by layout g new ≡ leaving_by layout g old
   leaving_before = ap (leaving_by layout g) h.same
 
   pub last_before : new.last ≡ old.last
-  last_before = ap (λ (o : Onward). o.last) h.same
+  last_before = ap (λ (o : Successors). o.last) h.same
 
   pub after_before : after_by layout g new ≡ lower.leaf told g.place_of (seen_stmts old.last rest) place (after_by layout g old)
   after_before =
-      ap (λ (o : Onward). ended (g.ends o.paragraph) new.after) h.same
+      ap (λ (o : Successors). ended (g.ends o.paragraph) new.after) h.same
       ∙ leaf_ended told g.place_of (g.ends old.paragraph) (seen_stmts old.last rest) place old.after new.after (h.after g.files g.returning old.last g.place_of g.at)
 
   behind_begun : (stmts : List Stmt) (after : graph.End) → stmts ≡ rest → after ≡ lower.leaf told g.place_of (seen_stmts old.last stmts) place (after_by layout g old) →
@@ -84,5 +84,5 @@ module _ (layout : Layout) (g : Lowering layout) (rest : List Stmt) (place : ℕ
       behind_by layout g new
       ≡ lower.build told g.place_of (seen_stmts old.last rest) place (leaving_by layout g old) (after_by layout g old) (behind_by layout g old)
   behind_before at =
-      ap (λ (o : Onward). tree_behind layout g o.behind (after_by layout g new)) h.same
+      ap (λ (o : Successors). tree_behind layout g o.behind (after_by layout g new)) h.same
       ∙ behind_begun rest (after_by layout g new) refl after_before at

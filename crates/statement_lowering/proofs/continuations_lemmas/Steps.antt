@@ -8,16 +8,16 @@ use Rattle.cob_tree.specs.declared.stmt.Stmt.{Stmt}
 use Rattle.control_flow_theory.specs.language.Control.{seen, seen_stmts}
 use Rattle.control_flow_theory.specs.language.OwnItems.{stmt_own, stmts_own}
 use Rattle.control_flow_theory.specs.semantics.Graph as graph
-use Rattle.control_flow_theory.specs.lowering.Told.{Told}
+use Rattle.control_flow_theory.specs.lowering.FlowFacts.{FlowFacts}
 use Rattle.control_flow_theory.specs.lowering.Completes.{size}
 use Rattle.control_flow_theory.specs.lowering.Lower as lower
 use Rattle.lowering_labels.proofs.points_lemmas.SizeLemmas.{size-seen, stmt_above}
-use Rattle.lowering_labels.specs.declared.points.layout.Layout.{Layout}
+use Rattle.lowering_labels.specs.declared.points.layout.PlaceTable.{PlaceTable}
 use Rattle.statement_lowering.proofs.PartRows.{stmt_in_own, stmt_in_places}
-use Rattle.statement_lowering.specs.declared.continuations.spot.Onward.{Onward}
-use Rattle.statement_lowering.specs.declared.continuations.spot.Spot.{Spot}
-use Rattle.statement_lowering.specs.continuations.Onward.{Lowering, GoesLater, IsBefore, after_by, begun, behind_by, leaving_by}
-use Rattle.statement_lowering.specs.continuations.Spots.{Adds, AddsRests, AddsSpot, AddsWithin, Agrees, Fits, HasInner, HasNodes, inner_places, IsRest, told, turn_by}
+use Rattle.statement_lowering.specs.declared.continuations.continuation.Successors.{Successors}
+use Rattle.statement_lowering.specs.declared.continuations.continuation.Continuation.{Continuation}
+use Rattle.statement_lowering.specs.continuations.Successors.{Lowering, GoesLater, IsBefore, after_by, begun, behind_by, leaving_by}
+use Rattle.statement_lowering.specs.continuations.Statements.{Adds, AddsRests, AddsContinuation, AddsWithin, Agrees, Fits, HasInner, HasNodes, inner_places, IsRest, told, turn_by}
 use Rattle.statement_lowering.proofs.continuations_lemmas.Adding.{adds_both, adds_none, adds_one, adds_under, longer_by}
 use Rattle.statement_lowering.proofs.continuations_lemmas.Leaves.{after_before, behind_before, last_before, leaving_before}
 use Rattle.statement_lowering.proofs.continuations_lemmas.Turns.{inner_agrees, others_agree, point_agrees, turn_agrees}
@@ -33,13 +33,13 @@ begun_later : (rest : List Stmt) (place end : ℕ) (next : Option ℕ) → place
 begun_later [] place end next le h = later_less (place + sum_by stmt_places []) place end next (omega arith) h
 begun_later (stmt ∷ others) place end next le h = (omega arith, omega (arith, le, sum_by-cons stmt_places stmt others, stmt_above stmt))
 
-pub before_later : (layout : Layout) (rest : List Stmt) (place : ℕ) (onward inner : Onward) → IsBefore layout rest place onward inner →
+pub before_later : (layout : PlaceTable) (rest : List Stmt) (place : ℕ) (onward inner : Successors) → IsBefore layout rest place onward inner →
     place + sum_by stmt_places rest ≤ layout.end → GoesLater (place + sum_by stmt_places rest) layout.end onward.behind → GoesLater place layout.end inner.behind
 before_later layout rest place onward inner before le h =
-    subst (GoesLater place layout.end) (sym (ap (λ (o : Onward). o.behind) before.same)) (begun_later rest place layout.end onward.behind le h)
+    subst (GoesLater place layout.end) (sym (ap (λ (o : Successors). o.behind) before.same)) (begun_later rest place layout.end onward.behind le h)
 
 -- the nodes of a statement's lists, said otherwise
-inner_same : (told : Told) (place_of : ℕ → ℕ) (node : graph.Label → graph.Tree) (stmt : Stmt) (place last other high end : ℕ) (l m : lower.Leaving) (a b : graph.End) (t u : graph.Tree) →
+inner_same : (told : FlowFacts) (place_of : ℕ → ℕ) (node : graph.Label → graph.Tree) (stmt : Stmt) (place last other high end : ℕ) (l m : lower.EscapeTargets) (a b : graph.End) (t u : graph.Tree) →
     last ≡ other → high ≡ end → l ≡ m → a ≡ b → t ≡ u →
     Agrees node (3 * place + 1) high (lower.nodes_in told place_of (seen last stmt) place l a t) →
     Agrees node (3 * place + 1) end (lower.nodes_in told place_of (seen other stmt) place m b u)
@@ -54,7 +54,7 @@ first_within : (last place : ℕ) (stmt : Stmt) (others : List Stmt) → 3 * (pl
 first_within last place stmt others = omega (arith, size-seen last stmt, sum_by-cons stmt_places stmt others)
 
 -- of a graph that has the nodes of a list
-module _ (layout : Layout) (g : Lowering layout) (onward : Onward) where
+module _ (layout : PlaceTable) (g : Lowering layout) (onward : Successors) where
   pub point_of_rest : (rest : List Stmt) (place : ℕ) → HasNodes layout g rest place onward → (first : Stmt) (others : List Stmt) → rest ≡ first ∷ others →
       g.node (lower.point place)
       ≡ lower.build (told layout g) g.place_of (seen_stmts onward.last rest) place (leaving_by layout g onward) (after_by layout g onward) (behind_by layout g onward)
@@ -64,22 +64,22 @@ module _ (layout : Layout) (g : Lowering layout) (onward : Onward) where
       g.node (seen onward.last stmt) (3 * (place + sum_by stmt_places (stmt ∷ rest))) (first_within onward.last place stmt rest) h
 
   pub turn_of_rest : (rest : List Stmt) (place : ℕ) → HasNodes layout g rest place onward → (first : Stmt) (others : List Stmt) → rest ≡ first ∷ others → (is_head : Bool) →
-      g.node (if is_head then lower.head place else lower.third place)
+      g.node (if is_head then lower.loop_head_label place else lower.loop_step_label place)
       ≡ turn_by (told layout g) g.place_of is_head (seen_stmts onward.last rest) place (leaving_by layout g onward) (after_by layout g onward)
   turn_of_rest [] place h first others is is_head = absurd cc
   turn_of_rest (stmt ∷ rest) place h first others is is_head =
       turn_agrees (told layout g) g.place_of is_head (seen_stmts onward.last rest) place (leaving_by layout g onward) (after_by layout g onward) (behind_by layout g onward)
       g.node (seen onward.last stmt) (3 * (place + sum_by stmt_places (stmt ∷ rest))) (first_within onward.last place stmt rest) h
 
-  pub is_rest : (rest : List Stmt) (place : ℕ) (spot : Spot) (first : Stmt) (others : List Stmt) → rest ≡ first ∷ others → spot.stmts.now ≡ rest → spot.onward ≡ onward →
+  pub is_rest : (rest : List Stmt) (place : ℕ) (spot : Continuation) (first : Stmt) (others : List Stmt) → rest ≡ first ∷ others → spot.stmts.now ≡ rest → spot.onward ≡ onward →
       HasNodes layout g rest place onward → IsRest layout g place spot
   is_rest rest place spot first others is stands goes h = record {
     point =
         point_of_rest rest place h first others is
-        ∙ ap₂ (λ (o : Onward) ss. lower.build (told layout g) g.place_of (seen_stmts o.last ss) place (leaving_by layout g o) (after_by layout g o) (behind_by layout g o)) (sym goes) (sym stands);
+        ∙ ap₂ (λ (o : Successors) ss. lower.build (told layout g) g.place_of (seen_stmts o.last ss) place (leaving_by layout g o) (after_by layout g o) (behind_by layout g o)) (sym goes) (sym stands);
     turn = λ is_head.
         turn_of_rest rest place h first others is is_head
-        ∙ ap₂ (λ (o : Onward) ss. turn_by (told layout g) g.place_of is_head (seen_stmts o.last ss) place (leaving_by layout g o) (after_by layout g o)) (sym goes) (sym stands);
+        ∙ ap₂ (λ (o : Successors) ss. turn_by (told layout g) g.place_of is_head (seen_stmts o.last ss) place (leaving_by layout g o) (after_by layout g o)) (sym goes) (sym stands);
   }
 
   -- those of its first statement, and of what stands behind it
@@ -97,7 +97,7 @@ module _ (layout : Layout) (g : Lowering layout) (onward : Onward) where
         (others_agree (told layout g) g.place_of true (seen_stmts onward.last others) place (leaving_by layout g onward) (after_by layout g onward) (behind_by layout g onward)
         g.node (seen onward.last stmt) (3 * (place + sum_by stmt_places (stmt ∷ others))) (first_within onward.last place stmt others) h))
 
-    pub inner_left : (inner : Onward) → IsBefore layout others next onward inner → HasInner layout g (seen inner.last stmt) place (inner_places stmt) inner
+    pub inner_left : (inner : Successors) → IsBefore layout others next onward inner → HasInner layout g (seen inner.last stmt) place (inner_places stmt) inner
     inner_left inner before =
         let after : lower.leaf (told layout g) g.place_of (seen_stmts onward.last others) (place + size (seen onward.last stmt)) (after_by layout g onward) ≡ after_by layout g inner =
         ap (λ n. lower.leaf (told layout g) g.place_of (seen_stmts onward.last others) n (after_by layout g onward)) there ∙ sym (after_before layout g others next onward inner before) in
@@ -111,8 +111,8 @@ module _ (layout : Layout) (g : Lowering layout) (onward : Onward) where
         g.node (seen onward.last stmt) (3 * (place + sum_by stmt_places (stmt ∷ others))) (first_within onward.last place stmt others) h)
 
 -- a table so far, along a list
-pub record Along (layout : Layout) (stmts : List Stmt) (onward : Onward) (i : ℕ)
-    (old new : List Spot) : Type 0 where
+pub record Along (layout : PlaceTable) (stmts : List Stmt) (onward : Successors) (i : ℕ)
+    (old new : List Continuation) : Type 0 where
   pub places : ℕ
   pub left : places + sum_by stmt_places (drop i stmts) ≡ sum_by stmt_places stmts
   pub own : stmts_own (drop i stmts) ≡ true
@@ -120,7 +120,7 @@ pub record Along (layout : Layout) (stmts : List Stmt) (onward : Onward) (i : �
   pub rest : (g : Lowering layout) → HasNodes layout g stmts (length old) onward →
       HasNodes layout g (drop i stmts) (length new) onward
 
-pub along_none : (layout : Layout) (stmts : List Stmt) (onward : Onward) (old : List Spot) → stmts_own stmts ≡ true → Along layout stmts onward 0 old old
+pub along_none : (layout : PlaceTable) (stmts : List Stmt) (onward : Successors) (old : List Continuation) → stmts_own stmts ≡ true → Along layout stmts onward 0 old old
 along_none layout stmts onward old own = record {
   places = 0;
   left = omega arith;
@@ -129,7 +129,7 @@ along_none layout stmts onward old own = record {
   rest = λ g h. h;
 }
 
-pub along_over : (layout : Layout) (stmts : List Stmt) (onward : Onward) (i : ℕ) (old new : List Spot) → length stmts ≤ i → Along layout stmts onward i old new →
+pub along_over : (layout : PlaceTable) (stmts : List Stmt) (onward : Successors) (i : ℕ) (old new : List Continuation) → length stmts ≤ i → Along layout stmts onward i old new →
     AddsRests layout stmts onward old new
 along_over layout stmts onward i old new le a =
     let none = ap (sum_by stmt_places) (drop_all i stmts le) in
@@ -137,41 +137,41 @@ along_over layout stmts onward i old new le a =
     (omega (arith, a.left, none)) a.adds
 
 -- where a table stands
-pub along_place : (layout : Layout) (stmts : List Stmt) (onward : Onward) (i : ℕ) (old new : List Spot) → Along layout stmts onward i old new →
+pub along_place : (layout : PlaceTable) (stmts : List Stmt) (onward : Successors) (i : ℕ) (old new : List Continuation) → Along layout stmts onward i old new →
     length new + sum_by stmt_places (drop i stmts) ≡ length old + sum_by stmt_places stmts
 along_place layout stmts onward i old new a =
     omega (arith, a.left, longer_by layout a.places (λ g. HasNodes layout g stmts (length old) onward) old new a.adds)
 
-module _ (layout : Layout) (stmts : List Stmt) (onward : Onward) (i : ℕ) (stmt : Stmt) (lt : i < length stmts) (at : stmt ≡ get_or stmts i stmt) where
+module _ (layout : PlaceTable) (stmts : List Stmt) (onward : Successors) (i : ℕ) (stmt : Stmt) (lt : i < length stmts) (at : stmt ≡ get_or stmts i stmt) where
   abbrev behind : List Stmt
   behind = drop (i + 1) stmts
 
   first_left : drop i stmts ≡ stmt ∷ behind
   first_left = rw (add-one i) (drop-cons stmts i stmt lt) ∙ ap (λ s. s ∷ behind) (sym at)
 
-  module _ (old now : List Spot) (place : ℕ) (here : place ≡ length now) (fits : length old + sum_by stmt_places stmts ≤ layout.end)
+  module _ (old now : List Continuation) (place : ℕ) (here : place ≡ length now) (fits : length old + sum_by stmt_places stmts ≤ layout.end)
       (later : GoesLater (length old + sum_by stmt_places stmts) layout.end onward.behind) (a : Along layout stmts onward i old now) where
     -- the rest itself
-    spot_fits : (spot : Spot) → spot.stmts.now ≡ drop i stmts → spot.onward ≡ onward → Fits layout.end (length now) spot
+    spot_fits : (spot : Continuation) → spot.stmts.now ≡ drop i stmts → spot.onward ≡ onward → Fits layout.end (length now) spot
     spot_fits spot stands goes = record {
       own = ap stmts_own stands ∙ a.own;
       within = omega (arith, ap (sum_by stmt_places) stands, along_place layout stmts onward i old now a, fits);
       later =
-          subst (λ (o : Onward). GoesLater (length now + 1) layout.end o.behind) (sym goes)
+          subst (λ (o : Successors). GoesLater (length now + 1) layout.end o.behind) (sym goes)
           (later_less (length old + sum_by stmt_places stmts) (length now + 1) layout.end onward.behind
           (omega (arith, along_place layout stmts onward i old now a, stmt_in_places stmts i stmt lt at, stmt_above stmt)) later);
     }
 
-    pub spot_added : (new : List Spot) → AddsSpot (drop i stmts) onward now new → Adds layout 1 (λ g. HasNodes layout g (drop i stmts) (length now) onward) now new
+    pub spot_added : (new : List Continuation) → AddsContinuation (drop i stmts) onward now new → Adds layout 1 (λ g. HasNodes layout g (drop i stmts) (length now) onward) now new
     spot_added new one =
         adds_one layout (λ g. HasNodes layout g (drop i stmts) (length now) onward) now new one.spot one.is (spot_fits one.spot one.stands one.goes)
         (λ g h. is_rest layout g onward (drop i stmts) (length now) one.spot stmt behind first_left one.stands one.goes h)
 
-    pub spot_counts : (mid : List Spot) → AddsSpot (drop i stmts) onward now mid → length mid ≡ place + 1
+    pub spot_counts : (mid : List Continuation) → AddsContinuation (drop i stmts) onward now mid → length mid ≡ place + 1
     spot_counts mid one = longer_by layout 1 (λ g. HasNodes layout g (drop i stmts) (length now) onward) now mid (spot_added mid one) ∙ ap (λ n. n + 1) (sym here)
 
     -- and the lists of its first statement
-    pub along_more : (mid new : List Spot) (next : ℕ) (inner : Onward) → AddsSpot (drop i stmts) onward now mid → next ≡ place + stmt_places stmt →
+    pub along_more : (mid new : List Continuation) (next : ℕ) (inner : Successors) → AddsContinuation (drop i stmts) onward now mid → next ≡ place + stmt_places stmt →
         IsBefore layout behind next onward inner → AddsWithin layout stmt place inner mid new → Along layout stmts onward (i + 1) old new
     along_more mid new next inner one far before within =
         let premise : Lowering layout → Type 0 = λ g. HasNodes layout g (drop i stmts) (length now) onward in
@@ -200,7 +200,7 @@ module _ (layout : Layout) (stmts : List Stmt) (onward : Onward) (i : ℕ) (stmt
         }
 
     -- what the calls of a turn ask
-    pub inner_fits : (next : ℕ) (inner : Onward) → next ≡ place + stmt_places stmt → IsBefore layout behind next onward inner →
+    pub inner_fits : (next : ℕ) (inner : Successors) → next ≡ place + stmt_places stmt → IsBefore layout behind next onward inner →
         (stmt_own stmt ≡ true) × (next + sum_by stmt_places behind ≤ layout.end) × GoesLater (place + 1 + inner_places stmt) layout.end inner.behind
     inner_fits next inner far before =
         let sums = stmt_in_places stmts i stmt lt at in

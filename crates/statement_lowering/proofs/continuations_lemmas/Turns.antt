@@ -2,18 +2,18 @@
 use Rattle.std.proofs.Common.{◌≡◌, ℕ, ◌+◌, ◌*◌, ◌≤◌, ◌<◌, Bool, true, false, if◌then◌else◌, [], ◌∷◌, ◌++◌, Some, refl, ap, ◌∙◌, arith}
 use Rattle.control_flow_theory.specs.language.Language.{Control, Times, Until, Varying, Stmt, Do, Choose, Loop, Perform, Go, GoDepending, NextSentence, ExitParagraph, ExitSection, ExitPerform, StopRun, Stmts, also, Nested, Performed}
 use Rattle.control_flow_theory.specs.semantics.Graph.{Label, Tree, End, Jump}
-use Rattle.control_flow_theory.specs.lowering.Told.{Told}
+use Rattle.control_flow_theory.specs.lowering.FlowFacts.{FlowFacts}
 use Rattle.control_flow_theory.specs.lowering.Completes.{size, sizes}
-use Rattle.control_flow_theory.specs.lowering.Lower.{back, build, head, third, point, leaf, Leaving, loop_nodes, node, nodes, nodes_in, nodes_of_arms, only, within_loop}
+use Rattle.control_flow_theory.specs.lowering.Lower.{loop_back_label, build, loop_head_label, loop_step_label, point, leaf, EscapeTargets, loop_nodes, node, nodes, nodes_in, nodes_of_arms, end_alone, within_loop}
 use Rattle.control_flow_theory.specs.lowering.Lowered.{find}
 use Rattle.lowering_labels.specs.loop_nodes.Loops.{head_by, has_third, third_by}
 use Rattle.lowering_labels.proofs.loop_nodes_lemmas.NodeRows.{nodes_are}
-use Rattle.statement_lowering.specs.Turns.{body_tree, loop_at}
-use Rattle.statement_lowering.specs.continuations.Spots.{Agrees, turn_by}
+use Rattle.statement_lowering.specs.LoopParts.{body_tree, loop_at}
+use Rattle.statement_lowering.specs.continuations.Statements.{Agrees, turn_by}
 use Rattle.statement_lowering.proofs.continuations_lemmas.Within.{within-le, within-in, within-nodes, within-arms, within-loop, find_below, find_first, find_left, find_other, agrees_first, agrees_right, agrees_behind}
 
 abbrev turn_label : Bool → ℕ → Label
-turn_label is_head place = if is_head then head place else third place
+turn_label is_head place = if is_head then loop_head_label place else loop_step_label place
 
 above : (is_head : Bool) (place : ℕ) → 3 * place < turn_label is_head place
 above true place = omega arith
@@ -25,12 +25,12 @@ below false place = omega arith
 
 -- of the nodes of a loop
 third_row : (control : Control) (place : ℕ) (after : End) →
-    find (third place) (if has_third control then node (third place) (third_by (Some control) place after) ∷ [] else []) ≡ third_by (Some control) place after
+    find (loop_step_label place) (if has_third control then node (loop_step_label place) (third_by (Some control) place after) ∷ [] else []) ≡ third_by (Some control) place after
 third_row (Times amount) place after = refl
 third_row (Until false test) place after = refl
-third_row (Until true test) place after = find_first (node (third place) (third_by (Some (Until true test)) place after)) []
-third_row (Varying false set step test) place after = find_first (node (third place) (third_by (Some (Varying false set step test)) place after)) []
-third_row (Varying true set step test) place after = find_first (node (third place) (third_by (Some (Varying true set step test)) place after)) []
+third_row (Until true test) place after = find_first (node (loop_step_label place) (third_by (Some (Until true test)) place after)) []
+third_row (Varying false set step test) place after = find_first (node (loop_step_label place) (third_by (Some (Varying false set step test)) place after)) []
+third_row (Varying true set step test) place after = find_first (node (loop_step_label place) (third_by (Some (Varying true set step test)) place after)) []
 
 abbrev loop_tree : Bool → Control → ℕ → Tree → End → Tree
 loop_tree true control place body after = head_by (Some control) place body after
@@ -38,20 +38,20 @@ loop_tree false control place body after = third_by (Some control) place after
 
 loop_row : (is_head : Bool) (control : Control) (place : ℕ) (body : Tree) (after : End) → find (turn_label is_head place) (loop_nodes control place body after) ≡ loop_tree is_head control place body after
 loop_row true control place body after =
-    ap (find (head place)) (nodes_are control place body after)
-    ∙ find_first (node (head place) (head_by (Some control) place body after)) (if has_third control then node (third place) (third_by (Some control) place after) ∷ [] else [])
+    ap (find (loop_head_label place)) (nodes_are control place body after)
+    ∙ find_first (node (loop_head_label place) (head_by (Some control) place body after)) (if has_third control then node (loop_step_label place) (third_by (Some control) place after) ∷ [] else [])
 loop_row false control place body after =
-    ap (find (third place)) (nodes_are control place body after)
-    ∙ find_other (third place) (node (head place) (head_by (Some control) place body after)) (if has_third control then node (third place) (third_by (Some control) place after) ∷ [] else []) (omega arith)
+    ap (find (loop_step_label place)) (nodes_are control place body after)
+    ∙ find_other (loop_step_label place) (node (loop_head_label place) (head_by (Some control) place body after)) (if has_third control then node (loop_step_label place) (third_by (Some control) place after) ∷ [] else []) (omega arith)
     ∙ third_row control place after
 
 -- as the tree of a loop has it
-loops_alike : (told : Told) (place_of : ℕ → ℕ) (is_head : Bool) (control : Control) (body : Stmts) (place : ℕ) (leaving : Leaving) (after : End) →
+loops_alike : (told : FlowFacts) (place_of : ℕ → ℕ) (is_head : Bool) (control : Control) (body : Stmts) (place : ℕ) (leaving : EscapeTargets) (after : End) →
     loop_tree is_head control place (body_tree told place_of (Some control) body place leaving after) after ≡ loop_at told place_of is_head (Some control) body place leaving after
 loops_alike told place_of true control body place leaving after = refl
 loops_alike told place_of false control body place leaving after = refl
 
-module _ (told : Told) (place_of : ℕ → ℕ) (is_head : Bool) (others : Stmts) (place : ℕ) (leaving : Leaving) (after : End) (behind : Tree) where
+module _ (told : FlowFacts) (place_of : ℕ → ℕ) (is_head : Bool) (others : Stmts) (place : ℕ) (leaving : EscapeTargets) (after : End) (behind : Tree) where
   -- of those of a statement
   turn_row : (built : Tree) (stmt : Stmt) →
       find (turn_label is_head place) (nodes_in told place_of stmt place leaving (leaf told place_of others (place + size stmt) after) built)
@@ -62,11 +62,11 @@ module _ (told : Told) (place_of : ℕ → ℕ) (is_head : Bool) (others : Stmts
       (within-arms told place_of arms (place + 1) leaving (leaf told place_of others (place + size (Choose picker arms)) after) built) (below is_head place)
   turn_row built (Loop control (Nested body)) =
       let next = leaf told place_of others (place + size (Loop control (Nested body))) after in
-      let turn = Jump (back control place) in
+      let turn = Jump (loop_back_label control place) in
       let inner = within_loop leaving next turn in
-      let body_built = build told place_of body (place + 1) inner turn (only turn) in
-      find_left (turn_label is_head place) (3 * place + 1) (3 * (place + 1)) _ (loop_nodes control place body_built next) (nodes told place_of body (place + 1) inner turn (only turn))
-      (within-loop control place body_built next) (within-nodes told place_of body (place + 1) inner turn (only turn)) (below is_head place)
+      let body_built = build told place_of body (place + 1) inner turn (end_alone turn) in
+      find_left (turn_label is_head place) (3 * place + 1) (3 * (place + 1)) _ (loop_nodes control place body_built next) (nodes told place_of body (place + 1) inner turn (end_alone turn))
+      (within-loop control place body_built next) (within-nodes told place_of body (place + 1) inner turn (end_alone turn)) (below is_head place)
       ∙ loop_row is_head control place body_built next
       ∙ loops_alike told place_of is_head control body place leaving next
   turn_row built (Loop control (Performed entry exit)) = refl

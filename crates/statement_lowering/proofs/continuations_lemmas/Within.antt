@@ -3,11 +3,11 @@ use Rattle.std.proofs.Common.{◌≡◌, ℕ, ◌+◌, ◌*◌, ◌≤◌, ◌<�
 use Rattle.std.proofs.lemmas.Bool.Decides.{eqb_tells}
 use Rattle.control_flow_theory.specs.language.Language.{Control, Times, Until, Varying, Stmt, Do, Choose, Loop, Perform, Go, GoDepending, NextSentence, ExitParagraph, ExitSection, ExitPerform, StopRun, Stmts, none, also, Arms, done, given, missing, Nested, Performed}
 use Rattle.control_flow_theory.specs.semantics.Graph.{Label, Tree, End, Jump, Dead}
-use Rattle.control_flow_theory.specs.lowering.Told.{Told}
+use Rattle.control_flow_theory.specs.lowering.FlowFacts.{FlowFacts}
 use Rattle.control_flow_theory.specs.lowering.Completes.{size, sizes, size_arms}
-use Rattle.control_flow_theory.specs.lowering.Lower.{back, build, leaf, Leaving, loop_nodes, Node, nodes, nodes_in, nodes_of_arms, only, within_loop}
+use Rattle.control_flow_theory.specs.lowering.Lower.{loop_back_label, build, leaf, EscapeTargets, loop_nodes, Node, nodes, nodes_in, nodes_of_arms, end_alone, within_loop}
 use Rattle.control_flow_theory.specs.lowering.Lowered.{find, Within}
-use Rattle.statement_lowering.specs.continuations.Spots.{Agrees}
+use Rattle.statement_lowering.specs.continuations.Statements.{Agrees}
 
 pub within-le : (a b : ℕ) (xs : List Node) → Within a b xs → a ≤ b
 within-le a b [] h = h
@@ -28,21 +28,21 @@ within-loop (Until true test) n body after = (omega arith, (omega arith, omega a
 within-loop (Varying false set step test) n body after = (omega arith, (omega arith, omega arith))
 within-loop (Varying true set step test) n body after = (omega arith, (omega arith, omega arith))
 
-module _ (told : Told) (place_of : ℕ → ℕ) where
+module _ (told : FlowFacts) (place_of : ℕ → ℕ) where
   mutual
-    pub within-in : (s : Stmt) (n : ℕ) (leaving : Leaving) (after : End) (behind : Tree) → Within (3 * n + 1) (3 * (n + size s)) (nodes_in told place_of s n leaving after behind)
+    pub within-in : (s : Stmt) (n : ℕ) (leaving : EscapeTargets) (after : End) (behind : Tree) → Within (3 * n + 1) (3 * (n + size s)) (nodes_in told place_of s n leaving after behind)
     within-in (Do act) n leaving after behind = omega arith
     within-in (Choose picker arms) n leaving after behind =
         let xs = nodes_of_arms told place_of arms (n + 1) leaving after behind in
         within-lower (3 * (n + 1)) (3 * n + 1) (3 * (n + (1 + size_arms arms))) xs (omega arith)
         (subst (λ e. Within (3 * (n + 1)) (3 * e) xs) (omega arith) (within-arms arms (n + 1) leaving after behind))
     within-in (Loop control (Nested body)) n leaving after behind =
-        let leaf_back = Jump (back control n) in
+        let leaf_back = Jump (loop_back_label control n) in
         let inner = within_loop leaving after leaf_back in
-        let ys = nodes told place_of body (n + 1) inner leaf_back (only leaf_back) in
-        within-append (3 * n + 1) (3 * (n + 1)) (3 * (n + (1 + sizes body))) (loop_nodes control n (build told place_of body (n + 1) inner leaf_back (only leaf_back)) after) ys
-        (within-loop control n (build told place_of body (n + 1) inner leaf_back (only leaf_back)) after)
-        (subst (λ e. Within (3 * (n + 1)) (3 * e) ys) (omega arith) (within-nodes body (n + 1) inner leaf_back (only leaf_back)))
+        let ys = nodes told place_of body (n + 1) inner leaf_back (end_alone leaf_back) in
+        within-append (3 * n + 1) (3 * (n + 1)) (3 * (n + (1 + sizes body))) (loop_nodes control n (build told place_of body (n + 1) inner leaf_back (end_alone leaf_back)) after) ys
+        (within-loop control n (build told place_of body (n + 1) inner leaf_back (end_alone leaf_back)) after)
+        (subst (λ e. Within (3 * (n + 1)) (3 * e) ys) (omega arith) (within-nodes body (n + 1) inner leaf_back (end_alone leaf_back)))
     within-in (Loop control (Performed e x)) n leaving after behind = omega arith
     within-in (Perform e x) n leaving after behind = omega arith
     within-in (Go to) n leaving after behind = omega arith
@@ -53,7 +53,7 @@ module _ (told : Told) (place_of : ℕ → ℕ) where
     within-in (ExitPerform cycle) n leaving after behind = omega arith
     within-in StopRun n leaving after behind = omega arith
 
-    pub within-nodes : (ss : Stmts) (n : ℕ) (leaving : Leaving) (after : End) (behind : Tree) → Within (3 * n) (3 * (n + sizes ss)) (nodes told place_of ss n leaving after behind)
+    pub within-nodes : (ss : Stmts) (n : ℕ) (leaving : EscapeTargets) (after : End) (behind : Tree) → Within (3 * n) (3 * (n + sizes ss)) (nodes told place_of ss n leaving after behind)
     within-nodes none n leaving after behind = omega arith
     within-nodes (also s ss) n leaving after behind =
         let ys = nodes told place_of ss (n + size s) leaving after behind in (
@@ -63,7 +63,7 @@ module _ (told : Told) (place_of : ℕ → ℕ) where
               (subst (λ e. Within (3 * (n + size s)) (3 * e) ys) (omega arith) (within-nodes ss (n + size s) leaving after behind)),
         )
 
-    pub within-arms : (arms : Arms) (n : ℕ) (leaving : Leaving) (after : End) (behind : Tree) → Within (3 * n) (3 * (n + size_arms arms)) (nodes_of_arms told place_of arms n leaving after behind)
+    pub within-arms : (arms : Arms) (n : ℕ) (leaving : EscapeTargets) (after : End) (behind : Tree) → Within (3 * n) (3 * (n + size_arms arms)) (nodes_of_arms told place_of arms n leaving after behind)
     within-arms done n leaving after behind = omega arith
     within-arms (given arm others) n leaving after behind =
         let ys = nodes_of_arms told place_of others (n + sizes arm) leaving after behind in
@@ -74,7 +74,7 @@ module _ (told : Told) (place_of : ℕ → ℕ) where
 
 -- What is found, by where it stands.
 
-pub find_below : (label a b : ℕ) (xs : List Node) → Within a b xs → label < a → find label xs ≡ only Dead
+pub find_below : (label a b : ℕ) (xs : List Node) → Within a b xs → label < a → find label xs ≡ end_alone Dead
 find_below label a b [] w lt = refl
 find_below label a b (x ∷ xs) w lt = elim (eqb_tells x.key label) [
   | inl e ↦ absurd (let k = e.1 in let m = w.0 in omega (arith, k, m, lt))

@@ -8,38 +8,39 @@ use Rattle.cob_tree.specs.declared.stmt.Stmt.{Stmt}
 use Rattle.control_flow_theory.specs.language.Control.{control_of, section_last, seen_paragraph}
 use Rattle.control_flow_theory.specs.language.Language as language
 use Rattle.control_flow_theory.specs.semantics.Graph as graph
-use Rattle.control_flow_theory.specs.lowering.Told.{Told}
+use Rattle.control_flow_theory.specs.lowering.FlowFacts.{FlowFacts}
 use Rattle.control_flow_theory.specs.lowering.Completes.{cuts, leave_sentence, sizes}
 use Rattle.control_flow_theory.specs.lowering.Lower as lower
 use Rattle.control_flow_theory.specs.lowering.Lowered.{lowered, place_in}
 use Rattle.control_flow_theory.specs.lowering.Rests.{Rest, Sent, leaf_of, leaving_of, rest_from, tree_of}
-use Rattle.lowering_labels.specs.declared.points.layout.Layout.{Layout}
-use Rattle.lowering_labels.specs.declared.points.leaf.Leaf.TheVariants as leaf
+use Rattle.lowering_labels.specs.declared.points.layout.PlaceTable.{PlaceTable}
+use Rattle.lowering_labels.specs.declared.points.jump_target.JumpTarget.TheVariants as leaf
 use Rattle.lowering_labels.specs.points.Layout.{IsLayout, paragraph_size}
-use Rattle.lowering_labels.specs.points.Leaf.{IsLeaf}
-use Rattle.statement_lowering.specs.declared.telling.Telling.{Telling}
-use Rattle.statement_lowering.specs.Along.{told_by}
+use Rattle.lowering_labels.specs.points.JumpTarget.{IsJumpTarget}
+use Rattle.statement_lowering.specs.declared.context.LoweringContext.{LoweringContext}
+use Rattle.statement_lowering.specs.LowerList.{flow_facts_by}
 use Rattle.statement_lowering.specs.declared.continuations.paragraphs.Begin.{Begin}
-use Rattle.statement_lowering.specs.declared.continuations.spot.Onward.{Onward}
-use Rattle.statement_lowering.specs.declared.continuations.spot.Spot.{Spot}
-use Rattle.statement_lowering.specs.continuations.Onward.{Lowering, begun}
-use Rattle.statement_lowering.specs.continuations.Spots.{Adds, Agrees, AllFit, AreRests, told}
+use Rattle.statement_lowering.specs.declared.continuations.continuation.Successors.{Successors}
+use Rattle.statement_lowering.specs.declared.continuations.continuation.Continuation.{Continuation}
+use Rattle.statement_lowering.specs.continuations.Successors.{Lowering, begun}
+use Rattle.statement_lowering.specs.continuations.Statements.{Adds, Agrees, AllFit, AreRests, told}
 
 -- behind the last sentence is the paragraph's end
 abbrev pub paragraph_end : Begin
 paragraph_end = record { after = leaf.Return; behind = None }
 
 -- the begin of a sentence at a place, by that of the next one
-pub record IsBegin (layout : Layout) (stmts : List Stmt) (place : ℕ) (next found : Begin) : Type 0
+pub record IsBegin (layout : PlaceTable) (stmts : List Stmt) (place : ℕ) (next found : Begin) : Type
+    0
   where
-    pub after : IsLeaf layout.places.items layout.end stmts place next.after found.after
+    pub after : IsJumpTarget layout.places.items layout.end stmts place next.after found.after
     pub behind : found.behind ≡ begun stmts place next.behind
 
 abbrev pub sentence_size : Sentence → ℕ
 sentence_size sentence = sum_by stmt_places sentence.stmts
 
 -- the begins of sentences from a place on, and of what stands behind them
-abbrev pub AreBegins : Layout → ℕ → List Sentence → List Begin → Type 0
+abbrev pub AreBegins : PlaceTable → ℕ → List Sentence → List Begin → Type 0
 AreBegins layout place [] found = found ≡ paragraph_end ∷ []
 AreBegins layout place (sentence ∷ others) [] = ⊥
 AreBegins layout place (sentence ∷ others) (first ∷ []) = ⊥
@@ -52,7 +53,7 @@ abbrev pub sentence_sizes : List Sentence → ℕ
 sentence_sizes sentences = sum_by sentence_size sentences
 
 -- and the first of them on top
-pub record AreStacked (layout : Layout) (place : ℕ) (sentences : List Sentence)
+pub record AreStacked (layout : PlaceTable) (place : ℕ) (sentences : List Sentence)
     (found : List Begin) : Type 0 where
   pub firsts : List Begin
   pub are : AreBegins layout place sentences firsts
@@ -64,7 +65,7 @@ IsTop begins found =
     (first : Begin) (others : List Begin) → begins ≡ reverse (first ∷ others) → found ≡ first
 
 -- one more, before the first
-abbrev pub AddsBegin : Layout → List Stmt → ℕ → (old new : List Begin) → Type 0
+abbrev pub AddsBegin : PlaceTable → List Stmt → ℕ → (old new : List Begin) → Type 0
 AddsBegin layout stmts place old new =
     (next : Begin) (others : List Begin) → old ≡ reverse (next ∷ others) →
     (first : Begin) × IsBegin layout stmts place next first × (new ≡ old ++ first ∷ [])
@@ -76,7 +77,7 @@ TakesTop old new found =
     (found ≡ first) × (new ≡ reverse others)
 
 -- where control goes on from a sentence, by the begin of the next one
-abbrev pub inside : Begin → Bool → ℕ → ℕ → Onward
+abbrev pub inside : Begin → Bool → ℕ → ℕ → Successors
 inside next leaves paragraph last = record {
   after = next.after;
   behind = if leaves then None else next.behind;
@@ -88,7 +89,7 @@ inside next leaves paragraph last = record {
 }
 
 -- a paragraph is left so
-abbrev pub left_at : (ℕ → graph.End) → ℕ → lower.Leaving
+abbrev pub left_at : (ℕ → graph.End) → ℕ → lower.EscapeTargets
 left_at ends number = record {
   sentence = ends number;
   paragraph = ends number;
@@ -97,7 +98,7 @@ left_at ends number = record {
   cycle = ends number;
 }
 
-module _ (told : Told) (place_of : ℕ → ℕ) (leaving : lower.Leaving) where
+module _ (told : FlowFacts) (place_of : ℕ → ℕ) (leaving : lower.EscapeTargets) where
   -- what stands behind the statements of a sentence
   abbrev pub rest_behind : language.Stmts → ℕ → language.Paragraph → Rest
   rest_behind sentence place others =
@@ -121,7 +122,7 @@ module _ (told : Told) (place_of : ℕ → ℕ) (leaving : lower.Leaving) where
       ∷ nodes_of_sentences (place + 1) paragraph
 
 -- the graph is one of what is told, and has the nodes of a paragraph
-pub record HasParagraph (telling : Telling) (g : Lowering telling.layout.now)
+pub record HasParagraph (telling : LoweringContext) (g : Lowering telling.layout.now)
     (paragraph : Paragraph) (place number last : ℕ) : Type 0 where
   pub files : g.files ≡ telling.files.now
   pub returning : g.returning ≡ telling.returning.now
@@ -130,7 +131,8 @@ pub record HasParagraph (telling : Telling) (g : Lowering telling.layout.now)
       (seen_paragraph last paragraph))
 
 -- its rests are added
-abbrev pub AddsParagraph : Telling → Paragraph → (number last : ℕ) → (old new : List Spot) →
+abbrev pub AddsParagraph : LoweringContext → Paragraph → (number last : ℕ) →
+    (old new : List Continuation) →
     Type 0
 AddsParagraph telling paragraph number last old new =
     Adds telling.layout.now (1 + paragraph_size paragraph)
@@ -142,12 +144,12 @@ EndsBefore paragraphs number last =
     (before : ℕ) → number ≡ before + 1 → last ≡ section_last before (drop number paragraphs)
 
 -- the graph of a range of a program
-abbrev pub graph_of : (telling : Telling) (program : Program) → language.Range →
+abbrev pub graph_of : (telling : LoweringContext) (program : Program) → language.Range →
     IsLayout program telling.layout.now.places.items telling.layout.now.end →
     Lowering telling.layout.now
 graph_of telling program range layout = record {
-  node = (lowered (told_by telling) (control_of program)).node range;
-  ends = lower.end_leaf (place_in (control_of program)) (control_of program) range;
+  node = (lowered (flow_facts_by telling) (control_of program)).node range;
+  ends = lower.paragraph_end_target (place_in (control_of program)) (control_of program) range;
   place_of = place_in (control_of program);
   at = layout.places_in;
   files = telling.files.now;
@@ -155,7 +157,8 @@ graph_of telling program range layout = record {
 }
 
 -- at each place of a program its rest, in each range
-pub record AreRestsOf (telling : Telling) (program : Program) (spots : List Spot) : Type 0 where
+pub record AreRestsOf (telling : LoweringContext) (program : Program)
+    (spots : List Continuation) : Type 0 where
   pub count : length spots ≡ telling.layout.now.end
   pub fit : AllFit telling.layout.now.end 0 spots
   pub rests : (range : language.Range)

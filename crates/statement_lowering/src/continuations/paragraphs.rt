@@ -7,19 +7,19 @@ ghost use Rattle.control_flow_theory.specs.language.OwnItems.{sentences_own, Nam
 ghost use Rattle.lowering_labels.specs.points.Layout.{IsLayout, paragraph_size};
 ghost use Rattle.statement_lowering.specs.continuations.Paragraphs.{AddsBegin, AddsParagraph, AreRestsOf, AreStacked, EndsBefore, IsBegin, IsTop, TakesTop, inside, paragraph_end, sentence_sizes};
 
-use crate::Telling;
-use crate::continuations::spot::{Onward, Spot};
+use crate::LoweringContext;
+use crate::continuations::continuation::{Continuation, Successors};
 use crate::continuations::statements::{begun, push_spot, push_stmts};
 use cob_base::NoMemory;
 use cob_tree::{Paragraph, Program, Sentence};
-use lowering_labels::points::{Leaf, leaf_of, section_last, stmts_size};
+use lowering_labels::points::{JumpTarget, jump_target_of, section_last, stmts_size};
 use program_facts::completion::stmts_facts;
 use std::alloc::Global;
 
 /// The continuation at a sentence's begin, and the place at which the tree goes on there.
 #[derive(Clone, Copy)]
 struct Begin {
-    after: Leaf,
+    after: JumpTarget,
     behind: Option<u32>,
 }
 
@@ -28,19 +28,19 @@ fn paragraph_end() -> Begin
     ensures { result ≡ paragraph_end }
 {
     Begin {
-        after: Leaf::Return,
+        after: JumpTarget::Return,
         behind: None,
     }
 }
 
 /// The begin of a sentence at a place, by that of the next one.
-fn begin_of(sentence: &Sentence, place: u32, next: &Begin, telling: &Telling<'_>) -> Begin
+fn begin_of(sentence: &Sentence, place: u32, next: &Begin, telling: &LoweringContext<'_>) -> Begin
     requires { place + sum_by stmt_places sentence.now.stmts < 2 ^ 32 }
     ensures { IsBegin telling.now.layout.now sentence.now.stmts place next.now result }
 {
     let stmts = sentence.stmts.as_slice();
     Begin {
-        after: leaf_of(stmts, place, telling.layout, next.after),
+        after: jump_target_of(stmts, place, telling.layout, next.after),
         behind: begun(stmts, place, next.behind),
     }
 }
@@ -64,7 +64,7 @@ fn push_begin(
     begins: &mut Vec<Begin>,
     sentence: &Sentence,
     place: u32,
-    telling: &Telling<'_>,
+    telling: &LoweringContext<'_>,
 ) -> Result<(), NoMemory>
     requires { place + sum_by stmt_places sentence.now.stmts < 2 ^ 32 }
     ensures { OnOk result (AddsBegin telling.now.layout.now sentence.now.stmts place
@@ -82,7 +82,7 @@ fn begins_of(
     alloc: Global,
     sentences: &[Sentence],
     end: u32,
-    telling: &Telling<'_>,
+    telling: &LoweringContext<'_>,
 ) -> Result<Vec<Begin>, NoMemory>
     requires fits { sentence_sizes sentences.now ≤ end }
     ensures { IfOk result (λ begins. AreStacked telling.now.layout.now
@@ -122,15 +122,15 @@ fn taken(begins: &mut Vec<Begin>) -> Begin
 
 /// Where control goes on from the statements of a sentence, by the begin of the next one. Where a
 /// NEXT SENTENCE stands in it, its end ends the tree.
-fn in_sentence(next: &Begin, leaves: bool, paragraph: u32, last: u32) -> Onward
+fn in_sentence(next: &Begin, leaves: bool, paragraph: u32, last: u32) -> Successors
     ensures { result ≡ inside next.now leaves paragraph last }
 {
-    Onward {
+    Successors {
         after: next.after,
         behind: if leaves { None } else { next.behind },
         sentence: next.after,
-        behind_loop: Leaf::Return,
-        cycle: Leaf::Return,
+        behind_loop: JumpTarget::Return,
+        cycle: JumpTarget::Return,
         paragraph,
         last,
     }
@@ -139,12 +139,12 @@ fn in_sentence(next: &Begin, leaves: bool, paragraph: u32, last: u32) -> Onward
 /// Adds the rests of a paragraph, whose place is the next one.
 fn push_paragraph<'a>(
     alloc: Global,
-    spots: &mut Vec<Spot<'a>>,
+    spots: &mut Vec<Continuation<'a>>,
     paragraph: &'a Paragraph,
     end: u32,
     number: u32,
     last: u32,
-    telling: &Telling<'_>,
+    telling: &LoweringContext<'_>,
 ) -> Result<(), NoMemory>
     requires place { length spots.old.items + 1 + paragraph_size paragraph.now ≡ end }
     requires fits { end ≤ telling.now.layout.now.end }
@@ -182,11 +182,11 @@ fn section_end(paragraphs: &[Paragraph], number: u32, last: u32) -> u32
 }
 
 /// The rests at all places of a program.
-pub fn spots_of<'a>(
+pub fn continuations_of<'a>(
     alloc: Global,
     program: &'a Program,
-    telling: &Telling<'_>,
-) -> Result<Vec<Spot<'a>>, NoMemory>
+    telling: &LoweringContext<'_>,
+) -> Result<Vec<Continuation<'a>>, NoMemory>
     requires layout { IsLayout program.now telling.now.layout.now.places.items
         telling.now.layout.now.end }
     requires small { telling.now.layout.now.end < 2 ^ 31 }

@@ -6,14 +6,14 @@ ghost use Rattle.control_flow_theory.specs.language.All.{all};
 ghost use Rattle.control_flow_theory.specs.language.Control.{control_in};
 ghost use Rattle.control_flow_theory.specs.language.OwnItems.{arms_own, stmt_own, stmts_own, when_own};
 ghost use Rattle.statement_lowering.specs.Arms.{phrase_arms, phrase_own, phrase_places};
-ghost use Rattle.statement_lowering.specs.continuations.Onward.{GoesLater, IsBefore, IsInLoop, begun};
-ghost use Rattle.statement_lowering.specs.continuations.Spots.{AddsArms, AddsRests, AddsSpot, AddsTurns, AddsWithin, branch_arms, inner_places, phrase_alone};
+ghost use Rattle.statement_lowering.specs.continuations.Successors.{GoesLater, IsBefore, IsInLoop, begun};
+ghost use Rattle.statement_lowering.specs.continuations.Statements.{AddsArms, AddsRests, AddsContinuation, AddsTurns, AddsWithin, branch_arms, inner_places, phrase_alone};
 
-use crate::continuations::spot::{Onward, Spot};
+use crate::continuations::continuation::{Continuation, Successors};
 use crate::{rest_at, turn_leaf};
 use cob_base::{Items, NoMemory};
 use cob_tree::{Arms, Control, Stmt, When};
-use lowering_labels::points::{Layout, Leaf, leaf_of, stmt_size};
+use lowering_labels::points::{JumpTarget, PlaceTable, jump_target_of, stmt_size};
 
 /// The place at which the tree goes on before these statements.
 pub fn begun(rest: &[Stmt], place: u32, next: Option<u32>) -> Option<u32>
@@ -26,12 +26,12 @@ pub fn begun(rest: &[Stmt], place: u32, next: Option<u32>) -> Option<u32>
 }
 
 /// Where control goes on behind the statement before these, whose first has this place.
-fn before_rest(onward: &Onward, rest: &[Stmt], place: u32, layout: &Layout) -> Onward
+fn before_rest(onward: &Successors, rest: &[Stmt], place: u32, layout: &PlaceTable) -> Successors
     requires { place + sum_by stmt_places rest.now < 2 ^ 32 }
     ensures { IsBefore layout.now rest.now place onward.now result }
 {
-    Onward {
-        after: leaf_of(rest, place, layout, onward.after),
+    Successors {
+        after: jump_target_of(rest, place, layout, onward.after),
         behind: begun(rest, place, onward.behind),
         sentence: onward.sentence,
         behind_loop: onward.behind_loop,
@@ -42,12 +42,12 @@ fn before_rest(onward: &Onward, rest: &[Stmt], place: u32, layout: &Layout) -> O
 }
 
 /// Where control goes on in the body of a loop at a place.
-fn in_loop(onward: &Onward, control: &Control, place: u32) -> Onward
+fn in_loop(onward: &Successors, control: &Control, place: u32) -> Successors
     ensures { IsInLoop (control_in control.now) place onward.now result }
 {
     let turn = turn_leaf(control, place);
     let cycle = turn;
-    Onward {
+    Successors {
         after: turn,
         behind: None,
         sentence: onward.sentence,
@@ -71,13 +71,13 @@ fn is_once(control: &Control) -> bool
 }
 
 pub fn push_spot<'a>(
-    spots: &mut Vec<Spot<'a>>,
+    spots: &mut Vec<Continuation<'a>>,
     stmts: &'a [Stmt],
-    onward: &Onward,
+    onward: &Successors,
 ) -> Result<(), NoMemory>
-    ensures { OnOk result (AddsSpot stmts.now onward.now spots.old.items spots.new.items) }
+    ensures { OnOk result (AddsContinuation stmts.now onward.now spots.old.items spots.new.items) }
 {
-    let spot = Spot {
+    let spot = Continuation {
         stmts,
         onward: *onward,
     };
@@ -90,10 +90,10 @@ pub fn push_spot<'a>(
 /// Adds the rests of statements, the first of which has the next place.
 #[cycle(spots)]
 pub fn push_stmts<'a>(
-    spots: &mut Vec<Spot<'a>>,
+    spots: &mut Vec<Continuation<'a>>,
     stmts: &'a [Stmt],
-    layout: &Layout,
-    onward: &Onward,
+    layout: &PlaceTable,
+    onward: &Successors,
 ) -> Result<(), NoMemory>
     requires own { IsTrue (stmts_own stmts.now) }
     requires fits { length spots.old.items + sum_by stmt_places stmts.now ≤ layout.now.end }
@@ -118,11 +118,11 @@ pub fn push_stmts<'a>(
 /// Adds the rests of the lists of a statement at a place.
 #[cycle(spots)]
 fn push_within<'a>(
-    spots: &mut Vec<Spot<'a>>,
+    spots: &mut Vec<Continuation<'a>>,
     stmt: &'a Stmt,
     place: u32,
-    layout: &Layout,
-    onward: &Onward,
+    layout: &PlaceTable,
+    onward: &Successors,
 ) -> Result<(), NoMemory>
     requires place { place + 1 ≡ length spots.old.items }
     requires own { IsTrue (stmt_own stmt.now) }
@@ -182,10 +182,10 @@ fn push_within<'a>(
 
 #[cycle(spots)]
 fn push_whens<'a>(
-    spots: &mut Vec<Spot<'a>>,
+    spots: &mut Vec<Continuation<'a>>,
     whens: &'a [When],
-    layout: &Layout,
-    onward: &Onward,
+    layout: &PlaceTable,
+    onward: &Successors,
 ) -> Result<(), NoMemory>
     requires own { IsTrue (all (map when_own whens.now)) }
     requires fits { length spots.old.items + sum_by when_places whens.now ≤ layout.now.end }
@@ -204,10 +204,10 @@ fn push_whens<'a>(
 /// Adds the rests of a list that may be missing.
 #[cycle(spots)]
 fn push_phrase<'a>(
-    spots: &mut Vec<Spot<'a>>,
+    spots: &mut Vec<Continuation<'a>>,
     phrase: &'a Option<Items<Stmt>>,
-    layout: &Layout,
-    onward: &Onward,
+    layout: &PlaceTable,
+    onward: &Successors,
 ) -> Result<(), NoMemory>
     requires own { IsTrue (phrase_own phrase.now) }
     requires fits { length spots.old.items + phrase_places phrase.now ≤ layout.now.end }
@@ -228,10 +228,10 @@ fn push_phrase<'a>(
 
 #[cycle(spots)]
 fn push_arms<'a>(
-    spots: &mut Vec<Spot<'a>>,
+    spots: &mut Vec<Continuation<'a>>,
     arms: &'a Arms,
-    layout: &Layout,
-    onward: &Onward,
+    layout: &PlaceTable,
+    onward: &Successors,
 ) -> Result<(), NoMemory>
     requires own { IsTrue (arms_own arms.now) }
     requires fits { length spots.old.items + arms_places arms.now ≤ layout.now.end }
@@ -249,12 +249,12 @@ fn push_arms<'a>(
 /// Adds the rests of the body of a loop at a place.
 #[cycle(spots)]
 fn push_turns<'a>(
-    spots: &mut Vec<Spot<'a>>,
+    spots: &mut Vec<Continuation<'a>>,
     control: &Control,
     turns: &'a [Stmt],
     place: u32,
-    layout: &Layout,
-    onward: &Onward,
+    layout: &PlaceTable,
+    onward: &Successors,
 ) -> Result<(), NoMemory>
     requires place { place + 1 ≡ length spots.old.items }
     requires own { IsTrue (stmts_own turns.now) }

@@ -10,9 +10,9 @@ use cobol_grammar::stmt_forms::{ArithmeticVerb, NotPhrase, Phrase};
 use parser_combinators::{Cursor, Unread, Why};
 
 /// Takes nothing, where a level is left.
-#[tactic(auto, unfolding(cobol_grammar::specs::stmt_forms::Stmt::enter))]
-pub fn enter(cursor: &Cursor<'_>, levels: u32) -> Result<(), Unread>
-    ensures { Reads ((all.enter levels).reads cursor.now) result cursor.now }
+#[tactic(auto, unfolding(cobol_grammar::specs::stmt_forms::Stmt::enter_level))]
+pub fn enter_level(cursor: &Cursor<'_>, levels: u32) -> Result<(), Unread>
+    ensures { Reads ((all.enter_level levels).reads cursor.now) result cursor.now }
 {
     if levels == 0 {
         Err(Unread::Stop(Why::Nesting))
@@ -62,17 +62,17 @@ fn phrase_words(cursor: &mut Cursor<'_>, phrase: Phrase) -> Result<(), Unread>
 
 #[tactic(auto, unfolding(cobol_grammar::specs::stmt_forms::Arms::entering_words))]
 fn entering_words(cursor: &mut Cursor<'_>, phrase: Phrase, levels: u32) -> Result<(), Unread>
-    ensures { Reads ((forms.entering_words phrase (all.enter levels)).reads cursor.old)
+    ensures { Reads ((forms.entering_words phrase (all.enter_level levels)).reads cursor.old)
         result cursor.new }
 {
-    enter(cursor, levels)?;
+    enter_level(cursor, levels)?;
     phrase_words(cursor, phrase)
 }
 
 /// Takes the words of a first phrase, where they are next, and tells whether they were.
 #[tactic(auto, unfolding(cobol_grammar::specs::stmt_forms::Arms::first_phrase))]
 pub fn first_phrase(cursor: &mut Cursor<'_>, phrase: Phrase, levels: u32) -> Result<bool, Unread>
-    ensures { Reads ((forms.first_phrase phrase (all.enter levels)).reads cursor.old)
+    ensures { Reads ((forms.first_phrase phrase (all.enter_level levels)).reads cursor.old)
         result cursor.new }
 {
     if at_phrase(cursor, phrase) {
@@ -90,7 +90,7 @@ fn own_words(
     levels: u32,
     has_first: bool,
 ) -> Result<NotPhrase, Unread>
-    ensures { Reads ((forms.own_words phrase (all.enter levels) has_first).reads cursor.old)
+    ensures { Reads ((forms.own_words phrase (all.enter_level levels) has_first).reads cursor.old)
         result cursor.new }
 {
     if has_first {
@@ -108,7 +108,7 @@ fn behind_not(
     levels: u32,
     has_first: bool,
 ) -> Result<NotPhrase, Unread>
-    ensures { Reads ((forms.behind_not phrase (all.enter levels) has_first).reads cursor.old)
+    ensures { Reads ((forms.behind_not phrase (all.enter_level levels) has_first).reads cursor.old)
         result cursor.new }
 {
     if at_phrase(cursor, phrase) {
@@ -125,7 +125,7 @@ fn not_or_none(
     levels: u32,
     has_first: bool,
 ) -> Result<NotPhrase, Unread>
-    ensures { Reads ((forms.not_or_none phrase (all.enter levels) has_first).reads cursor.old)
+    ensures { Reads ((forms.not_or_none phrase (all.enter_level levels) has_first).reads cursor.old)
         result cursor.new }
 {
     if cursor.sees(b"NOT") {
@@ -143,13 +143,13 @@ pub fn not_phrase(
     phrase: Phrase,
     levels: u32,
     has_first: bool,
-    not_read: bool,
+    pending_not: bool,
 ) -> Result<NotPhrase, Unread>
-    ensures { Reads ((forms.not_phrase phrase (all.enter levels) has_first not_read).reads
+    ensures { Reads ((forms.not_phrase phrase (all.enter_level levels) has_first pending_not).reads
         cursor.old)
         result cursor.new }
 {
-    if not_read {
+    if pending_not {
         behind_not(cursor, phrase, levels, has_first)
     } else {
         not_or_none(cursor, phrase, levels, has_first)
@@ -158,10 +158,10 @@ pub fn not_phrase(
 
 /// Takes the word that ends a statement, where it is next, unless NOT was read.
 #[tactic(auto, unfolding(cobol_grammar::specs::stmt_forms::Arms::end_word))]
-pub fn end_word(cursor: &mut Cursor<'_>, word: &[u8], not_read: bool) -> Result<(), Unread>
-    ensures { Reads ((forms.end_word word.now not_read).reads cursor.old) result cursor.new }
+pub fn end_word(cursor: &mut Cursor<'_>, word: &[u8], pending_not: bool) -> Result<(), Unread>
+    ensures { Reads ((forms.end_word word.now pending_not).reads cursor.old) result cursor.new }
 {
-    if !not_read {
+    if !pending_not {
         cursor.maybe(word);
     }
     Ok(())
@@ -169,14 +169,18 @@ pub fn end_word(cursor: &mut Cursor<'_>, word: &[u8], not_read: bool) -> Result<
 
 /// Takes the word that ends arithmetic, where it is next, unless NOT was read.
 #[tactic(auto, unfolding(cobol_grammar::specs::stmt_forms::Arms::end_work))]
-pub fn end_work(cursor: &mut Cursor<'_>, verb: ArithmeticVerb, not_read: bool) -> Result<(), Unread>
-    ensures { Reads ((forms.end_work verb not_read).reads cursor.old) result cursor.new }
+pub fn end_work(
+    cursor: &mut Cursor<'_>,
+    verb: ArithmeticVerb,
+    pending_not: bool,
+) -> Result<(), Unread>
+    ensures { Reads ((forms.end_work verb pending_not).reads cursor.old) result cursor.new }
 {
     match verb {
-        ArithmeticVerb::Add => end_word(cursor, b"END-ADD", not_read),
-        ArithmeticVerb::Subtract => end_word(cursor, b"END-SUBTRACT", not_read),
-        ArithmeticVerb::Multiply => end_word(cursor, b"END-MULTIPLY", not_read),
-        ArithmeticVerb::Divide => end_word(cursor, b"END-DIVIDE", not_read),
-        ArithmeticVerb::Compute => end_word(cursor, b"END-COMPUTE", not_read),
+        ArithmeticVerb::Add => end_word(cursor, b"END-ADD", pending_not),
+        ArithmeticVerb::Subtract => end_word(cursor, b"END-SUBTRACT", pending_not),
+        ArithmeticVerb::Multiply => end_word(cursor, b"END-MULTIPLY", pending_not),
+        ArithmeticVerb::Divide => end_word(cursor, b"END-DIVIDE", pending_not),
+        ArithmeticVerb::Compute => end_word(cursor, b"END-COMPUTE", pending_not),
     }
 }

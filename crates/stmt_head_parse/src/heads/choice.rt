@@ -6,7 +6,7 @@ ghost use Rattle.parser_combinators.specs.Reading.{Reads};
 ghost use Rattle.cobol_grammar.specs.stmt_forms.Choice as forms;
 ghost use Rattle.cobol_grammar.specs.stmt_forms.Stmt as all;
 
-use crate::heads::arms::enter;
+use crate::heads::arms::enter_level;
 use cob_base::Items;
 use cob_tree::{Cond, Expr, Subject, Test};
 use cobol_grammar::part_readers::{Parts, drop_condition, drop_expr, drop_tests, test_added};
@@ -17,8 +17,8 @@ use std::alloc::Global;
 fn settled(cursor: &Cursor<'_>, found: (Cond, bool)) -> Result<Cond, Unread>
     ensures { Reads ((forms.settled found).reads cursor.now) result cursor.now }
 {
-    let (cond, not_read) = found;
-    if not_read {
+    let (cond, pending_not) = found;
+    if pending_not {
         drop_condition(cond);
         Err(Unread::Stop(Why::Syntax))
     } else {
@@ -42,10 +42,10 @@ pub fn if_head<P: Parts>(
     cursor: &mut Cursor<'_>,
     levels: u32,
 ) -> Result<Cond, Unread>
-    ensures { Reads ((forms.if_head (P.parts parts.now) (all.enter levels)).reads cursor.old)
+    ensures { Reads ((forms.if_head (P.parts parts.now) (all.enter_level levels)).reads cursor.old)
         result cursor.new }
 {
-    enter(cursor, levels)?;
+    enter_level(cursor, levels)?;
     cursor.key(b"IF")?;
     let cond = test_cond(parts, alloc, cursor)?;
     cursor.maybe(b"THEN");
@@ -369,10 +369,11 @@ pub fn evaluate_head<P: Parts>(
     cursor: &mut Cursor<'_>,
     levels: u32,
 ) -> Result<(Subject, Option<P::Known>), Unread>
-    ensures { Reads ((forms.evaluate_head (P.parts parts.now) (all.enter levels)).reads cursor.old)
+    ensures { Reads
+        ((forms.evaluate_head (P.parts parts.now) (all.enter_level levels)).reads cursor.old)
         result cursor.new }
 {
-    enter(cursor, levels)?;
+    enter_level(cursor, levels)?;
     cursor.key(b"EVALUATE")?;
     subject(parts, alloc, cursor)
 }

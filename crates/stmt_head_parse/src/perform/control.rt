@@ -8,7 +8,7 @@ ghost use Rattle.cobol_grammar.specs.stmt_forms.Loop as forms;
 ghost use Rattle.cobol_grammar.specs.stmt_forms.Stmt as all;
 ghost use Rattle.stmt_head_parse.specs.perform.Step as steps;
 
-use crate::heads::{at_thru, enter, thru};
+use crate::heads::{at_thru, enter_level, thru};
 use cob_base::{Boxed, Text, Word};
 use cob_tree::{Control, Operand, Place, Stmt};
 use cobol_grammar::part_readers::{
@@ -76,8 +76,8 @@ fn until_cond<P: Parts>(
         result cursor.new }
 {
     cursor.key(b"UNTIL")?;
-    let (cond, not_read) = parts.cond(alloc, cursor)?;
-    Ok((Control::Until { after, cond }, not_read))
+    let (cond, pending_not) = parts.cond(alloc, cursor)?;
+    Ok((Control::Until { after, cond }, pending_not))
 }
 
 #[tactic(auto, unfolding(cobol_grammar::specs::stmt_forms::Loop::varied))]
@@ -119,7 +119,7 @@ fn varying_all<P: Parts>(
         result cursor.new }
 {
     match parts.cond(alloc, cursor) {
-        Ok((cond, not_read)) => {
+        Ok((cond, pending_not)) => {
             let control = Control::Varying {
                 after,
                 item,
@@ -127,7 +127,7 @@ fn varying_all<P: Parts>(
                 by,
                 cond,
             };
-            Ok((control, not_read))
+            Ok((control, pending_not))
         }
         Err(stop) => {
             drop_item(item.into_inner());
@@ -275,8 +275,8 @@ fn times_control<P: Parts>(
 fn inline(cursor: &Cursor<'_>, control: (Control, bool)) -> Result<PerformHead, Unread>
     ensures { Reads ((forms.inline control).reads cursor.now) result cursor.now }
 {
-    let (control, not_read) = control;
-    if not_read {
+    let (control, pending_not) = control;
+    if pending_not {
         drop_loop_control(control);
         Err(Unread::Stop(Why::Syntax))
     } else {
@@ -291,10 +291,11 @@ fn until_head<P: Parts>(
     cursor: &mut Cursor<'_>,
     levels: u32,
 ) -> Result<PerformHead, Unread>
-    ensures { Reads ((forms.until_head (P.parts parts.now) (all.enter levels)).reads cursor.old)
+    ensures { Reads
+        ((forms.until_head (P.parts parts.now) (all.enter_level levels)).reads cursor.old)
         result cursor.new }
 {
-    enter(cursor, levels)?;
+    enter_level(cursor, levels)?;
     let control = until_control(parts, alloc, cursor)?;
     inline(cursor, control)
 }
@@ -321,11 +322,11 @@ fn item_head<P: Parts>(
     name: &Word,
     position: Position,
 ) -> Result<PerformHead, Unread>
-    ensures { Reads ((forms.item_head (P.parts parts.now) (all.enter levels) name.now
+    ensures { Reads ((forms.item_head (P.parts parts.now) (all.enter_level levels) name.now
         position).reads cursor.old)
         result cursor.new }
 {
-    enter(cursor, levels)?;
+    enter_level(cursor, levels)?;
     let side = parts.reference_behind(alloc, cursor, name, position)?;
     times_head(parts, cursor, side)
 }
@@ -338,11 +339,11 @@ fn digits_head<P: Parts>(
     digits: Text,
     position: Position,
 ) -> Result<PerformHead, Unread>
-    ensures { Reads ((forms.digits_head (P.parts parts.now) (all.enter levels) digits
+    ensures { Reads ((forms.digits_head (P.parts parts.now) (all.enter_level levels) digits
         position).reads cursor.old)
         result cursor.new }
 {
-    enter(cursor, levels)?;
+    enter_level(cursor, levels)?;
     let side = parts.digits_side(digits, position);
     times_head(parts, cursor, side)
 }
@@ -354,10 +355,11 @@ fn operand_head<P: Parts>(
     cursor: &mut Cursor<'_>,
     levels: u32,
 ) -> Result<PerformHead, Unread>
-    ensures { Reads ((forms.operand_head (P.parts parts.now) (all.enter levels)).reads cursor.old)
+    ensures { Reads
+        ((forms.operand_head (P.parts parts.now) (all.enter_level levels)).reads cursor.old)
         result cursor.new }
 {
-    enter(cursor, levels)?;
+    enter_level(cursor, levels)?;
     let side = parts.operand(alloc, cursor)?;
     times_head(parts, cursor, side)
 }
@@ -424,13 +426,13 @@ fn perform_named<P: Parts>(
 {
     let (entry, exit) = procedure_named(parts, cursor, name, position)?;
     let exit = exit_of(parts, alloc, cursor, exit)?;
-    let (control, not_read) = control_part(parts, alloc, cursor)?;
+    let (control, pending_not) = control_part(parts, alloc, cursor)?;
     let stmt = Stmt::Perform {
         entry,
         exit,
         control,
     };
-    Ok(PerformHead::Whole(stmt, not_read))
+    Ok(PerformHead::Whole(stmt, pending_not))
 }
 
 #[tactic(auto, unfolding(cobol_grammar::specs::stmt_forms::Loop::continues_item))]
@@ -447,7 +449,8 @@ fn perform_name<P: Parts>(
     cursor: &mut Cursor<'_>,
     levels: u32,
 ) -> Result<PerformHead, Unread>
-    ensures { Reads ((forms.perform_name (P.parts parts.now) (all.enter levels)).reads cursor.old)
+    ensures { Reads
+        ((forms.perform_name (P.parts parts.now) (all.enter_level levels)).reads cursor.old)
         result cursor.new }
 {
     let (name, position) = cursor.word()?;
@@ -465,7 +468,8 @@ fn perform_digits<P: Parts>(
     cursor: &mut Cursor<'_>,
     levels: u32,
 ) -> Result<PerformHead, Unread>
-    ensures { Reads ((forms.perform_digits (P.parts parts.now) (all.enter levels)).reads cursor.old)
+    ensures { Reads
+        ((forms.perform_digits (P.parts parts.now) (all.enter_level levels)).reads cursor.old)
         result cursor.new }
 {
     let (digits, position) = cursor.digits(alloc)?;
@@ -495,7 +499,7 @@ fn perform_operand<P: Parts>(
     cursor: &mut Cursor<'_>,
     levels: u32,
 ) -> Result<PerformHead, Unread>
-    ensures { Reads ((forms.perform_operand (P.parts parts.now) (all.enter levels)).reads
+    ensures { Reads ((forms.perform_operand (P.parts parts.now) (all.enter_level levels)).reads
         cursor.old)
         result cursor.new }
 {
@@ -515,7 +519,8 @@ fn perform_other<P: Parts>(
     cursor: &mut Cursor<'_>,
     levels: u32,
 ) -> Result<PerformHead, Unread>
-    ensures { Reads ((forms.perform_other (P.parts parts.now) (all.enter levels)).reads cursor.old)
+    ensures { Reads
+        ((forms.perform_other (P.parts parts.now) (all.enter_level levels)).reads cursor.old)
         result cursor.new }
 {
     if at_digits(cursor) {
@@ -532,7 +537,8 @@ fn perform_behind<P: Parts>(
     cursor: &mut Cursor<'_>,
     levels: u32,
 ) -> Result<PerformHead, Unread>
-    ensures { Reads ((forms.perform_behind (P.parts parts.now) (all.enter levels)).reads cursor.old)
+    ensures { Reads
+        ((forms.perform_behind (P.parts parts.now) (all.enter_level levels)).reads cursor.old)
         result cursor.new }
 {
     if at_until(cursor) {
@@ -552,7 +558,8 @@ pub fn perform_head<P: Parts>(
     cursor: &mut Cursor<'_>,
     levels: u32,
 ) -> Result<PerformHead, Unread>
-    ensures { Reads ((forms.perform_head (P.parts parts.now) (all.enter levels)).reads cursor.old)
+    ensures { Reads
+        ((forms.perform_head (P.parts parts.now) (all.enter_level levels)).reads cursor.old)
         result cursor.new }
 {
     cursor.key(b"PERFORM")?;

@@ -6,8 +6,8 @@ use Rattle.std.specs.Str.{bytes_eq}
 use Rattle.std.proofs.lemmas.Iterator.Adapters.{position_from-zero}
 use Rattle.std.proofs.lemmas.List.{append_assoc, drop_at, get_or_at, length-append}
 use Rattle.std.proofs.lemmas.Option.{slice_get-get_or}
-use Rattle.symbol_tables.specs.declared.data_names.name.Found.{Found}
-use Rattle.symbol_tables.specs.declared.data_names.name.Found.TheVariants as found
+use Rattle.symbol_tables.specs.declared.data_names.name.Referent.{Referent}
+use Rattle.symbol_tables.specs.declared.data_names.name.Referent.TheVariants as found
 use Rattle.symbol_tables.specs.declared.data_names.name.Name.{Name}
 use Rattle.symbol_tables.specs.data_names.Index.{and_item, find_among, places_from, places_of, places_within, tally}
 use Rattle.symbol_tables.specs.data_names.Look.{are_within, find, fits, found_from, is_called}
@@ -28,7 +28,7 @@ drop-before before name names =
     ∙ drop_at (before ++ name ∷ []) names (length before + 1) (length-before before name)
 
 -- all items from a number on, as they are tallied
-tallied : (word : List ℕ) → (of : List (List ℕ)) → Found → (at : ℕ) → List Name → Found
+tallied : (word : List ℕ) → (of : List (List ℕ)) → Referent → (at : ℕ) → List Name → Referent
 tallied word of result at [] = result
 tallied word of result at (name ∷ names) =
     tallied word of (if fits word of name then and_item result at name else result) (at + 1) names
@@ -62,14 +62,14 @@ tallied-unknown word of before (name ∷ names) =
     go false h = h
 
 -- the entries that have what all have that fit
-among : (has : Name → Bool) (word : List ℕ) (of : List (List ℕ)) (result : Found) (before names : List Name) → ((name : Name) → fits word of name ≡ true → has name ≡ true) → fold (tally (before ++ names) word of) result (places_from has (length before) names) ≡ tallied word of result (length before) names
+among : (has : Name → Bool) (word : List ℕ) (of : List (List ℕ)) (result : Referent) (before names : List Name) → ((name : Name) → fits word of name ≡ true → has name ≡ true) → fold (tally (before ++ names) word of) result (places_from has (length before) names) ≡ tallied word of result (length before) names
 unfolding tallied
 among has word of result before [] needs = refl
 among has word of result before (name ∷ names) needs =
     go (has name) refl (fits word of name) refl
     (λ r. rw (length-before before name, append_assoc before (name ∷ []) names) at (among has word of r (before ++ name ∷ []) names needs))
   where
-    go : (b : Bool) → has name ≡ b → (f : Bool) → fits word of name ≡ f → ((r : Found) → fold (tally (before ++ name ∷ names) word of) r (places_from has (length before + 1) names) ≡ tallied word of r (length before + 1) names) → fold (tally (before ++ name ∷ names) word of) result (if b then length before ∷ places_from has (length before + 1) names else places_from has (length before + 1) names) ≡ tallied word of (if f then and_item result (length before) name else result) (length before + 1) names
+    go : (b : Bool) → has name ≡ b → (f : Bool) → fits word of name ≡ f → ((r : Referent) → fold (tally (before ++ name ∷ names) word of) r (places_from has (length before + 1) names) ≡ tallied word of r (length before + 1) names) → fold (tally (before ++ name ∷ names) word of) result (if b then length before ∷ places_from has (length before + 1) names else places_from has (length before + 1) names) ≡ tallied word of (if f then and_item result (length before) name else result) (length before + 1) names
     go true e f g next =
         let s : tally (before ++ name ∷ names) word of result (length before) ≡ (if f then and_item result (length before) name else result) = rw (slice_get-at before name names, g) refl in
         ap (λ r. fold (tally (before ++ name ∷ names) word of) r (places_from has (length before + 1) names)) s

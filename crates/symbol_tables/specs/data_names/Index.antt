@@ -5,8 +5,8 @@ use Rattle.std.specs.List.{fold, list_any}
 use Rattle.std.specs.Option.{unwrap_or}
 use Rattle.std.specs.Str.{bytes_eq}
 use Rattle.indexmap.specs.IndexMap.{IndexMap, get}
-use Rattle.symbol_tables.specs.declared.data_names.name.Found.{Found}
-use Rattle.symbol_tables.specs.declared.data_names.name.Found.TheVariants as found
+use Rattle.symbol_tables.specs.declared.data_names.name.Referent.{Referent}
+use Rattle.symbol_tables.specs.declared.data_names.name.Referent.TheVariants as found
 use Rattle.symbol_tables.specs.declared.data_names.name.Name.{Name}
 use Rattle.symbol_tables.specs.data_names.Look.{fits, is_called}
 
@@ -25,20 +25,20 @@ abbrev pub places_within : List ℕ → List Name → List ℕ
 places_within word names = places_from (λ name. list_any (bytes_eq word) name.above) 0 names
 
 -- what was found, and one item more
-abbrev pub and_item : Found → ℕ → Name → Found
+abbrev pub and_item : Referent → ℕ → Name → Referent
 and_item found.Unknown item name = found.Item item name.kind name.dims
 and_item _ item name = found.Ambiguous
 
 -- the item of this number too, where it fits
-abbrev pub tally_by : List ℕ → (of : List (List ℕ)) → Found → ℕ → Option Name → Found
+abbrev pub tally_by : List ℕ → (of : List (List ℕ)) → Referent → ℕ → Option Name → Referent
 tally_by word of result item None = result
 tally_by word of result item (Some name) =
     if fits word of name then and_item result item name else result
 
-abbrev pub tally : List Name → List ℕ → (of : List (List ℕ)) → Found → ℕ → Found
+abbrev pub tally : List Name → List ℕ → (of : List (List ℕ)) → Referent → ℕ → Referent
 tally names word of result item = tally_by word of result item (slice_get names item)
 
-abbrev pub find_among : List Name → List ℕ → (of : List (List ℕ)) → (places : List ℕ) → Found
+abbrev pub find_among : List Name → List ℕ → (of : List (List ℕ)) → (places : List ℕ) → Referent
 find_among names word of places = fold (tally names word of) found.Unknown places
 
 -- the numbers that an index has for a word

@@ -2,8 +2,8 @@
 use Rattle.std.specs.Prelude.{ℕ, ◌+◌, Bool, true, false, ◌&&◌, List, [], ◌∷◌, Option, Some, None, drop, position, slice_get, if◌then◌else◌}
 use Rattle.std.specs.List.{list_any}
 use Rattle.std.specs.Str.{bytes_eq}
-use Rattle.symbol_tables.specs.declared.data_names.name.Found.{Found}
-use Rattle.symbol_tables.specs.declared.data_names.name.Found.TheVariants as found
+use Rattle.symbol_tables.specs.declared.data_names.name.Referent.{Referent}
+use Rattle.symbol_tables.specs.declared.data_names.name.Referent.TheVariants as found
 use Rattle.symbol_tables.specs.declared.data_names.name.Name.{Name}
 use Rattle.symbol_tables.specs.data_names.Names.{Names}
 
@@ -22,22 +22,22 @@ is_called word (Some name) = bytes_eq word name
 abbrev pub fits : List ℕ → (of : List (List ℕ)) → Name → Bool
 fits word of name = is_called word name.word && are_within of name.above
 
-abbrev pub found_at : ℕ → Option Name → Found
+abbrev pub found_at : ℕ → Option Name → Referent
 found_at item None = found.Unknown
 found_at item (Some name) = found.Item item name.kind name.dims
 
 -- the first that fits, where none behind it does
-abbrev pub found_from : List Name → List ℕ → List (List ℕ) → Option ℕ → Found
+abbrev pub found_from : List Name → List ℕ → List (List ℕ) → Option ℕ → Referent
 found_from names word of None = found.Unknown
 found_from names word of (Some item) =
     if list_any (fits word of) (drop (item + 1) names)
     then found.Ambiguous
     else found_at item (slice_get names item)
 
-abbrev pub find : List Name → List ℕ → List (List ℕ) → Found
+abbrev pub find : List Name → List ℕ → List (List ℕ) → Referent
 find names word of = found_from names word of (position (fits word of) names)
 
-abbrev pub look : Names → List ℕ → List (List ℕ) → Found
+abbrev pub look : Names → List ℕ → List (List ℕ) → Referent
 look names word of = find names.items word of
 
 abbrev pub look_file : Names → List ℕ → Option ℕ

@@ -4,8 +4,8 @@ use Rattle.cob_tree.specs.declared.entry.Entry.{Entry}
 use Rattle.cob_tree.specs.declared.file.FileEntry.{FileEntry}
 use Rattle.cob_tree.specs.declared.picture.Picture.{Picture}
 use Rattle.cob_tree.specs.declared.picture.Picture.TheVariants as pictures
-use Rattle.symbol_tables.specs.declared.data_names.name.Kind.{Kind}
-use Rattle.symbol_tables.specs.declared.data_names.name.Kind.TheVariants as kinds
+use Rattle.symbol_tables.specs.declared.data_names.name.ItemKind.{ItemKind}
+use Rattle.symbol_tables.specs.declared.data_names.name.ItemKind.TheVariants as kinds
 use Rattle.symbol_tables.specs.declared.data_names.name.Name.{Name}
 use Rattle.symbol_tables.specs.data_names.Grouping.{bound_of, dims_in, group_words, groups_of, has_items, is_numbered}
 
@@ -14,7 +14,7 @@ pub record Names : Type 0 where
   pub items : List Name
   pub files : List (List ℕ)
 
-abbrev pub picture_kind : Option Picture → Kind
+abbrev pub picture_kind : Option Picture → ItemKind
 picture_kind (Some (pictures.Number signed whole part)) = kinds.Number (part == 0)
 picture_kind _ = kinds.Text
 
@@ -22,7 +22,7 @@ picture_kind _ = kinds.Text
 abbrev pub is_group : Entry → (behind : List Entry) → Bool
 is_group entry behind = is_numbered entry.level && has_items entry.level entry.file behind
 
-abbrev pub kind_of : Entry → (behind : List Entry) → Kind
+abbrev pub kind_of : Entry → (behind : List Entry) → ItemKind
 kind_of entry behind =
     if entry.level == 88 then kinds.Condition
     else (if is_group entry behind then kinds.Group else picture_kind entry.picture)

@@ -178,8 +178,8 @@ range_of table None = None
 range_of table (Some header) = Some (header.first, last_of table header)
 
 -- a header with the name of an earlier one
-abbrev pub again_fault : Option Header → Position → Option Note
-again_fault None position = None
-again_fault (Some header) position =
+abbrev pub duplicate_fault : Option Header → Position → Option Note
+duplicate_fault None position = None
+duplicate_fault (Some header) position =
     if header.index == position.index then None
     else Some (record { kind = Duplicate; position = position })

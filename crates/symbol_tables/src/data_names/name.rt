@@ -4,7 +4,7 @@ use cob_base::{Items, Word};
 
 /// What an item holds, as far as its uses go.
 #[derive(Clone, Copy, Debug, PartialEq, Eq)]
-pub enum Kind {
+pub enum ItemKind {
     /// A number; whether it is without decimals.
     Number { whole: bool },
     /// A lowest item of characters.
@@ -23,18 +23,22 @@ pub struct Name {
     /// What may qualify it: the names of the groups above it, the nearest first, and its file's.
     /// For a level 88 the first is its item's.
     pub above: Items<Word>,
-    pub kind: Kind,
+    pub kind: ItemKind,
     /// How many subscripts it takes.
     pub dims: usize,
 }
 
 /// What a reference stands for.
 #[derive(Clone, Copy, Debug, PartialEq, Eq)]
-pub enum Found {
+pub enum Referent {
     /// Nothing that is declared.
     Unknown,
     /// More than one item.
     Ambiguous,
     /// The entry of this number, from 0.
-    Item { item: u32, kind: Kind, dims: usize },
+    Item {
+        item: u32,
+        kind: ItemKind,
+        dims: usize,
+    },
 }

@@ -8,12 +8,12 @@ ghost use Rattle.symbol_tables.specs.data_names.Index.{and_item, find_among, num
 ghost use Rattle.symbol_tables.specs.data_names.Look as look;
 ghost use Rattle.symbol_tables.specs.data_names.Names as names;
 ghost use Rattle.symbol_tables.specs.data_names.Nesting as nested;
-ghost use Rattle.symbol_tables.specs.declared.data_names.name.Kind.TheVariants.{Condition, Group};
+ghost use Rattle.symbol_tables.specs.declared.data_names.name.ItemKind.TheVariants.{Condition, Group};
 
 use crate::data_names::above::groups_above;
 use crate::data_names::grouping::{has_items, is_numbered, repeats};
 use crate::data_names::index::{WordIndex, add_number, add_to_each, numbers_for};
-use crate::data_names::name::{Found, Kind, Name};
+use crate::data_names::name::{ItemKind, Name, Referent};
 use crate::data_names::nesting::{Nesting, nesting_at, nestings_of};
 use cob_base::{Items, NoMemory, Word};
 use cob_tree::{Entry, FileEntry, Picture};
@@ -70,7 +70,7 @@ impl NameTable {
     }
 
     /// The entry that a word with these qualifiers stands for.
-    pub fn look(&self, word: &Word, of: &[Word]) -> Found
+    pub fn look(&self, word: &Word, of: &[Word]) -> Referent
         ensures { result ≡ look.look self.now word.now of.now }
     {
         let places = numbers_for(&self.index, &self.within, word, of);
@@ -114,12 +114,12 @@ fn file_names(alloc: Global, files: &[FileEntry]) -> Result<Items<Word>, NoMemor
     Ok(words)
 }
 
-fn picture_kind(picture: Option<Picture>) -> Kind
+fn picture_kind(picture: Option<Picture>) -> ItemKind
     ensures { result ≡ names.picture_kind picture }
 {
     match picture {
-        Some(Picture::Number { part, .. }) => Kind::Number { whole: part == 0 },
-        _ => Kind::Text,
+        Some(Picture::Number { part, .. }) => ItemKind::Number { whole: part == 0 },
+        _ => ItemKind::Text,
     }
 }
 
@@ -130,14 +130,14 @@ pub fn is_group(entry: &Entry, behind: &[Entry]) -> bool
     is_numbered(entry.level) && has_items(entry.level, entry.file, behind)
 }
 
-fn kind_of(entry: &Entry, group: bool) -> Kind
+fn kind_of(entry: &Entry, group: bool) -> ItemKind
     ensures { result ≡ (if entry.now.level == 88 then Condition
         else (if group then Group else names.picture_kind entry.now.picture)) }
 {
     if entry.level == 88 {
-        Kind::Condition
+        ItemKind::Condition
     } else if group {
-        Kind::Group
+        ItemKind::Group
     } else {
         picture_kind(entry.picture)
     }
@@ -267,20 +267,20 @@ fn add_name(
     }
 }
 
-fn and_item(before: Found, item: u32, name: &Name) -> Found
+fn and_item(before: Referent, item: u32, name: &Name) -> Referent
     ensures { result ≡ and_item before item name.now }
 {
     match before {
-        Found::Unknown => Found::Item {
+        Referent::Unknown => Referent::Item {
             item,
             kind: name.kind,
             dims: name.dims,
         },
-        _ => Found::Ambiguous,
+        _ => Referent::Ambiguous,
     }
 }
 
-fn tally(names: &[Name], word: &Word, of: &[Word], before: Found, item: u32) -> Found
+fn tally(names: &[Name], word: &Word, of: &[Word], before: Referent, item: u32) -> Referent
     ensures { result ≡ tally names.now word.now of.now before item }
 {
     match names.get(item as usize) {
@@ -295,10 +295,10 @@ fn tally(names: &[Name], word: &Word, of: &[Word], before: Found, item: u32) -> 
     }
 }
 
-fn find_among(names: &[Name], places: &[u32], word: &Word, of: &[Word]) -> Found
+fn find_among(names: &[Name], places: &[u32], word: &Word, of: &[Word]) -> Referent
     ensures { result ≡ find_among names.now word.now of.now places.now }
 {
-    let mut found = Found::Unknown;
+    let mut found = Referent::Unknown;
     for place in places {
         found = tally(names, word, of, found, *place);
     }

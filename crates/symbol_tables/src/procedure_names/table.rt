@@ -69,8 +69,8 @@ impl ProcedureTable {
     }
 
     /// The fault of the header at this position, where an earlier one has its name.
-    pub fn again_fault(&self, name: &Word, position: Position) -> Option<Note>
-        ensures { result ≡ procedures.again_fault (procedures.header_of self.now name.now)
+    pub fn duplicate_fault(&self, name: &Word, position: Position) -> Option<Note>
+        ensures { result ≡ procedures.duplicate_fault (procedures.header_of self.now name.now)
             position }
     {
         match self.header_of(name) {

@@ -1,6 +1,6 @@
 use Rattle.std.proofs.Common.{◌==◌, ap, sym, ◌∙◌}
-use Rattle.control_flow_theory.specs.closing.Dispatches.{set_to, number_in}
-use Rattle.branch_tree.specs.Trees.{jump_within}
+use Rattle.control_flow_theory.specs.structuring.Dispatches.{set_to, number_in}
+use Rattle.branch_tree.specs.Tree.{jump_within}
 use Rattle.body_rendering.proofs.BodyRows.{adds_nothing}
 use Rattle.body_rendering.proofs.LeafRows.{jumps_on}
 use Rattle.body_rendering.proofs.leaves.add_jump.Goals as goal

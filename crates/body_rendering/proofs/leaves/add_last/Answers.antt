@@ -1,6 +1,6 @@
 use Rattle.std.proofs.Common.{ap, ◌∙◌}
 use Rattle.control_flow_theory.specs.graph_rules.Shapes.{last_stmts}
-use Rattle.branch_tree.specs.Trees.{seen_end}
+use Rattle.branch_tree.specs.Tree.{seen_end}
 use Rattle.branch_tree.proofs.TreeRows.{seen_pick, seen_jump, seen_return, seen_dead}
 use Rattle.body_rendering.proofs.BodyRows.{none_added}
 use Rattle.body_rendering.proofs.leaves.add_last.Goals as goal

@@ -1,5 +1,5 @@
 use Rattle.std.proofs.Common.{ap}
-use Rattle.branch_tree.specs.Trees.{return_within}
+use Rattle.branch_tree.specs.Tree.{return_within}
 use Rattle.body_rendering.proofs.BodyRows.{adds_nothing}
 use Rattle.body_rendering.proofs.leaves.add_return.Goals as goal
 

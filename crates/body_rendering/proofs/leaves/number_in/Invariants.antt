@@ -1,5 +1,5 @@
 use Rattle.std.proofs.Common.{◌≡◌, ◌≤◌, drop, length}
-use Rattle.control_flow_theory.specs.closing.Dispatches.{number_in}
+use Rattle.control_flow_theory.specs.structuring.Dispatches.{number_in}
 use Rattle.body_rendering.proofs.leaves.number_in.Given as goal
 
 abbrev pub invariant-loop-at : goal.invariant-loop-at

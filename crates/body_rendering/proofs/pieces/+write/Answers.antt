@@ -3,9 +3,9 @@ use Rattle.std.proofs.lemmas.Grind.{common_steps}
 use Rattle.std.proofs.lemmas.Result.{IfOk-weaker, on_ok_weaker}
 use Rattle.control_flow_theory.specs.language.Control.{seen_stmts}
 use Rattle.control_flow_theory.specs.graph_rules.Shapes.{alone, followed}
-use Rattle.branch_tree.specs.Trees.{seen_body, seen_piece}
+use Rattle.branch_tree.specs.Tree.{seen_body, seen_piece}
 use Rattle.statement_builders.specs.arms.Written.{all_written, written}
-use Rattle.body_rendering.specs.Bodies.{AddsLists, end_stmts, stated_choice, within_arm, within_loop}
+use Rattle.body_rendering.specs.Pieces.{AddsLists, end_stmts, stated_choice, within_arm, within_loop}
 use Rattle.body_rendering.proofs.BodyRows.{adds_nothing}
 use Rattle.body_rendering.proofs.PieceRows.{pieces_next, pieces_end, arms_next, arms_end, arm_row, stated_both, adds_same, chosen_made, stated_made, one_row, pick_is, dead_is}
 use Rattle.body_rendering.proofs.pieces.+write.Goals as goal

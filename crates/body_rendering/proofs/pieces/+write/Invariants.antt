@@ -1,9 +1,9 @@
 use Rattle.std.proofs.Common.{◌≡◌, ◌++◌, ◌+◌, ◌*◌, drop, map}
 use Rattle.control_flow_theory.specs.language.Control.{seen_stmts}
 use Rattle.control_flow_theory.specs.graph_rules.Shapes.{followed}
-use Rattle.branch_tree.specs.Trees.{seen_body}
+use Rattle.branch_tree.specs.Tree.{seen_body}
 use Rattle.statement_builders.specs.arms.Written.{all_written}
-use Rattle.body_rendering.specs.Bodies.{Each, within_arm, within_loop}
+use Rattle.body_rendering.specs.Pieces.{Each, within_arm, within_loop}
 use Rattle.body_rendering.proofs.pieces.+write.Given as goal
 
 abbrev pub invariant-add_pieces-loop-at : goal.invariant-add_pieces-loop-at

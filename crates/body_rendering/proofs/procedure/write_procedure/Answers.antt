@@ -1,5 +1,5 @@
 use Rattle.std.proofs.lemmas.Result.{IfOk-weaker}
-use Rattle.branch_tree.specs.Trees.{seen_tree}
+use Rattle.branch_tree.specs.Tree.{seen_tree}
 use Rattle.body_rendering.proofs.ProcedureRows.{sentence_row}
 use Rattle.body_rendering.proofs.procedure.write_procedure.Goals as goal
 

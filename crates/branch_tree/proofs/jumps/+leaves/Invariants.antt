@@ -1,6 +1,6 @@
 use Rattle.std.proofs.Common.{◌≡◌, ◌+◌, ◌-◌, ◌^◌, ◌<◌, min, drop}
 use Rattle.control_flow_theory.specs.graph_rules.Shapes.{arms_leaves_to}
-use Rattle.branch_tree.specs.Trees.{seen_trees}
+use Rattle.branch_tree.specs.Tree.{seen_trees}
 use Rattle.branch_tree.proofs.jumps.+leaves.Given as goal
 
 abbrev pub invariant-arms_leaves-loop-arm : goal.invariant-arms_leaves-loop-arm

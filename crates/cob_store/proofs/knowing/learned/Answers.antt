@@ -1,6 +1,6 @@
 use Rattle.std.proofs.Common.{rules, ◌≡◌, ◌∙◌, Some, slice_get, sym}
 use Rattle.cob_tree.specs.declared.place.Place.{out-Place}
-use Rattle.cob_store.specs.Known.{IsOf}
+use Rattle.cob_store.specs.ConstantPlace.{IsOf}
 use Rattle.cob_store.specs.Place.{memory_of, spot_of}
 use Rattle.cob_store.proofs.KnownLemmas.{learned_of}
 use Rattle.cob_store.proofs.knowing.learned.Goals as goal

@@ -4,10 +4,10 @@ use Rattle.meanings.specs.statements.Does.{declared_in}
 use Rattle.control_flow_theory.specs.language.Control.{control_of}
 use Rattle.control_flow_theory.specs.semantics.Source.{source_machine}
 use Rattle.control_flow_theory.specs.semantics.Structural.{structural}
-use Rattle.control_flow_theory.specs.agreement.Same as meanings
-use Rattle.control_flow_theory.proofs.agreement_lemmas.Tying.{tied-same}
-use Rattle.control_flow_theory.proofs.agreement_lemmas.Agreement.{structured-tied}
-use Rattle.control_flow_theory.proofs.agreement_lemmas.Faultless.{structured-faultless}
+use Rattle.control_flow_theory.specs.semantics_agree.Same as meanings
+use Rattle.control_flow_theory.proofs.semantics_agree_lemmas.Tying.{tied-same}
+use Rattle.control_flow_theory.proofs.semantics_agree_lemmas.Agreement.{structured-tied}
+use Rattle.control_flow_theory.proofs.semantics_agree_lemmas.Faultless.{structured-faultless}
 use Rattle.cobol_theory.specs.cobol_meaning.Runs.{files_left, first_memory, doing_in}
 use Rattle.cobol_theory.specs.cobol_meaning.Same.{SameBehaviour}
 use Rattle.cobol_theory.proofs.cobol_meaning.a_structured_program_behaves_as_itself.Goals as goal

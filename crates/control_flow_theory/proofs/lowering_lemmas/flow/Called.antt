@@ -7,9 +7,9 @@ use Rattle.control_flow_theory.specs.language.Items.{Turning, Counted, Tests, St
 use Rattle.control_flow_theory.specs.semantics.Items.{On, way_after, tried, to_one, item_way}
 use Rattle.control_flow_theory.specs.semantics.Source.{rest_of}
 use Rattle.control_flow_theory.specs.semantics.Graph.{Label, Tree, tree, End, Pick, Jump, Return, Stop, Dead, Trees, no_more, more, end_of, Family}
-use Rattle.control_flow_theory.specs.lowering.Told.{Told, IsSource, IsFirstMissing, MayGive, OwnStmt, OwnStmts, OwnArms, AllBelow, arm_count}
+use Rattle.control_flow_theory.specs.lowering.FlowFacts.{FlowFacts, IsSource, IsFirstMissing, MayGive, OwnStmt, OwnStmts, OwnArms, AllBelow, arm_count}
 use Rattle.control_flow_theory.specs.lowering.Completes.{completes, cut, cuts, cut_arms, whole, wholes, size, sizes, skips, first_is_dead}
-use Rattle.control_flow_theory.specs.lowering.Lower.{point, head, third, only, with_first, push, leaf, leaf_stmt, build, build_stmt, build_arms, depending, loop_start, loop_nodes, nodes, nodes_in, nodes_of_arms, fall_leaf, end_leaf, Leaving, leaving_at, within_loop}
+use Rattle.control_flow_theory.specs.lowering.Lower.{point, loop_head_label, loop_step_label, end_alone, with_first, push, leaf, leaf_stmt, build, build_stmt, build_arms, depending, loop_start, loop_nodes, nodes, nodes_in, nodes_of_arms, fall_leaf, paragraph_end_target, EscapeTargets, leaving_at, within_loop}
 use Rattle.control_flow_theory.specs.lowering.Rests.{Rest, From, Sent, Turns, Cut, turning_of, items_in, to_turn, after_sentence, uncut, rest_from, leaf_of, leaving_of, tree_of, Has, HasRest}
 use Rattle.control_flow_theory.specs.lowering.Rests as rests
 use Rattle.control_flow_theory.specs.lowering.flow.Comes.{begins, enters, goes_to, falls, entry_of, IsLowered, goes_to_end}
@@ -27,7 +27,7 @@ abbrev or_zero : Option ℕ → ℕ
 or_zero None = 0
 or_zero (Some n) = n
 
-module _ (told : Told) (program : Program) (source : IsSource told program) (exact : (entry exit : ℕ) → told.returning entry exit ≡ true → FreelyComes told program (Part entry exit) exit []) (range : Range) where
+module _ (told : FlowFacts) (program : Program) (source : IsSource told program) (exact : (entry exit : ℕ) → told.returning entry exit ≡ true → FreelyComes told program (Part entry exit) exit []) (range : Range) where
   abbrev count : ℕ
   count = length program.paragraphs
 
@@ -100,7 +100,7 @@ module _ (told : Told) (program : Program) (source : IsSource told program) (exa
   low : IsLowered told program (place_in program) family
   low = lowered-is-lowered told program
 
-  abbrev ending : ℕ → Leaving
+  abbrev ending : ℕ → EscapeTargets
   ending q = leaving_at places program range q
 
   abbrev Tr : ℕ → Rest → Tree
@@ -109,7 +109,7 @@ module _ (told : Told) (program : Program) (source : IsSource told program) (exa
   abbrev Lf : ℕ → Rest → End
   Lf q c = leaf_of told places (ending q) c
 
-  abbrev Sn : ℕ → Rest → Leaving
+  abbrev Sn : ℕ → Rest → EscapeTargets
   Sn q c = leaving_of told places (ending q) c
 
   abbrev HR : ℕ → Rest → Type 0
@@ -121,7 +121,7 @@ module _ (told : Told) (program : Program) (source : IsSource told program) (exa
   -- a loop with an escape that is passed and gone round
   abbrev LoopFacts : ℕ → ℕ → Control → Stmts → Rest → Type 0
   LoopFacts q place control body c =
-      Has told places graph (nodes_in told places (Loop control (Nested body)) place (Sn q c) (Lf q c) (only (Lf q c)))
+      Has told places graph (nodes_in told places (Loop control (Nested body)) place (Sn q c) (Lf q c) (end_alone (Lf q c)))
       × C q (items_in c)
       × C q (items_in (inner place control body c))
 
@@ -133,11 +133,11 @@ module _ (told : Told) (program : Program) (source : IsSource told program) (exa
   LoopsOk q (Cut others) = LoopsOk q others
 
   abbrev LoopLabel : Control → ℕ → Label → Type 0
-  LoopLabel (Times amount) place l = head place ≡ l
-  LoopLabel (Until false test) place l = head place ≡ l
-  LoopLabel (Until true test) place l = third place ≡ l
-  LoopLabel (Varying false set stp test) place l = (head place ≡ l) ⊎ (third place ≡ l)
-  LoopLabel (Varying true set stp test) place l = third place ≡ l
+  LoopLabel (Times amount) place l = loop_head_label place ≡ l
+  LoopLabel (Until false test) place l = loop_head_label place ≡ l
+  LoopLabel (Until true test) place l = loop_step_label place ≡ l
+  LoopLabel (Varying false set stp test) place l = (loop_head_label place ≡ l) ⊎ (loop_step_label place ≡ l)
+  LoopLabel (Varying true set stp test) place l = loop_step_label place ≡ l
 
   abbrev RestKnown : Label → Type 0
   RestKnown l = (q : ℕ) × (c : Rest) × (graph l ≡ Tr q c) × HR q c × LoopsOk q c × C q (items_in c)
@@ -197,7 +197,7 @@ module _ (told : Told) (program : Program) (source : IsSource told program) (exa
 
   facts-uncut : (q place : ℕ) (control : Control) (body : Stmts) (c : Rest) → LoopFacts q place control body c → LoopFacts q place control body (uncut c)
   facts-uncut q place control body c h = (
-    subst (Has told places graph) (sym (built-uncut told places (ending q) (λ s a t. nodes_in told places (Loop control (Nested body)) place s a (only a)) c)) h.0,
+    subst (Has told places graph) (sym (built-uncut told places (ending q) (λ s a t. nodes_in told places (Loop control (Nested body)) place s a (end_alone a)) c)) h.0,
     subst (C q) (sym (items-uncut c)) h.1,
     subst (λ r. C q (before body (Turn (turning_of control 0 true) (Nested body) ∷ r))) (sym (items-uncut c)) h.2,
   )
@@ -256,15 +256,15 @@ module _ (told : Told) (program : Program) (source : IsSource told program) (exa
 
   loop-has : (q place : ℕ) (control : Control) (body : Stmts) (r : Rest) → Has told places graph (nodes_in told places (Loop control (Nested body)) place (Sn q r) (Lf q r) (Tr q (uncut r))) → HR q r → HR q (inner place control body r)
   loop-has q place (Times amount) body r h hr =
-      (has-right graph told places (loop_nodes (Times amount) place (build told places body (place + 1) (within_loop (Sn q r) (Lf q r) (Jump (head place))) (Jump (head place)) (only (Jump (head place)))) (Lf q r)) (nodes told places body (place + 1) (within_loop (Sn q r) (Lf q r) (Jump (head place))) (Jump (head place)) (only (Jump (head place)))) h, (h, hr))
+      (has-right graph told places (loop_nodes (Times amount) place (build told places body (place + 1) (within_loop (Sn q r) (Lf q r) (Jump (loop_head_label place))) (Jump (loop_head_label place)) (end_alone (Jump (loop_head_label place)))) (Lf q r)) (nodes told places body (place + 1) (within_loop (Sn q r) (Lf q r) (Jump (loop_head_label place))) (Jump (loop_head_label place)) (end_alone (Jump (loop_head_label place)))) h, (h, hr))
   loop-has q place (Until false test) body r h hr =
-      (has-right graph told places (loop_nodes (Until false test) place (build told places body (place + 1) (within_loop (Sn q r) (Lf q r) (Jump (head place))) (Jump (head place)) (only (Jump (head place)))) (Lf q r)) (nodes told places body (place + 1) (within_loop (Sn q r) (Lf q r) (Jump (head place))) (Jump (head place)) (only (Jump (head place)))) h, (h, hr))
+      (has-right graph told places (loop_nodes (Until false test) place (build told places body (place + 1) (within_loop (Sn q r) (Lf q r) (Jump (loop_head_label place))) (Jump (loop_head_label place)) (end_alone (Jump (loop_head_label place)))) (Lf q r)) (nodes told places body (place + 1) (within_loop (Sn q r) (Lf q r) (Jump (loop_head_label place))) (Jump (loop_head_label place)) (end_alone (Jump (loop_head_label place)))) h, (h, hr))
   loop-has q place (Until true test) body r h hr =
-      (has-right graph told places (loop_nodes (Until true test) place (build told places body (place + 1) (within_loop (Sn q r) (Lf q r) (Jump (third place))) (Jump (third place)) (only (Jump (third place)))) (Lf q r)) (nodes told places body (place + 1) (within_loop (Sn q r) (Lf q r) (Jump (third place))) (Jump (third place)) (only (Jump (third place)))) h, (h, hr))
+      (has-right graph told places (loop_nodes (Until true test) place (build told places body (place + 1) (within_loop (Sn q r) (Lf q r) (Jump (loop_step_label place))) (Jump (loop_step_label place)) (end_alone (Jump (loop_step_label place)))) (Lf q r)) (nodes told places body (place + 1) (within_loop (Sn q r) (Lf q r) (Jump (loop_step_label place))) (Jump (loop_step_label place)) (end_alone (Jump (loop_step_label place)))) h, (h, hr))
   loop-has q place (Varying false set stp test) body r h hr =
-      (has-right graph told places (loop_nodes (Varying false set stp test) place (build told places body (place + 1) (within_loop (Sn q r) (Lf q r) (Jump (third place))) (Jump (third place)) (only (Jump (third place)))) (Lf q r)) (nodes told places body (place + 1) (within_loop (Sn q r) (Lf q r) (Jump (third place))) (Jump (third place)) (only (Jump (third place)))) h, (h, hr))
+      (has-right graph told places (loop_nodes (Varying false set stp test) place (build told places body (place + 1) (within_loop (Sn q r) (Lf q r) (Jump (loop_step_label place))) (Jump (loop_step_label place)) (end_alone (Jump (loop_step_label place)))) (Lf q r)) (nodes told places body (place + 1) (within_loop (Sn q r) (Lf q r) (Jump (loop_step_label place))) (Jump (loop_step_label place)) (end_alone (Jump (loop_step_label place)))) h, (h, hr))
   loop-has q place (Varying true set stp test) body r h hr =
-      (has-right graph told places (loop_nodes (Varying true set stp test) place (build told places body (place + 1) (within_loop (Sn q r) (Lf q r) (Jump (third place))) (Jump (third place)) (only (Jump (third place)))) (Lf q r)) (nodes told places body (place + 1) (within_loop (Sn q r) (Lf q r) (Jump (third place))) (Jump (third place)) (only (Jump (third place)))) h, (h, hr))
+      (has-right graph told places (loop_nodes (Varying true set stp test) place (build told places body (place + 1) (within_loop (Sn q r) (Lf q r) (Jump (loop_step_label place))) (Jump (loop_step_label place)) (end_alone (Jump (loop_step_label place)))) (Lf q r)) (nodes told places body (place + 1) (within_loop (Sn q r) (Lf q r) (Jump (loop_step_label place))) (Jump (loop_step_label place)) (end_alone (Jump (loop_step_label place)))) h, (h, hr))
 
   -- a loop with an escape that is come to
   start-good : (q place : ℕ) (control : Control) (body : Stmts) (r : Rest) → Has told places graph (nodes_in told places (Loop control (Nested body)) place (Sn q r) (Lf q r) (Tr q (uncut r))) → HR q r → LoopsOk q r →
@@ -330,7 +330,7 @@ module _ (told : Told) (program : Program) (source : IsSource told program) (exa
   fall-good r q None is h = tt
   fall-good r q (Some next) is h = paragraph-known (suc q) (below-found program.paragraphs (suc q) next is) (h next is)
 
-  end-good : (r : Range) (q : ℕ) → FreelyComes told program r q [] → ((number : ℕ) (rest : List Item) → FreelyComes told program r number rest → C number rest) → GoodEnd (end_leaf places program r q)
+  end-good : (r : Range) (q : ℕ) → FreelyComes told program r q [] → ((number : ℕ) (rest : List Item) → FreelyComes told program r number rest → C number rest) → GoodEnd (paragraph_end_target places program r q)
   end-good Main q c same = fall-good Main q (slice_get program.paragraphs (suc q)) refl (λ next is. same (suc q) (rest_of program (suc q)) (falls Main q next is tt c))
   end-good (Part e x) q c same =
       (elim (nat_eq x q) as (λ b. nat_eq x q ≡ b → GoodEnd (if b then Return else fall_leaf places q (slice_get program.paragraphs (suc q)))) [
@@ -351,7 +351,7 @@ module _ (told : Told) (program : Program) (source : IsSource told program) (exa
         ]
     stmt-good q place (Choose picker arms) r b h own c =
         let trees = build_arms told places (first_is_dead told picker) arms (place + 1) (Sn q r) (Lf q r) in
-        (elim (whole (cut told (Choose picker arms))) as (λ k. GoodTree (if k then push told places (Choose picker arms) (Tr q r) else only (Pick picker trees))) [
+        (elim (whole (cut told (Choose picker arms))) as (λ k. GoodTree (if k then push told places (Choose picker arms) (Tr q r) else end_alone (Pick picker trees))) [
           | true ↦ push-good (Choose picker arms) (Tr q r) (stmt-called q (Choose picker arms) (items_in r) own c) (λ k. b.whole_tree (passes q (Choose picker arms) (items_in r) own k c))
           | false ↦ (tt, arms-good q (place + 1) arms (first_is_dead told picker) r b h own.1 (missing-first told program count 0 (rest_of program 0) picker arms own.2) (arm-comes q picker arms (items_in r) own c))
         ])
@@ -385,7 +385,7 @@ module _ (told : Told) (program : Program) (source : IsSource told program) (exa
     arms-good q place (given arm others) false r b h own first come =
         let xs = nodes told places arm place (Sn q r) (Lf q r) (Tr q (uncut r)) in
         let ys = nodes_of_arms told places others (place + sizes arm) (Sn q r) (Lf q r) (Tr q (uncut r)) in
-        trees-more (build told places arm place (Sn q r) (Lf q r) (only (Lf q r))) (build_arms told places false others (place + sizes arm) (Sn q r) (Lf q r))
+        trees-more (build told places arm place (Sn q r) (Lf q r) (end_alone (Lf q r))) (build_arms told places false others (place + sizes arm) (Sn q r) (Lf q r))
         ((stmts-behind q place arm (Cut r) (behind-cut q r b) own.0 (has-left graph told places xs ys h, b.has)).whole_tree (come 0 (omega arith, λ f. cc)))
         (arms-good q (place + sizes arm) others false r b (has-right graph told places xs ys h) own.1 (λ f. cc) (λ k may. come (suc k) (let e = may.0 in omega (arith, e), λ f. cc)))
     arms-good q place (missing others) true r b h own first come = (tt, tt, arms-good q place others false r b h own (λ f. cc) (λ k may. come (suc k) (let e = may.0 in omega (arith, e), λ f e. absurd (omega (arith, e)))))
@@ -490,21 +490,21 @@ module _ (told : Told) (program : Program) (source : IsSource told program) (exa
   loop-good : (l : Label) (q place : ℕ) (control : Control) (body : Stmts) (c : Rest) → LoopLabel control place l → LoopFacts q place control body c → HR q c → LoopsOk q c → GoodTree (graph l)
   loop-good l q place (Times amount) body c lab f h lo =
       let inside = rest-good q (inner place (Times amount) body c) (loop-has q place (Times amount) body c f.0 h) ((λ k. f), lo) f.2 in
-      subst (λ n. GoodTree (graph n)) lab (subst GoodTree (sym f.0.0) (tt, trees-more (with_first (language.Do (Lower place)) (Tr q (inner place (Times amount) body c))) (more (only (Lf q c)) no_more) (first-good (language.Do (Lower place)) (Tr q (inner place (Times amount) body c)) tt inside) (tt, after-good q c h lo f.1, tt)))
+      subst (λ n. GoodTree (graph n)) lab (subst GoodTree (sym f.0.0) (tt, trees-more (with_first (language.Do (Lower place)) (Tr q (inner place (Times amount) body c))) (more (end_alone (Lf q c)) no_more) (first-good (language.Do (Lower place)) (Tr q (inner place (Times amount) body c)) tt inside) (tt, after-good q c h lo f.1, tt)))
   loop-good l q place (Until false test) body c lab f h lo =
       let inside = rest-good q (inner place (Until false test) body c) (loop-has q place (Until false test) body c f.0 h) ((λ k. f), lo) f.2 in
       subst (λ n. GoodTree (graph n)) lab (subst GoodTree (sym f.0.0) (tt, (tt, after-good q c h lo f.1, trees-more (Tr q (inner place (Until false test) body c)) no_more inside tt)))
   loop-good l q place (Until true test) body c lab f h lo =
-      let again : Known (head place) = inl (q, inner place (Until true test) body c, f.0.0, loop-has q place (Until true test) body c f.0 h, ((λ k. f), lo), f.2) in
+      let again : Known (loop_head_label place) = inl (q, inner place (Until true test) body c, f.0.0, loop-has q place (Until true test) body c f.0 h, ((λ k. f), lo), f.2) in
       subst (λ n. GoodTree (graph n)) lab (subst GoodTree (sym f.0.1.0) (tt, (tt, after-good q c h lo f.1, (tt, again, tt))))
   loop-good l q place (Varying false set stp test) body c (inl lab) f h lo =
       let inside = rest-good q (inner place (Varying false set stp test) body c) (loop-has q place (Varying false set stp test) body c f.0 h) ((λ k. f), lo) f.2 in
       subst (λ n. GoodTree (graph n)) lab (subst GoodTree (sym f.0.0) (tt, (tt, after-good q c h lo f.1, trees-more (Tr q (inner place (Varying false set stp test) body c)) no_more inside tt)))
   loop-good l q place (Varying false set stp test) body c (inr lab) f h lo =
-      let again : Known (head place) = inr (q, place, Varying false set stp test, body, c, inl refl, f, h, lo) in
+      let again : Known (loop_head_label place) = inr (q, place, Varying false set stp test, body, c, inl refl, f, h, lo) in
       subst (λ n. GoodTree (graph n)) lab (subst GoodTree (sym f.0.1.0) ((tt, tt), again))
   loop-good l q place (Varying true set stp test) body c lab f h lo =
-      let again : Known (head place) = inl (q, inner place (Varying true set stp test) body c, f.0.0, loop-has q place (Varying true set stp test) body c f.0 h, ((λ k. f), lo), f.2) in
+      let again : Known (loop_head_label place) = inl (q, inner place (Varying true set stp test) body c, f.0.0, loop-has q place (Varying true set stp test) body c f.0 h, ((λ k. f), lo), f.2) in
       subst (λ n. GoodTree (graph n)) lab (subst GoodTree (sym f.0.1.0) (tt, (tt, after-good q c h lo f.1, ((tt, tt), again, tt))))
 
   node-good : (l : Label) → Known l → GoodTree (graph l)

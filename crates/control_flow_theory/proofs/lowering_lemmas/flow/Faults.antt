@@ -10,7 +10,7 @@ use Rattle.control_flow_theory.specs.language.Items.{Item}
 use Rattle.control_flow_theory.specs.semantics.Items.{Way, On, Halts, Into, To, ToEnd, item_way}
 use Rattle.control_flow_theory.specs.language.Items.{Pending, ends_at}
 use Rattle.control_flow_theory.specs.semantics.Source.{SourceState, rest_of, comes_to, goes, falls, step_by, source_step}
-use Rattle.control_flow_theory.specs.lowering.Told.{Told, IsTold, IsSource}
+use Rattle.control_flow_theory.specs.lowering.FlowFacts.{FlowFacts, IsTold, IsSource}
 use Rattle.control_flow_theory.specs.lowering.flow.Paths.{Flow, flow, free, nothing_left}
 use Rattle.control_flow_theory.proofs.lowering_lemmas.rests.Fits.{item_bulk, program_bulk, weight, FitsIn, Adds, item-adds, rest-fits}
 use Rattle.control_flow_theory.proofs.lowering_lemmas.rests.Joints.{source_at}
@@ -37,7 +37,7 @@ at_fault Left fault = Over (Faulted fault)
 same-fault : {Left : Type 0} (a b : FlowFault) → at_fault Left a ≡ at_fault Left b → at_fault (Unit {0}) a ≡ at_fault (Unit {0}) b
 same-fault {Left} a b e = ap (at_fault (Unit {0})) (ap (fault_of a) e)
 
-module _ (told : Told) (program : Program) (source : IsSource told program) where
+module _ (told : FlowFacts) (program : Program) (source : IsSource told program) where
   abbrev pub PendingFit : List Pending → Type 0
   PendingFit [] = Unit {0}
   PendingFit (x ∷ xs) = FitsIn told program source x.rest × PendingFit xs

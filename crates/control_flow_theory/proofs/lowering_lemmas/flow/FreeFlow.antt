@@ -9,11 +9,11 @@ use Rattle.control_flow_theory.specs.language.Items.{Item}
 use Rattle.control_flow_theory.specs.semantics.Items.{Way, On, Halts, Into, To, ToEnd, item_way}
 use Rattle.control_flow_theory.specs.language.Items.{Pending, ends_at}
 use Rattle.control_flow_theory.specs.semantics.Source.{rest_of, comes_to, goes_to, goes, falls, end_step, rest_step, step_by, source_step}
-use Rattle.control_flow_theory.specs.lowering.Told.{Told}
+use Rattle.control_flow_theory.specs.lowering.FlowFacts.{FlowFacts}
 use Rattle.control_flow_theory.specs.lowering.flow.Paths.{Flow, flow, free, nothing_left, IsFaulty, free_goes, free_end, free_rest, free_by, free_step}
 use Rattle.control_flow_theory.proofs.lowering_lemmas.rests.Joints.{IsFine}
 
-module _ (told : Told) (program : Program) where
+module _ (told : FlowFacts) (program : Program) where
   abbrev stepped : Flow → Flow
   stepped f = source_step (free told) nothing_left program f
 

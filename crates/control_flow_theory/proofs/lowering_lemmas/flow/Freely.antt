@@ -7,7 +7,7 @@ use Rattle.control_flow_theory.specs.language.Language as language
 use Rattle.control_flow_theory.specs.semantics.Doing.{Acting, Doing, giving, arm_of, alone, alone_act, alone_test, alone_pick}
 use Rattle.control_flow_theory.specs.language.Items.{Turning, Counted, Tests, Steps, StepsAfter, Item, Do, SentenceEnd, Turn, before_body, before_arm, past_sentence, from_loop}
 use Rattle.control_flow_theory.specs.semantics.Items.{Way, On, Halts, Into, To, ToEnd, way_after, tried, on, first_turn, loop_begins, turns, tests, steps_on, turn_way, to_one, item_way}
-use Rattle.control_flow_theory.specs.lowering.Told.{Told, IsTold, MayGive, OwnPicker, arm_count}
+use Rattle.control_flow_theory.specs.lowering.FlowFacts.{FlowFacts, IsTold, MayGive, OwnPicker, arm_count}
 use Rattle.control_flow_theory.specs.lowering.flow.Paths.{is_first, is_below, first_arm, not_dead, arm_for, free_pick, free}
 use Rattle.control_flow_theory.proofs.lowering_lemmas.rests.Wholes.{OwnItem, Gives, pick-gives}
 use Rattle.control_flow_theory.proofs.lowering_lemmas.steps.Tries.{any, NoInto, tried-no-into}
@@ -73,7 +73,7 @@ module _ {Memory : Type 0} where
   act-freely (Got t u m) g h k = after-freely t (g m) (λ ways. tried (done ways) (λ u. h)) (unspent (g m) (λ ways. tried (done ways) (λ u. h)) h (λ more. refl) (k m))
   act-freely (Ends t kind m) g h k = tt
 
-module _ {Memory : Type 0} (acting : Acting Memory) (told : Told) (is_told : IsTold told acting) (paragraphs : ℕ) where
+module _ {Memory : Type 0} (acting : Acting Memory) (told : FlowFacts) (is_told : IsTold told acting) (paragraphs : ℕ) where
   abbrev S : Doing Memory
   S = alone acting
 

@@ -6,7 +6,7 @@ use Rattle.control_flow_theory.specs.language.Language.{Picker, If, By, ByCell, 
 use Rattle.control_flow_theory.specs.language.Language as language
 use Rattle.control_flow_theory.specs.language.Items.{Turning, Counted, Tests, Steps, StepsAfter, Item, Do, Turn, before, before_body, before_arm, from_loop}
 use Rattle.control_flow_theory.specs.semantics.Items.{On, way_after, tried, on, to_one, item_way}
-use Rattle.control_flow_theory.specs.lowering.Told.{Told, IsFirstMissing, FirstMayBeMissing, MayGive, OwnPicker, OwnStmt, OwnStmts, OwnArms, OwnBody, arm_count}
+use Rattle.control_flow_theory.specs.lowering.FlowFacts.{FlowFacts, IsFirstMissing, FirstMayBeMissing, MayGive, OwnPicker, OwnStmt, OwnStmts, OwnArms, OwnBody, arm_count}
 use Rattle.control_flow_theory.specs.lowering.Completes.{completes, complete, choice_completes, body_completes, leaves_loop, leave_loop, arms_leave_loop, body_leaves_loop, first_is_dead}
 use Rattle.control_flow_theory.specs.lowering.flow.Comes.{Comes, goes_on, over}
 use Rattle.control_flow_theory.specs.lowering.flow.Paths.{free, free_pick}
@@ -24,7 +24,7 @@ past : (xs : List ℕ) → slice_get xs (length xs) ≡ None
 past [] = refl
 past (x ∷ xs) = past xs
 
-module _ (told : Told) (program : Program) (paragraphs first : ℕ) (first_rest : List Item) where
+module _ (told : FlowFacts) (program : Program) (paragraphs first : ℕ) (first_rest : List Item) where
   abbrev pub FreelyComes : Range → ℕ → List Item → Type 0
   FreelyComes range q rest = Comes (free told) program first first_rest range q rest
 

@@ -10,7 +10,7 @@ use Rattle.control_flow_theory.specs.semantics.Doing.{Acting, alone}
 use Rattle.control_flow_theory.specs.semantics.Items.{Way, On, Into, To, ToEnd, way_after, steps_on, to_one, item_way}
 use Rattle.control_flow_theory.specs.language.Items.{Pending}
 use Rattle.control_flow_theory.specs.semantics.Source.{rest_of, falls}
-use Rattle.control_flow_theory.specs.lowering.Told.{Told, IsTold, IsSource}
+use Rattle.control_flow_theory.specs.lowering.FlowFacts.{FlowFacts, IsTold, IsSource}
 use Rattle.control_flow_theory.specs.lowering.flow.Comes.{Comes, begins, enters, goes_on, goes_to, goes_to_end, over, IsNoExit}
 use Rattle.control_flow_theory.specs.lowering.flow.Comes as come
 use Rattle.control_flow_theory.specs.lowering.flow.Paths.{Flow, flow, free, nothing_left, free_goes, free_step, next_way, later_ways, is_first, arm_for}
@@ -19,7 +19,7 @@ use Rattle.control_flow_theory.proofs.lowering_lemmas.rests.Fits.{FitsIn, comes-
 use Rattle.control_flow_theory.proofs.lowering_lemmas.flow.Freely.{Freely, item-freely}
 
 -- what a head does by some ways it does by those alone that it takes
-module _ (told : Told) where
+module _ (told : FlowFacts) where
   stepped-free : (n : ℕ) (stp : Act) (test : Test) (body : Body) (rest : List Item) (m : List ℕ) → Freely (way_after [] (steps_on (free told) (is_first n) stp test body rest m)) (λ ways. way_after [] (steps_on (free told) (is_first (next_way ways)) stp test body rest (later_ways ways)))
   stepped-free zero stp test body rest m = (0 ∷ [], λ more. refl)
   stepped-free (suc n) stp test body rest m = (suc n ∷ [], λ more. refl)
@@ -94,7 +94,7 @@ abbrev entry_number : Range → ℕ
 entry_number Main = 0
 entry_number (Part e x) = e
 
-module _ (told : Told) (program : Program) where
+module _ (told : FlowFacts) (program : Program) where
   abbrev stepped : Flow → Flow
   stepped f = free_step told program f
 
@@ -190,7 +190,7 @@ module _ (told : Told) (program : Program) where
       let way = subst (λ w. Freely w (item_way (free told) item rest)) is (item-free told item rest m) in
       performed range number items entry exit here (subst (FreelyComes told program range number) (performs-alone told item rest entry exit items (way [])) c)
 
-module _ {Memory : Type 0} (acting : Acting Memory) (told : Told) (is_told : IsTold told acting) (program : Program) (source : IsSource told program) where
+module _ {Memory : Type 0} (acting : Acting Memory) (told : FlowFacts) (is_told : IsTold told acting) (program : Program) (source : IsSource told program) where
   fits-here : (range : Range) (q : ℕ) (rest : List Item) → Comes (alone acting) program 0 (rest_of program 0) range q rest → FitsIn told program source rest
   fits-here range q rest c = comes-fits told program source (alone acting) 0 (rest_of program 0) (rest-fits told program source 0) range q rest c
 

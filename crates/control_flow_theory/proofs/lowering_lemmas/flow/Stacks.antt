@@ -9,7 +9,7 @@ use Rattle.control_flow_theory.specs.language.Items.{Item}
 use Rattle.control_flow_theory.specs.semantics.Items.{Way, On, Halts, Into, To, ToEnd, item_way}
 use Rattle.control_flow_theory.specs.language.Items.{Pending, ends_at}
 use Rattle.control_flow_theory.specs.semantics.Source.{rest_of, comes_to, goes, falls, source_step}
-use Rattle.control_flow_theory.specs.lowering.Told.{Told}
+use Rattle.control_flow_theory.specs.lowering.FlowFacts.{FlowFacts}
 use Rattle.control_flow_theory.specs.lowering.flow.Paths.{Flow, free, nothing_left}
 use Rattle.control_flow_theory.proofs.lowering_lemmas.rests.Joints.{source_at}
 use Rattle.control_flow_theory.proofs.lowering_lemmas.flow.Faults.{over-stays}
@@ -18,7 +18,7 @@ past-last : (ps : List Paragraph) → slice_get ps (suc (length ps)) ≡ None
 past-last [] = refl
 past-last (x ∷ xs) = past-last xs
 
-module _ (told : Told) (program : Program) (x q0 : ℕ) (r0 : List Item) (below : List Pending) where
+module _ (told : FlowFacts) (program : Program) (x q0 : ℕ) (r0 : List Item) (below : List Pending) where
   abbrev stepped : Flow → Flow
   stepped f = source_step (free told) nothing_left program f
 

@@ -4,9 +4,9 @@ use Rattle.std.specs.Prelude.{slice_get, length}
 use Rattle.std.proofs.lemmas.Bool.Decides.{eqb_tells}
 use Rattle.control_flow_theory.specs.language.Language.{Control, Times, Until, Varying, Stmt, Do, Choose, Loop, Perform, Go, GoDepending, NextSentence, ExitParagraph, ExitSection, ExitPerform, StopRun, Stmts, none, also, Arms, done, given, missing, Nested, Performed, Paragraph, Program, unless_absent, paragraph_at, Range}
 use Rattle.control_flow_theory.specs.semantics.Graph.{Label, Tree, End, Jump}
-use Rattle.control_flow_theory.specs.lowering.Told.{Told}
+use Rattle.control_flow_theory.specs.lowering.FlowFacts.{FlowFacts}
 use Rattle.control_flow_theory.specs.lowering.Completes.{cuts, leave_sentence, size, sizes, size_arms}
-use Rattle.control_flow_theory.specs.lowering.Lower.{point, only, back, leaf, build, Node, loop_nodes, nodes, nodes_in, nodes_of_arms, leaving_at, Leaving, within_loop}
+use Rattle.control_flow_theory.specs.lowering.Lower.{point, end_alone, loop_back_label, leaf, build, Node, loop_nodes, nodes, nodes_in, nodes_of_arms, leaving_at, EscapeTargets, within_loop}
 use Rattle.control_flow_theory.specs.lowering.Rests.{Sent, rest_from, leaf_of, leaving_of, tree_of, Has, HasRest}
 use Rattle.control_flow_theory.specs.lowering.flow.Comes.{IsLowered}
 use Rattle.control_flow_theory.specs.lowering.Lowered.{total, place_from, place_in, find, nodes_left, nodes_from, nodes_of, lowered, Within}
@@ -31,21 +31,21 @@ within-loop (Until true test) n body after = (omega arith, (omega arith, omega a
 within-loop (Varying false set step test) n body after = (omega arith, (omega arith, omega arith))
 within-loop (Varying true set step test) n body after = (omega arith, (omega arith, omega arith))
 
-module _ (told : Told) (place_of : ℕ → ℕ) where
+module _ (told : FlowFacts) (place_of : ℕ → ℕ) where
   mutual
-    within-in : (s : Stmt) (n : ℕ) (leaving : Leaving) (after : End) (behind : Tree) → Within (3 * n + 1) (3 * (n + size s)) (nodes_in told place_of s n leaving after behind)
+    within-in : (s : Stmt) (n : ℕ) (leaving : EscapeTargets) (after : End) (behind : Tree) → Within (3 * n + 1) (3 * (n + size s)) (nodes_in told place_of s n leaving after behind)
     within-in (Do act) n leaving after behind = omega arith
     within-in (Choose picker arms) n leaving after behind =
         let xs = nodes_of_arms told place_of arms (n + 1) leaving after behind in
         within-lower (3 * (n + 1)) (3 * n + 1) (3 * (n + (1 + size_arms arms))) xs (omega arith)
         (subst (λ e. Within (3 * (n + 1)) (3 * e) xs) (omega arith) (within-arms arms (n + 1) leaving after behind))
     within-in (Loop control (Nested body)) n leaving after behind =
-        let leaf_back = Jump (back control n) in
+        let leaf_back = Jump (loop_back_label control n) in
         let inner = within_loop leaving after leaf_back in
-        let ys = nodes told place_of body (n + 1) inner leaf_back (only leaf_back) in
-        within-append (3 * n + 1) (3 * (n + 1)) (3 * (n + (1 + sizes body))) (loop_nodes control n (build told place_of body (n + 1) inner leaf_back (only leaf_back)) after) ys
-        (within-loop control n (build told place_of body (n + 1) inner leaf_back (only leaf_back)) after)
-        (subst (λ e. Within (3 * (n + 1)) (3 * e) ys) (omega arith) (within-nodes body (n + 1) inner leaf_back (only leaf_back)))
+        let ys = nodes told place_of body (n + 1) inner leaf_back (end_alone leaf_back) in
+        within-append (3 * n + 1) (3 * (n + 1)) (3 * (n + (1 + sizes body))) (loop_nodes control n (build told place_of body (n + 1) inner leaf_back (end_alone leaf_back)) after) ys
+        (within-loop control n (build told place_of body (n + 1) inner leaf_back (end_alone leaf_back)) after)
+        (subst (λ e. Within (3 * (n + 1)) (3 * e) ys) (omega arith) (within-nodes body (n + 1) inner leaf_back (end_alone leaf_back)))
     within-in (Loop control (Performed e x)) n leaving after behind = omega arith
     within-in (Perform e x) n leaving after behind = omega arith
     within-in (Go to) n leaving after behind = omega arith
@@ -56,7 +56,7 @@ module _ (told : Told) (place_of : ℕ → ℕ) where
     within-in (ExitPerform cycle) n leaving after behind = omega arith
     within-in StopRun n leaving after behind = omega arith
 
-    within-nodes : (ss : Stmts) (n : ℕ) (leaving : Leaving) (after : End) (behind : Tree) → Within (3 * n) (3 * (n + sizes ss)) (nodes told place_of ss n leaving after behind)
+    within-nodes : (ss : Stmts) (n : ℕ) (leaving : EscapeTargets) (after : End) (behind : Tree) → Within (3 * n) (3 * (n + sizes ss)) (nodes told place_of ss n leaving after behind)
     within-nodes none n leaving after behind = omega arith
     within-nodes (also s ss) n leaving after behind =
         let ys = nodes told place_of ss (n + size s) leaving after behind in (
@@ -66,7 +66,7 @@ module _ (told : Told) (place_of : ℕ → ℕ) where
               (subst (λ e. Within (3 * (n + size s)) (3 * e) ys) (omega arith) (within-nodes ss (n + size s) leaving after behind)),
         )
 
-    within-arms : (arms : Arms) (n : ℕ) (leaving : Leaving) (after : End) (behind : Tree) → Within (3 * n) (3 * (n + size_arms arms)) (nodes_of_arms told place_of arms n leaving after behind)
+    within-arms : (arms : Arms) (n : ℕ) (leaving : EscapeTargets) (after : End) (behind : Tree) → Within (3 * n) (3 * (n + size_arms arms)) (nodes_of_arms told place_of arms n leaving after behind)
     within-arms done n leaving after behind = omega arith
     within-arms (given arm others) n leaving after behind =
         let ys = nodes_of_arms told place_of others (n + sizes arm) leaving after behind in
@@ -76,7 +76,7 @@ module _ (told : Told) (place_of : ℕ → ℕ) where
     within-arms (missing others) n leaving after behind = within-arms others n leaving after behind
 
 -- each of these is found in the whole
-module _ (told : Told) (place_of : ℕ → ℕ) where
+module _ (told : FlowFacts) (place_of : ℕ → ℕ) where
   abbrev Found : List Node → List Node → Type 0
   Found whole xs = Has told place_of (λ l. find l whole) xs
 
@@ -100,11 +100,11 @@ module _ (told : Told) (place_of : ℕ → ℕ) where
     found-behind x (x.key + 1) b xs xs (omega arith) h.1 (found-self (x.key + 1) b xs h.1),
   )
 
-module _ (told : Told) (program : Program) where
+module _ (told : FlowFacts) (program : Program) where
   abbrev places : ℕ → ℕ
   places q = place_in program q
 
-  within-left : (end : Leaving) (n : ℕ) (ss : Paragraph) → Within (3 * n) (3 * (n + total ss)) (nodes_left told program end (rest_from told n ss))
+  within-left : (end : EscapeTargets) (n : ℕ) (ss : Paragraph) → Within (3 * n) (3 * (n + total ss)) (nodes_left told program end (rest_from told n ss))
   within-left end n [] = omega arith
   within-left end n (s ∷ ss) =
       let c = Sent (leave_sentence (cuts told s)) (rest_from told (n + sizes s) ss) in
@@ -150,7 +150,7 @@ module _ (told : Told) (program : Program) where
         subst (λ x. AtParagraph x (place_from (n + 1 + total ss) more k) (unless_absent (slice_get more k))) e
         (paragraph-found (suc q) (n + 1 + total ss) k more (omega (arith, lt)) (has-right graph told places (nodes_left told program end (rest_from told (n + 1) ss)) (nodes_from told program r (suc q) (n + 1 + total ss) more) f.1))
 
-    rest-found : (end : Leaving) (n : ℕ) (ss : Paragraph) → Has told places graph (nodes_left told program end (rest_from told n ss)) → HasRest told places graph end (rest_from told n ss)
+    rest-found : (end : EscapeTargets) (n : ℕ) (ss : Paragraph) → Has told places graph (nodes_left told program end (rest_from told n ss)) → HasRest told places graph end (rest_from told n ss)
     rest-found end n [] f = tt
     rest-found end n (s ∷ ss) f =
         let c = Sent (leave_sentence (cuts told s)) (rest_from told (n + sizes s) ss) in

@@ -3,7 +3,7 @@ use Rattle.std.proofs.Common.{◌≡◌, ℕ, ◌+◌, ◌*◌, ◌<◌, Bool, t
 use Rattle.std.specs.Prelude.{length}
 use Rattle.control_flow_theory.specs.language.Language.{Program, Range}
 use Rattle.control_flow_theory.specs.semantics.Graph.{Label, Tree, tree, End, Pick, Jump, Return, Stop, Dead, Trees, no_more, more, end_of}
-use Rattle.control_flow_theory.specs.lowering.Told.{Told, IsSource}
+use Rattle.control_flow_theory.specs.lowering.FlowFacts.{FlowFacts, IsSource}
 use Rattle.control_flow_theory.specs.lowering.Lower.{Node}
 use Rattle.control_flow_theory.specs.lowering.Rests.{Has}
 use Rattle.control_flow_theory.specs.lowering.flow.Comes.{entry_of}
@@ -28,7 +28,7 @@ label-kept keep (x ∷ xs) l k (inr h) = elim (keep x.key) as (λ b. IsLabelOf (
   | false ↦ label-kept keep xs l k h
 ]
 
-module _ (told : Told) (keep : Label → Bool) (labels : List Node) where
+module _ (told : FlowFacts) (keep : Label → Bool) (labels : List Node) where
   mutual
     end-kept : (end : End) → IsWellEnd told labels end → ((l : Label) → JumpsTo l end → keep l ≡ true) → IsWellEnd told (kept_nodes keep labels) end
     end-kept (Pick picker arms) w h = (w.0, arms-kept arms w.1 h, w.2)
@@ -44,7 +44,7 @@ module _ (told : Told) (keep : Label → Bool) (labels : List Node) where
   tree-kept : (t : Tree) → IsWellTree told labels t → ((l : Label) → JumpsTo l (end_of t) → keep l ≡ true) → IsWellTree told (kept_nodes keep labels) t
   tree-kept (tree body end) w h = (w.0, end-kept end w.1 h)
 
-module _ (told : Told) (program : Program) (range : Range) (keep : Label → Bool) (just : AreJustReached told program range keep) where
+module _ (told : FlowFacts) (program : Program) (range : Range) (keep : Label → Bool) (just : AreJustReached told program range keep) where
   abbrev labels : List Node
   labels = nodes_of told program range
 

@@ -10,8 +10,8 @@ use Rattle.control_flow_theory.specs.language.Items.{Item}
 use Rattle.control_flow_theory.specs.semantics.Items.{Way, On, Halts, Into, To, ToEnd, item_way}
 use Rattle.control_flow_theory.specs.semantics.Graph.{Label, Tree, tree, End, Pick, Jump, Return, Stop, Dead, Trees, no_more, more, end_of, Family}
 use Rattle.control_flow_theory.specs.semantics.Walk.{Level, Walk, level_at, walk_goes, picked, picks, tree_at, returns, walk_end, walk_items, walk_by, walk_step, walk_begun}
-use Rattle.control_flow_theory.specs.lowering.Told.{Told}
-use Rattle.control_flow_theory.specs.lowering.Lower.{only, Node}
+use Rattle.control_flow_theory.specs.lowering.FlowFacts.{FlowFacts}
+use Rattle.control_flow_theory.specs.lowering.Lower.{end_alone, Node}
 use Rattle.control_flow_theory.specs.lowering.Lowered.{find, nodes_of, lowered}
 use Rattle.control_flow_theory.specs.lowering.Reached.{JumpsTo, ArmsJumpTo, IsReached, entered, jumped, kept, kept_nodes, AreReached}
 
@@ -38,7 +38,7 @@ module _ {Memory Left : Type 0} (acting : Acting Memory) (left : Memory → Left
   WalkReached w = AllReached (w.level ∷ w.callers)
 
   same-node : (range : Range) (label : Label) → IsReached family range label → short.node range label ≡ family.node range label
-  same-node range label h = ap (λ b. if b then family.node range label else only Dead) (reached range label h)
+  same-node range label h = ap (λ b. if b then family.node range label else end_alone Dead) (reached range label h)
 
   node-reached : (range : Range) (label : Label) → IsReached family range label → EndReached range (end_of (family.node range label))
   node-reached range label h = λ to j. jumped label to h j
@@ -103,25 +103,25 @@ module _ {Memory Left : Type 0} (acting : Acting Memory) (left : Memory → Left
       ap (λ w. w.run) (steps-same n (walk_begun acting left short range m) (walk_begun acting left family range m) (e, (node-reached range (family.entry range) entered, tt))).0
 
 -- the shorter list
-short-find : (keep : Label → Bool) (label : Label) (xs : List Node) → (if keep label then find label xs else only Dead) ≡ find label (kept_nodes keep xs)
-short-find keep label [] = elim (keep label) as (λ b. (if b then only Dead else only Dead) ≡ only Dead) [ true ↦ refl | false ↦ refl ]
+short-find : (keep : Label → Bool) (label : Label) (xs : List Node) → (if keep label then find label xs else end_alone Dead) ≡ find label (kept_nodes keep xs)
+short-find keep label [] = elim (keep label) as (λ b. (if b then end_alone Dead else end_alone Dead) ≡ end_alone Dead) [ true ↦ refl | false ↦ refl ]
 short-find keep label (x ∷ xs) =
     elim (eqb_tells x.key label) [
       | inl e ↦
           let whole : Tree = if nat_eq x.key label then x.tree else find label xs in
           let same : keep label ≡ keep x.key = sym (ap keep e.1) in
-          ap (λ b. if b then whole else only Dead) same
-          ∙ (elim (keep x.key) as (λ b. keep label ≡ b → (if b then whole else only Dead) ≡ find label (if b then x ∷ kept_nodes keep xs else kept_nodes keep xs)) [
+          ap (λ b. if b then whole else end_alone Dead) same
+          ∙ (elim (keep x.key) as (λ b. keep label ≡ b → (if b then whole else end_alone Dead) ≡ find label (if b then x ∷ kept_nodes keep xs else kept_nodes keep xs)) [
             | true ↦ λ is. ap (λ t. if t then x.tree else find label xs) e.0 ∙ sym (ap (λ t. if t then x.tree else find label (kept_nodes keep xs)) e.0)
-            | false ↦ λ is. sym (ap (λ b. if b then find label xs else only Dead) is) ∙ short-find keep label xs
+            | false ↦ λ is. sym (ap (λ b. if b then find label xs else end_alone Dead) is) ∙ short-find keep label xs
           ]) same
       | inr e ↦
-          ap (λ t. if keep label then t else only Dead) (ap (λ b. if b then x.tree else find label xs) e.0) ∙ short-find keep label xs
+          ap (λ t. if keep label then t else end_alone Dead) (ap (λ b. if b then x.tree else find label xs) e.0) ∙ short-find keep label xs
           ∙ (elim (keep x.key) as (λ b. find label (kept_nodes keep xs) ≡ find label (if b then x ∷ kept_nodes keep xs else kept_nodes keep xs)) [
             | true ↦ sym (ap (λ b. if b then x.tree else find label (kept_nodes keep xs)) e.0)
             | false ↦ refl
           ])
     ]
 
-pub kept-nodes-found : (told : Told) (program : Program) (keep : Range → Label → Bool) (range : Range) (label : Label) → (kept keep (lowered told program)).node range label ≡ find label (kept_nodes (keep range) (nodes_of told program range))
+pub kept-nodes-found : (told : FlowFacts) (program : Program) (keep : Range → Label → Bool) (range : Range) (label : Label) → (kept keep (lowered told program)).node range label ≡ find label (kept_nodes (keep range) (nodes_of told program range))
 kept-nodes-found told program keep range label = short-find (keep range) label (nodes_of told program range)

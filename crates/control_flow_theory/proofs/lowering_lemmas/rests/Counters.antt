@@ -6,9 +6,9 @@ use Rattle.control_flow_theory.specs.semantics.Doing.{Acting}
 use Rattle.control_flow_theory.specs.language.Items.{Item, SentenceEnd, Turn, before, items_of, past_sentence, from_loop}
 use Rattle.control_flow_theory.specs.language.Items.{ends_at}
 use Rattle.control_flow_theory.specs.semantics.Graph.{Tree, End, Family, Label}
-use Rattle.control_flow_theory.specs.lowering.Told.{Told}
+use Rattle.control_flow_theory.specs.lowering.FlowFacts.{FlowFacts}
 use Rattle.control_flow_theory.specs.lowering.Completes.{cuts, leave_sentence, sizes}
-use Rattle.control_flow_theory.specs.lowering.Lower.{Leaving, Node, leaf, nodes, nodes_in}
+use Rattle.control_flow_theory.specs.lowering.Lower.{EscapeTargets, Node, leaf, nodes, nodes_in}
 use Rattle.control_flow_theory.specs.lowering.Rests.{Rest, From, Sent, Turns, Cut, turning_of, items_in, rest_from, after_sentence, after_loop, at_loop, uncut, leaf_of, leaving_of, tree_of, Has, HasRest}
 use Rattle.control_flow_theory.specs.lowering.Rests as rests
 use Rattle.control_flow_theory.proofs.lowering_lemmas.rests.Joints.{Joint, pending_of, CellsHold, Outside, Apart, Fresh, RestOk, HasName, Waits, end_at}
@@ -149,19 +149,19 @@ loop-items true (Turns place control left reached body others) = refl
 loop-items false (Cut others) = loop-items false others
 loop-items true (Cut others) = loop-items true others
 
-pub items-from : (told : Told) (place : ℕ) (ss : Paragraph) → items_in (rest_from told place ss) ≡ items_of ss
+pub items-from : (told : FlowFacts) (place : ℕ) (ss : Paragraph) → items_in (rest_from told place ss) ≡ items_of ss
 items-from told place [] = refl
 items-from told place (s ∷ ss) = ap (λ r. before s (SentenceEnd ∷ r)) (items-from told (place + sizes s) ss)
 
-outside-from : (told : Told) (bound place : ℕ) (ss : Paragraph) → Outside bound (rest_from told place ss)
+outside-from : (told : FlowFacts) (bound place : ℕ) (ss : Paragraph) → Outside bound (rest_from told place ss)
 outside-from told bound place [] = tt
 outside-from told bound place (s ∷ ss) = outside-from told bound (place + sizes s) ss
 
-pub apart-from : (told : Told) (place : ℕ) (ss : Paragraph) → Apart (rest_from told place ss)
+pub apart-from : (told : FlowFacts) (place : ℕ) (ss : Paragraph) → Apart (rest_from told place ss)
 apart-from told place [] = tt
 apart-from told place (s ∷ ss) = (outside-from told place (place + sizes s) ss, apart-from told (place + sizes s) ss)
 
-pub holds-from : (told : Told) (cells : ℕ → ℕ) (place : ℕ) (ss : Paragraph) → CellsHold cells (rest_from told place ss)
+pub holds-from : (told : FlowFacts) (cells : ℕ → ℕ) (place : ℕ) (ss : Paragraph) → CellsHold cells (rest_from told place ss)
 holds-from told cells place [] = tt
 holds-from told cells place (s ∷ ss) = holds-from told cells (place + sizes s) ss
 
@@ -200,11 +200,11 @@ holds-uncut cells (Sent holds others) h = holds-uncut cells others h
 holds-uncut cells (Turns place control left reached body others) h = (h.0, holds-uncut cells others h.1)
 holds-uncut cells (Cut others) h = holds-uncut cells others h
 
-pub uncut-from : (told : Told) (place : ℕ) (ss : Paragraph) → uncut (rest_from told place ss) ≡ rest_from told place ss
+pub uncut-from : (told : FlowFacts) (place : ℕ) (ss : Paragraph) → uncut (rest_from told place ss) ≡ rest_from told place ss
 uncut-from told place [] = refl
 uncut-from told place (s ∷ ss) = ap (λ c. From place s (Sent (leave_sentence (cuts told s)) c)) (uncut-from told (place + sizes s) ss)
 
-module _ (told : Told) (place_of : ℕ → ℕ) (end : Leaving) where
+module _ (told : FlowFacts) (place_of : ℕ → ℕ) (end : EscapeTargets) where
   pub leaf-uncut : (c : Rest) → leaf_of told place_of end (uncut c) ≡ leaf_of told place_of end c
   leaf-uncut rests.Over = refl
   leaf-uncut (From place stmts others) = ap (leaf told place_of stmts place) (leaf-uncut others)
@@ -233,7 +233,7 @@ module _ (told : Told) (place_of : ℕ → ℕ) (end : Leaving) where
   turn-uncut (Turns place control left reached body others) = refl
   turn-uncut (Cut others) = turn-uncut others
 
-  abbrev leaving_by : End → End → End → Leaving
+  abbrev leaving_by : End → End → End → EscapeTargets
   leaving_by sentence loop cycle = record { sentence = sentence; paragraph = end.paragraph; section = end.section; loop = loop; cycle = cycle }
 
   pub leaving-uncut : (c : Rest) → leaving_of told place_of end (uncut c) ≡ leaving_of told place_of end c
@@ -243,7 +243,7 @@ module _ (told : Told) (place_of : ℕ → ℕ) (end : Leaving) where
       ∙ ap (λ e. leaving_by (leaf_of told place_of end (after_sentence c)) (leaf_of told place_of end (after_loop c)) e) (turn-uncut c)
 
   -- a tree that is built from the continuations of a rest
-  pub built-uncut : {A : Type 0} (f : Leaving → End → Tree → A) (c : Rest) →
+  pub built-uncut : {A : Type 0} (f : EscapeTargets → End → Tree → A) (c : Rest) →
       f (leaving_of told place_of end (uncut c)) (leaf_of told place_of end (uncut c)) (tree_of told place_of end (uncut c)) ≡ f (leaving_of told place_of end c) (leaf_of told place_of end c) (tree_of told place_of end (uncut c))
   built-uncut f c =
       ap (λ e. f e (leaf_of told place_of end (uncut c)) (tree_of told place_of end (uncut c))) (leaving-uncut c)
@@ -265,36 +265,36 @@ module _ (told : Told) (place_of : ℕ → ℕ) (end : Leaving) where
   has-uncut graph (Cut others) h = has-uncut graph others h
 
 module _ (graph : Label → Tree) where
-  pub has-left : (told : Told) (place_of : ℕ → ℕ) (xs ys : List Node) → Has told place_of graph (xs ++ ys) → Has told place_of graph xs
+  pub has-left : (told : FlowFacts) (place_of : ℕ → ℕ) (xs ys : List Node) → Has told place_of graph (xs ++ ys) → Has told place_of graph xs
   has-left told place_of [] ys h = tt
   has-left told place_of (x ∷ xs) ys h = (h.0, has-left told place_of xs ys h.1)
 
-  pub has-right : (told : Told) (place_of : ℕ → ℕ) (xs ys : List Node) → Has told place_of graph (xs ++ ys) → Has told place_of graph ys
+  pub has-right : (told : FlowFacts) (place_of : ℕ → ℕ) (xs ys : List Node) → Has told place_of graph (xs ++ ys) → Has told place_of graph ys
   has-right told place_of [] ys h = h
   has-right told place_of (x ∷ xs) ys h = has-right told place_of xs ys h.1
 
-  pub has-after : (told : Told) (place_of : ℕ → ℕ) (end : Leaving) (c : Rest) → HasRest told place_of graph end c → HasRest told place_of graph end (after_sentence c)
+  pub has-after : (told : FlowFacts) (place_of : ℕ → ℕ) (end : EscapeTargets) (c : Rest) → HasRest told place_of graph end c → HasRest told place_of graph end (after_sentence c)
   has-after told place_of end rests.Over h = tt
   has-after told place_of end (From place stmts others) h = has-after told place_of end others h.1
   has-after told place_of end (Sent holds others) h = h
   has-after told place_of end (Turns place control left reached body others) h = has-after told place_of end others h.1
   has-after told place_of end (Cut others) h = has-after told place_of end others h
 
-  pub has-behind : (told : Told) (place_of : ℕ → ℕ) (end : Leaving) (c : Rest) → HasRest told place_of graph end c → HasRest told place_of graph end (after_loop c)
+  pub has-behind : (told : FlowFacts) (place_of : ℕ → ℕ) (end : EscapeTargets) (c : Rest) → HasRest told place_of graph end c → HasRest told place_of graph end (after_loop c)
   has-behind told place_of end rests.Over h = tt
   has-behind told place_of end (From place stmts others) h = has-behind told place_of end others h.1
   has-behind told place_of end (Sent holds others) h = has-behind told place_of end others h
   has-behind told place_of end (Turns place control left reached body others) h = h.1
   has-behind told place_of end (Cut others) h = has-behind told place_of end others h
 
-  pub has-turn : (told : Told) (place_of : ℕ → ℕ) (end : Leaving) (c : Rest) → HasRest told place_of graph end c → HasRest told place_of graph end (at_loop c)
+  pub has-turn : (told : FlowFacts) (place_of : ℕ → ℕ) (end : EscapeTargets) (c : Rest) → HasRest told place_of graph end c → HasRest told place_of graph end (at_loop c)
   has-turn told place_of end rests.Over h = tt
   has-turn told place_of end (From place stmts others) h = has-turn told place_of end others h.1
   has-turn told place_of end (Sent holds others) h = has-turn told place_of end others h
   has-turn told place_of end (Turns place control left reached body others) h = h
   has-turn told place_of end (Cut others) h = has-turn told place_of end others h
 
-module _ {Memory : Type 0} (acting : Acting Memory) (told : Told) (program : Program) (place_of : ℕ → ℕ) (family : Family) (first : ℕ) (first_rest : List Item) (Named : ℕ → ℕ → Type 0) where
+module _ {Memory : Type 0} (acting : Acting Memory) (told : FlowFacts) (program : Program) (place_of : ℕ → ℕ) (family : Family) (first : ℕ) (first_rest : List Item) (Named : ℕ → ℕ → Type 0) where
   abbrev Wait : (Range → ℕ → ℕ) → Range → List Joint → Type 0
   Wait cells range waiting = Waits acting told program place_of family first first_rest Named cells range waiting
 

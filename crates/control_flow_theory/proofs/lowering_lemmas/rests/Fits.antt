@@ -9,7 +9,7 @@ use Rattle.control_flow_theory.specs.language.Items.{Turning, Counted, Tests, St
 use Rattle.control_flow_theory.specs.semantics.Items.{Way, On, Halts, Into, To, ToEnd, way_after, tried, on, first_turn, loop_begins, turns, tests, steps_on, turn_way, to_one, item_way}
 use Rattle.control_flow_theory.specs.semantics.Source.{rest_of}
 use Rattle.control_flow_theory.specs.language.Own.{OwnAct, OwnTest, OwnControl}
-use Rattle.control_flow_theory.specs.lowering.Told.{Told, OwnStmts, OwnArms, OwnBody, OwnParagraph, OwnParagraphs, IsSource, AllBelow}
+use Rattle.control_flow_theory.specs.lowering.FlowFacts.{FlowFacts, OwnStmts, OwnArms, OwnBody, OwnParagraph, OwnParagraphs, IsSource, AllBelow}
 use Rattle.control_flow_theory.specs.lowering.flow.Comes.{Comes, begins, enters, goes_on, goes_to, goes_to_end, over, falls}
 use Rattle.control_flow_theory.proofs.lowering_lemmas.rests.Wholes.{OwnTurning, OwnItem}
 
@@ -68,7 +68,7 @@ abbrev pub weight : List Item → ℕ
 weight [] = 0
 weight (x ∷ xs) = weight_of x + weight xs
 
-abbrev pub Fits : Told → ℕ → ℕ → List Item → Type 0
+abbrev pub Fits : FlowFacts → ℕ → ℕ → List Item → Type 0
 Fits told paragraphs most [] = Unit {0}
 Fits told paragraphs most (x ∷ xs) = OwnItem told paragraphs x × (item_bulk x ≤ most) × Fits told paragraphs most xs
 
@@ -128,7 +128,7 @@ found-bulk [] q = omega arith
 found-bulk (x ∷ xs) zero = omega arith
 found-bulk (x ∷ xs) (suc q) = omega (arith, found-bulk xs q)
 
-module _ (told : Told) (paragraphs most : ℕ) where
+module _ (told : FlowFacts) (paragraphs most : ℕ) where
   abbrev Fit : List Item → Type 0
   Fit xs = Fits told paragraphs most xs
 
@@ -261,7 +261,7 @@ module _ (told : Told) (paragraphs most : ℕ) where
   own-found (x ∷ xs) zero own = own.0
   own-found (x ∷ xs) (suc q) own = own-found xs q own.1
 
-module _ (told : Told) (program : Program) (source : IsSource told program) where
+module _ (told : FlowFacts) (program : Program) (source : IsSource told program) where
   abbrev pub FitsIn : List Item → Type 0
   FitsIn xs = Fits told (length program.paragraphs) (program_bulk program) xs
 

@@ -11,8 +11,8 @@ use Rattle.control_flow_theory.specs.semantics.Items.{Into, item_way}
 use Rattle.control_flow_theory.specs.semantics.Source.{SourceState}
 use Rattle.control_flow_theory.specs.semantics.Graph.{Tree, End, Family}
 use Rattle.control_flow_theory.specs.semantics.Walk.{Level, Walk, walk_step}
-use Rattle.control_flow_theory.specs.lowering.Told.{Told}
-use Rattle.control_flow_theory.specs.lowering.Lower.{Leaving, leaving_at}
+use Rattle.control_flow_theory.specs.lowering.FlowFacts.{FlowFacts}
+use Rattle.control_flow_theory.specs.lowering.Lower.{EscapeTargets, leaving_at}
 use Rattle.control_flow_theory.specs.lowering.Rests.{Rest, From, Sent, Turns, Cut, items_in, rest_from, tree_of, HasRest}
 use Rattle.control_flow_theory.specs.lowering.Rests as rests
 use Rattle.control_flow_theory.specs.lowering.flow.Comes.{Comes}
@@ -109,11 +109,11 @@ abbrev pub Fresh : Range → List Joint → Type 0
 Fresh range [] = Unit {0}
 Fresh range (j ∷ js) = (same_range j.range range ≡ false) × Fresh range js
 
-module _ {Memory : Type 0} (acting : Acting Memory) (told : Told) (program : Program) (place_of : ℕ → ℕ) (family : Family) (first : ℕ) (first_rest : List Item) (Named : ℕ → ℕ → Type 0) where
+module _ {Memory : Type 0} (acting : Acting Memory) (told : FlowFacts) (program : Program) (place_of : ℕ → ℕ) (family : Family) (first : ℕ) (first_rest : List Item) (Named : ℕ → ℕ → Type 0) where
   abbrev pub ComesTo : Range → ℕ → List Item → Type 0
   ComesTo range number rest = Comes (alone acting) program first first_rest range number rest
 
-  abbrev pub end_at : Range → ℕ → Leaving
+  abbrev pub end_at : Range → ℕ → EscapeTargets
   end_at range number = leaving_at place_of program range number
 
   abbrev pub tree_in : Range → ℕ → Rest → Tree
@@ -170,7 +170,7 @@ heft s = weight s.rest + waiting_heft s.pending
 abbrev pub IsFine : {Memory Left : Type 0} → SourceState Memory Left → Type 0
 IsFine s = (fault : FlowFault) → s.run.standing ≢ Over (Faulted fault)
 
-module _ {Memory Left : Type 0} (acting : Acting Memory) (left : Memory → Left) (told : Told) (program : Program) (place_of : ℕ → ℕ) (family : Family) (first : ℕ) (first_rest : List Item) (Named : ℕ → ℕ → Type 0) where
+module _ {Memory Left : Type 0} (acting : Acting Memory) (left : Memory → Left) (told : FlowFacts) (program : Program) (place_of : ℕ → ℕ) (family : Family) (first : ℕ) (first_rest : List Item) (Named : ℕ → ℕ → Type 0) where
   pub record Met (s : SourceState Memory Left) (w : Walk Memory Left) : Type 0 where
     pub to : Both Memory
     pub sourced : s ≡ source_of to

@@ -4,7 +4,7 @@ use Rattle.control_flow_theory.specs.semantics.Outcome.{Tried, Got, Ends}
 use Rattle.control_flow_theory.specs.language.Language.{Act, Own, Set, Take, Lower, Test, Holds, Not, Is, Above, Picker, If, By, ByCell, Range}
 use Rattle.control_flow_theory.specs.semantics.Doing.{Acting, giving, keeping, arm_of, alone_act, alone_test, alone_pick, Celled, own_is, celled_act, celled_test, celled_pick}
 use Rattle.control_flow_theory.specs.language.Own.{OwnAct, OwnTest}
-use Rattle.control_flow_theory.specs.lowering.Told.{Told, OwnPicker}
+use Rattle.control_flow_theory.specs.lowering.FlowFacts.{FlowFacts, OwnPicker}
 
 pub giving-keeping : {Memory Other A B : Type 0} (f : A → B) (h : Memory → Other) (t : Tried Memory A) → giving f (keeping h t) ≡ keeping h (giving f t)
 giving-keeping f h (Got trace value memory) = refl
@@ -23,7 +23,7 @@ module _ {Memory : Type 0} (acting : Acting Memory) (range : Range) where
   celled-tests (Is cell value) c own = absurd own
   celled-tests (Above cell) c own = absurd own
 
-  pub celled-picks : (told : Told) (picker : Picker) (arms : ℕ) (c : Celled Memory) → OwnPicker told picker arms → celled_pick acting range picker c ≡ keeping (own_is c) (alone_pick acting picker c.own)
+  pub celled-picks : (told : FlowFacts) (picker : Picker) (arms : ℕ) (c : Celled Memory) → OwnPicker told picker arms → celled_pick acting range picker c ≡ keeping (own_is c) (alone_pick acting picker c.own)
   celled-picks told (If test) arms c own = ap (giving arm_of) (celled-tests test c own.0) ∙ giving-keeping arm_of (own_is c) (alone_test acting test c.own)
   celled-picks told (By chooser) arms c own = refl
   celled-picks told (ByCell cell) arms c own = absurd own

@@ -3,7 +3,7 @@ use Rattle.std.proofs.Common.{◌≡◌, ℕ, zero, suc, Bool, true, false, if�
 use Rattle.control_flow_theory.specs.language.Language.{Stmts, none, also, Arms, done, given, missing, Body, Nested, Performed}
 use Rattle.control_flow_theory.specs.language.Items.{Item, Do, SentenceEnd, Turn, before, before_body, before_arm}
 use Rattle.control_flow_theory.specs.semantics.Graph.{Tree, End, body_of, end_of}
-use Rattle.control_flow_theory.specs.lowering.Told.{Told, MayGive, arm_count}
+use Rattle.control_flow_theory.specs.lowering.FlowFacts.{FlowFacts, MayGive, arm_count}
 use Rattle.control_flow_theory.specs.lowering.Completes.{completes, complete, choice_completes, body_completes, cut, cuts, cut_arms, cut_body, whole, wholes, whole_arms, whole_body}
 
 pub both-left : (a b : Bool) → (if a then b else false) ≡ true → a ≡ true
@@ -42,7 +42,7 @@ arm-append (given arm others) (suc k) xs ys = arm-append others k xs ys
 arm-append (missing others) zero xs ys = refl
 arm-append (missing others) (suc k) xs ys = arm-append others k xs ys
 
-abbrev pub cut_item : Told → Item → Item
+abbrev pub cut_item : FlowFacts → Item → Item
 cut_item told (Do stmt) = Do (cut told stmt)
 cut_item told SentenceEnd = SentenceEnd
 cut_item told (Turn turning body) = Turn turning (cut_body told body)
@@ -52,18 +52,18 @@ whole_item (Do stmt) = whole stmt
 whole_item SentenceEnd = false
 whole_item (Turn turning body) = whole_body body
 
-abbrev pub item_completes : Told → Item → Bool
+abbrev pub item_completes : FlowFacts → Item → Bool
 item_completes told (Do stmt) = completes told stmt
 item_completes told SentenceEnd = true
 item_completes told (Turn turning body) = true
 
 -- the walk has the source's items, cut, and then the tree; behind an item that can't complete it may have anything
-abbrev pub Stands : Told → Tree → End → List Item → List Item → Type 0
+abbrev pub Stands : FlowFacts → Tree → End → List Item → List Item → Type 0
 Stands told t end [] zs = (zs ≡ before (body_of t) []) × (end ≡ end_of t)
 Stands told t end (x ∷ xs) [] = ⊥
 Stands told t end (x ∷ xs) (z ∷ zs) = (z ≡ cut_item told x) × (whole_item z ≡ true) × (item_completes told x ≡ true → Stands told t end xs zs)
 
-module _ (told : Told) (t : Tree) (end : End) where
+module _ (told : FlowFacts) (t : Tree) (end : End) where
   abbrev These : List Item → List Item → Type 0
   These xs zs = Stands told t end xs zs
 

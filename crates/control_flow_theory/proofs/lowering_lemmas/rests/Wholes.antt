@@ -8,7 +8,7 @@ use Rattle.control_flow_theory.specs.language.Items.{Turning, Counted, Tests, St
 use Rattle.control_flow_theory.specs.semantics.Items.{Way, On, Halts, Into, To, ToEnd, way_after, tried, on, first_turn, varying, loop_begins, turns, tests, steps_on, turn_way, stmt_way, item_way}
 use Rattle.control_flow_theory.specs.semantics.Graph.{Tree, End}
 use Rattle.control_flow_theory.specs.language.Own.{OwnAct, OwnTest, OwnControl}
-use Rattle.control_flow_theory.specs.lowering.Told.{Told, MayGive, ChoiceIsTold, IsTold, OwnPicker, OwnStmt, OwnBody, arm_count}
+use Rattle.control_flow_theory.specs.lowering.FlowFacts.{FlowFacts, MayGive, ChoiceIsTold, IsTold, OwnPicker, OwnStmt, OwnBody, arm_count}
 use Rattle.control_flow_theory.specs.lowering.Completes.{first_is_dead, completes, body_completes, body_leaves_loop, cut_arms, cut_body, whole_body}
 use Rattle.control_flow_theory.proofs.lowering_lemmas.rests.Parts.{celled-acts, celled-tests, celled-picks}
 use Rattle.control_flow_theory.proofs.lowering_lemmas.rests.Stands.{body-append, arm-append, cut_item, whole_item, item_completes, Stands, stands-body, stands-arm, after-completes}
@@ -19,7 +19,7 @@ OwnTurning (Tests test) = OwnTest test
 OwnTurning (Steps reached step test) = OwnAct step × OwnTest test
 OwnTurning (StepsAfter step test) = OwnAct step × OwnTest test
 
-abbrev pub OwnItem : Told → ℕ → Item → Type 0
+abbrev pub OwnItem : FlowFacts → ℕ → Item → Type 0
 OwnItem told paragraphs (Do stmt) = OwnStmt told paragraphs stmt
 OwnItem told paragraphs SentenceEnd = Unit {0}
 OwnItem told paragraphs (Turn turning body) = OwnTurning turning × OwnBody told paragraphs body
@@ -76,7 +76,7 @@ test-gives (Got trace true memory) = (omega arith, λ f. cc)
 test-gives (Got trace false memory) = (omega arith, λ f. cc)
 test-gives (Ends trace kind memory) = tt
 
-module _ {Memory : Type 0} (acting : Acting Memory) (told : Told) (is_told : IsTold told acting) (paragraphs : ℕ) where
+module _ {Memory : Type 0} (acting : Acting Memory) (told : FlowFacts) (is_told : IsTold told acting) (paragraphs : ℕ) where
   -- what chooses gives the number of an arm
   pub pick-gives : (picker : Picker) (arms : ℕ) (m : Memory) → OwnPicker told picker arms → Gives (MayGive arms (first_is_dead told picker)) (alone_pick acting picker m)
   pick-gives (If test) arms m own = subst (λ n. Gives (MayGive n false) (alone_pick acting (If test) m)) (sym own.1) (test-gives (alone_test acting test m))

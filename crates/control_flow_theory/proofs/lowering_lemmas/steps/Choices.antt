@@ -9,9 +9,9 @@ use Rattle.control_flow_theory.specs.semantics.Items.{Way, To, tried, on, to_one
 use Rattle.control_flow_theory.specs.semantics.Source.{SourceState}
 use Rattle.control_flow_theory.specs.semantics.Graph.{Tree, End, Pick, Jump, Family}
 use Rattle.control_flow_theory.specs.semantics.Walk.{Walk, picks, picked, tree_at}
-use Rattle.control_flow_theory.specs.lowering.Told.{Told, IsTold, IsSource, MayGive, OwnPicker, AllBelow, arm_count}
+use Rattle.control_flow_theory.specs.lowering.FlowFacts.{FlowFacts, IsTold, IsSource, MayGive, OwnPicker, AllBelow, arm_count}
 use Rattle.control_flow_theory.specs.lowering.Completes.{sizes, first_is_dead}
-use Rattle.control_flow_theory.specs.lowering.Lower.{only, point, build_arms, depending, nodes, nodes_of_arms, Leaving}
+use Rattle.control_flow_theory.specs.lowering.Lower.{end_alone, point, build_arms, depending, nodes, nodes_of_arms, EscapeTargets}
 use Rattle.control_flow_theory.specs.lowering.Rests.{Rest, From, Cut, items_in, uncut, leaf_of, leaving_of, tree_of, Has}
 use Rattle.control_flow_theory.specs.lowering.flow.Comes.{IsLowered}
 use Rattle.control_flow_theory.proofs.lowering_lemmas.rests.Parts.{celled-picks}
@@ -22,14 +22,14 @@ use Rattle.control_flow_theory.proofs.lowering_lemmas.rests.Counters.{has-left, 
 use Rattle.control_flow_theory.proofs.lowering_lemmas.steps.Moves.{Reach, Move, Meet, Come, Right, Wait, tree_here, end_here, step_s, at_tree, at_rest, met-now, reach-later, reach-more, arrives, arrives-whole}
 use Rattle.control_flow_theory.proofs.lowering_lemmas.steps.Tries.{NoInto, goes_from, Leads, leads-step, try-move}
 
-module _ {Memory Left : Type 0} (acting : Acting Memory) (left : Memory → Left) (told : Told) (program : Program) (place_of : ℕ → ℕ) (family : Family) (first : ℕ) (first_rest : List Item) (Named : ℕ → ℕ → Type 0) where
+module _ {Memory Left : Type 0} (acting : Acting Memory) (left : Memory → Left) (told : FlowFacts) (program : Program) (place_of : ℕ → ℕ) (family : Family) (first : ℕ) (first_rest : List Item) (Named : ℕ → ℕ → Type 0) where
   abbrev Good : (Range → ℕ → ℕ) → Range → ℕ → Rest → Type 0
   Good cells range q c = Right acting left told program place_of family first first_rest Named cells range q c
 
   abbrev tree_of_rest : Range → ℕ → Rest → Tree
   tree_of_rest range q c = tree_here acting left told program place_of family first first_rest Named range q c
 
-  abbrev ending : Range → ℕ → Leaving
+  abbrev ending : Range → ℕ → EscapeTargets
   ending range q = end_here acting left told program place_of family first first_rest Named range q
 
   -- the tree that is picked is that of the rest to which the source goes
@@ -70,12 +70,12 @@ module _ {Memory Left : Type 0} (acting : Acting Memory) (left : Memory → Left
         Has told place_of (family.node range) (nodes_of_arms told place_of arms place (leaving_of told place_of (ending range q) c) (leaf_of told place_of (ending range q) c) (tree_of told place_of (ending range q) (uncut c))) →
         Wait acting left told program place_of family first first_rest Named cells range waiting → Come acting left told program place_of family first first_rest Named range q (Do (Choose picker arms) ∷ items_in c) →
         Move acting left told program place_of family first first_rest Named 1 heavy (step_s acting left told program place_of family first first_rest Named (at_rest acting left told program place_of family first first_rest Named range q (Do (Choose picker arms) ∷ items_in c) waiting m tr))
-        (at_tree acting left told program place_of family first first_rest Named range (only (Pick picker (build_arms told place_of (first_is_dead told picker) arms place (leaving_of told place_of (ending range q) c) (leaf_of told place_of (ending range q) c)))) waiting m cells tr)
+        (at_tree acting left told program place_of family first first_rest Named range (end_alone (Pick picker (build_arms told place_of (first_is_dead told picker) arms place (leaving_of told place_of (ending range q) c) (leaf_of told place_of (ending range q) c)))) waiting m cells tr)
     pick-move picker arms place c own ok out h waits came =
         let x = Do (Choose picker arms) in
         let rest = items_in c in
         let trees = build_arms told place_of (first_is_dead told picker) arms place (leaving_of told place_of (ending range q) c) (leaf_of told place_of (ending range q) c) in
-        let v : Walk Memory Left = at_tree acting left told program place_of family first first_rest Named range (only (Pick picker trees)) waiting m cells tr in
+        let v : Walk Memory Left = at_tree acting left told program place_of family first first_rest Named range (end_alone (Pick picker trees)) waiting m cells tr in
         let f : ℕ → Memory → Way Memory = λ k. on (alone acting) (before_arm arms k rest) in
         let k : Tried (Celled Memory) ℕ → Walk Memory Left = λ b. picks acting left family trees b v in
         try-move acting left told program place_of family first first_rest Named range q x rest waiting m cells m (MayGive (arm_count arms) (first_is_dead told picker)) (alone_pick acting picker m) f k tr v 0 heavy
@@ -88,7 +88,7 @@ module _ {Memory Left : Type 0} (acting : Acting Memory) (left : Memory → Left
         let s : SourceState Memory Left = goes_from acting left told program place_of family first first_rest Named range q x rest waiting m cells (f n now) (tr ++ t) in
         let w : Walk Memory Left = k (Got t n (record { own = now; cells = cells })) in
         met-now acting left told program place_of family first first_rest Named s w
-        (subst (λ o. Meet acting left told program place_of family first first_rest Named s (picked acting left family o (at_tree acting left told program place_of family first first_rest Named range (only (Pick picker trees)) waiting now cells (tr ++ t)))) (sym taken.tree_is)
+        (subst (λ o. Meet acting left told program place_of family first first_rest Named s (picked acting left family o (at_tree acting left told program place_of family first first_rest Named range (end_alone (Pick picker trees)) waiting now cells (tr ++ t)))) (sym taken.tree_is)
         (arrives acting left told program place_of family first first_rest Named range q taken.rest (before_arm arms n rest) waiting now cells (tr ++ t) ((tr ++ t) ++ []) taken.same (append-nil (tr ++ t)) taken.good waits (leads.0 [] now (before_arm arms n rest) refl))))
 
     one-no-into : (o : Option ℕ) (rest : List Item) (now : Memory) → NoInto (to_one (alone acting) o rest now)
@@ -108,7 +108,7 @@ module _ {Memory Left : Type 0} (acting : Acting Memory) (left : Memory → Left
     depend [] (suc n) c x rest now tr' end lt below ok same waits leads = absurd (omega (arith, lt))
     depend (t ∷ ts) zero c x rest now tr' end lt below ok same waits leads =
         let s : SourceState Memory Left = goes_from acting left told program place_of family first first_rest Named range q x rest waiting m cells (To [] now t) tr' in
-        let v : Walk Memory Left = at_tree acting left told program place_of family first first_rest Named range (only (Jump (point (place_of t)))) waiting now cells tr' in
+        let v : Walk Memory Left = at_tree acting left told program place_of family first first_rest Named range (end_alone (Jump (point (place_of t)))) waiting now cells tr' in
         let w : Walk Memory Left = at_tree acting left told program place_of family first first_rest Named range (family.node range (point (place_of t))) waiting now cells tr' in
         reach-later acting left told program place_of family first first_rest Named 0 s v w refl (met-now acting left told program place_of family first first_rest Named s w
         (arrives-whole acting left told program place_of family first first_rest Named is_told source lowered first_fits names range t waiting now cells tr' (tr' ++ []) below.0 (append-nil tr') waits (leads.1 [] now t refl)))
@@ -118,12 +118,12 @@ module _ {Memory Left : Type 0} (acting : Acting Memory) (left : Memory → Left
     pub depending-move : (to : List ℕ) (chooser : Chooser) (c : Rest) → told.width chooser ≡ suc (length to) → AllBelow (length program.paragraphs) to → Good cells range q c →
         Wait acting left told program place_of family first first_rest Named cells range waiting → Come acting left told program place_of family first first_rest Named range q (Do (GoDepending to chooser) ∷ items_in c) →
         Move acting left told program place_of family first first_rest Named 2 heavy (step_s acting left told program place_of family first first_rest Named (at_rest acting left told program place_of family first first_rest Named range q (Do (GoDepending to chooser) ∷ items_in c) waiting m tr))
-        (at_tree acting left told program place_of family first first_rest Named range (only (Pick (By chooser) (depending told place_of to (leaf_of told place_of (ending range q) c)))) waiting m cells tr)
+        (at_tree acting left told program place_of family first first_rest Named range (end_alone (Pick (By chooser) (depending told place_of to (leaf_of told place_of (ending range q) c)))) waiting m cells tr)
     depending-move to chooser c wide below ok waits came =
         let x = Do (GoDepending to chooser) in
         let rest = items_in c in
         let trees = depending told place_of to (leaf_of told place_of (ending range q) c) in
-        let v : Walk Memory Left = at_tree acting left told program place_of family first first_rest Named range (only (Pick (By chooser) trees)) waiting m cells tr in
+        let v : Walk Memory Left = at_tree acting left told program place_of family first first_rest Named range (end_alone (Pick (By chooser) trees)) waiting m cells tr in
         let f : ℕ → Memory → Way Memory = λ k. to_one (alone acting) (slice_get to k) rest in
         let k : Tried (Celled Memory) ℕ → Walk Memory Left = λ b. picks acting left family trees b v in
         let way = tried (acting.choose chooser m) f in

@@ -14,7 +14,7 @@ use Rattle.control_flow_theory.specs.language.Items.{Pending, ends_at}
 use Rattle.control_flow_theory.specs.semantics.Source.{SourceState, rest_of, comes_to, goes_to, goes, falls, end_step, source_step, source_begun, source_machine}
 use Rattle.control_flow_theory.specs.semantics.Graph.{Family, body_of, end_of}
 use Rattle.control_flow_theory.specs.semantics.Walk.{Walk, walk_step, walk_begun, main_machine}
-use Rattle.control_flow_theory.specs.lowering.Told.{Told, IsTold, IsSource}
+use Rattle.control_flow_theory.specs.lowering.FlowFacts.{FlowFacts, IsTold, IsSource}
 use Rattle.control_flow_theory.specs.lowering.flow.Comes.{Comes, begins, IsLowered}
 use Rattle.control_flow_theory.specs.lowering.Laws.{NoFlowFault}
 use Rattle.control_flow_theory.proofs.lowering_lemmas.rests.Fits.{item_bulk, program_bulk, weight_of, weight, FitsIn, Adds, item-adds, comes-fits, rest-light, rest-fits}
@@ -23,7 +23,7 @@ use Rattle.control_flow_theory.proofs.lowering_lemmas.steps.Moves.{arrives-whole
 use Rattle.control_flow_theory.proofs.lowering_lemmas.steps.Lowers.{moves-going}
 use Rattle.control_flow_theory.proofs.semantics_lemmas.Grows.{source-grows, walk-grows}
 
-module _ {Memory Left : Type 0} (acting : Acting Memory) (left : Memory → Left) (told : Told) (program : Program) (source : IsSource told program) where
+module _ {Memory Left : Type 0} (acting : Acting Memory) (left : Memory → Left) (told : FlowFacts) (program : Program) (source : IsSource told program) where
   abbrev State : Type 0
   State = SourceState Memory Left
 
@@ -83,7 +83,7 @@ module _ {Memory Left : Type 0} (acting : Acting Memory) (left : Memory → Left
       let e = goes-adds s x xs (item_way (alone acting) x xs m) fits.1 (omega arith) (item-adds told (length program.paragraphs) most (alone acting) x xs m fits.0 fits.1 fits.2) in
       omega (arith, e)
 
-module _ {Memory Left : Type 0} (acting : Acting Memory) (left : Memory → Left) (told : Told) (program : Program) (place_of : ℕ → ℕ) (family : Family) (first : ℕ) (first_rest : List Item) (Named : ℕ → ℕ → Type 0)
+module _ {Memory Left : Type 0} (acting : Acting Memory) (left : Memory → Left) (told : FlowFacts) (program : Program) (place_of : ℕ → ℕ) (family : Family) (first : ℕ) (first_rest : List Item) (Named : ℕ → ℕ → Type 0)
     (is_told : IsTold told acting) (source : IsSource told program) (lowered : IsLowered told program place_of family) (first_fits : FitsIn told program source first_rest) (names : CallsNamed acting told program place_of family first first_rest Named)
     (returning : NamedReturn acting told program place_of family first first_rest Named) where
   abbrev Walking : Type 0
@@ -161,7 +161,7 @@ module _ {Memory Left : Type 0} (acting : Acting Memory) (left : Memory → Left
       simulated-tied a b Related (source-grows (alone acting) left program begun_s) (begun-simulates begun_s begun_w bound light together fine) (walk-grows acting left family begun_w)
 
 -- a source program and the walk of its lowered family
-pub source-walk-tied : {Memory Left : Type 0} (acting : Acting Memory) (left : Memory → Left) (told : Told) (program : Program) (place_of : ℕ → ℕ) (family : Family) (Named : ℕ → ℕ → Type 0) →
+pub source-walk-tied : {Memory Left : Type 0} (acting : Acting Memory) (left : Memory → Left) (told : FlowFacts) (program : Program) (place_of : ℕ → ℕ) (family : Family) (Named : ℕ → ℕ → Type 0) →
     CallsNamed acting told program place_of family 0 (rest_of program 0) Named → NamedReturn acting told program place_of family 0 (rest_of program 0) Named →
     IsTold told acting → IsSource told program → 0 < length program.paragraphs → IsLowered told program place_of family → NoFlowFault acting left program →
     Tied (meaning (source_machine (alone acting) left program)) (meaning (main_machine acting left family))

@@ -11,9 +11,9 @@ use Rattle.control_flow_theory.specs.semantics.Source.{SourceState, rest_of, goe
 use Rattle.control_flow_theory.specs.semantics.Graph.{Tree, End, Pick, Jump, Stop, body_of, Family}
 use Rattle.control_flow_theory.specs.semantics.Walk.{Walk}
 use Rattle.control_flow_theory.specs.language.Own.{OwnAct}
-use Rattle.control_flow_theory.specs.lowering.Told.{Told, IsTold, IsSource}
+use Rattle.control_flow_theory.specs.lowering.FlowFacts.{FlowFacts, IsTold, IsSource}
 use Rattle.control_flow_theory.specs.lowering.Completes.{cut, cuts, whole, wholes, size, skips, first_is_dead}
-use Rattle.control_flow_theory.specs.lowering.Lower.{Leaving, only, point, leaf, build, build_arms, loop_start, push, nodes, nodes_in}
+use Rattle.control_flow_theory.specs.lowering.Lower.{EscapeTargets, end_alone, point, leaf, build, build_arms, loop_start, push, nodes, nodes_in}
 use Rattle.control_flow_theory.specs.lowering.Rests.{Rest, From, Sent, Turns, Cut, turning_of, items_in, to_turn, after_sentence, after_loop, at_loop, uncut, leaf_of, leaving_of, tree_of, Has, HasRest}
 use Rattle.control_flow_theory.specs.lowering.Rests as rests
 use Rattle.control_flow_theory.specs.lowering.flow.Comes.{goes_on, goes_to, goes_to_end, IsLowered}
@@ -26,7 +26,7 @@ use Rattle.control_flow_theory.proofs.lowering_lemmas.steps.Falls.{over-move}
 use Rattle.control_flow_theory.proofs.lowering_lemmas.steps.Choices.{pick-move, depending-move}
 use Rattle.control_flow_theory.proofs.lowering_lemmas.steps.Loops.{begin-move, turn-move}
 
-module _ {Memory Left : Type 0} (acting : Acting Memory) (left : Memory → Left) (told : Told) (program : Program) (place_of : ℕ → ℕ) (family : Family) (first : ℕ) (first_rest : List Item) (Named : ℕ → ℕ → Type 0)
+module _ {Memory Left : Type 0} (acting : Acting Memory) (left : Memory → Left) (told : FlowFacts) (program : Program) (place_of : ℕ → ℕ) (family : Family) (first : ℕ) (first_rest : List Item) (Named : ℕ → ℕ → Type 0)
     (is_told : IsTold told acting) (source : IsSource told program) (lowered : IsLowered told program place_of family) (first_fits : FitsIn told program source first_rest) (names : CallsNamed acting told program place_of family first first_rest Named)
     (returning : NamedReturn acting told program place_of family first first_rest Named) where
   abbrev State : Type 0
@@ -44,7 +44,7 @@ module _ {Memory Left : Type 0} (acting : Acting Memory) (left : Memory → Left
   abbrev tree_walk : Range → Tree → List Joint → Memory → (Range → ℕ → ℕ) → Trace → Walk Memory Left
   tree_walk range t waiting m cells tr = at_tree acting left told program place_of family first first_rest Named range t waiting m cells tr
 
-  abbrev ending : Range → ℕ → Leaving
+  abbrev ending : Range → ℕ → EscapeTargets
   ending range q = end_here acting left told program place_of family first first_rest Named range q
 
   abbrev tree_for : Range → ℕ → Rest → Tree
@@ -134,7 +134,7 @@ module _ {Memory Left : Type 0} (acting : Acting Memory) (left : Memory → Left
       let heavy = heft (rest_state range q (x ∷ items_in behind) waiting m tr) in
       let s = stepped (rest_state range q (x ∷ items_in behind) waiting m tr) in
       let t = tree_for range q behind in
-      let picks = only (Pick picker (build_arms told place_of (first_is_dead told picker) arms (place + 1) (leaving_of told place_of (ending range q) behind) (leaf_of told place_of (ending range q) behind))) in
+      let picks = end_alone (Pick picker (build_arms told place_of (first_is_dead told picker) arms (place + 1) (leaving_of told place_of (ending range q) behind) (leaf_of told place_of (ending range q) behind))) in
       let fit = here-fits acting left told program place_of family first first_rest Named is_told source lowered first_fits names range q (x ∷ items_in behind) came in
       elim (whole (cut told (Choose picker arms))) as (λ b. whole (cut told (Choose picker arms)) ≡ b → Moving 5 heavy s (tree_walk range (if b then push told place_of (Choose picker arms) t else picks) waiting m cells tr)) [
         | true ↦ λ e. push-moves range q place (Choose picker arms) ss c e waiting m cells tr ok waits came fine
@@ -162,7 +162,7 @@ module _ {Memory Left : Type 0} (acting : Acting Memory) (left : Memory → Left
       let heavy = heft (rest_state range q (Do (Go to) ∷ items_in behind) waiting m tr) in
       let s = rest_state range to (rest_of program to) waiting m (tr ++ []) in
       let fit = here-fits acting left told program place_of family first first_rest Named is_told source lowered first_fits names range q (Do (Go to) ∷ items_in behind) came in
-      let v = tree_walk range (only (Jump (point (place_of to)))) waiting m cells tr in
+      let v = tree_walk range (end_alone (Jump (point (place_of to)))) waiting m cells tr in
       let w = tree_walk range (family.node range (point (place_of to))) waiting m cells tr in
       move-more acting left told program place_of family first first_rest Named 1 5 heavy s v (omega arith)
       (move-after acting left told program place_of family first first_rest Named 0 heavy s v w refl (met-now acting left told program place_of family first first_rest Named s w
@@ -178,20 +178,20 @@ module _ {Memory Left : Type 0} (acting : Acting Memory) (left : Memory → Left
       let behind = From (place + 1) ss c in
       let heavy = heft (rest_state range q (Do NextSentence ∷ items_in behind) waiting m tr) in
       let light = past-light (items_in behind) in
-      move-more acting left told program place_of family first first_rest Named 0 5 heavy (stepped (rest_state range q (Do NextSentence ∷ items_in behind) waiting m tr)) (tree_walk range (only (leaving_of told place_of (ending range q) c).sentence) waiting m cells tr) (omega arith)
-      (still range q (Do NextSentence) (items_in behind) (past_sentence (items_in behind)) (Cut (after_sentence c)) (only (leaving_of told place_of (ending range q) c).sentence) waiting m cells tr refl (past-items behind) refl (omega (arith, light))
+      move-more acting left told program place_of family first first_rest Named 0 5 heavy (stepped (rest_state range q (Do NextSentence ∷ items_in behind) waiting m tr)) (tree_walk range (end_alone (leaving_of told place_of (ending range q) c).sentence) waiting m cells tr) (omega arith)
+      (still range q (Do NextSentence) (items_in behind) (past_sentence (items_in behind)) (Cut (after_sentence c)) (end_alone (leaving_of told place_of (ending range q) c).sentence) waiting m cells tr refl (past-items behind) refl (omega (arith, light))
       (ok-after acting told program place_of family first first_rest Named cells range q c (ok.0.1, ok.1, ok.2.1)) waits came)
   head-move range q place ExitParagraph ss c = λ waiting m cells tr ok waits came fine.
       let behind = From (place + 1) ss c in
       let x = Do ExitParagraph in
-      move-more acting left told program place_of family first first_rest Named 0 5 (heft (rest_state range q (x ∷ items_in behind) waiting m tr)) (stepped (rest_state range q (x ∷ items_in behind) waiting m tr)) (tree_walk range (only (ending range q).paragraph) waiting m cells tr) (omega arith)
-      (still range q x (items_in behind) [] rests.Over (only (ending range q).paragraph) waiting m cells tr refl refl refl (omega arith) (tt, tt, tt) waits came)
+      move-more acting left told program place_of family first first_rest Named 0 5 (heft (rest_state range q (x ∷ items_in behind) waiting m tr)) (stepped (rest_state range q (x ∷ items_in behind) waiting m tr)) (tree_walk range (end_alone (ending range q).paragraph) waiting m cells tr) (omega arith)
+      (still range q x (items_in behind) [] rests.Over (end_alone (ending range q).paragraph) waiting m cells tr refl refl refl (omega arith) (tt, tt, tt) waits came)
   head-move range q place (ExitSection last) ss c = λ waiting m cells tr ok waits came fine.
       let behind = From (place + 1) ss c in
       let x = Do (ExitSection last) in
       let heavy = heft (rest_state range q (x ∷ items_in behind) waiting m tr) in
       let s = rest_state range last [] waiting m (tr ++ []) in
-      let w = tree_walk range (only ((ending range q).section last)) waiting m cells tr in
+      let w = tree_walk range (end_alone ((ending range q).section last)) waiting m cells tr in
       move-more acting left told program place_of family first first_rest Named 0 5 heavy s w (omega arith)
       (move-now acting left told program place_of family first first_rest Named heavy s w
       (arrives acting left told program place_of family first first_rest Named range last rests.Over [] waiting m cells tr (tr ++ []) refl (append-nil tr) (tt, tt, tt) waits (goes_to_end range q x (items_in behind) m [] m last came refl))
@@ -200,33 +200,33 @@ module _ {Memory Left : Type 0} (acting : Acting Memory) (left : Memory → Left
       let behind = From (place + 1) ss c in
       let x = Do (ExitPerform false) in
       let light = loop-light false (items_in behind) in
-      move-more acting left told program place_of family first first_rest Named 0 5 (heft (rest_state range q (x ∷ items_in behind) waiting m tr)) (stepped (rest_state range q (x ∷ items_in behind) waiting m tr)) (tree_walk range (only (leaving_of told place_of (ending range q) c).loop) waiting m cells tr) (omega arith)
-      (still range q x (items_in behind) (from_loop false (items_in behind)) (Cut (after_loop c)) (only (leaving_of told place_of (ending range q) c).loop) waiting m cells tr refl (loop-items false behind) refl (omega (arith, light))
+      move-more acting left told program place_of family first first_rest Named 0 5 (heft (rest_state range q (x ∷ items_in behind) waiting m tr)) (stepped (rest_state range q (x ∷ items_in behind) waiting m tr)) (tree_walk range (end_alone (leaving_of told place_of (ending range q) c).loop) waiting m cells tr) (omega arith)
+      (still range q x (items_in behind) (from_loop false (items_in behind)) (Cut (after_loop c)) (end_alone (leaving_of told place_of (ending range q) c).loop) waiting m cells tr refl (loop-items false behind) refl (omega (arith, light))
       (ok-behind acting told program place_of family first first_rest Named cells range q c (ok.0.1, ok.1, ok.2.1)) waits came)
   head-move range q place (ExitPerform true) ss c = λ waiting m cells tr ok waits came fine.
       let behind = From (place + 1) ss c in
       let x = Do (ExitPerform true) in
       let light = loop-light true (items_in behind) in
-      move-more acting left told program place_of family first first_rest Named 0 5 (heft (rest_state range q (x ∷ items_in behind) waiting m tr)) (stepped (rest_state range q (x ∷ items_in behind) waiting m tr)) (tree_walk range (only (leaving_of told place_of (ending range q) c).cycle) waiting m cells tr) (omega arith)
-      (still range q x (items_in behind) (from_loop true (items_in behind)) (Cut (at_loop c)) (only (leaving_of told place_of (ending range q) c).cycle) waiting m cells tr refl (loop-items true behind) refl (omega (arith, light))
+      move-more acting left told program place_of family first first_rest Named 0 5 (heft (rest_state range q (x ∷ items_in behind) waiting m tr)) (stepped (rest_state range q (x ∷ items_in behind) waiting m tr)) (tree_walk range (end_alone (leaving_of told place_of (ending range q) c).cycle) waiting m cells tr) (omega arith)
+      (still range q x (items_in behind) (from_loop true (items_in behind)) (Cut (at_loop c)) (end_alone (leaving_of told place_of (ending range q) c).cycle) waiting m cells tr refl (loop-items true behind) refl (omega (arith, light))
       (ok-turn acting told program place_of family first first_rest Named cells range q c (ok.0.1, ok.1, ok.2.1)) waits came)
   head-move range q place StopRun ss c = λ waiting m cells tr ok waits came fine.
       let behind = From (place + 1) ss c in
       let heavy = heft (rest_state range q (Do StopRun ∷ items_in behind) waiting m tr) in
       let s = stepped (rest_state range q (Do StopRun ∷ items_in behind) waiting m tr) in
-      let v = tree_walk range (only Stop) waiting m cells tr in
+      let v = tree_walk range (end_alone Stop) waiting m cells tr in
       let w = step_w acting left told program place_of family first first_rest Named v in
       move-more acting left told program place_of family first first_rest Named 1 5 heavy s v (omega arith)
       (move-after acting left told program place_of family first first_rest Named 0 heavy s v w refl (ended-now acting left told program place_of family first first_rest Named s w (ap (stopped_at m) (append-nil tr), λ e. cc)))
 
   -- at a node: its tree runs on
-  jumped : (range : Range) (q place : ℕ) (s : Stmt) (ss : Stmts) (c : Rest) → Moves 6 range q (From place (also s ss) c) (only (Jump (point place)))
+  jumped : (range : Range) (q place : ℕ) (s : Stmt) (ss : Stmts) (c : Rest) → Moves 6 range q (From place (also s ss) c) (end_alone (Jump (point place)))
   jumped range q place s ss c = λ waiting m cells tr ok waits came fine.
       let rest = From place (also s ss) (uncut c) in
       let is : items_in rest ≡ items_in (From place (also s ss) c) = ap (λ r. Do s ∷ before ss r) (items-uncut c) in
       let here = built-uncut told place_of (ending range q) (build told place_of (also s ss) place) c in
-      subst (λ items. Coming range q items → IsFine (stepped (rest_state range q items waiting m tr)) → Moving 6 (heft (rest_state range q items waiting m tr)) (stepped (rest_state range q items waiting m tr)) (tree_walk range (only (Jump (point place))) waiting m cells tr)) is
-      (λ came fine. move-later acting left told program place_of family first first_rest Named 5 (heft (rest_state range q (items_in rest) waiting m tr)) (stepped (rest_state range q (items_in rest) waiting m tr)) (tree_walk range (only (Jump (point place))) waiting m cells tr) (tree_walk range (tree_for range q rest) waiting m cells tr)
+      subst (λ items. Coming range q items → IsFine (stepped (rest_state range q items waiting m tr)) → Moving 6 (heft (rest_state range q items waiting m tr)) (stepped (rest_state range q items waiting m tr)) (tree_walk range (end_alone (Jump (point place))) waiting m cells tr)) is
+      (λ came fine. move-later acting left told program place_of family first first_rest Named 5 (heft (rest_state range q (items_in rest) waiting m tr)) (stepped (rest_state range q (items_in rest) waiting m tr)) (tree_walk range (end_alone (Jump (point place))) waiting m cells tr) (tree_walk range (tree_for range q rest) waiting m cells tr)
       (ap (λ t. tree_walk range t waiting m cells tr) (ok.0.0.0 ∙ sym here)) (head-move range q place s ss (uncut c) waiting m cells tr (ok-uncut acting told program place_of family first first_rest Named cells range q (From place (also s ss) c) ok) waits came fine))
       came fine
 
@@ -235,7 +235,7 @@ module _ {Memory Left : Type 0} (acting : Acting Memory) (left : Memory → Left
       move-more acting left told program place_of family first first_rest Named most 6 (heft (rest_state range q (items_in c) waiting m tr)) (stepped (rest_state range q (items_in c) waiting m tr)) (tree_walk range t waiting m cells tr) le (h waiting m cells tr ok waits came fine)
 
   -- the head of a rest where the walk stands at its continuation
-  leaf-head-move : (range : Range) (q place : ℕ) (s : Stmt) (ss : Stmts) (c : Rest) → Moves 6 range q (From place (also s ss) c) (only (leaf_of told place_of (ending range q) (From place (also s ss) c)))
+  leaf-head-move : (range : Range) (q place : ℕ) (s : Stmt) (ss : Stmts) (c : Rest) → Moves 6 range q (From place (also s ss) c) (end_alone (leaf_of told place_of (ending range q) (From place (also s ss) c)))
   leaf-head-move range q place (language.Do act) ss c = λ waiting m cells tr ok waits came fine.
       let x = Do (language.Do act) in
       let behind = From (place + 1) ss c in
@@ -243,9 +243,9 @@ module _ {Memory Left : Type 0} (acting : Acting Memory) (left : Memory → Left
       let s = stepped (rest_state range q (x ∷ items_in behind) waiting m tr) in
       let end = leaf_of told place_of (ending range q) behind in
       let fit = here-fits acting left told program place_of family first first_rest Named is_told source lowered first_fits names range q (x ∷ items_in behind) came in
-      elim (skips told act) as (λ b. skips told act ≡ b → Moving 6 heavy s (tree_walk range (only (if b then end else Jump (point place))) waiting m cells tr)) [
-        | true ↦ λ e. move-more acting left told program place_of family first first_rest Named 0 6 heavy s (tree_walk range (only end) waiting m cells tr) (omega arith)
-            (still range q x (items_in behind) (items_in behind) (Cut behind) (only end) waiting m cells tr (skip-way act (items_in behind) m fit.0 e) refl refl (omega arith)
+      elim (skips told act) as (λ b. skips told act ≡ b → Moving 6 heavy s (tree_walk range (end_alone (if b then end else Jump (point place))) waiting m cells tr)) [
+        | true ↦ λ e. move-more acting left told program place_of family first first_rest Named 0 6 heavy s (tree_walk range (end_alone end) waiting m cells tr) (omega arith)
+            (still range q x (items_in behind) (items_in behind) (Cut behind) (end_alone end) waiting m cells tr (skip-way act (items_in behind) m fit.0 e) refl refl (omega arith)
             (let l = later-good cells range q place (language.Do act) ss c ok in (l.0, l.1, l.2)) waits came)
         | false ↦ λ e. jumped range q place (language.Do act) ss c waiting m cells tr ok waits came fine
       ] refl
@@ -267,19 +267,19 @@ module _ {Memory Left : Type 0} (acting : Acting Memory) (left : Memory → Left
       (still range q SentenceEnd (items_in c) (items_in c) d (tree_for range q d) waiting m cells tr refl same refl (omega arith) (good cells ok) waits came)
 
   -- the end of the paragraph
-  end-moves : (range : Range) (q : ℕ) → Moves 6 range q rests.Over (only (ending range q).paragraph)
+  end-moves : (range : Range) (q : ℕ) → Moves 6 range q rests.Over (end_alone (ending range q).paragraph)
   end-moves range q = λ waiting m cells tr ok waits came fine.
       let heavy = heft (rest_state range q [] waiting m tr) in
-      move-more acting left told program place_of family first first_rest Named 1 6 heavy (stepped (rest_state range q [] waiting m tr)) (tree_walk range (only (ending range q).paragraph) waiting m cells tr) (omega arith)
+      move-more acting left told program place_of family first first_rest Named 1 6 heavy (stepped (rest_state range q [] waiting m tr)) (tree_walk range (end_alone (ending range q).paragraph) waiting m cells tr) (omega arith)
       (over-move acting left told program place_of family first first_rest Named is_told source lowered first_fits names returning range q waiting m cells tr heavy waits came fine)
 
   -- the remainder of a loop
-  turns-moves : (range : Range) (q place : ℕ) (control : Control) (n : ℕ) (reached : Bool) (body : Stmts) (c : Rest) → Moves 6 range q (Turns place control n reached body c) (only (Jump (to_turn control reached place)))
+  turns-moves : (range : Range) (q place : ℕ) (control : Control) (n : ℕ) (reached : Bool) (body : Stmts) (c : Rest) → Moves 6 range q (Turns place control n reached body c) (end_alone (Jump (to_turn control reached place)))
   turns-moves range q place control n reached body c = λ waiting m cells tr ok waits came fine.
       let x = Turn (turning_of control n reached) (Nested body) in
       let heavy = heft (rest_state range q (x ∷ items_in c) waiting m tr) in
       let fit = here-fits acting left told program place_of family first first_rest Named is_told source lowered first_fits names range q (x ∷ items_in c) came in
-      move-more acting left told program place_of family first first_rest Named 4 6 heavy (stepped (rest_state range q (x ∷ items_in c) waiting m tr)) (tree_walk range (only (Jump (to_turn control reached place))) waiting m cells tr) (omega arith)
+      move-more acting left told program place_of family first first_rest Named 4 6 heavy (stepped (rest_state range q (x ∷ items_in c) waiting m tr)) (tree_walk range (end_alone (Jump (to_turn control reached place))) waiting m cells tr) (omega arith)
       (turn-move acting left told program place_of family first first_rest Named range q place body c waiting m cells tr ok.0.1 ok.2.1 ok.2.0 waits ok.1.1 control n reached fit.0.0 ok.0.0 ok.1.0 came heavy)
 
   mutual
@@ -292,7 +292,7 @@ module _ {Memory Left : Type 0} (acting : Acting Memory) (left : Memory → Left
     rest-moves range q (Turns place control n reached body c) = turns-moves range q place control n reached body c
     rest-moves range q (Cut c) = leaf-moves range q c
 
-    leaf-moves : (range : Range) (q : ℕ) (c : Rest) → Moves 6 range q c (only (leaf_of told place_of (ending range q) c))
+    leaf-moves : (range : Range) (q : ℕ) (c : Rest) → Moves 6 range q c (end_alone (leaf_of told place_of (ending range q) c))
     leaf-moves range q rests.Over = end-moves range q
     leaf-moves range q (From place none c) = λ waiting m cells tr ok waits came fine. leaf-moves range q c waiting m cells tr (ok.0.1, ok.1, ok.2.1) waits came fine
     leaf-moves range q (From place (also s ss) c) = leaf-head-move range q place s ss c

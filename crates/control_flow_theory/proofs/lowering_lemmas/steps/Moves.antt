@@ -11,9 +11,9 @@ use Rattle.control_flow_theory.specs.language.Items.{ends_at}
 use Rattle.control_flow_theory.specs.semantics.Source.{SourceState, rest_of, goes, source_step, comes_to}
 use Rattle.control_flow_theory.specs.semantics.Graph.{Tree, tree, End, Dead, body_of, end_of, Family}
 use Rattle.control_flow_theory.specs.semantics.Walk.{Walk, walk_step, walk_goes}
-use Rattle.control_flow_theory.specs.lowering.Told.{Told, IsTold, IsSource}
+use Rattle.control_flow_theory.specs.lowering.FlowFacts.{FlowFacts, IsTold, IsSource}
 use Rattle.control_flow_theory.specs.lowering.Completes.{completes, cut, whole, size}
-use Rattle.control_flow_theory.specs.lowering.Lower.{point, with_first, push, Leaving}
+use Rattle.control_flow_theory.specs.lowering.Lower.{point, with_first, push, EscapeTargets}
 use Rattle.control_flow_theory.specs.lowering.Rests.{Rest, From, items_in}
 use Rattle.control_flow_theory.specs.lowering.flow.Comes.{Comes, goes_on, over, AreReturning, IsLowered}
 use Rattle.control_flow_theory.specs.lowering.flow.Comes as come
@@ -23,7 +23,7 @@ use Rattle.control_flow_theory.proofs.lowering_lemmas.rests.Fits.{item_bulk, pro
 use Rattle.control_flow_theory.proofs.lowering_lemmas.rests.Joints.{Joint, joint, both, pending_of, callers_of, source_at, walk_at, ComesTo, end_at, tree_in, whole_rest, RestOk, Waits, heft, IsFine, Met, Ended, Together, Reached, Moved, CallsNamed}
 use Rattle.control_flow_theory.proofs.lowering_lemmas.rests.Counters.{items-from, apart-from, holds-from, fresh-new, waits-named}
 
-module _ {Memory Left : Type 0} (acting : Acting Memory) (left : Memory → Left) (told : Told) (program : Program) (place_of : ℕ → ℕ) (family : Family) (first : ℕ) (first_rest : List Item) (Named : ℕ → ℕ → Type 0) where
+module _ {Memory Left : Type 0} (acting : Acting Memory) (left : Memory → Left) (told : FlowFacts) (program : Program) (place_of : ℕ → ℕ) (family : Family) (first : ℕ) (first_rest : List Item) (Named : ℕ → ℕ → Type 0) where
   abbrev pub S : Type 0
   S = SourceState Memory Left
 
@@ -51,7 +51,7 @@ module _ {Memory Left : Type 0} (acting : Acting Memory) (left : Memory → Left
   abbrev pub tree_here : Range → ℕ → Rest → Tree
   tree_here range q c = tree_in acting told program place_of family first first_rest Named range q c
 
-  abbrev pub end_here : Range → ℕ → Leaving
+  abbrev pub end_here : Range → ℕ → EscapeTargets
   end_here range q = end_at acting told program place_of family first first_rest Named range q
 
   abbrev pub whole_from : ℕ → Rest

@@ -13,8 +13,8 @@ use Rattle.control_flow_theory.specs.language.Items.{Pending, ends_at}
 use Rattle.control_flow_theory.specs.semantics.Source.{SourceState, rest_of, comes_to, goes_to, goes, falls, end_step, rest_step, step_by, source_step, source_begun}
 use Rattle.control_flow_theory.specs.semantics.Graph.{Tree, End, Pick, Jump, Return, Stop, Dead, Trees, Family, body_of, end_of}
 use Rattle.control_flow_theory.specs.semantics.Walk.{Level, Walk, walk_goes, picked, picks, tree_at, returns, walk_end, walk_items, walk_by, walk_step, walk_begun, walk_machine}
-use Rattle.control_flow_theory.specs.lowering.Told.{Told, IsTold, IsSource}
-use Rattle.control_flow_theory.specs.lowering.Lower.{end_leaf}
+use Rattle.control_flow_theory.specs.lowering.FlowFacts.{FlowFacts, IsTold, IsSource}
+use Rattle.control_flow_theory.specs.lowering.Lower.{paragraph_end_target}
 use Rattle.control_flow_theory.specs.lowering.Rests as rests
 use Rattle.control_flow_theory.specs.lowering.flow.Comes.{Comes, begins, enters, goes_on, IsLowered}
 use Rattle.control_flow_theory.specs.lowering.flow.Comes as come
@@ -222,7 +222,7 @@ module _ {Memory : Type 0} (doing : Doing Memory) (program : Program) (e x : ℕ
   stays-beside r q rest (come.falls (Part f y) n next is out c) = tt
 
 -- so where the range is named, all that is performed there is
-names-behind : {Memory : Type 0} (acting : Acting Memory) (told : Told) (program : Program) (place_of : ℕ → ℕ) (family : Family) (Named : ℕ → ℕ → Type 0) → CallsNamed acting told program place_of family 0 (rest_of program 0) Named →
+names-behind : {Memory : Type 0} (acting : Acting Memory) (told : FlowFacts) (program : Program) (place_of : ℕ → ℕ) (family : Family) (Named : ℕ → ℕ → Type 0) → CallsNamed acting told program place_of family 0 (rest_of program 0) Named →
     (e x : ℕ) → Named e x → CallsNamed acting told program place_of family (length program.paragraphs) (Do (Perform e x) ∷ []) Named
 names-behind acting told program place_of family Named names e x named Main q item rest m f y items here c is =
     let h = subst (Enters (alone acting) program e x []) is (head-enters (alone acting) program e x Main q item rest m refl (stays-beside (alone acting) program e x Main q (item ∷ rest) c)) in
@@ -230,7 +230,7 @@ names-behind acting told program place_of family Named names e x named Main q it
 names-behind acting told program place_of family Named names e x named (Part g z) q item rest m f y items here c is =
     names (Part g z) q item rest m f y items here (comes-anywhere (alone acting) program (length program.paragraphs) 0 (Do (Perform e x) ∷ []) (rest_of program 0) (Part g z) q (item ∷ rest) tt c) is
 
-pub lowered-range-sound : {Memory Left : Type 0} (acting : Acting Memory) (left : Memory → Left) (told : Told) (program : Program) (place_of : ℕ → ℕ) (family : Family) (Named : ℕ → ℕ → Type 0) →
+pub lowered-range-sound : {Memory Left : Type 0} (acting : Acting Memory) (left : Memory → Left) (told : FlowFacts) (program : Program) (place_of : ℕ → ℕ) (family : Family) (Named : ℕ → ℕ → Type 0) →
     CallsNamed acting told program place_of family 0 (rest_of program 0) Named → NamedReturn acting told program place_of family 0 (rest_of program 0) Named →
     IsTold told acting → IsSource told program → IsLowered told program place_of family →
     (entry exit : ℕ) → entry < length program.paragraphs → exit < length program.paragraphs → Named entry exit → RangeHasNoFlowFault acting left program entry exit →
@@ -238,7 +238,7 @@ pub lowered-range-sound : {Memory Left : Type 0} (acting : Acting Memory) (left 
 lowered-range-sound {Memory} {Left} acting left told program place_of family Named names returning is_told source lowered e x lt_e lt_x named fine c n lost =
     let first = length program.paragraphs in
     let rest = Do (Perform e x) ∷ [] in
-    let end0 = end_leaf place_of program Main first in
+    let end0 = paragraph_end_target place_of program Main first in
     let begun_w : Celled Memory → Walk Memory Left = λ c. walk_at Main rest end0 [] c.own c.cells [] in
     let bottom : Level = record { range = Main; items = []; end = end0 } in
     let tied = begun-tied acting left told program place_of family first rest Named is_told source lowered ((lt_e, lt_x), omega arith, tt)
@@ -251,7 +251,7 @@ lowered-range-sound {Memory} {Left} acting left told program place_of family Nam
     let below = lost-same acting left family bottom (iterate (walk_step acting left family) n (walk_begun acting left family (Part e x) c)) (iterate (walk_step acting left family) (suc n) (begun_w c)) same lost in
     tied-not-lost (alone acting) left program (λ c n. (iterate (walk_step acting left family) n (begun_w c)).run) (λ c. before_range program e x c.own) (λ c e. cc) tied c (suc n) below
 
-pub lowered-main-sound : {Memory Left : Type 0} (acting : Acting Memory) (left : Memory → Left) (told : Told) (program : Program) (place_of : ℕ → ℕ) (family : Family) (Named : ℕ → ℕ → Type 0) →
+pub lowered-main-sound : {Memory Left : Type 0} (acting : Acting Memory) (left : Memory → Left) (told : FlowFacts) (program : Program) (place_of : ℕ → ℕ) (family : Family) (Named : ℕ → ℕ → Type 0) →
     CallsNamed acting told program place_of family 0 (rest_of program 0) Named → NamedReturn acting told program place_of family 0 (rest_of program 0) Named →
     IsTold told acting → IsSource told program → 0 < length program.paragraphs → IsLowered told program place_of family → NoFlowFault acting left program →
     (c : Celled Memory) (n : ℕ) → (meaning (walk_machine acting left family Main) c n).standing ≢ Over Lost

@@ -11,7 +11,7 @@ use Rattle.control_flow_theory.specs.semantics.Source.{SourceState, rest_of, goe
 use Rattle.control_flow_theory.specs.semantics.Graph.{Tree, End, no_more, more, Family}
 use Rattle.control_flow_theory.specs.semantics.Walk.{Walk, walk_goes, picks}
 use Rattle.control_flow_theory.specs.language.Own.{OwnAct, OwnTest}
-use Rattle.control_flow_theory.specs.lowering.Told.{Told}
+use Rattle.control_flow_theory.specs.lowering.FlowFacts.{FlowFacts}
 use Rattle.control_flow_theory.specs.lowering.Lower.{by_test}
 use Rattle.control_flow_theory.specs.lowering.flow.Comes.{goes_on, goes_to}
 use Rattle.control_flow_theory.proofs.lowering_lemmas.rests.Parts.{celled-acts, celled-tests}
@@ -42,7 +42,7 @@ pub tried-no-into : {Memory Value : Type 0} (a : Tried Memory Value) (f : Value 
 tried-no-into (Got trace value now) f h = after-no-into trace (f value now) (h value now)
 tried-no-into (Ends trace kind now) f h = tt
 
-module _ {Memory Left : Type 0} (acting : Acting Memory) (left : Memory → Left) (told : Told) (program : Program) (place_of : ℕ → ℕ) (family : Family) (first : ℕ) (first_rest : List Item) (Named : ℕ → ℕ → Type 0)
+module _ {Memory Left : Type 0} (acting : Acting Memory) (left : Memory → Left) (told : FlowFacts) (program : Program) (place_of : ℕ → ℕ) (family : Family) (first : ℕ) (first_rest : List Item) (Named : ℕ → ℕ → Type 0)
     (range : Range) (q : ℕ) (x : Item) (rest : List Item) (waiting : List Joint) (m : Memory) (cells : Range → ℕ → ℕ) where
   abbrev State : Type 0
   State = SourceState Memory Left

@@ -5,13 +5,13 @@ use Rattle.control_flow_theory.specs.language.Language.{Stmt, Choose, Loop, Perf
 use Rattle.control_flow_theory.specs.language.Language as language
 use Rattle.control_flow_theory.specs.language.Items.{Item, Do}
 use Rattle.control_flow_theory.specs.semantics.Graph.{Label, Tree, tree, End, Pick, Jump, Return, Stop, Dead, Trees, no_more, more}
-use Rattle.control_flow_theory.specs.lowering.Told.{Told, IsSource}
+use Rattle.control_flow_theory.specs.lowering.FlowFacts.{FlowFacts, IsSource}
 use Rattle.control_flow_theory.specs.lowering.Lowered.{lowered}
 use Rattle.control_flow_theory.specs.lowering.Reached.{IsReached}
 use Rattle.control_flow_theory.specs.lowering.WellFormed.{IsRangeOf}
 use Rattle.control_flow_theory.specs.lowering.flow.Entered.{FreelyComes}
 
-module _ (told : Told) (program : Program) (range : Range) where
+module _ (told : FlowFacts) (program : Program) (range : Range) where
   -- a free flow path of the range's level performs the other range
   abbrev pub IsCalled : ℕ → ℕ → Type 0
   IsCalled entry exit = (number : ℕ) × (rest : List Item)
@@ -63,7 +63,7 @@ module _ (told : Told) (program : Program) (range : Range) where
 -- level calls
 abbrev pub ReachedNodesPerformWhatIsCalled : Type 0
 ReachedNodesPerformWhatIsCalled =
-    (told : Told) (program : Program) → IsSource told program →
+    (told : FlowFacts) (program : Program) → IsSource told program →
     ((entry exit : ℕ) → told.returning entry exit ≡ true →
     FreelyComes told program (Part entry exit) exit []) →
     (range : Range) → IsRangeOf program range → (label : Label) →

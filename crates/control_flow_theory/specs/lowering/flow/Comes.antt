@@ -7,7 +7,7 @@ use Rattle.control_flow_theory.specs.language.Items.{Item}
 use Rattle.control_flow_theory.specs.semantics.Items.{On, To, ToEnd, Into, item_way}
 use Rattle.control_flow_theory.specs.semantics.Source.{rest_of}
 use Rattle.control_flow_theory.specs.semantics.Graph.{Family}
-use Rattle.control_flow_theory.specs.lowering.Told.{Told}
+use Rattle.control_flow_theory.specs.lowering.FlowFacts.{FlowFacts}
 use Rattle.control_flow_theory.specs.lowering.Lower.{point, leaving_at}
 use Rattle.control_flow_theory.specs.lowering.Rests.{rest_from, tree_of, HasRest}
 
@@ -60,7 +60,7 @@ entry_of Main = 0
 entry_of (Part entry exit) = entry
 
 -- the family has the trees of all places of a program, whose paragraphs have these places
-pub record IsLowered (told : Told) (program : Program) (place_of : ℕ → ℕ) (family : Family)
+pub record IsLowered (told : FlowFacts) (program : Program) (place_of : ℕ → ℕ) (family : Family)
     : Type 0 where
   pub entry : (range : Range) → family.entry range ≡ point (place_of (entry_of range))
   pub at : (range : Range) (number : ℕ) → number < length program.paragraphs →

@@ -9,7 +9,7 @@ use Rattle.control_flow_theory.specs.language.Items.{Item}
 use Rattle.control_flow_theory.specs.semantics.Items.{Way, On, Halts, Into, To, ToEnd, item_way}
 use Rattle.control_flow_theory.specs.language.Items.{Pending}
 use Rattle.control_flow_theory.specs.semantics.Source.{SourceState, goes_to, goes, falls, source_machine}
-use Rattle.control_flow_theory.specs.lowering.Told.{Told}
+use Rattle.control_flow_theory.specs.lowering.FlowFacts.{FlowFacts}
 
 -- the next way; where none is given, the first
 abbrev pub next_way : List ℕ → ℕ
@@ -44,7 +44,7 @@ abbrev pub arm_for : ℕ → Bool → ℕ → ℕ
 arm_for width never_first way =
     if is_below way width then not_dead never_first way else first_arm never_first
 
-abbrev pub free_pick : Told → Picker → List ℕ → Tried (List ℕ) ℕ
+abbrev pub free_pick : FlowFacts → Picker → List ℕ → Tried (List ℕ) ℕ
 free_pick told (If test) ways = Got [] (arm_of (is_first (next_way ways))) (later_ways ways)
 free_pick told (By chooser) ways =
     Got [] (arm_for (told.width chooser) (told.never_first chooser) (next_way ways))
@@ -53,7 +53,7 @@ free_pick told (ByCell cell) ways = Got [] 0 ways
 
 -- each choice and each loop test may go any of its ways, whatever the data; a counted loop may take
 -- any number of turns
-abbrev pub free : Told → Doing (List ℕ)
+abbrev pub free : FlowFacts → Doing (List ℕ)
 free told = record {
   act = λ act ways. Got [] tt ways;
   test = λ test ways. Got [] (is_first (next_way ways)) (later_ways ways);
@@ -78,12 +78,12 @@ flow number rest pending ways =
     }
 
 -- some flow path ends in a fault of flow
-abbrev pub IsFaulty : Told → Program → Type 0
+abbrev pub IsFaulty : FlowFacts → Program → Type 0
 IsFaulty told program = (ways : List ℕ) × (n : ℕ) × (fault : FlowFault)
     × ((meaning (source_machine (free told) nothing_left program) ways n).standing
     ≡ Over (Faulted fault))
 
-module _ (told : Told) (program : Program) where
+module _ (told : FlowFacts) (program : Program) where
   -- Free flow steps: a PERFORM always pushes, and at a paragraph's end only the top of pending is
   -- looked at.
 

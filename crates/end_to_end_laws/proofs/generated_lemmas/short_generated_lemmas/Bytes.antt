@@ -5,10 +5,10 @@ use Rattle.std.proofs.lemmas.Bool.Decides.{nat_tests}
 use Rattle.std.proofs.lemmas.List.{length-append, length-replicate}
 use Rattle.cobol_lex.specs.Written.{written}
 use Rattle.cobol_lex.specs.declared.token.TokenKind.{TokenKind}
-use Rattle.cobol_print.specs.declared.spacing.Start.{Start}
+use Rattle.cobol_print.specs.declared.spacing.TokenStart.{TokenStart}
 use Rattle.cobol_print.specs.Line.{turned, column_behind, lines_of, bytes_of_lines}
-use Rattle.cobol_print.specs.Spacing.{hugs, clings, is_literal, fits, column_of, start_of}
-use Rattle.cobol_print.specs.Stream.{spread, start_bytes, rest_bytes, unit_bytes, units_bytes}
+use Rattle.cobol_print.specs.Spacing.{hugs, no_space_behind, is_literal, fits, column_of, start_of}
+use Rattle.cobol_print.specs.Layout.{spread, start_bytes, rest_bytes, unit_bytes, units_bytes}
 use Rattle.cobol_print.specs.Unit.{all_tokens}
 use Rattle.cobol_print.proofs.LineLemmas.{fits_is}
 use Rattle.cobol_print.proofs.StreamLemmas.{lines-bytes}
@@ -49,7 +49,7 @@ one-more : (column : ℕ) (closely : Bool) → cond closely column (column + 1) 
 one-more column true = omega arith
 one-more column false = omega arith
 
-record StartsNear (size column : ℕ) (start : Start) : Type 0 where
+record StartsNear (size column : ℕ) (start : TokenStart) : Type 0 where
   ends : start.column + size ≤ 73
   few : length (start_bytes start column) ≤ 20
 
@@ -67,9 +67,9 @@ starts-near : (margin column : ℕ) (clinging : Bool) (token : TokenKind) (size 
     StartsNear size column (start_of margin column clinging token size)
 starts-near margin column clinging token size high brief =
     let at = column_of column clinging token in
-    let here : Start = record { breaks = false; column = at } in
-    let wide : Start = record { breaks = true; column = 12 } in
-    let narrow : Start = record { breaks = true; column = margin + 4 } in
+    let here : TokenStart = record { breaks = false; column = at } in
+    let wide : TokenStart = record { breaks = true; column = 12 } in
+    let narrow : TokenStart = record { breaks = true; column = margin + 4 } in
     let long = is_literal token && not (fits (margin + 4) size) in
     elim (fits at size) as (λ t. fits at size ≡ t → StartsNear size column (cond t here (cond long wide narrow))) [
       | true ↦ λ fit. near-here column at size (one-more column (clinging || hugs token)) (fits_is at size fit)
@@ -86,16 +86,16 @@ rest-few : (margin column : ℕ) (clinging : Bool) (tokens : List TokenKind) →
 rest-few margin column clinging [] high brief = omega arith
 rest-few margin column clinging (token ∷ tokens) high brief =
     let size = length (written token) in
-    let start : Start = start_of margin column clinging token size in
+    let start : TokenStart = start_of margin column clinging token size in
     let near = starts-near margin column clinging token size high brief.0 in
     let after = column_behind start.column false (written token) in
     let front = start_bytes start column in
     let bytes = spread start.column false (written token) in
-    let others = rest_bytes margin after (clings token) tokens in
+    let others = rest_bytes margin after (no_space_behind token) tokens in
     let few = near.few in
     let short = brief.0 in
     let same : length bytes ≡ size = spread-length (written token) start.column false near.ends in
-    let more : length others ≤ 35 * length tokens + 1 = rest-few margin after (clings token) tokens high brief.1 in
+    let more : length others ≤ 35 * length tokens + 1 = rest-few margin after (no_space_behind token) tokens high brief.1 in
     let whole : length (front ++ bytes ++ others) ≡ length (front ++ bytes) + length others = length-append (front ++ bytes) others in
     let part : length (front ++ bytes) ≡ length front + length bytes = length-append front bytes in
     omega (arith, few, short, same, more, whole, part)
@@ -109,11 +109,11 @@ unit-few unit slight = tokens-few unit.column unit.tokens slight.high slight.bri
         let after = column_behind column false (written token) in
         let front : List ℕ = replicate (column - 8) 32 in
         let bytes = spread column false (written token) in
-        let others = rest_bytes column after (clings token) tokens in
+        let others = rest_bytes column after (no_space_behind token) tokens in
         let short = brief.0 in
         let spaces : length front ≡ column - 8 = length-replicate {A = ℕ} (column - 8) 32 in
         let same : length bytes ≡ length (written token) = spread-length (written token) column false (omega (arith, high, short)) in
-        let more : length others ≤ 35 * length tokens + 1 = rest-few column after (clings token) tokens high brief.1 in
+        let more : length others ≤ 35 * length tokens + 1 = rest-few column after (no_space_behind token) tokens high brief.1 in
         let whole : length (front ++ bytes ++ others) ≡ length (front ++ bytes) + length others = length-append (front ++ bytes) others in
         let part : length (front ++ bytes) ≡ length front + length bytes = length-append front bytes in
         omega (arith, high, short, spaces, same, more, whole, part)

@@ -26,7 +26,7 @@ use Rattle.unparser.specs.Place.{expr_step, operand_step, place_step, sub_step, 
 use Rattle.unparser.specs.Condition.{cond_step, cond_tokens}
 use Rattle.unparser.specs.File.{label_tokens}
 use Rattle.unparser.specs.Head.{range_tokens}
-use Rattle.cobol_print.specs.declared.units.statement.Phrase.TheVariants.{OnSizeError}
+use Rattle.cobol_print.specs.declared.units.statement.ArmPhrase.TheVariants.{OnSizeError}
 use Rattle.cobol_print.specs.units.Statement.{Lines, ArmLines, WhenLines, end_lines, stmt_step, arms_step, when_step, stmt_lines}
 use Rattle.cobol_print.specs.units.Unit.{unit_at}
 use Rattle.program_gen.specs.Generated.{counter, counter_entry, whole, count_one, jump_below}

@@ -16,8 +16,8 @@ use Rattle.cobol_grammar.specs.declared.data_forms.draft.SelectDraft.{SelectDraf
 use Rattle.symbol_tables.specs.data_names.Names.{Names, names_from, names_of}
 use Rattle.declaration_checks.specs.Declaring.{declared_of, entries_of, fault_of}
 use Rattle.declaration_checks.specs.File.{file_of}
-use Rattle.cobol_grammar.specs.declared.expr_forms.side.What.{What}
-use Rattle.cobol_grammar.specs.declared.expr_forms.side.What.TheVariants as whats
+use Rattle.cobol_grammar.specs.declared.expr_forms.side.ParsedExpr.{ParsedExpr}
+use Rattle.cobol_grammar.specs.declared.expr_forms.side.ParsedExpr.TheVariants as whats
 use Rattle.symbol_tables.specs.procedure_names.Procedures.{procedures_of}
 use Rattle.cobol_grammar.specs.Use as uses
 use Rattle.cobol_grammar.proofs.PartLaws as part_laws
@@ -81,7 +81,7 @@ same-length list others e = sym (map-length selected_of list) ∙ (ap length e �
 
 -- ---- what the forms of a program give
 
-place-named : (counts : Counts) (what : What) → what_named counts what ≡ true → is_reference what ≡ true → place_named counts (uses.place_of what) ≡ true
+place-named : (counts : Counts) (what : ParsedExpr) → what_named counts what ≡ true → is_reference what ≡ true → place_named counts (uses.place_of what) ≡ true
 place-named counts (whats.Ref place) h r = h
 place-named counts (whats.Literal operand) h r = absurd (apart r)
   where

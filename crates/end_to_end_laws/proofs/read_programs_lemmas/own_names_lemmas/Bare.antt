@@ -10,7 +10,7 @@ use Rattle.cobol_grammar.specs.declared.data_forms.draft.FdDraft.{FdDraft}
 use Rattle.cobol_grammar.specs.declared.data_forms.draft.SelectDraft.{SelectDraft}
 use Rattle.cobol_grammar.specs.declared.data_forms.draft.StatusDraft.{StatusDraft}
 use Rattle.declaration_checks.specs.Fault.{fault_at, fault_unless, first_of}
-use Rattle.declaration_checks.specs.File.{is_selected, is_described, again_fault, named_fault, select_fault, selects_from, fd_fault, fds_from, number_by, file_number, file_of}
+use Rattle.declaration_checks.specs.File.{is_selected, is_described, duplicate_fault, named_fault, select_fault, selects_from, fd_fault, fds_from, number_by, file_number, file_of}
 use Rattle.cobol_grammar.specs.Use.{bare_place}
 use Rattle.end_to_end_laws.specs.read_programs.division_readings.Same.{places_of, Selected, selected_of}
 
@@ -57,14 +57,14 @@ bares-number selects fd at =
 
 -- ---- faults
 
-bare-again : (statuses : List StatusDraft) → again_fault (map status_at (places_of statuses)) ≡ again_fault statuses
+bare-again : (statuses : List StatusDraft) → duplicate_fault (map status_at (places_of statuses)) ≡ duplicate_fault statuses
 bare-again [] = refl
 bare-again (first ∷ []) = refl
 bare-again (first ∷ second ∷ statuses) = refl
 
 bare-fault : (fds : List FdDraft) (before : List SelectDraft) (select : SelectDraft) → select_fault fds (bares before) (bare select) ≡ select_fault fds before select
 bare-fault fds before select =
-    ap (λ b. first_of ((if b then fault_at Duplicate select.at else fault_unless (list_any (is_described select.name) fds) Usage select.at) ∷ again_fault (bare select).statuses ∷ []))
+    ap (λ b. first_of ((if b then fault_at Duplicate select.at else fault_unless (list_any (is_described select.name) fds) Usage select.at) ∷ duplicate_fault (bare select).statuses ∷ []))
     (bares-any select.name before)
     ∙ ap (λ fault. first_of (named_fault fds before select ∷ fault ∷ [])) (bare-again select.statuses)
 

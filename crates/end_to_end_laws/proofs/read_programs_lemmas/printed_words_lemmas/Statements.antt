@@ -21,8 +21,8 @@ use Rattle.unparser.specs.Token.{Tokens}
 use Rattle.unparser.specs.Arithmetic.{end_word}
 use Rattle.unparser.specs.File.{file_tokens, files_tokens, mode_word, same_mode, openings_tokens, label_tokens, labels_tokens}
 use Rattle.unparser.specs.Head.{advance_tokens, into_tokens, from_tokens, range_tokens}
-use Rattle.cobol_print.specs.declared.units.statement.Phrase.{Phrase}
-use Rattle.cobol_print.specs.declared.units.statement.Phrase.TheVariants.{AtEnd, OnSizeError}
+use Rattle.cobol_print.specs.declared.units.statement.ArmPhrase.{ArmPhrase}
+use Rattle.cobol_print.specs.declared.units.statement.ArmPhrase.TheVariants.{AtEnd, OnSizeError}
 use Rattle.cobol_print.specs.declared.units.unit.PrintUnit.{PrintUnit}
 use Rattle.cobol_print.specs.units.Statement as units
 use Rattle.cobol_print.specs.units.Statement.{Lines, ArmLines, WhenLines, word_line, phrase_tokens, tests_lines, end_lines, some_lines, list_lines, arm_lines, whens_lines, held_by_other, held_by_else, stmt_lines, arms_lines, when_lines}
@@ -71,7 +71,7 @@ mode-allowed false Output = word (codes "OUTPUT") refl ∷∷ none
 mode-allowed false InOut = word (codes "I-O") refl ∷∷ none
 mode-allowed false Extend = word (codes "EXTEND") refl ∷∷ none
 
-phrase-allowed : (phrase : Phrase) → AreAllowed (phrase_tokens phrase)
+phrase-allowed : (phrase : ArmPhrase) → AreAllowed (phrase_tokens phrase)
 phrase-allowed AtEnd = word (codes "AT") refl ∷∷ word (codes "END") refl ∷∷ none
 phrase-allowed OnSizeError = word (codes "ON") refl ∷∷ word (codes "SIZE") refl ∷∷ word (codes "ERROR") refl ∷∷ none
 
@@ -126,7 +126,7 @@ module _ (program : Program) (names : HasNames program) where
   IsStmt x = is_printable_stmt x ≡ true → (column : ℕ) (closed : Bool) → AllowedLines (stmt_lines program x column closed)
 
   abbrev IsArms : Arms → Type 0
-  IsArms x = are_printable_arms x ≡ true → (phrase : Phrase) (column : ℕ) → AllowedLines ((arms_lines program x).lines phrase column)
+  IsArms x = are_printable_arms x ≡ true → (phrase : ArmPhrase) (column : ℕ) → AllowedLines ((arms_lines program x).lines phrase column)
 
   abbrev IsWhen : When → Type 0
   IsWhen x = is_printable_when x ≡ true → (column : ℕ) → AllowedLines (when_lines program x column)
@@ -160,7 +160,7 @@ module _ (program : Program) (names : HasNames program) where
   list-allowed [] e column closed = line column (word (codes "CONTINUE") refl ∷∷ none) no-lines
   list-allowed (x ∷ list) e column closed = some-allowed (x ∷ list) e column closed
 
-  arm-allowed : (list : List SuchStmt) → Printable list → (phrase : Phrase) (not : Bool) (column : ℕ) → AllowedLines (arm_lines (lines_of list) phrase not column)
+  arm-allowed : (list : List SuchStmt) → Printable list → (phrase : ArmPhrase) (not : Bool) (column : ℕ) → AllowedLines (arm_lines (lines_of list) phrase not column)
   arm-allowed list e phrase not column =
       line (deeper column) (not-allowed not +++ phrase-allowed phrase) (list-allowed list e (deeper (deeper column)) true)
 
@@ -261,7 +261,7 @@ module _ (program : Program) (names : HasNames program) where
       (stmt-step y (sym (fold-roll-Stmt Bool Bool Bool stmt_step arms_step when_step (mapped y)) ∙ e) column closed)
 
   arms-by : (y : Arms-F Stmt Arms When) →
-      (arms_step (map-Arms Stmt Arms When Bool Bool Bool is_printable_stmt are_printable_arms is_printable_when y) ≡ true → (phrase : Phrase) (column : ℕ) →
+      (arms_step (map-Arms Stmt Arms When Bool Bool Bool is_printable_stmt are_printable_arms is_printable_when y) ≡ true → (phrase : ArmPhrase) (column : ℕ) →
       AllowedLines ((units.arms_step (map-Arms Stmt Arms When Lines ArmLines WhenLines (stmt_lines program) (arms_lines program) (when_lines program) y)).lines phrase column)) →
       IsArms (roll-Arms y)
   arms-by y h e phrase column =

@@ -7,7 +7,7 @@ use Rattle.symbol_tables.specs.declared.procedure_names.table.ProcedureTable.{Pr
 use Rattle.cobol_grammar.specs.declared.expr_forms.side.Side.{Side}
 use Rattle.cobol_grammar.specs.expr_forms.Side.{digits_side}
 use Rattle.cobol_grammar.specs.stmt_forms.Part.{Parts}
-use Rattle.cobol_grammar.specs.declared.known.Known.{Known}
+use Rattle.cobol_grammar.specs.declared.subject_kind.SubjectKind.{SubjectKind}
 use Rattle.cobol_grammar.specs.Name.{procedure_of}
 use Rattle.cobol_grammar.specs.Use.{operand_of, place_of}
 use Rattle.cobol_grammar.specs.Whole.{parts_of}
@@ -36,11 +36,11 @@ module _ (program : Program) (source table : ProcedureTable) where
   entries = program.entries
 
   -- by which the program was read
-  abbrev read : Parts Side Known
+  abbrev read : Parts Side SubjectKind
   read = parts_of names entries source
 
   -- by which it is read again
-  abbrev again : Parts Side Known
+  abbrev again : Parts Side SubjectKind
   again = parts_of names entries table
 
   abbrev kept : Kept Side

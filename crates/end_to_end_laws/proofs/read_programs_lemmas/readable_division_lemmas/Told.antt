@@ -13,7 +13,7 @@ use Rattle.symbol_tables.specs.declared.procedure_names.table.ProcedureTable.{Pr
 use Rattle.symbol_tables.specs.procedure_names.Procedures.{procedures_of}
 use Rattle.cobol_grammar.specs.declared.expr_forms.side.Side.{Side}
 use Rattle.cobol_grammar.specs.stmt_forms.Part.{Parts}
-use Rattle.cobol_grammar.specs.declared.known.Known.{Known}
+use Rattle.cobol_grammar.specs.declared.subject_kind.SubjectKind.{SubjectKind}
 use Rattle.cobol_grammar.specs.Whole.{parts_of}
 use Rattle.cobol_grammar.proofs.PartLaws as part_laws
 use Rattle.grammar_laws.proofs.no_periods_lemmas.Plainly as plainly
@@ -57,7 +57,7 @@ own-kinds program =
 -- ---- headers where they are printed
 
 module _ (names : Names) (entries : List Entry) (table : ProcedureTable) (program : Program) where
-  abbrev again : Parts Side Known
+  abbrev again : Parts Side SubjectKind
   again = parts_of names entries table
 
   header : (name : List ℕ) (taken : ℕ) → own.IfHeader table (Some name) taken → SpellsHeader again (kept_of names program) program name taken

@@ -6,8 +6,8 @@ use Rattle.cob_tree.specs.declared.program.Program.{Program}
 use Rattle.parser_combinators.specs.declared.note.Position.{Position}
 use Rattle.symbol_tables.specs.data_names.Names.{Names}
 use Rattle.symbol_tables.specs.declared.procedure_names.table.ProcedureTable.{ProcedureTable}
-use Rattle.cobol_grammar.specs.declared.expr_forms.side.Make.{Make}
-use Rattle.cobol_grammar.specs.declared.expr_forms.side.Make.TheVariants as makes
+use Rattle.cobol_grammar.specs.declared.expr_forms.side.ExprContent.{ExprContent}
+use Rattle.cobol_grammar.specs.declared.expr_forms.side.ExprContent.TheVariants as makes
 use Rattle.cobol_grammar.specs.declared.expr_forms.side.Side.{Side}
 use Rattle.cobol_grammar.specs.declared.expr_forms.side.ValueKind.{ValueKind}
 use Rattle.cobol_grammar.specs.declared.expr_forms.side.ValueKind.TheVariants as values
@@ -63,12 +63,12 @@ unless-again : (whole : Bool) (p q : Position) → uses.unless_whole whole p ≡
 unless-again true p q e = refl
 unless-again false p q e = absurd cc
 
-group-again : (make : Make) (whole : Bool) (p q : Position) → uses.to_group_fault make whole p ≡ None → uses.to_group_fault make whole q ≡ None
+group-again : (make : ExprContent) (whole : Bool) (p q : Position) → uses.to_group_fault make whole p ≡ None → uses.to_group_fault make whole q ≡ None
 group-again makes.Literal whole p q e = unless-again whole p q e
 group-again makes.Item whole p q e = refl
 group-again makes.Joined whole p q e = refl
 
-number-moved : (make : Make) (whole : Bool) (to : ValueKind) (p q : Position) → uses.number_moved make whole to p ≡ None → uses.number_moved make whole to q ≡ None
+number-moved : (make : ExprContent) (whole : Bool) (to : ValueKind) (p q : Position) → uses.number_moved make whole to p ≡ None → uses.number_moved make whole to q ≡ None
 number-moved make whole values.Text p q e = unless-again whole p q e
 number-moved make whole values.Group p q e = group-again make whole p q e
 number-moved make whole values.Unknown p q e = refl
@@ -84,7 +84,7 @@ figure-moved values.Unknown p q e = refl
 figure-moved values.Condition p q e = refl
 figure-moved values.Figure p q e = refl
 
-moved-again : (make : Make) (from to : ValueKind) (p q : Position) → uses.moved_fault make from to p ≡ None → uses.moved_fault make from to q ≡ None
+moved-again : (make : ExprContent) (from to : ValueKind) (p q : Position) → uses.moved_fault make from to p ≡ None → uses.moved_fault make from to q ≡ None
 moved-again make (values.Number whole) to p q e = number-moved make whole to p q e
 moved-again make values.Figure to p q e = figure-moved to p q e
 moved-again make values.Text to p q e = refl
@@ -92,22 +92,22 @@ moved-again make values.Group to p q e = refl
 moved-again make values.Unknown to p q e = refl
 moved-again make values.Condition to p q e = refl
 
-move-same : (make other : Make) (from seen to met : ValueKind) (p q : Position) → make ≡ other → from ≡ seen → to ≡ met → uses.moved_fault make from to p ≡ None → uses.moved_fault other seen met q ≡ None
+move-same : (make other : ExprContent) (from seen to met : ValueKind) (p q : Position) → make ≡ other → from ≡ seen → to ≡ met → uses.moved_fault make from to p ≡ None → uses.moved_fault other seen met q ≡ None
 move-same make other from seen to met p q m f t e =
     sym (ap (λ x. uses.moved_fault x from to q) m ∙ ap (λ x. uses.moved_fault other x to q) f ∙ ap (λ x. uses.moved_fault other seen x q) t) ∙ moved-again make from to p q e
 
 -- ---- comparisons
 
-inexact-again : (make : Make) (kind : ValueKind) (p q : Position) → faults.inexact_fault make kind p ≡ None → faults.inexact_fault make kind q ≡ None
+inexact-again : (make : ExprContent) (kind : ValueKind) (p q : Position) → faults.inexact_fault make kind p ≡ None → faults.inexact_fault make kind q ≡ None
 inexact-again makes.Joined kind p q e = absurd cc
 inexact-again makes.Item kind p q e = whole-again kind p q e
 inexact-again makes.Literal kind p q e = whole-again kind p q e
 
 -- a side with this kind and make, and what is known of it as a subject
-abbrev side_with : ValueKind → Make → Side → Side
+abbrev side_with : ValueKind → ExprContent → Side → Side
 side_with kind make side = record side { kind = kind; make = make }
 
-compared-again : (one other : ValueKind) (kind met : ValueKind) (make with_make : Make) (side next other_side last : Side) →
+compared-again : (one other : ValueKind) (kind met : ValueKind) (make with_make : ExprContent) (side next other_side last : Side) →
     uses.compared_fault one other (known_of (side_with kind make side)) (side_with met with_make other_side) ≡ None → uses.compared_fault one other (known_of (side_with kind make next)) (side_with met with_make last) ≡ None
 compared-again values.Text (values.Number whole) kind met make with_make side next other last e = inexact-again with_make met other.position last.position e
 compared-again (values.Number whole) values.Text kind met make with_make side next other last e = inexact-again make kind side.position next.position e

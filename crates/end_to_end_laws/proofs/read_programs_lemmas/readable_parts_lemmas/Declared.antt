@@ -22,8 +22,8 @@ use Rattle.declaration_checks.specs.Declaring.{entries_of, fault_of}
 use Rattle.declaration_checks.specs.File.{file_of}
 use Rattle.end_to_end_laws.specs.read_programs.division_readings.Same.{SameDivisions}
 use Rattle.end_to_end_laws.proofs.read_programs_lemmas.division_readings_lemmas.Divisions.{read-same}
-use Rattle.cobol_grammar.specs.declared.expr_forms.side.What.{What}
-use Rattle.cobol_grammar.specs.declared.expr_forms.side.What.TheVariants as whats
+use Rattle.cobol_grammar.specs.declared.expr_forms.side.ParsedExpr.{ParsedExpr}
+use Rattle.cobol_grammar.specs.declared.expr_forms.side.ParsedExpr.TheVariants as whats
 use Rattle.parser_combinators.specs.declared.note.Note.{Note}
 use Rattle.parser_combinators.specs.Note.{precedes, earliest}
 use Rattle.parser_combinators.specs.Form.{Input, Outcome, Got, Stop}
@@ -90,7 +90,7 @@ module _ (known : Declarations) where
 abbrev as_many : Names → Counts
 as_many names = record { items = length names.items; files = length names.files; paragraphs = 0 }
 
-place-named : (counts : Counts) (what : What) → what_named counts what ≡ true → is_reference what ≡ true → place_named counts (uses.place_of what) ≡ true
+place-named : (counts : Counts) (what : ParsedExpr) → what_named counts what ≡ true → is_reference what ≡ true → place_named counts (uses.place_of what) ≡ true
 place-named counts (whats.Ref place) h r = h
 place-named counts (whats.Literal operand) h r = absurd (apart r)
   where

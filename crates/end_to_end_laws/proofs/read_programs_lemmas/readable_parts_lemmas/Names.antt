@@ -10,9 +10,9 @@ use Rattle.cob_tree.specs.declared.entry.Entry.{Entry}
 use Rattle.cob_tree.specs.declared.file.FileEntry.{FileEntry}
 use Rattle.cob_tree.specs.declared.place.Place.{out-roll-Place}
 use Rattle.cob_tree.specs.declared.program.Program.{Program}
-use Rattle.symbol_tables.specs.declared.data_names.name.Found.{Found}
-use Rattle.symbol_tables.specs.declared.data_names.name.Found.TheVariants as found
-use Rattle.symbol_tables.specs.declared.data_names.name.Kind.{Kind}
+use Rattle.symbol_tables.specs.declared.data_names.name.Referent.{Referent}
+use Rattle.symbol_tables.specs.declared.data_names.name.Referent.TheVariants as found
+use Rattle.symbol_tables.specs.declared.data_names.name.ItemKind.{ItemKind}
 use Rattle.symbol_tables.specs.declared.data_names.name.Name.{Name}
 use Rattle.symbol_tables.specs.data_names.Look.{are_within, fits, found_at, found_from, is_called, look, look_file}
 use Rattle.symbol_tables.specs.data_names.Names.{names_from}
@@ -97,7 +97,7 @@ called : (word : List ℕ) (name : Option (List ℕ)) → is_called word name �
 called word None e = absurd (both_ways false refl e)
 called word (Some other) e = sym ((bytes_eq-Decides word other).0 e)
 
-abbrev Is : ℕ → List Name → Found → Type 0
+abbrev Is : ℕ → List Name → Referent → Type 0
 Is i names (found.Item item kind dims) = (i ≡ item) × ((name : Name) × (slice_get names i ≡ Some name))
 Is i names found.Unknown = Unit {0}
 Is i names found.Ambiguous = Unit {0}
@@ -113,7 +113,7 @@ from-is names word of i = by (list_any (fits word of) (drop (i + 1) names))
     by true = tt
     by false = at-is names i (slice_get names i) refl
 
-found-word : (names : List Name) (word : List ℕ) (of : List (List ℕ)) (item : ℕ) (kind : Kind) (dims : ℕ) (place : Option ℕ) → position (fits word of) names ≡ place →
+found-word : (names : List Name) (word : List ℕ) (of : List (List ℕ)) (item : ℕ) (kind : ItemKind) (dims : ℕ) (place : Option ℕ) → position (fits word of) names ≡ place →
     found_from names word of place ≡ found.Item item kind dims → (name : Name) × (slice_get names item ≡ Some name) × (is_called word name.word ≡ true)
 found-word names word of item kind dims None p e = absurd cc
 found-word names word of item kind dims (Some i) p e =
@@ -124,7 +124,7 @@ found-word names word of item kind dims (Some i) p e =
     (name, there, (and_parts (is_called word name.word) (are_within of name.above) fit).0)
 
 -- it is the word that it was found by
-item-word : (program : Program) (word : List ℕ) (of : List (List ℕ)) (item : ℕ) (kind : Kind) (dims : ℕ) →
+item-word : (program : Program) (word : List ℕ) (of : List (List ℕ)) (item : ℕ) (kind : ItemKind) (dims : ℕ) →
     look (own_names program) word of ≡ found.Item item kind dims → item_name program item ≡ word
 item-word program word of item kind dims e =
     let names = names_from program.files [] program.entries in
@@ -133,7 +133,7 @@ item-word program word of item kind dims e =
 
 -- ---- records
 
-record-found : (program : Program) (word : List ℕ) (position : Position) → is_data_word word ≡ true → (found : Found) → look (own_names program) word [] ≡ found →
+record-found : (program : Program) (word : List ℕ) (position : Position) → is_data_word word ≡ true → (found : Referent) → look (own_names program) word [] ≡ found →
     record_fault program.entries found position ≡ None → IsFitRecord (own_names program) program (ref_side (as_record program.entries found) [] [] None position)
 unfolding ref_side
 record-found program word position w found.Unknown e none = absurd cc

@@ -18,7 +18,7 @@ use Rattle.symbol_tables.specs.data_names.Names.{names_of}
 use Rattle.cobol_grammar.specs.declared.expr_forms.side.Side.{Side}
 use Rattle.symbol_tables.specs.procedure_names.Procedures.{procedures_of}
 use Rattle.cobol_grammar.specs.stmt_forms.Part.{Parts}
-use Rattle.cobol_grammar.specs.declared.known.Known.{Known}
+use Rattle.cobol_grammar.specs.declared.subject_kind.SubjectKind.{SubjectKind}
 use Rattle.cobol_grammar.specs.Whole.{parts_of}
 use Rattle.cobol_read.specs.declared.program.Declarations.{Declarations}
 use Rattle.cobol_read.specs.declared.program.ProgramDraft.{ProgramDraft}
@@ -138,7 +138,7 @@ module _ (program : Program) (fit : IsFit program) (tokens : List Token) (are : 
   -- ---- what they spell
 
   -- the parts by which the tokens are read
-  abbrev own : Parts Side Known
+  abbrev own : Parts Side SubjectKind
   own = parts_of known.names known.entries known.procedures
 
   abbrev kept : Kept Side

@@ -11,13 +11,13 @@ use Rattle.program_facts.specs.term_counts.Condition.{cond_terms}
 use Rattle.program_facts.specs.term_counts.Expression.{expr_terms}
 use Rattle.symbol_tables.specs.data_names.Names.{Names}
 use Rattle.symbol_tables.specs.declared.procedure_names.table.ProcedureTable.{ProcedureTable}
-use Rattle.cobol_grammar.specs.declared.expr_forms.side.Make.TheVariants as makes
+use Rattle.cobol_grammar.specs.declared.expr_forms.side.ExprContent.TheVariants as makes
 use Rattle.cobol_grammar.specs.declared.expr_forms.side.Side.{Side}
 use Rattle.cobol_grammar.specs.declared.expr_forms.side.ValueKind.{ValueKind}
 use Rattle.cobol_grammar.specs.expr_forms.Fault.{is_condition, kind_of, value_fault, number_fault, whole_fault, condition_fault}
 use Rattle.cobol_grammar.specs.expr_forms.Side.{digits_side, expr_of}
 use Rattle.cobol_grammar.specs.stmt_forms.Part.{Parts}
-use Rattle.cobol_grammar.specs.declared.known.Known.{Known}
+use Rattle.cobol_grammar.specs.declared.subject_kind.SubjectKind.{SubjectKind}
 use Rattle.cobol_grammar.specs.Use.{entry_of, operand_of, place_of, record_kind}
 use Rattle.cobol_grammar.specs.Whole.{parts_of}
 use Rattle.program_facts.proofs.well_scoped_lemmas.Made.{both}
@@ -87,7 +87,7 @@ module _ (program : Program) where
     abbrev entries : List Entry
     entries = program.entries
 
-    abbrev parts : Parts Side Known
+    abbrev parts : Parts Side SubjectKind
     parts = parts_of names entries source
 
     abbrev kept : Kept Side

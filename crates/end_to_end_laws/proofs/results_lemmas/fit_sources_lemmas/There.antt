@@ -12,10 +12,10 @@ use Rattle.cob_tree.specs.declared.place.Window.{Window}
 use Rattle.cob_tree.specs.declared.program.Program.{Program}
 use Rattle.unparser.specs.Place.{item_name}
 use Rattle.parser_combinators.specs.words.Word.{is_data_word}
-use Rattle.symbol_tables.specs.declared.data_names.name.Found.{Found}
-use Rattle.symbol_tables.specs.declared.data_names.name.Found.TheVariants as founds
-use Rattle.symbol_tables.specs.declared.data_names.name.Kind.{Kind}
-use Rattle.symbol_tables.specs.declared.data_names.name.Kind.TheVariants as items
+use Rattle.symbol_tables.specs.declared.data_names.name.Referent.{Referent}
+use Rattle.symbol_tables.specs.declared.data_names.name.Referent.TheVariants as founds
+use Rattle.symbol_tables.specs.declared.data_names.name.ItemKind.{ItemKind}
+use Rattle.symbol_tables.specs.declared.data_names.name.ItemKind.TheVariants as items
 use Rattle.symbol_tables.specs.data_names.Names.{Names}
 use Rattle.cobol_grammar.specs.declared.expr_forms.side.ValueKind.{ValueKind}
 use Rattle.cobol_grammar.specs.declared.expr_forms.side.ValueKind.TheVariants as values
@@ -26,7 +26,7 @@ use Rattle.round_trip.specs.spelling.expr_spelling.Spelled.{made_place}
 use Rattle.round_trip.proofs.spelling_lemmas.expr_spelling_lemmas.Layers.{expr-cases, operand-cases, place-cases, judged-Leaf, judged-Minus, judged-Both, judged-Place, judged-Number, judged-Text, judged-Figure, judged_windows, judged-place}
 use Rattle.round_trip.proofs.procedures_lemmas.readable_exprs_lemmas.Words.{is_there}
 
-item-there : (kind : Kind) → is_there (item_kind kind) ≡ true
+item-there : (kind : ItemKind) → is_there (item_kind kind) ≡ true
 item-there (items.Number whole) = refl
 item-there items.Text = refl
 item-there items.Group = refl
@@ -48,7 +48,7 @@ seen-there : (window : Option Judged) (kind : ValueKind) → is_there kind ≡ t
 seen-there None kind t = t
 seen-there (Some window) kind t = window-there kind t
 
-found-there : (item subs : ℕ) (windowed : Bool) (found : Found) → suits item subs windowed found ≡ true → is_there (kind_of found) ≡ true
+found-there : (item subs : ℕ) (windowed : Bool) (found : Referent) → suits item subs windowed found ≡ true → is_there (kind_of found) ≡ true
 found-there item subs windowed (founds.Item number kind dims) s = item-there kind
 found-there item subs windowed found s = absurd (both_ways false refl s)
 

@@ -1,8 +1,8 @@
 -- What is moved or compared with no fault noted may be.
 use Rattle.std.proofs.Common.{◌≡◌, Bool, true, false, not, None, refl, ap, sym, ◌∙◌, subst}
 use Rattle.parser_combinators.specs.declared.note.Position.{Position}
-use Rattle.cobol_grammar.specs.declared.expr_forms.side.Make.{Make}
-use Rattle.cobol_grammar.specs.declared.expr_forms.side.Make.TheVariants as makes
+use Rattle.cobol_grammar.specs.declared.expr_forms.side.ExprContent.{ExprContent}
+use Rattle.cobol_grammar.specs.declared.expr_forms.side.ExprContent.TheVariants as makes
 use Rattle.cobol_grammar.specs.declared.expr_forms.side.Side.{Side}
 use Rattle.cobol_grammar.specs.declared.expr_forms.side.ValueKind.{ValueKind}
 use Rattle.cobol_grammar.specs.declared.expr_forms.side.ValueKind.TheVariants as values
@@ -20,12 +20,12 @@ unless-of : (whole : Bool) (position : Position) → unless_whole whole position
 unless-of true position n = refl
 unless-of false position n = absurd cc
 
-group-of : (make : Make) (whole : Bool) (position : Position) → to_group_fault make whole position ≡ None → may_fill make whole ≡ true
+group-of : (make : ExprContent) (whole : Bool) (position : Position) → to_group_fault make whole position ≡ None → may_fill make whole ≡ true
 group-of makes.Literal whole position n = unless-of whole position n
 group-of makes.Item whole position n = refl
 group-of makes.Joined whole position n = refl
 
-number-of : (make : Make) (whole : Bool) (to : ValueKind) (position : Position) → number_moved make whole to position ≡ None → number_may_move make whole to ≡ true
+number-of : (make : ExprContent) (whole : Bool) (to : ValueKind) (position : Position) → number_moved make whole to position ≡ None → number_may_move make whole to ≡ true
 number-of make whole values.Text position n = unless-of whole position n
 number-of make whole values.Group position n = group-of make whole position n
 number-of make whole to position n = refl
@@ -34,19 +34,19 @@ figure-of : (to : ValueKind) (position : Position) → figure_moved to position 
 figure-of (values.Number whole) position n = absurd cc
 figure-of to position n = refl
 
-move-of : (make : Make) (from to : ValueKind) (position : Position) → moved_fault make from to position ≡ None → may_move make from to ≡ true
+move-of : (make : ExprContent) (from to : ValueKind) (position : Position) → moved_fault make from to position ≡ None → may_move make from to ≡ true
 move-of make (values.Number whole) to position n = number-of make whole to position n
 move-of make values.Figure to position n = figure-of to position n
 move-of make from to position n = refl
 
 -- what is known of them is what is judged
-pub move-known : (make other : Make) (from seen to met : ValueKind) (position : Position) → other ≡ make → seen ≡ from → met ≡ to → moved_fault other seen met position ≡ None → may_move make from to ≡ true
+pub move-known : (make other : ExprContent) (from seen to met : ValueKind) (position : Position) → other ≡ make → seen ≡ from → met ≡ to → moved_fault other seen met position ≡ None → may_move make from to ≡ true
 move-known make other from seen to met position m s t n =
     sym (ap (λ x. may_move x seen met) m ∙ ap (λ x. may_move make x met) s ∙ ap (λ x. may_move make from x) t) ∙ move-of other seen met position n
 
 -- ---- a comparison of which no fault is noted
 
-plain-of : (make : Make) (whole : Bool) (position : Position) → inexact_fault make (values.Number whole) position ≡ None → is_plain make (values.Number whole) ≡ true
+plain-of : (make : ExprContent) (whole : Bool) (position : Position) → inexact_fault make (values.Number whole) position ≡ None → is_plain make (values.Number whole) ≡ true
 unfolding whole_fault_at
 plain-of makes.Joined whole position n = absurd cc
 plain-of makes.Item true position n = refl

@@ -11,7 +11,7 @@ use Rattle.control_flow_theory.specs.language.Language.{Range}
 use Rattle.program_facts.proofs.well_scoped_lemmas.Made.{both}
 use Rattle.control_flow_theory.specs.rendering.Rendering.{Naming, Procedure, rendered}
 use Rattle.control_flow_theory.specs.rendering.Procedures.{Writable}
-use Rattle.control_flow_theory.specs.headline.Chain.{EachStands}
+use Rattle.control_flow_theory.specs.main_theorem.Chain.{EachStands}
 use Rattle.cob_base.specs.Limit.{max_terms}
 use Rattle.program_facts.specs.term_counts.Program.{terms_of, paragraph_most, file_most, sentence_most}
 use Rattle.program_facts.specs.term_counts.Statement.{stmts_most}

@@ -4,23 +4,24 @@ use Rattle.cob_tree.specs.Depth.{program_depth}
 use Rattle.cob_tree.specs.declared.program.Program.{Program}
 use Rattle.control_flow_theory.specs.language.Control.{control_of}
 use Rattle.control_flow_theory.specs.language.Language.{Range}
-use Rattle.program_facts.specs.completion.Told.{told_of}
+use Rattle.program_facts.specs.completion.FlowFacts.{flow_facts_of}
 use Rattle.program_facts.proofs.well_scoped_lemmas.Made.{both}
 use Rattle.control_flow_theory.specs.rendering.Rendering.{Naming, Procedure}
 use Rattle.control_flow_theory.specs.rendering.Procedures.{Writable}
-use Rattle.control_flow_theory.specs.headline.Chain.{EachStands}
-use Rattle.control_flow_theory.specs.headline.Headline.{Plan, procedures_by}
-use Rattle.control_flow_theory.specs.served_graphs.Served.{ProgramIsServed}
+use Rattle.control_flow_theory.specs.main_theorem.Chain.{EachStands}
+use Rattle.control_flow_theory.specs.main_theorem.MainTheorem.{Plan, procedures_by}
+use Rattle.control_flow_theory.specs.expressible_graphs.Served.{ProgramIsServed}
 use Rattle.struct_form.specs.Structured.{IsStructured}
 use Rattle.out_names.specs.Naming.{names_of}
 use Rattle.out_names.specs.Words.{program_words}
 use Rattle.pending_returns.specs.declared.facts.Summary.{Summary}
-use Rattle.added_items.specs.item_table.Items.{item_kinds}
+use Rattle.added_items.specs.item_table.Owners.{item_kinds}
 use Rattle.added_items.specs.item_table.Row.{CellRange}
 use Rattle.cobol_theory.specs.cobol_headline.Alike.{Writing, naming_of, writable_of, IsWrittenOf}
 use Rattle.procedure_split.specs.shaped_ranges.Laws.{HasFlow}
-use Rattle.procedure_split.specs.Split.{IsSplit}
-use Rattle.procedure_split.specs.split_behaviour.Alike.{IsWellMade, FlowsSo}
+use Rattle.procedure_split.specs.Splitting.{IsSplit}
+use Rattle.procedure_split.specs.split_behaviour.Alike.{IsWellMade}
+use Rattle.pending_returns.specs.FaultFree.{IsFaultFree}
 use Rattle.procedure_split.proofs.split_behaviour_lemmas.Joined as split_program
 use Rattle.procedure_split.proofs.lowered_arms_lemmas.Graphs.{split-nests}
 use Rattle.cobol_read.specs.Reading.{Reads}
@@ -85,7 +86,7 @@ alone : (count place : ℕ) → place < count → is_alone count place place ≡
 alone count place within = both (eq-eqb place place refl) (lt-ltb place count within)
 
 module _ (own_spell : OwnFitsSpell) (read_fit : ProgramsThatAreReadFit) (bytes : List ℕ) (program made : Program) (summary : Summary) (reads : Reads bytes program)
-    (flows : FlowsSo program summary) (split : IsSplit program summary made)
+    (flows : IsFaultFree program summary) (split : IsSplit program summary made)
     (limits : IsWithinLimits made) where
   well : IsWellMade program
   well = well-made bytes program reads
@@ -152,10 +153,10 @@ module _ (own_spell : OwnFitsSpell) (read_fit : ProgramsThatAreReadFit) (bytes :
   source-passes : are_fit_paragraphs (source_fits program) program.paragraphs ≡ true
   source-passes = paragraphs-pass (source_fits program) false program.paragraphs (read_fit bytes program reads)
 
-  served : (range : Range) → ProgramIsServed naming kinds (told_of program.files split.plan.returning) range (control_of program)
+  served : (range : Range) → ProgramIsServed naming kinds (flow_facts_of program.files split.plan.returning) range (control_of program)
   served range =
       served_sources.paragraphs-are (source_fits program) naming kinds (result_names.parts-served program writing)
-      (told_of program.files split.plan.returning) range 0 program.paragraphs (source-passes)
+      (flow_facts_of program.files split.plan.returning) range 0 program.paragraphs (source-passes)
 
   each-stands : EachStands naming kinds procedures
   each-stands =

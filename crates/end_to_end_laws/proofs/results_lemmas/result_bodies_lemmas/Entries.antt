@@ -22,7 +22,7 @@ use Rattle.program_facts.proofs.well_scoped_lemmas.Made.{both}
 use Rattle.out_names.specs.FreshWords.{fresh_number}
 use Rattle.out_names.specs.Words.{program_words, table_of, with_words}
 use Rattle.cobol_theory.specs.cell_serving.Entries.{cell_entry, entries_of}
-use Rattle.added_items.specs.item_table.Names.{stem_of, digits_of, is_signed, next_of, with_next, all_from_one, entries_from}
+use Rattle.added_items.specs.item_table.Naming.{stem_of, digits_of, is_signed, next_of, with_next, all_from_one, entries_from}
 use Rattle.added_items.specs.declared.item_table.naming.NextNumbers.{NextNumbers}
 use Rattle.round_trip.proofs.declarations_lemmas.fresh_items_lemmas.Stems.{is-title}
 use Rattle.round_trip.proofs.declarations_lemmas.fresh_items_lemmas.Numbers.{IsBehind, next-is, behind-more, behind-first}

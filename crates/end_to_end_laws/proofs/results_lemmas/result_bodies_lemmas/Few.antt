@@ -6,25 +6,26 @@ use Rattle.cob_tree.specs.declared.program.Range as code
 use Rattle.control_flow_theory.specs.language.Control.{control_of}
 use Rattle.control_flow_theory.specs.language.Language as language
 use Rattle.control_flow_theory.specs.language.Language.{Range, Main}
-use Rattle.program_facts.specs.completion.Told.{told_of}
+use Rattle.program_facts.specs.completion.FlowFacts.{flow_facts_of}
 use Rattle.control_flow_theory.specs.graph_rules.Reduced.{Graph, Graphs, Node}
 use Rattle.control_flow_theory.specs.graph_rules.Walked.{In}
-use Rattle.control_flow_theory.specs.closing.Closes.{IsClosed}
-use Rattle.control_flow_theory.specs.closing.Dispatches.{Numbered, labels_of}
+use Rattle.control_flow_theory.specs.structuring.Closes.{IsClosed}
+use Rattle.control_flow_theory.specs.structuring.Dispatches.{Numbered, labels_of}
 use Rattle.control_flow_theory.proofs.rendering_lemmas.Written.{map-get}
-use Rattle.control_flow_theory.specs.headline.Headline.{Plan}
-use Rattle.branch_tree.specs.Graphs.{seen_graph}
+use Rattle.control_flow_theory.specs.main_theorem.MainTheorem.{Plan}
+use Rattle.branch_tree.specs.Graph.{seen_graph}
 use Rattle.branch_tree.specs.declared.graph.Graph as tree
-use Rattle.lowering_labels.specs.points.Fall.{seen_range}
-use Rattle.flow_graph.specs.graph_sizes.Sizes.{graph_size, node_size, tree_size}
+use Rattle.lowering_labels.specs.points.FallThrough.{seen_range}
+use Rattle.flow_graph.specs.graph_sizes.Sizing.{graph_size, node_size, tree_size}
 use Rattle.pending_returns.specs.declared.facts.Summary.{Summary}
 use Rattle.cobol_theory.specs.cobol_headline.Alike.{naming_of}
 use Rattle.procedure_split.specs.shaped_ranges.Graphs.{node_count}
 use Rattle.cob_base.specs.Limit.{max_nodes}
 use Rattle.procedure_split.proofs.made_procedures_lemmas.Plans.{each-closed}
 use Rattle.procedure_split.proofs.made_procedures_lemmas.Rows.{beside, in-at}
-use Rattle.procedure_split.specs.Split.{IsSplit}
-use Rattle.procedure_split.specs.split_behaviour.Alike.{IsWellMade, FlowsSo}
+use Rattle.procedure_split.specs.Splitting.{IsSplit}
+use Rattle.procedure_split.specs.split_behaviour.Alike.{IsWellMade}
+use Rattle.pending_returns.specs.FaultFree.{IsFaultFree}
 use Rattle.procedure_split.proofs.split_behaviour_lemmas.FewNodes.{as-many-graphs}
 use Rattle.procedure_split.proofs.split_behaviour_lemmas.Joined as split_program
 use Rattle.end_to_end_laws.specs.results.result_bodies.Laws.{SplitProgramsHaveFewProcedures}
@@ -52,7 +53,7 @@ as-many (graph ∷ graphs) each =
     omega (arith, here, others, more)
 
 module _ (program made : Program) (summary : Summary) (well : IsWellMade program)
-    (flows : FlowsSo program summary) (split : IsSplit program summary made) where
+    (flows : IsFaultFree program summary) (split : IsSplit program summary made) where
   abbrev order : List code.Range
   order = split.plan.order
 
@@ -75,7 +76,7 @@ module _ (program made : Program) (summary : Summary) (well : IsWellMade program
 
   many : length split.graphs ≡ length order
   many =
-      as-many-graphs (told_of program.files split.plan.returning) control order split.graphs
+      as-many-graphs (flow_facts_of program.files split.plan.returning) control order split.graphs
       split.lowered.are
 
   graph-counts : (at : ℕ) (graph : tree.Graph) → slice_get split.graphs at ≡ Some graph →

@@ -9,24 +9,25 @@ use Rattle.cob_tree.specs.declared.program.Range.{Range}
 use Rattle.cob_tree.specs.declared.program.Sentence.{Sentence}
 use Rattle.control_flow_theory.specs.language.All.{all}
 use Rattle.control_flow_theory.specs.language.Control.{control_of}
-use Rattle.program_facts.specs.completion.Told.{told_of}
+use Rattle.program_facts.specs.completion.FlowFacts.{flow_facts_of}
 use Rattle.control_flow_theory.specs.rendering.Rendering.{Naming, Procedure, rendered}
 use Rattle.control_flow_theory.specs.rendering.Procedures.{Writable}
 use Rattle.control_flow_theory.proofs.rendering_lemmas.Written.{or_else}
-use Rattle.control_flow_theory.specs.headline.Chain.{EachStands}
-use Rattle.control_flow_theory.specs.headline.Headline.{Plan, procedures_by}
+use Rattle.control_flow_theory.specs.main_theorem.Chain.{EachStands}
+use Rattle.control_flow_theory.specs.main_theorem.MainTheorem.{Plan, procedures_by}
 use Rattle.pending_returns.specs.declared.facts.Summary.{Summary}
 use Rattle.grammar_laws.specs.form_results.Giving.{Each}
 use Rattle.program_facts.proofs.well_scoped_lemmas.Made.{both}
 use Rattle.out_names.specs.Naming.{names_of}
 use Rattle.out_names.specs.Words.{program_words}
-use Rattle.added_items.specs.item_table.Items.{item_kinds}
+use Rattle.added_items.specs.item_table.Owners.{item_kinds}
 use Rattle.cobol_theory.specs.cell_serving.Entries.{entries_of}
 use Rattle.cobol_theory.specs.cobol_headline.Alike.{naming_of}
 use Rattle.procedure_split.proofs.made_procedures_lemmas.Rows.{beside}
-use Rattle.procedure_split.specs.Split.{IsSplit}
-use Rattle.procedure_split.specs.Written.{added_entries}
-use Rattle.procedure_split.specs.split_behaviour.Alike.{IsWellMade, FlowsSo}
+use Rattle.procedure_split.specs.Splitting.{IsSplit}
+use Rattle.procedure_split.specs.Writing.{added_entries}
+use Rattle.procedure_split.specs.split_behaviour.Alike.{IsWellMade}
+use Rattle.pending_returns.specs.FaultFree.{IsFaultFree}
 use Rattle.round_trip.specs.printable.printable_tokens.Header.{IsHeaderName}
 use Rattle.round_trip.specs.printable.Part.{is_printable_name}
 use Rattle.round_trip.specs.printable.Statement.{are_printable_stmts, are_printable_sentences}
@@ -65,7 +66,7 @@ of-each P (first ∷ xs) each (suc at) x is = of-each P xs each.1 at x is
 -- ---- what is made
 
 module _ (program made : Program) (summary : Summary) (well : IsWellMade program)
-    (flows : FlowsSo program summary) (split : IsSplit program summary made)
+    (flows : IsFaultFree program summary) (split : IsSplit program summary made)
     (few : length (program_words program)
     + length (item_kinds (split_rows program made summary split)) < 2 ^ 31)
     (names : Each IsHeaderName (names_of program split.plan.order))
@@ -93,7 +94,7 @@ module _ (program made : Program) (summary : Summary) (well : IsWellMade program
       (split-stands program made summary well flows split).2 printing kinds
       (takes-both program made summary split plan)
       (λ range. paragraphs-are naming printing printing-served
-      (told_of program.files split.plan.returning) range 0 program.paragraphs prints.paragraphs)
+      (flow_facts_of program.files split.plan.returning) range 0 program.paragraphs prints.paragraphs)
 
   one-prints : (sentences : List Sentence) (sentence : Sentence) → sentences ≡ sentence ∷ [] →
       are_printable_stmts sentence.stmts ≡ true → are_printable_sentences sentences ≡ true

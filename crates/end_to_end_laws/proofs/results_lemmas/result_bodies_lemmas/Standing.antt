@@ -5,26 +5,27 @@ use Rattle.control_flow_theory.specs.language.Control.{control_of}
 use Rattle.control_flow_theory.specs.language.Language as language
 use Rattle.control_flow_theory.specs.language.Language.{Stmts, Range, Main}
 use Rattle.control_flow_theory.specs.semantics.Graph.{body_of}
-use Rattle.control_flow_theory.specs.lowering.Told.{Told}
+use Rattle.control_flow_theory.specs.lowering.FlowFacts.{FlowFacts}
 use Rattle.control_flow_theory.specs.graph_rules.Families.{Added, Never, Flag, Count, State, Exit}
 use Rattle.control_flow_theory.specs.graph_rules.Reduced.{Graphs, tree_in, size}
-use Rattle.control_flow_theory.specs.closing.Closes.{closed_graph}
-use Rattle.program_facts.specs.completion.Told.{told_of}
+use Rattle.control_flow_theory.specs.structuring.Closes.{closed_graph}
+use Rattle.program_facts.specs.completion.FlowFacts.{flow_facts_of}
 use Rattle.control_flow_theory.specs.rendering.Rendering.{Naming}
 use Rattle.control_flow_theory.specs.rendering.Procedures.{Writable}
-use Rattle.control_flow_theory.specs.headline.Chain.{IsNumberedPlan, ChoiceServed, KindServed, EachCellServed, EachStands, GraphsServed}
-use Rattle.control_flow_theory.specs.headline.Headline.{Plan, graphs_by, procedures_by}
-use Rattle.control_flow_theory.specs.headline.Numbering.{numbers_by, added_by}
-use Rattle.control_flow_theory.proofs.headline_lemmas.graphs.LoweredStand.{closed-graphs-stand}
-use Rattle.control_flow_theory.proofs.headline_lemmas.graphs.Numbering.{counters-numbered}
-use Rattle.control_flow_theory.specs.served_graphs.Served.{ProgramIsServed}
-use Rattle.control_flow_theory.specs.served_graphs.Laws.{CountersAreServed}
-use Rattle.control_flow_theory.proofs.served_graphs_lemmas.Graphs.{served-graphs}
+use Rattle.control_flow_theory.specs.main_theorem.Chain.{IsNumberedPlan, ChoiceServed, KindServed, EachCellServed, EachStands, GraphsServed}
+use Rattle.control_flow_theory.specs.main_theorem.MainTheorem.{Plan, graphs_by, procedures_by}
+use Rattle.control_flow_theory.specs.main_theorem.Numbering.{numbers_by, added_by}
+use Rattle.control_flow_theory.proofs.main_theorem_lemmas.graphs.LoweredStand.{closed-graphs-stand}
+use Rattle.control_flow_theory.proofs.main_theorem_lemmas.graphs.Numbering.{counters-numbered}
+use Rattle.control_flow_theory.specs.expressible_graphs.Served.{ProgramIsServed}
+use Rattle.control_flow_theory.specs.expressible_graphs.Laws.{CountersAreServed}
+use Rattle.control_flow_theory.proofs.expressible_graphs_lemmas.Graphs.{served-graphs}
 use Rattle.cobol_theory.proofs.served_programs_lemmas.Taken.{program-served}
 use Rattle.pending_returns.specs.declared.facts.Summary.{Summary}
 use Rattle.cobol_theory.specs.cobol_headline.Alike.{Writing, naming_of, writable_of}
-use Rattle.procedure_split.specs.Split.{IsSplit}
-use Rattle.procedure_split.specs.split_behaviour.Alike.{IsWellMade, FlowsSo}
+use Rattle.procedure_split.specs.Splitting.{IsSplit}
+use Rattle.procedure_split.specs.split_behaviour.Alike.{IsWellMade}
+use Rattle.pending_returns.specs.FaultFree.{IsFaultFree}
 use Rattle.procedure_split.proofs.split_behaviour_lemmas.Joined as split_program
 use Rattle.end_to_end_laws.specs.results.result_bodies.Bodies.{TakesBoth}
 use Rattle.end_to_end_laws.specs.results.result_bodies.Laws.{ProceduresStand, SplitProceduresStand}
@@ -55,7 +56,7 @@ module _ (own other kinds : Writable) (takes : TakesBoth own other kinds) where
 -- ---- procedures
 
 module _ (program made : Program) (summary : Summary) (well : IsWellMade program)
-    (flows : FlowsSo program summary) (split : IsSplit program summary made) where
+    (flows : IsFaultFree program summary) (split : IsSplit program summary made) where
   abbrev control : language.Program
   control = control_of program
 
@@ -74,8 +75,8 @@ module _ (program made : Program) (summary : Summary) (well : IsWellMade program
   abbrev own : Writable
   own = writable_of program writing
 
-  abbrev told : Told
-  told = told_of program.files split.plan.returning
+  abbrev told : FlowFacts
+  told = flow_facts_of program.files split.plan.returning
 
   numbered : IsNumberedPlan plan.told control plan.keep (numbers_by plan.keep control)
       (added_by plan.keep control) plan.others

@@ -1,14 +1,14 @@
 -- What two kinds take of a program, a third takes that has both.
 use Rattle.std.proofs.Common.{ℕ, List, [], ◌∷◌, inl, inr}
 use Rattle.control_flow_theory.specs.language.Language.{Chooser, Act, Own, Set, Take, Lower, Test, Holds, Not, Is, Above, Picker, If, By, ByCell, Control, Times, Until, Varying, Stmt, Do, Choose, Loop, Perform, Go, GoDepending, NextSentence, ExitParagraph, ExitSection, ExitPerform, StopRun, Stmts, none, also, Arms, done, given, missing, Body, Nested, Performed, Paragraph, Program, Range}
-use Rattle.control_flow_theory.specs.lowering.Told.{Told}
+use Rattle.control_flow_theory.specs.lowering.FlowFacts.{FlowFacts}
 use Rattle.control_flow_theory.specs.rendering.Rendering.{Naming, count_arms}
 use Rattle.control_flow_theory.specs.rendering.Procedures.{Writable}
-use Rattle.control_flow_theory.specs.served_graphs.Served.{ActIsServed, TestIsServed, ChooserIsServed, PickerIsServed, ControlIsServed, StmtIsServed, StmtsAreServed, ArmsAreServed, BodyIsServed, SentenceIsServed, ParagraphIsServed, ParagraphsAreServed, ProgramIsServed}
+use Rattle.control_flow_theory.specs.expressible_graphs.Served.{ActIsServed, TestIsServed, ChooserIsServed, PickerIsServed, ControlIsServed, StmtIsServed, StmtsAreServed, ArmsAreServed, BodyIsServed, SentenceIsServed, ParagraphIsServed, ParagraphsAreServed, ProgramIsServed}
 use Rattle.end_to_end_laws.specs.results.result_bodies.Bodies.{TakesBoth}
 
 module _ (naming : Naming) (own other kinds : Writable) (takes : TakesBoth own other kinds)
-    (told : Told) (range : Range) where
+    (told : FlowFacts) (range : Range) where
   act-taken : (act : Act) → ActIsServed naming own told range act →
       ActIsServed naming other told range act → ActIsServed naming kinds told range act
   act-taken (Own simple) h k = takes.simples simple h k

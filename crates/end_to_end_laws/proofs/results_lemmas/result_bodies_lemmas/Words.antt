@@ -8,8 +8,8 @@ use Rattle.control_flow_theory.specs.language.Language.{Range, Chooser, Evaluate
 use Rattle.control_flow_theory.specs.graph_rules.Families.{Added, Never, Flag, Count, State, Exit}
 use Rattle.control_flow_theory.specs.rendering.Rendering.{Naming}
 use Rattle.control_flow_theory.specs.rendering.Procedures.{Writable}
-use Rattle.control_flow_theory.specs.headline.Chain.{stmts_arms}
-use Rattle.control_flow_theory.specs.headline.Headline.{Plan}
+use Rattle.control_flow_theory.specs.main_theorem.Chain.{stmts_arms}
+use Rattle.control_flow_theory.specs.main_theorem.MainTheorem.{Plan}
 use Rattle.meanings.specs.statements.Does.{declared_in}
 use Rattle.meanings.specs.statements.Filing.{Declared}
 use Rattle.cobol_theory.specs.added_items.Own.{items, chooser_own}
@@ -22,11 +22,11 @@ use Rattle.cobol_theory.specs.cell_serving.Entries.{whole_literal, added_to}
 use Rattle.cobol_theory.specs.cell_serving.Naming.{item_of, whens_of}
 use Rattle.cobol_theory.specs.cell_serving.Table.{CellTable}
 use Rattle.cobol_theory.specs.cell_serving.Tested.{is_plain, is_whole_place, suits, wide}
-use Rattle.added_items.specs.item_table.Names.{digits_of}
+use Rattle.added_items.specs.item_table.Naming.{digits_of}
 use Rattle.added_items.specs.item_table.Row.{CellRange, of_range}
 use Rattle.added_items.specs.item_table.Tables.{most_by, table_of_cells, kind_of}
 use Rattle.cobol_theory.specs.cobol_headline.Alike.{Writing, naming_of, writable_of}
-use Rattle.procedure_split.specs.Split.{IsSplit}
+use Rattle.procedure_split.specs.Splitting.{IsSplit}
 use Rattle.round_trip.specs.printable.Part.{is_printable_operand}
 use Rattle.round_trip.specs.printable.Beside.{is_printable_cond}
 use Rattle.round_trip.specs.printable.Statement.{is_printable_stmt}

@@ -11,7 +11,7 @@ use Rattle.control_flow_theory.specs.graph_rules.Families.{Added, Never, Flag, C
 use Rattle.out_names.specs.FreshWords.{fresh_number}
 use Rattle.cobol_theory.specs.cell_items.Cell.{number_operand}
 use Rattle.cobol_theory.specs.cell_serving.Entries.{cell_entry, entries_of, whole_literal}
-use Rattle.added_items.specs.item_table.Names as cells
+use Rattle.added_items.specs.item_table.Naming as cells
 use Rattle.added_items.specs.declared.item_table.naming.NextNumbers.{NextNumbers}
 use Rattle.round_trip.specs.declarations.added_entries.Items.{zero_literal, whole_entry, whole_entries}
 use Rattle.round_trip.specs.declarations.fresh_items.Fresh.{NextOf, stem_of, digits_of, is_signed, with_next, item_named, items_from}

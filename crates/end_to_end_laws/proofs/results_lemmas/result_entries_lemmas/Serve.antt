@@ -8,8 +8,8 @@ use Rattle.control_flow_theory.specs.graph_rules.Families.{Added}
 use Rattle.out_names.specs.Words.{program_words, table_of}
 use Rattle.round_trip.specs.spelling.expr_spelling.Printable.{judged_place}
 use Rattle.cobol_theory.specs.cell_items.Cell.{cell_place}
-use Rattle.added_items.specs.item_table.Items.{item_kinds}
-use Rattle.added_items.specs.item_table.Names.{all_from_one, entries_for}
+use Rattle.added_items.specs.item_table.Owners.{item_kinds}
+use Rattle.added_items.specs.item_table.Naming.{all_from_one, entries_for}
 use Rattle.added_items.specs.item_table.Tables.{table_of_cells}
 use Rattle.added_items.proofs.item_table_lemmas.Entered.{are-entries}
 use Rattle.round_trip.specs.declarations.added_entries.Items.{WholeItem}

@@ -10,7 +10,7 @@ use Rattle.pending_returns.specs.declared.facts.Summary.{Summary}
 use Rattle.struct_form.specs.Stops.{first_stops}
 use Rattle.struct_form.proofs.Structured.{structured_stops}
 use Rattle.procedure_split.proofs.made_procedures_lemmas.Rows.{beside}
-use Rattle.procedure_split.specs.Split.{IsSplit}
+use Rattle.procedure_split.specs.Splitting.{IsSplit}
 use Rattle.round_trip.specs.procedures.Names.{own_name, own_names, AreDifferent, IsTitle, IfTitle, AreTitled}
 use Rattle.round_trip.specs.procedures.Outline.{AreOutlined, HaveNamesAlone}
 use Rattle.round_trip.proofs.procedures_lemmas.Named.{named-outlined}

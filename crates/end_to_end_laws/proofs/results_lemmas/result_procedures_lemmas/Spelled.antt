@@ -7,7 +7,7 @@ use Rattle.cobol_grammar.specs.declared.expr_forms.side.Side.{Side}
 use Rattle.symbol_tables.specs.declared.procedure_names.table.ProcedureTable.{ProcedureTable}
 use Rattle.cobol_grammar.specs.stmt_forms.Paragraph.{scope_of}
 use Rattle.cobol_grammar.specs.stmt_forms.Part.{Parts}
-use Rattle.cobol_grammar.specs.declared.known.Known.{Known}
+use Rattle.cobol_grammar.specs.declared.subject_kind.SubjectKind.{SubjectKind}
 use Rattle.cobol_grammar.specs.Whole.{parts_of}
 use Rattle.round_trip.specs.spelling.stmt_spelling.Division.{SpellsDivision}
 use Rattle.round_trip.specs.spelling.stmt_spelling.Part.{Kept}
@@ -27,7 +27,7 @@ use Rattle.end_to_end_laws.specs.results.result_procedures.Laws.{Spell, FitProgr
 
 -- ---- over open parts
 
-module _ {Side Known : Type 0} {parts : Parts Side Known} {kept : Kept Side} {program : Program} {fits : Fits} (F : FitsSpell parts kept program fits) where
+module _ {Side SubjectKind : Type 0} {parts : Parts Side SubjectKind} {kept : Kept Side} {program : Program} {fits : Fits} (F : FitsSpell parts kept program fits) where
   body : (bare in_section : Bool) (name section : Option (List ℕ)) (list : List Sentence) → MayFollow bare name section → FitSentences fits (scope_of (is_some section || in_section)) list →
       SpellsBody parts kept program bare in_section name section list
   body bare in_section None None list follows fit = absurd follows
@@ -64,7 +64,7 @@ module _ (fits : Fits) (program : Program) (H : HasProcedures program) (F : Spel
   abbrev table : ProcedureTable
   table = told_procedures.own_procedures program taken
 
-  abbrev parts : Parts Side Known
+  abbrev parts : Parts Side SubjectKind
   parts = parts_of (own_names program) program.entries table
 
   abbrev kept : Kept Side

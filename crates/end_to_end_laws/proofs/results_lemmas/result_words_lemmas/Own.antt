@@ -15,13 +15,13 @@ use Rattle.parser_combinators.specs.words.Word.{is_data_word}
 use Rattle.program_facts.specs.term_counts.Condition.{cond_terms}
 use Rattle.program_facts.specs.term_counts.Expression.{expr_terms}
 use Rattle.cob_base.specs.Limit.{max_terms}
-use Rattle.symbol_tables.specs.declared.data_names.name.Found.{Found}
-use Rattle.symbol_tables.specs.declared.data_names.name.Found.TheVariants as found
-use Rattle.symbol_tables.specs.declared.data_names.name.Kind.TheVariants as item_kinds
+use Rattle.symbol_tables.specs.declared.data_names.name.Referent.{Referent}
+use Rattle.symbol_tables.specs.declared.data_names.name.Referent.TheVariants as found
+use Rattle.symbol_tables.specs.declared.data_names.name.ItemKind.TheVariants as item_kinds
 use Rattle.symbol_tables.specs.data_names.Look.{look}
 use Rattle.symbol_tables.specs.data_names.Names.{picture_kind}
 use Rattle.symbol_tables.specs.data_names.Names as names
-use Rattle.cobol_grammar.specs.declared.expr_forms.side.Make.TheVariants as makes
+use Rattle.cobol_grammar.specs.declared.expr_forms.side.ExprContent.TheVariants as makes
 use Rattle.cobol_grammar.specs.declared.expr_forms.side.ValueKind.{ValueKind}
 use Rattle.cobol_grammar.specs.expr_forms.Fault.{item_kind, kind_of, is_condition}
 use Rattle.cobol_grammar.specs.Name.{is_record, is_record_entry}
@@ -132,7 +132,7 @@ module _ (program made : Program) (items : List WholeItem) (has : HasAdded progr
       within None e r = cc
       within (Some one) e r = slice_get_within program.entries entry one e
 
-      by : (at : Found) → own_record program entry ≡ at → is_item entry at ≡ true → RecordStays entry
+      by : (at : Referent) → own_record program entry ≡ at → is_item entry at ≡ true → RecordStays entry
       by found.Unknown e i = cc
       by found.Ambiguous e i = cc
       by (found.Item number kind dims) e i =

@@ -35,8 +35,8 @@ use Rattle.program_facts.specs.term_counts.Condition.{cond_terms}
 use Rattle.program_facts.specs.term_counts.Expression as sizes
 use Rattle.program_facts.specs.term_counts.Expression.{expr_terms, place_terms}
 use Rattle.cob_base.specs.Limit.{max_terms}
-use Rattle.cobol_grammar.specs.declared.expr_forms.side.Make.{Make}
-use Rattle.cobol_grammar.specs.declared.expr_forms.side.Make.TheVariants as makes
+use Rattle.cobol_grammar.specs.declared.expr_forms.side.ExprContent.{ExprContent}
+use Rattle.cobol_grammar.specs.declared.expr_forms.side.ExprContent.TheVariants as makes
 use Rattle.cobol_grammar.specs.declared.expr_forms.side.ValueKind.{ValueKind}
 use Rattle.cobol_grammar.specs.declared.expr_forms.side.ValueKind.TheVariants as kinds
 use Rattle.cobol_grammar.specs.expr_forms.Fault.{compared_as, kind_of}
@@ -83,12 +83,12 @@ counting-number kinds.Condition h = cc
 counting-number kinds.Unknown h = cc
 
 -- a number may be moved to a number
-number-goes : (make : Make) (whole other : Bool) → number_may_move make whole (kinds.Number other) ≡ true
+number-goes : (make : ExprContent) (whole other : Bool) → number_may_move make whole (kinds.Number other) ≡ true
 number-goes makes.Item whole other = refl
 number-goes makes.Literal whole other = refl
 number-goes makes.Joined whole other = refl
 
-pub number-moves : (make : Make) (from to : ValueKind) → is_number from ≡ true → is_number to ≡ true → may_move make from to ≡ true
+pub number-moves : (make : ExprContent) (from to : ValueKind) → is_number from ≡ true → is_number to ≡ true → may_move make from to ≡ true
 number-moves make from to f t =
     let one = number-is from f in let other = number-is to t in
     ap (λ k. may_move make k to) one.1 ∙ ap (λ k. number_may_move make one.0 k) other.1 ∙ number-goes make one.0 other.0

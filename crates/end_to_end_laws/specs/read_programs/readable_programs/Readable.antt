@@ -15,7 +15,7 @@ use Rattle.cob_store.specs.sizes.Storage.{storage_limit, storage_of}
 use Rattle.symbol_tables.specs.declared.procedure_names.table.ProcedureTable.{ProcedureTable}
 use Rattle.symbol_tables.specs.procedure_names.Procedures.{procedures_of}
 use Rattle.cobol_grammar.specs.stmt_forms.Part.{Parts}
-use Rattle.cobol_grammar.specs.declared.known.Known.{Known}
+use Rattle.cobol_grammar.specs.declared.subject_kind.SubjectKind.{SubjectKind}
 use Rattle.cobol_grammar.specs.Whole.{parts_of}
 use Rattle.cobol_read.specs.LeftOut.{first_left_out}
 use Rattle.cob_base.specs.Limit.{max_source, max_tokens, max_paragraphs}
@@ -72,7 +72,7 @@ pub record IsFit (program : Program) : Type 0 where
 -- ---- its paragraphs
 
 -- what its statements are made of
-abbrev pub own_parts : Program → Parts Side Known
+abbrev pub own_parts : Program → Parts Side SubjectKind
 own_parts program = parts_of (own_names program) program.entries (own_procedures program)
 
 abbrev pub IsSpelled : Program → Type 0

@@ -7,8 +7,9 @@ use Rattle.control_flow_theory.specs.language.Structured.{IsStructured}
 use Rattle.struct_form.specs.Structured as tree
 use Rattle.pending_returns.specs.declared.facts.Summary.{Summary}
 use Rattle.cobol_theory.specs.cobol_meaning.Same.{SameBehaviour}
-use Rattle.procedure_split.specs.Split.{IsSplit}
-use Rattle.procedure_split.specs.split_behaviour.Alike.{IsWellMade, FlowsSo}
+use Rattle.procedure_split.specs.Splitting.{IsSplit}
+use Rattle.procedure_split.specs.split_behaviour.Alike.{IsWellMade}
+use Rattle.pending_returns.specs.FaultFree.{IsFaultFree}
 
 abbrev pub ProgramsThatAreReadAreWellMade : Type 0
 ProgramsThatAreReadAreWellMade =
@@ -19,11 +20,11 @@ ProgramsThatAreReadAreWellMade =
 abbrev pub ProgramsThatAreReadBehaveAlike : Type 0
 ProgramsThatAreReadBehaveAlike =
     (bytes : List ℕ) (program made : Program) (summary : Summary) → Reads bytes program →
-    FlowsSo program summary → IsSplit program summary made →
+    IsFaultFree program summary → IsSplit program summary made →
     IsStructured (control_of made) × SameBehaviour program made
 
 -- and it is structured as the tests of the tree tell it, without EXIT
 abbrev pub ProgramsThatAreReadAreStructured : Type 0
 ProgramsThatAreReadAreStructured =
     (bytes : List ℕ) (program made : Program) (summary : Summary) → Reads bytes program →
-    FlowsSo program summary → IsSplit program summary made → tree.IsStructured made
+    IsFaultFree program summary → IsSplit program summary made → tree.IsStructured made

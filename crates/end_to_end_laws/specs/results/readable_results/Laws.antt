@@ -8,8 +8,8 @@ use Rattle.cobol_read.specs.Reading.{Reads}
 use Rattle.cobol_print.specs.Program.{printed}
 use Rattle.end_to_end_laws.specs.read_programs.readable_programs.Readable.{IsReadable, IsShort}
 use Rattle.pending_returns.specs.declared.facts.Summary.{Summary}
-use Rattle.procedure_split.specs.Split.{IsSplit}
-use Rattle.procedure_split.specs.split_behaviour.Alike.{FlowsSo}
+use Rattle.procedure_split.specs.Splitting.{IsSplit}
+use Rattle.pending_returns.specs.FaultFree.{IsFaultFree}
 
 -- the limits of reading that what a program is split into may pass
 pub record IsWithinLimits (made : Program) : Type 0 where
@@ -21,11 +21,11 @@ pub record IsWithinLimits (made : Program) : Type 0 where
 abbrev pub SplitProgramsAreReadable : Type 0
 SplitProgramsAreReadable =
     (bytes : List ℕ) (program made : Program) (summary : Summary) → Reads bytes program →
-    FlowsSo program summary → IsSplit program summary made → IsWithinLimits made →
+    IsFaultFree program summary → IsSplit program summary made → IsWithinLimits made →
     IsReadable made
 
 abbrev pub SplitProgramsReadBack : Type 0
 SplitProgramsReadBack =
     (bytes : List ℕ) (program made : Program) (summary : Summary) → Reads bytes program →
-    FlowsSo program summary → IsSplit program summary made → IsWithinLimits made →
+    IsFaultFree program summary → IsSplit program summary made → IsWithinLimits made →
     Reads (printed made) made

@@ -7,15 +7,15 @@ use Rattle.control_flow_theory.specs.language.Control.{seen_stmts}
 use Rattle.control_flow_theory.specs.language.Language.{Simple, Cond, Chooser, Amount, Stmts, Range}
 use Rattle.control_flow_theory.specs.rendering.Rendering.{Naming, Procedure, place_of, required, then_stmts, closing, written_stmts}
 use Rattle.control_flow_theory.specs.rendering.Procedures.{Writable}
-use Rattle.control_flow_theory.specs.headline.Headline.{Plan}
+use Rattle.control_flow_theory.specs.main_theorem.MainTheorem.{Plan}
 use Rattle.pending_returns.specs.declared.facts.Summary.{Summary}
-use Rattle.statement_builders.specs.arms.Empties.{empties}
+use Rattle.statement_builders.specs.arms.EmptyArms.{empties}
 use Rattle.added_items.specs.item_table.Row.{CellRange}
 use Rattle.added_items.specs.item_table.Tables.{table_of_cells}
 use Rattle.cobol_theory.specs.cobol_headline.Alike.{Writing}
 use Rattle.procedure_split.specs.Rows.{rows_of}
-use Rattle.procedure_split.specs.Split.{IsSplit}
-use Rattle.procedure_split.specs.Written.{added_entries}
+use Rattle.procedure_split.specs.Splitting.{IsSplit}
+use Rattle.procedure_split.specs.Writing.{added_entries}
 
 -- ---- how it is written
 

@@ -3,11 +3,11 @@ use Rattle.std.specs.Prelude.{ℕ, ◌≡◌, ◌+◌, true, List, length}
 use Rattle.cob_tree.specs.declared.program.Program.{Program}
 use Rattle.control_flow_theory.specs.language.Language.{Range}
 use Rattle.out_names.specs.Words.{program_words, table_of}
-use Rattle.cobol_grammar.specs.declared.expr_forms.side.Make.TheVariants as makes
+use Rattle.cobol_grammar.specs.declared.expr_forms.side.ExprContent.TheVariants as makes
 use Rattle.cobol_grammar.specs.declared.expr_forms.side.ValueKind.TheVariants as kinds
 use Rattle.round_trip.specs.spelling.expr_spelling.Printable.{Judged, judged_place}
 use Rattle.cobol_theory.specs.cell_items.Cell.{cell_place}
-use Rattle.added_items.specs.item_table.Items.{item_kinds}
+use Rattle.added_items.specs.item_table.Owners.{item_kinds}
 use Rattle.added_items.specs.item_table.Row.{CellRange}
 use Rattle.added_items.specs.item_table.Tables.{table_of_cells}
 use Rattle.round_trip.specs.declarations.added_entries.Items.{WholeItem, HasAdded}

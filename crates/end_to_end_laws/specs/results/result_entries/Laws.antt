@@ -4,10 +4,10 @@ use Rattle.cob_tree.specs.declared.program.Program.{Program}
 use Rattle.cob_store.specs.sizes.Storage.{storage_limit, storage_of}
 use Rattle.out_names.specs.Words.{program_words}
 use Rattle.pending_returns.specs.declared.facts.Summary.{Summary}
-use Rattle.added_items.specs.item_table.Items.{item_kinds}
+use Rattle.added_items.specs.item_table.Owners.{item_kinds}
 use Rattle.added_items.specs.item_table.Row.{CellRange}
 use Rattle.procedure_split.specs.Rows.{rows_of}
-use Rattle.procedure_split.specs.Split.{IsSplit}
+use Rattle.procedure_split.specs.Splitting.{IsSplit}
 use Rattle.end_to_end_laws.specs.results.result_entries.Items.{DeclaresItems, ServesCells}
 
 abbrev pub SplitProgramsDeclareItems : Type 0

@@ -14,7 +14,7 @@ use Rattle.cobol_read.specs.Reading.{Reads}
 use Rattle.out_names.specs.Naming.{names_of}
 use Rattle.out_names.specs.Words.{program_words}
 use Rattle.pending_returns.specs.declared.facts.Summary.{Summary}
-use Rattle.procedure_split.specs.Split.{IsSplit}
+use Rattle.procedure_split.specs.Splitting.{IsSplit}
 use Rattle.struct_form.specs.Nested.{stmts_nest}
 use Rattle.struct_form.specs.Structured.{IsStructured}
 use Rattle.cobol_grammar.specs.declared.stmt_forms.scope.Scope.{Scope}

@@ -4,7 +4,7 @@ use Rattle.std.specs.Prelude.{ℕ, ◌≡◌, ◌+◌, true, List, length}
 use Rattle.cob_tree.specs.declared.program.Program.{Program}
 use Rattle.control_flow_theory.specs.language.Language.{Range}
 use Rattle.control_flow_theory.specs.rendering.Procedures.{Writable}
-use Rattle.cobol_grammar.specs.declared.expr_forms.side.Make.TheVariants as makes
+use Rattle.cobol_grammar.specs.declared.expr_forms.side.ExprContent.TheVariants as makes
 use Rattle.cobol_grammar.specs.declared.expr_forms.side.ValueKind.TheVariants as kinds
 use Rattle.round_trip.specs.spelling.expr_spelling.Printable.{Judged, is_counting}
 use Rattle.meanings.specs.statements.Does.{declared_in}

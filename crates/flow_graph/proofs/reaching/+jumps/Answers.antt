@@ -2,9 +2,9 @@ use Rattle.std.proofs.Common.{length, ap, sym, ◌∙◌, subst, arith, rules}
 use Rattle.control_flow_theory.specs.semantics.Graph as graph
 use Rattle.control_flow_theory.specs.lowering.Reached.{JumpsTo}
 use Rattle.branch_tree.specs.Choosers.{seen_picker}
-use Rattle.branch_tree.specs.Trees.{seen_end, seen_tree, seen_trees}
+use Rattle.branch_tree.specs.Tree.{seen_end, seen_tree, seen_trees}
 use Rattle.branch_tree.proofs.TreeRows.{seen_dead, seen_jump, seen_pick, seen_return, seen_stop}
-use Rattle.pending_returns.specs.levels.Reaching.{Adds}
+use Rattle.pending_returns.specs.levels.Reach.{Adds}
 use Rattle.pending_returns.proofs.levels_lemmas.Marking.{on-ok}
 use Rattle.flow_graph.specs.Jumps.{AddsArmJumps, AddsJumps, ArmsJumpBelow, JumpBelow}
 use Rattle.flow_graph.proofs.JumpRows.{arms_depth, depth_in, end_depth, adds_end, adds_jump, adds_nothing, arm_below, arms_below, arms_more, end_at, jump_below}

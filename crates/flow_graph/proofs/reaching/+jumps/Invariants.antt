@@ -1,7 +1,7 @@
 use Rattle.std.proofs.Common.{◌≡◌, length}
-use Rattle.pending_returns.specs.levels.Reaching.{IsMarked}
+use Rattle.pending_returns.specs.levels.Reach.{IsMarked}
 use Rattle.control_flow_theory.specs.semantics.Graph.{end_of}
-use Rattle.branch_tree.specs.Trees.{seen_tree, seen_trees}
+use Rattle.branch_tree.specs.Tree.{seen_tree, seen_trees}
 use Rattle.flow_graph.proofs.JumpRows.{ArmsSoFar, arms_depth, end_depth}
 use Rattle.flow_graph.proofs.reaching.+jumps.Given as goal
 

@@ -1,7 +1,7 @@
 use Rattle.std.proofs.Common.{◌-◌, ◌^◌, length, min, ap, sym, ◌∙◌, subst}
 use Rattle.control_flow_theory.specs.semantics.Graph as graph
 use Rattle.flow_graph.specs.Jumps.{AddsJumps, JumpBelow}
-use Rattle.flow_graph.specs.graph_sizes.Sizes.{tree_size}
+use Rattle.flow_graph.specs.graph_sizes.Sizing.{tree_size}
 use Rattle.flow_graph.proofs.reaching.visit_node.Goals as goal
 
 pub visit_tree-requires-clause-below : goal.visit_tree-requires-clause-below

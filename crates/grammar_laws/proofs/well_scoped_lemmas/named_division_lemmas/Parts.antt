@@ -8,13 +8,13 @@ use Rattle.cob_tree.specs.declared.entry.Entry.{Entry}
 use Rattle.cob_tree.specs.declared.place.Place.{out-roll-Place}
 use Rattle.cobol_lex.specs.declared.token.Token.{Token}
 use Rattle.parser_combinators.specs.declared.note.Position.{Position}
-use Rattle.symbol_tables.specs.declared.data_names.name.Found.{Found}
-use Rattle.symbol_tables.specs.declared.data_names.name.Found.TheVariants as found
+use Rattle.symbol_tables.specs.declared.data_names.name.Referent.{Referent}
+use Rattle.symbol_tables.specs.declared.data_names.name.Referent.TheVariants as found
 use Rattle.symbol_tables.specs.data_names.Look.{look, look_file}
 use Rattle.symbol_tables.specs.data_names.Names.{Names}
 use Rattle.parser_combinators.proofs.words_lemmas.WordLaws as words
-use Rattle.cobol_grammar.specs.declared.expr_forms.side.What.{What}
-use Rattle.cobol_grammar.specs.declared.expr_forms.side.What.TheVariants as whats
+use Rattle.cobol_grammar.specs.declared.expr_forms.side.ParsedExpr.{ParsedExpr}
+use Rattle.cobol_grammar.specs.declared.expr_forms.side.ParsedExpr.TheVariants as whats
 use Rattle.cobol_grammar.specs.expr_forms.Fault.{item_of, usage}
 use Rattle.cobol_grammar.specs.expr_forms.Side as sides
 use Rattle.symbol_tables.specs.procedure_names.Procedures.{procedures_of, range_of, header_of}
@@ -38,13 +38,13 @@ use Rattle.grammar_laws.proofs.well_scoped_lemmas.named_division_lemmas.Table.{s
 module _ (counts : Counts) where
   -- ---- what stands in the tree for what is read
 
-  operand-named : (what : What) → what_named counts what ≡ true → operand_named counts (uses.operand_of what) ≡ true
+  operand-named : (what : ParsedExpr) → what_named counts what ≡ true → operand_named counts (uses.operand_of what) ≡ true
   operand-named (whats.Ref place) h = made-Place-operand counts place h
   operand-named (whats.Literal operand) h = h
   operand-named (whats.Enclosed place) h = made-Place-operand counts place h
   operand-named (whats.Sum expr) h = made-Figure-operand counts _
 
-  place-named : (what : What) → what_named counts what ≡ true → is_reference what ≡ true → place_named counts (uses.place_of what) ≡ true
+  place-named : (what : ParsedExpr) → what_named counts what ≡ true → is_reference what ≡ true → place_named counts (uses.place_of what) ≡ true
   place-named (whats.Ref place) h r = h
   place-named (whats.Literal operand) h r = absurd (apart r)
     where
@@ -87,7 +87,7 @@ module _ (counts : Counts) where
       apart e = cc
   record-below entries item (Some entry) e h = get-below entries item entry e
 
-  record_fine : (entries : List Entry) → length entries ≤ counts.items → (found : Found) (position : Position) → names_of.record_fault entries found position ≡ None →
+  record_fine : (entries : List Entry) → length entries ≤ counts.items → (found : Referent) (position : Position) → names_of.record_fault entries found position ≡ None →
       item_named counts (item_of (names_of.as_record entries found)) ≡ true
   record_fine entries le found.Unknown position n = absurd cc
   record_fine entries le found.Ambiguous position n = absurd cc

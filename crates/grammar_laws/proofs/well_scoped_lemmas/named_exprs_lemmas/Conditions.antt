@@ -9,18 +9,18 @@ use Rattle.parser_combinators.specs.declared.note.Position.{Position}
 use Rattle.parser_combinators.specs.Form.{Form}
 use Rattle.parser_combinators.proofs.MakerLaws as laws
 use Rattle.symbol_tables.specs.data_names.Names.{Names}
-use Rattle.cobol_grammar.specs.declared.expr_forms.side.Shape.{Shape}
-use Rattle.cobol_grammar.specs.declared.expr_forms.side.Shape.TheVariants as shapes
+use Rattle.cobol_grammar.specs.declared.expr_forms.side.ExprForm.{ExprForm}
+use Rattle.cobol_grammar.specs.declared.expr_forms.side.ExprForm.TheVariants as shapes
 use Rattle.cobol_grammar.specs.declared.expr_forms.side.Side.{Side}
-use Rattle.cobol_grammar.specs.declared.expr_forms.side.What.{What}
-use Rattle.cobol_grammar.specs.declared.expr_forms.side.What.TheVariants as whats
+use Rattle.cobol_grammar.specs.declared.expr_forms.side.ParsedExpr.{ParsedExpr}
+use Rattle.cobol_grammar.specs.declared.expr_forms.side.ParsedExpr.TheVariants as whats
 use Rattle.cobol_grammar.specs.expr_forms.Fault as faults
 use Rattle.cobol_grammar.specs.expr_forms.Side as sides
 use Rattle.cobol_grammar.specs.expr_forms.Side.{expr_of}
 use Rattle.cob_base.specs.Limit.{max_parens}
 use Rattle.cobol_grammar.specs.expr_forms.Limit.{Inner}
 use Rattle.cobol_grammar.specs.declared.cond_forms.part.Joined.{Joined}
-use Rattle.cobol_grammar.specs.declared.cond_forms.part.Part.{Part}
+use Rattle.cobol_grammar.specs.declared.cond_forms.part.SimpleCond.{SimpleCond}
 use Rattle.cobol_grammar.specs.declared.cond_forms.test.Primary.{Primary}
 use Rattle.cobol_grammar.specs.declared.cond_forms.test.Primary.TheVariants as prims
 use Rattle.cobol_grammar.specs.declared.cond_forms.test.Read.{Read}
@@ -50,7 +50,7 @@ module _ (counts : Counts) where
   SetNamed None = Unit {0}
   SetNamed (Some setting) = Named counts setting.left
 
-  abbrev PartNamed : Part → Type 0
+  abbrev PartNamed : SimpleCond → Type 0
   PartNamed part = (cond_named counts part.cond ≡ true) × SetNamed part.setting
 
   abbrev PrimNamed : Primary → Type 0
@@ -74,7 +74,7 @@ module _ (counts : Counts) where
   whole-made None cond b c = c
   whole-made (Some before) cond b c = made-Or counts before cond b c
 
-  enclosed-named : (what : What) → what_named counts what ≡ true → what_named counts (sides.enclosed_what what) ≡ true
+  enclosed-named : (what : ParsedExpr) → what_named counts what ≡ true → what_named counts (sides.enclosed_what what) ≡ true
   enclosed-named (whats.Ref place) h = h
   enclosed-named (whats.Enclosed place) h = h
   enclosed-named (whats.Literal operand) h = exprs.leaf-named counts operand h
@@ -87,7 +87,7 @@ module _ (counts : Counts) where
   sign_test negated left count =
       any (laws.one (λ position kind. tokens.sign_of kind)) >>= (λ sign. note >> pure (λ _ _ l. (made-SignIs counts (expr_of left.what) sign negated (expr-named counts left.what l), tt)))
 
-  class_of_ref : (negated : Bool) (class : ClassKind) (what : What) (count : ℕ) → Gives IsNumbered (tests.class_of_ref negated class what count) (λ read. what_named counts what ≡ true → ReadNamed read)
+  class_of_ref : (negated : Bool) (class : ClassKind) (what : ParsedExpr) (count : ℕ) → Gives IsNumbered (tests.class_of_ref negated class what count) (λ read. what_named counts what ≡ true → ReadNamed read)
   unfolding tests.class_of_ref
   class_of_ref negated class (whats.Ref place) count = pure (λ p. (made-Class counts place class negated p, tt))
   class_of_ref negated class (whats.Literal operand) count = refuse
@@ -102,9 +102,9 @@ module _ (counts : Counts) where
   untested : (end : Option Bool) (left : Side) (count : ℕ) → Gives IsNumbered (tests.untested end left count) (λ read. Named counts left → ReadNamed read)
   unfolding tests.untested
   untested None left count = refuse
-  untested (Some not_read) left count = pure (λ l. l)
+  untested (Some pending_not) left count = pure (λ l. l)
 
-  class_or : (shape : Shape) (negated : Bool) (end : Option Bool) (left : Side) (count : ℕ) → Gives IsNumbered (tests.class_or shape negated end left count) (λ read. Named counts left → ReadNamed read)
+  class_or : (shape : ExprForm) (negated : Bool) (end : Option Bool) (left : Side) (count : ℕ) → Gives IsNumbered (tests.class_or shape negated end left count) (λ read. Named counts left → ReadNamed read)
   unfolding tests.class_or
   class_or shapes.Ref negated end left count = where_next (class_test negated left count) (untested end left count)
   class_or shapes.Literal negated end left count = untested end left count
@@ -113,68 +113,68 @@ module _ (counts : Counts) where
 
   -- ---- an expression without test
 
-  carried : (setting : Setting) (right : Side) (count : ℕ) (not_read : Bool) → Gives IsNumbered (alones.carried setting right count not_read) (λ part. Named counts right → Named counts setting.left → PartNamed part)
+  carried : (setting : Setting) (right : Side) (count : ℕ) (pending_not : Bool) → Gives IsNumbered (alones.carried setting right count pending_not) (λ part. Named counts right → Named counts setting.left → PartNamed part)
   unfolding alones.carried
-  carried setting right count not_read = do
+  carried setting right count pending_not = do
     more ← tally counts count setting.terms
     note
     note
     pure (λ _ _ _ r s. (relation-made setting.left setting.rel right s r, s))
 
-  named_by : (negated : Bool) (what : What) (count : ℕ) (not_read : Bool) → Gives IsNumbered (alones.named_by negated what count not_read) (λ part. what_named counts what ≡ true → PartNamed part)
+  named_by : (negated : Bool) (what : ParsedExpr) (count : ℕ) (pending_not : Bool) → Gives IsNumbered (alones.named_by negated what count pending_not) (λ part. what_named counts what ≡ true → PartNamed part)
   unfolding alones.named_by
-  named_by negated (whats.Ref place) count not_read = pure (λ p. (not-made negated _ (made-Named counts place p), tt))
-  named_by negated (whats.Enclosed place) count not_read = pure (λ p. (not-made negated _ (made-Named counts place p), tt))
-  named_by negated (whats.Literal operand) count not_read = refuse
-  named_by negated (whats.Sum expr) count not_read = refuse
+  named_by negated (whats.Ref place) count pending_not = pure (λ p. (not-made negated _ (made-Named counts place p), tt))
+  named_by negated (whats.Enclosed place) count pending_not = pure (λ p. (not-made negated _ (made-Named counts place p), tt))
+  named_by negated (whats.Literal operand) count pending_not = refuse
+  named_by negated (whats.Sum expr) count pending_not = refuse
 
-  named : (negated : Bool) (side : Side) (count : ℕ) (not_read : Bool) → Gives IsNumbered (alones.named negated side count not_read) (λ part. Named counts side → PartNamed part)
+  named : (negated : Bool) (side : Side) (count : ℕ) (pending_not : Bool) → Gives IsNumbered (alones.named negated side count pending_not) (λ part. Named counts side → PartNamed part)
   unfolding alones.named
-  named negated side count not_read = note >> still (named_by negated side.what count not_read)
+  named negated side count pending_not = note >> still (named_by negated side.what count pending_not)
 
-  kept : (setting : Setting) (what : What) (count : ℕ) (not_read : Bool) → Gives IsNumbered (alones.kept setting what count not_read) (λ part. what_named counts what ≡ true → Named counts setting.left → PartNamed part)
+  kept : (setting : Setting) (what : ParsedExpr) (count : ℕ) (pending_not : Bool) → Gives IsNumbered (alones.kept setting what count pending_not) (λ part. what_named counts what ≡ true → Named counts setting.left → PartNamed part)
   unfolding alones.kept
-  kept setting (whats.Ref place) count not_read = pure (λ p s. (made-Named counts place p, s))
-  kept setting (whats.Enclosed place) count not_read = refuse
-  kept setting (whats.Literal operand) count not_read = refuse
-  kept setting (whats.Sum expr) count not_read = refuse
+  kept setting (whats.Ref place) count pending_not = pure (λ p s. (made-Named counts place p, s))
+  kept setting (whats.Enclosed place) count pending_not = refuse
+  kept setting (whats.Literal operand) count pending_not = refuse
+  kept setting (whats.Sum expr) count pending_not = refuse
 
-  ref_part : (negated : Bool) (setting : Option Setting) (side : Side) (count : ℕ) (not_read : Bool) →
-      Gives IsNumbered (alones.ref_part negated setting side count not_read) (λ part. Named counts side → SetNamed setting → PartNamed part)
+  ref_part : (negated : Bool) (setting : Option Setting) (side : Side) (count : ℕ) (pending_not : Bool) →
+      Gives IsNumbered (alones.ref_part negated setting side count pending_not) (λ part. Named counts side → SetNamed setting → PartNamed part)
   unfolding alones.ref_part
-  ref_part false (Some setting) side count not_read = chosen (faults.is_condition side.kind) (kept setting side.what count not_read) (carried setting side count not_read)
-  ref_part false None side count not_read = hence (λ part h s _. h s) (named false side count not_read)
-  ref_part true setting side count not_read = hence (λ part h s _. h s) (named true side count not_read)
+  ref_part false (Some setting) side count pending_not = chosen (faults.is_condition side.kind) (kept setting side.what count pending_not) (carried setting side count pending_not)
+  ref_part false None side count pending_not = hence (λ part h s _. h s) (named false side count pending_not)
+  ref_part true setting side count pending_not = hence (λ part h s _. h s) (named true side count pending_not)
 
-  literal_part : (negated : Bool) (setting : Option Setting) (side : Side) (count : ℕ) (not_read : Bool) →
-      Gives IsNumbered (alones.literal_part negated setting side count not_read) (λ part. Named counts side → SetNamed setting → PartNamed part)
+  literal_part : (negated : Bool) (setting : Option Setting) (side : Side) (count : ℕ) (pending_not : Bool) →
+      Gives IsNumbered (alones.literal_part negated setting side count pending_not) (λ part. Named counts side → SetNamed setting → PartNamed part)
   unfolding alones.literal_part
-  literal_part false (Some setting) side count not_read = carried setting side count not_read
-  literal_part false None side count not_read = refuse
-  literal_part true setting side count not_read = refuse
+  literal_part false (Some setting) side count pending_not = carried setting side count pending_not
+  literal_part false None side count pending_not = refuse
+  literal_part true setting side count pending_not = refuse
 
-  part_by_shape : (shape : Shape) (negated : Bool) (setting : Option Setting) (side : Side) (count : ℕ) (not_read : Bool) →
-      Gives IsNumbered (alones.part_by_shape shape negated setting side count not_read) (λ part. Named counts side → SetNamed setting → PartNamed part)
+  part_by_shape : (shape : ExprForm) (negated : Bool) (setting : Option Setting) (side : Side) (count : ℕ) (pending_not : Bool) →
+      Gives IsNumbered (alones.part_by_shape shape negated setting side count pending_not) (λ part. Named counts side → SetNamed setting → PartNamed part)
   unfolding alones.part_by_shape
-  part_by_shape shapes.Ref negated setting side count not_read = ref_part negated setting side count not_read
-  part_by_shape shapes.Literal negated setting side count not_read = literal_part negated setting side count not_read
-  part_by_shape shapes.Enclosed negated setting side count not_read = hence (λ part h s _. h s) (named negated side count not_read)
-  part_by_shape shapes.Sum negated setting side count not_read = refuse
+  part_by_shape shapes.Ref negated setting side count pending_not = ref_part negated setting side count pending_not
+  part_by_shape shapes.Literal negated setting side count pending_not = literal_part negated setting side count pending_not
+  part_by_shape shapes.Enclosed negated setting side count pending_not = hence (λ part h s _. h s) (named negated side count pending_not)
+  part_by_shape shapes.Sum negated setting side count pending_not = refuse
 
-  alone_part : (negated : Bool) (setting : Option Setting) (side : Side) (count : ℕ) (not_read : Bool) →
-      Gives IsNumbered (alones.alone_part negated setting side count not_read) (λ part. Named counts side → SetNamed setting → PartNamed part)
+  alone_part : (negated : Bool) (setting : Option Setting) (side : Side) (count : ℕ) (pending_not : Bool) →
+      Gives IsNumbered (alones.alone_part negated setting side count pending_not) (λ part. Named counts side → SetNamed setting → PartNamed part)
   unfolding alones.alone_part
-  alone_part negated setting side count not_read = part_by_shape (sides.shape_of side.what) negated setting side count not_read
+  alone_part negated setting side count pending_not = part_by_shape (sides.shape_of side.what) negated setting side count pending_not
 
-  part_by : (negated : Bool) (setting : Option Setting) (prim : Primary) (count : ℕ) (not_read : Bool) →
-      Gives IsNumbered (alones.part_by negated setting prim count not_read) (λ part. PrimNamed prim → SetNamed setting → PartNamed part)
+  part_by : (negated : Bool) (setting : Option Setting) (prim : Primary) (count : ℕ) (pending_not : Bool) →
+      Gives IsNumbered (alones.part_by negated setting prim count pending_not) (λ part. PrimNamed prim → SetNamed setting → PartNamed part)
   unfolding alones.part_by
-  part_by negated setting (prims.Test cond after) count not_read = pure (λ p _. (not-made negated cond p.0, p.1))
-  part_by negated setting (prims.Alone side) count not_read = alone_part negated setting side count not_read
+  part_by negated setting (prims.Test cond after) count pending_not = pure (λ p _. (not-made negated cond p.0, p.1))
+  part_by negated setting (prims.Alone side) count pending_not = alone_part negated setting side count pending_not
 
-  close_cond : (part : Part) → Gives IsNumbered (conditions.close_cond part) (λ read. PartNamed part → ReadNamed read)
+  close_cond : (part : SimpleCond) → Gives IsNumbered (conditions.close_cond part) (λ read. PartNamed part → ReadNamed read)
   unfolding conditions.close_cond
-  close_cond part = chosen part.not_read refuse (mark right_parenthesis >> pure (λ _ p. (p.0, tt)))
+  close_cond part = chosen part.pending_not refuse (mark right_parenthesis >> pure (λ _ p. (p.0, tt)))
 
   close_side : (position : Position) (side : Side) (count : ℕ) → Gives IsNumbered (conditions.close_side position side count) (λ read. Named counts side → ReadNamed read)
   unfolding conditions.close_side sides.enclosed
@@ -254,7 +254,7 @@ module _ (counts : Counts) where
 
         prim_part : (negated : Bool) (setting : Option Setting) (count : ℕ) → Gives IsNumbered (negs.prim_part names inner content negated setting count) (λ part. SetNamed setting → PartNamed part)
         unfolding negs.prim_part
-        prim_part negated setting count = prim count >>= (λ read. part_by negated setting read.prim read.count read.not_read)
+        prim_part negated setting count = prim count >>= (λ read. part_by negated setting read.prim read.count read.pending_not)
 
         behind_not : (setting : Option Setting) (count : ℕ) → Gives IsNumbered (negs.behind_not names inner content setting count) (λ part. SetNamed setting → PartNamed part)
         unfolding negs.behind_not
@@ -289,11 +289,11 @@ module _ (counts : Counts) where
 
         join : (state : Joined) → Gives IsNumbered (conditions.join names inner content state) (λ last. JoinedNamed state → JoinedNamed last)
         unfolding conditions.join
-        join state = chosen state.part.not_read refuse
+        join state = chosen state.part.pending_not refuse
             (where_next (hence (λ last h j. h (j.0, j.1.0, j.1.1)) (and_part state.before state.part.cond state.part.setting state.part.count))
             (hence (λ last h j. h (j.0, j.1.0, j.1.1)) (or_part state.before state.part.cond state.part.setting state.part.count)))
 
-        conds_from : (first : Part) → Gives IsNumbered (conditions.conds_from names inner content first) (λ part. PartNamed first → PartNamed part)
+        conds_from : (first : SimpleCond) → Gives IsNumbered (conditions.conds_from names inner content first) (λ part. PartNamed first → PartNamed part)
         unfolding conditions.conds_from
         conds_from first = loop {P = JoinedNamed} join >>= (λ state. pure (λ h p. let j = h (refl, p) in (whole-made state.before state.part.cond j.0 j.1.0, j.1.1)))
 
@@ -303,19 +303,19 @@ module _ (counts : Counts) where
 
         -- ---- in parentheses
 
-        content_from : (first : Part) → Gives IsNumbered (conditions.content_from names inner content first) (λ read. PartNamed first → ReadNamed read)
+        content_from : (first : SimpleCond) → Gives IsNumbered (conditions.content_from names inner content first) (λ read. PartNamed first → ReadNamed read)
         unfolding conditions.content_from
         content_from first = conds_from first >>= (λ part. hence (λ read h p f. h (p f)) (close_cond part))
 
-        alone_content : (side : Side) (count : ℕ) (not_read : Bool) → Gives IsNumbered (conditions.alone_content names inner content side count not_read) (λ read. Named counts side → ReadNamed read)
+        alone_content : (side : Side) (count : ℕ) (pending_not : Bool) → Gives IsNumbered (conditions.alone_content names inner content side count pending_not) (λ read. Named counts side → ReadNamed read)
         unfolding conditions.alone_content
-        alone_content side count not_read = alone_part false None side count not_read >>= (λ part. hence (λ read h p s. h (p s tt)) (content_from part))
+        alone_content side count pending_not = alone_part false None side count pending_not >>= (λ part. hence (λ read h p s. h (p s tt)) (content_from part))
 
-        content_by : (position : Position) (prim : Primary) (count : ℕ) (not_read : Bool) → Gives IsNumbered (conditions.content_by names inner content position prim count not_read) (λ read. PrimNamed prim → ReadNamed read)
+        content_by : (position : Position) (prim : Primary) (count : ℕ) (pending_not : Bool) → Gives IsNumbered (conditions.content_by names inner content position prim count pending_not) (λ read. PrimNamed prim → ReadNamed read)
         unfolding conditions.content_by
         content_by position (prims.Alone side) count false = where_next (close_side position side count) (alone_content side count false)
         content_by position (prims.Alone side) count true = alone_content side count true
-        content_by position (prims.Test cond after) count not_read = content_from (alones.part_of cond after count not_read)
+        content_by position (prims.Test cond after) count pending_not = content_from (alones.part_of cond after count pending_not)
 
         neg_content : (count : ℕ) → Gives IsNumbered (conditions.neg_content names inner content count) ReadNamed
         unfolding conditions.neg_content
@@ -323,7 +323,7 @@ module _ (counts : Counts) where
 
         prim_content : (position : Position) (count : ℕ) → Gives IsNumbered (conditions.prim_content names inner content position count) ReadNamed
         unfolding conditions.prim_content
-        prim_content position count = prim count >>= (λ read. content_by position read.prim read.count read.not_read)
+        prim_content position count = prim count >>= (λ read. content_by position read.prim read.count read.pending_not)
 
         in_content : (count : ℕ) → Gives IsNumbered (conditions.in_content names inner content count) ReadNamed
         unfolding conditions.in_content

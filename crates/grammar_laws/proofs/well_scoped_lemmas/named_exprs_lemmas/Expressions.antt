@@ -11,21 +11,21 @@ use Rattle.cob_tree.specs.declared.place.Place.{Place}
 use Rattle.cob_tree.specs.declared.place.Sub.{Sub}
 use Rattle.parser_combinators.specs.declared.note.Position.{Position}
 use Rattle.parser_combinators.specs.declared.why.Why.TheVariants.{Terms}
-use Rattle.symbol_tables.specs.declared.data_names.name.Found.{Found}
+use Rattle.symbol_tables.specs.declared.data_names.name.Referent.{Referent}
 use Rattle.symbol_tables.specs.data_names.Names.{Names}
 use Rattle.symbol_tables.specs.data_names.Look.{look}
 use Rattle.parser_combinators.proofs.words_lemmas.WordLaws as words
-use Rattle.cobol_grammar.specs.declared.expr_forms.chain.Before.{Before}
+use Rattle.cobol_grammar.specs.declared.expr_forms.chain.PendingTerm.{PendingTerm}
 use Rattle.cobol_grammar.specs.declared.expr_forms.chain.Chain.{Chain}
-use Rattle.cobol_grammar.specs.declared.expr_forms.either.Either.{Either}
-use Rattle.cobol_grammar.specs.declared.expr_forms.front.Front.{Front}
-use Rattle.cobol_grammar.specs.declared.expr_forms.front.Front.TheVariants as fronts
-use Rattle.cobol_grammar.specs.declared.expr_forms.reference.Behind.{Behind}
+use Rattle.cobol_grammar.specs.declared.expr_forms.either.MaybeSubscripts.{MaybeSubscripts}
+use Rattle.cobol_grammar.specs.declared.expr_forms.front.FirstInParens.{FirstInParens}
+use Rattle.cobol_grammar.specs.declared.expr_forms.front.FirstInParens.TheVariants as fronts
+use Rattle.cobol_grammar.specs.declared.expr_forms.reference.RefSuffixes.{RefSuffixes}
 use Rattle.cobol_grammar.specs.declared.expr_forms.reference.Suffix.{Suffix}
 use Rattle.cobol_grammar.specs.declared.expr_forms.reference.Suffix.TheVariants as suffixes
 use Rattle.cobol_grammar.specs.declared.expr_forms.side.Side.{Side}
-use Rattle.cobol_grammar.specs.declared.expr_forms.side.What.{What}
-use Rattle.cobol_grammar.specs.declared.expr_forms.side.What.TheVariants as whats
+use Rattle.cobol_grammar.specs.declared.expr_forms.side.ParsedExpr.{ParsedExpr}
+use Rattle.cobol_grammar.specs.declared.expr_forms.side.ParsedExpr.TheVariants as whats
 use Rattle.cob_base.specs.Limit.{max_terms, max_parens}
 use Rattle.cobol_grammar.specs.expr_forms.Limit as limits
 use Rattle.cobol_grammar.specs.expr_forms.Limit.{Inner}
@@ -65,14 +65,14 @@ module _ (counts : Counts) where
   RefNamed side = (what_named counts side.what ≡ true) × (is_reference side.what ≡ true)
 
   abbrev pub ChainNamed : Chain → Type 0
-  ChainNamed chain = (if_any (λ (before : Before). expr_named counts before.left) chain.before ≡ true) × Named chain.last
+  ChainNamed chain = (if_any (λ (before : PendingTerm). expr_named counts before.left) chain.before ≡ true) × Named chain.last
 
-  pub record EitherNamed (either : Either) : Type 0 where
+  pub record EitherNamed (either : MaybeSubscripts) : Type 0 where
     pub subs : subs_named counts either.subs ≡ true
     pub base : if_any (place_named counts) either.base ≡ true
     pub chain : ChainNamed either.chain
 
-  abbrev FrontNamed : Front → Type 0
+  abbrev FrontNamed : FirstInParens → Type 0
   FrontNamed (fronts.Either either) = EitherNamed either
   FrontNamed (fronts.Sum chain count) = ChainNamed chain
 
@@ -80,7 +80,7 @@ module _ (counts : Counts) where
   SuffixNamed (suffixes.Subs subs) = subs_named counts subs ≡ true
   SuffixNamed (suffixes.Window window) = window_named counts window ≡ true
 
-  abbrev BehindNamed : Behind → Type 0
+  abbrev BehindNamed : RefSuffixes → Type 0
   BehindNamed behind = (subs_named counts behind.subs ≡ true) × (if_any (window_named counts) behind.window ≡ true)
 
   pub record InnerGives (inner : Inner) : Type 0 where
@@ -93,13 +93,13 @@ module _ (counts : Counts) where
   pub leaf-named : (operand : Operand) → operand_named counts operand ≡ true → expr_named counts (exprs.Leaf operand) ≡ true
   leaf-named operand h = made-Leaf counts operand h
 
-  pub expr-named : (what : What) → what_named counts what ≡ true → expr_named counts (expr_of what) ≡ true
+  pub expr-named : (what : ParsedExpr) → what_named counts what ≡ true → expr_named counts (expr_of what) ≡ true
   expr-named (whats.Ref place) h = made-Leaf counts _ (made-Place-operand counts place h)
   expr-named (whats.Literal operand) h = made-Leaf counts operand h
   expr-named (whats.Enclosed place) h = made-Leaf counts _ (made-Place-operand counts place h)
   expr-named (whats.Sum expr) h = h
 
-  finished-named : (before : Option Before) (last : Side) → if_any (λ (before : Before). expr_named counts before.left) before ≡ true → Named last → Named (chains.finished before last)
+  finished-named : (before : Option PendingTerm) (last : Side) → if_any (λ (before : PendingTerm). expr_named counts before.left) before ≡ true → Named last → Named (chains.finished before last)
   finished-named None last b l = l
   finished-named (Some before) last b l = made-Both counts before.op before.left (expr_of last.what) b (expr-named last.what l)
 
@@ -128,7 +128,7 @@ module _ (counts : Counts) where
   subs_with-named None subs b s = s
   subs_with-named (Some place) subs b s = all-added (sub_named counts) subs _ s (item_sub-named place false (codes "0") b zero-named)
 
-  subs_of-named : (either : Either) → EitherNamed either → subs_named counts (eithers.subs_of either) ≡ true
+  subs_of-named : (either : MaybeSubscripts) → EitherNamed either → subs_named counts (eithers.subs_of either) ≡ true
   unfolding eithers.subs_of
   subs_of-named either e = subs_with-named either.base either.subs e.base e.subs
 
@@ -143,7 +143,7 @@ module _ (counts : Counts) where
     chain = (refl, digits_side-named found position d);
   }
 
-  with_number-named : (op : Op) (negative : Bool) (found : List ℕ) (position : Position) (either : Either) → are_digits found ≡ true → EitherNamed either →
+  with_number-named : (op : Op) (negative : Bool) (found : List ℕ) (position : Position) (either : MaybeSubscripts) → are_digits found ≡ true → EitherNamed either →
       EitherNamed (eithers.with_number op negative found position either)
   unfolding eithers.with_number
   with_number-named op negative found position either d e = record {
@@ -152,10 +152,10 @@ module _ (counts : Counts) where
     chain = joined-named op either.chain _ e.chain (digits_side-named found position d);
   }
 
-  bare_place-named : (found : Found) (of : List (List ℕ)) → item_named counts (item_of found) ≡ true → place_named counts (place_of found of [] None) ≡ true
+  bare_place-named : (found : Referent) (of : List (List ℕ)) → item_named counts (item_of found) ≡ true → place_named counts (place_of found of [] None) ≡ true
   bare_place-named found of i = place-made counts (item_of found) of [] None i refl refl
 
-  ref_either-named : (found : Found) (of : List (List ℕ)) (position : Position) → item_named counts (item_of found) ≡ true → EitherNamed (eithers.ref_either found of position)
+  ref_either-named : (found : Referent) (of : List (List ℕ)) (position : Position) → item_named counts (item_of found) ≡ true → EitherNamed (eithers.ref_either found of position)
   unfolding sides.ref_side
   ref_either-named found of position i = record {
     subs = refl;
@@ -165,7 +165,7 @@ module _ (counts : Counts) where
 
   -- ---- references
 
-  pub tally : (count more : ℕ) → Gives IsNumbered (limits.tally count more) (λ _. Unit {0})
+  pub tally : (count more : ℕ) → Gives IsNumbered (limits.count_terms count more) (λ _. Unit {0})
   tally count more = unless Terms (nat_lt max_terms (count + more)) (count + more) tt
 
   more_behind : {inner : Inner} → InnerGives inner → (suffix : Suffix) (count : ℕ) → Gives IsNumbered (references.more_behind inner suffix count) (λ behind. SuffixNamed suffix → BehindNamed behind)
@@ -176,7 +176,7 @@ module _ (counts : Counts) where
   unfolding references.behind
   behind I count = where_next (I.suffix count >>= (λ suffix. more_behind I suffix.0 suffix.1)) (pure (refl, refl))
 
-  ref_behind : {inner : Inner} → InnerGives inner → (found : Found) → Fine counts found → (of : List (List ℕ)) (position : Position) (count : ℕ) →
+  ref_behind : {inner : Inner} → InnerGives inner → (found : Referent) → Fine counts found → (of : List (List ℕ)) (position : Position) (count : ℕ) →
       Gives IsNumbered (references.ref_behind inner found of position count) (λ side. RefNamed side.0)
   unfolding references.ref_behind sides.ref_side
   ref_behind I found F of position count = do
@@ -341,39 +341,39 @@ module _ (counts : Counts) where
     unfolding front_forms.first_front
     first_front I count = where_next (plus_front I count) (where_next digits_front (other_front I count))
 
-    decided : {inner : Inner} → InnerGives inner → (count : ℕ) (e : Either) (op : Op) → Gives IsNumbered (front_forms.decided names inner count e op) (λ front. EitherNamed e → FrontNamed front)
+    decided : {inner : Inner} → InnerGives inner → (count : ℕ) (e : MaybeSubscripts) (op : Op) → Gives IsNumbered (front_forms.decided names inner count e op) (λ front. EitherNamed e → FrontNamed front)
     unfolding front_forms.decided
     decided I count e op = do
       more ← tally count e.leaves
       state ← operated I op e.chain more
       pure (λ h _ k. h k.chain)
 
-    number_turn : (op : Op) (negative : Bool) (e : Either) → Gives IsNumbered (front_forms.number_turn op negative e) (λ front. EitherNamed e → FrontNamed front)
+    number_turn : (op : Op) (negative : Bool) (e : MaybeSubscripts) → Gives IsNumbered (front_forms.number_turn op negative e) (λ front. EitherNamed e → FrontNamed front)
     unfolding front_forms.number_turn
     number_turn op negative e = digits >>= (λ found. note >> pure (λ _ d k. with_number-named op negative found.0 found.1 e d k))
 
-    number_or_decided : {inner : Inner} → InnerGives inner → (count : ℕ) (e : Either) (op : Op) (negative : Bool) →
+    number_or_decided : {inner : Inner} → InnerGives inner → (count : ℕ) (e : MaybeSubscripts) (op : Op) (negative : Bool) →
         Gives IsNumbered (front_forms.number_or_decided names inner count e op negative) (λ front. EitherNamed e → FrontNamed front)
     unfolding front_forms.number_or_decided
     number_or_decided I count e op negative = where_next (number_turn op negative e) (decided I count e op)
 
-    plus_turn : {inner : Inner} → InnerGives inner → (count : ℕ) (e : Either) → Gives IsNumbered (front_forms.plus_turn names inner count e) (λ front. EitherNamed e → FrontNamed front)
+    plus_turn : {inner : Inner} → InnerGives inner → (count : ℕ) (e : MaybeSubscripts) → Gives IsNumbered (front_forms.plus_turn names inner count e) (λ front. EitherNamed e → FrontNamed front)
     unfolding front_forms.plus_turn
     plus_turn I count e = mark plus_sign >> still (number_or_decided I count e ops.Add false)
 
-    minus_behind : {inner : Inner} → InnerGives inner → (count : ℕ) (e : Either) → Gives IsNumbered (front_forms.minus_behind names inner count e) (λ front. EitherNamed e → FrontNamed front)
+    minus_behind : {inner : Inner} → InnerGives inner → (count : ℕ) (e : MaybeSubscripts) → Gives IsNumbered (front_forms.minus_behind names inner count e) (λ front. EitherNamed e → FrontNamed front)
     unfolding front_forms.minus_behind
     minus_behind I count e = chosen (front_forms.takes_minus e) (number_or_decided I count e ops.Sub true) (decided I count e ops.Sub)
 
-    minus_turn : {inner : Inner} → InnerGives inner → (count : ℕ) (e : Either) → Gives IsNumbered (front_forms.minus_turn names inner count e) (λ front. EitherNamed e → FrontNamed front)
+    minus_turn : {inner : Inner} → InnerGives inner → (count : ℕ) (e : MaybeSubscripts) → Gives IsNumbered (front_forms.minus_turn names inner count e) (λ front. EitherNamed e → FrontNamed front)
     unfolding front_forms.minus_turn
     minus_turn I count e = mark hyphen >> still (minus_behind I count e)
 
-    factor_turn : {inner : Inner} → InnerGives inner → (count : ℕ) (e : Either) → Gives IsNumbered (front_forms.factor_turn names inner count e) (λ front. EitherNamed e → FrontNamed front)
+    factor_turn : {inner : Inner} → InnerGives inner → (count : ℕ) (e : MaybeSubscripts) → Gives IsNumbered (front_forms.factor_turn names inner count e) (λ front. EitherNamed e → FrontNamed front)
     unfolding front_forms.factor_turn
     factor_turn I count e = any law.operator >>= (λ op. still (decided I count e op))
 
-    front_turn : {inner : Inner} → InnerGives inner → (count : ℕ) (front : Front) → Gives IsNumbered (front_forms.front_turn names inner count front) (λ last. FrontNamed front → FrontNamed last)
+    front_turn : {inner : Inner} → InnerGives inner → (count : ℕ) (front : FirstInParens) → Gives IsNumbered (front_forms.front_turn names inner count front) (λ last. FrontNamed front → FrontNamed last)
     unfolding front_forms.front_turn
     front_turn I count (fronts.Sum chain more) = turn I (chain, more) >>= (λ state. pure (λ h. h))
     front_turn I count (fronts.Either e) = where_next (plus_turn I count e) (where_next (minus_turn I count e) (factor_turn I count e))
@@ -382,7 +382,7 @@ module _ (counts : Counts) where
         Gives IsNumbered (front_forms.window_suffix names inner alone first count) (λ suffix. Named first → SuffixNamed suffix.0)
     window_suffix I alone first count = window_behind I alone first count >>= (λ window. pure (λ h. h))
 
-    subs_suffix : (count : ℕ) (e : Either) → Gives IsNumbered (front_forms.subs_suffix names count e) (λ suffix. EitherNamed e → SuffixNamed suffix.0)
+    subs_suffix : (count : ℕ) (e : MaybeSubscripts) → Gives IsNumbered (front_forms.subs_suffix names count e) (λ suffix. EitherNamed e → SuffixNamed suffix.0)
     unfolding front_forms.subs_suffix
     subs_suffix count e = do
       note
@@ -390,7 +390,7 @@ module _ (counts : Counts) where
       mark right_parenthesis
       pure (λ _ h _ k. h (subs_of-named e k))
 
-    front_end : {inner : Inner} → InnerGives inner → (alone : Bool) (count : ℕ) (front : Front) →
+    front_end : {inner : Inner} → InnerGives inner → (alone : Bool) (count : ℕ) (front : FirstInParens) →
         Gives IsNumbered (front_forms.front_end names inner alone count front) (λ suffix. FrontNamed front → SuffixNamed suffix.0)
     unfolding front_forms.front_end
     front_end I alone count (fronts.Sum chain more) = hence (λ suffix h c. h (finish-named chain c)) (window_suffix I alone (chains.finish chain) more)

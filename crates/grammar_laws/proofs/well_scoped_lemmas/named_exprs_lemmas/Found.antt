@@ -4,8 +4,8 @@ use Rattle.std.specs.Prelude.{drop, position, slice_get}
 use Rattle.std.specs.List.{list_any}
 use Rattle.std.proofs.lemmas.Bool.{lt-ltb}
 use Rattle.parser_combinators.specs.declared.note.Position.{Position}
-use Rattle.symbol_tables.specs.declared.data_names.name.Found.{Found}
-use Rattle.symbol_tables.specs.declared.data_names.name.Found.TheVariants as found
+use Rattle.symbol_tables.specs.declared.data_names.name.Referent.{Referent}
+use Rattle.symbol_tables.specs.declared.data_names.name.Referent.TheVariants as found
 use Rattle.symbol_tables.specs.declared.data_names.name.Name.{Name}
 use Rattle.symbol_tables.specs.data_names.Names.{Names}
 use Rattle.symbol_tables.specs.data_names.Look.{fits, found_at, found_from, look}
@@ -20,7 +20,7 @@ get-below (y ∷ list) zero x e = omega arith
 get-below (y ∷ list) (suc i) x e = let h = get-below list i x e in omega (arith, h)
 
 -- an item, where there is one, is below
-abbrev IsBelow : ℕ → Found → Type 0
+abbrev IsBelow : ℕ → Referent → Type 0
 IsBelow count (found.Item item kind dims) = item < count
 IsBelow count found.Unknown = Unit {0}
 IsBelow count found.Ambiguous = Unit {0}
@@ -38,10 +38,10 @@ from-below names word of (Some item) = go (list_any (fits word of) (drop (item +
     go false = found_at-below names item (slice_get names item) refl
 
 -- where no fault of a reference is noted, its item is there
-abbrev pub Fine : Counts → Found → Type 0
+abbrev pub Fine : Counts → Referent → Type 0
 Fine counts found = (subs : ℕ) (windowed : Bool) (position : Position) → found_fault found subs windowed position ≡ None → item_named counts (item_of found) ≡ true
 
-fine-by : (counts : Counts) (count : ℕ) → count ≤ counts.items → (found : Found) → IsBelow count found →
+fine-by : (counts : Counts) (count : ℕ) → count ≤ counts.items → (found : Referent) → IsBelow count found →
     (subs : ℕ) (windowed : Bool) (position : Position) → found_fault found subs windowed position ≡ None → item_named counts (item_of found) ≡ true
 unfolding found_fault
 fine-by counts count le (found.Item item kind dims) below subs windowed position n = lt-ltb item counts.items (omega (arith, le, below))

@@ -143,7 +143,7 @@ module _ (counts : Counts) where
   Turning control = (turns control ≡ true) × (control_named counts control ≡ true)
 
   abbrev PerformNamed : PerformHead → Type 0
-  PerformNamed (heads.Whole stmt not_read) = stmt_named counts stmt ≡ true
+  PerformNamed (heads.Whole stmt pending_not) = stmt_named counts stmt ≡ true
   PerformNamed (heads.Inline control) = Turning control
 
   module _ {level : Level} (L : LevelGives level) where
@@ -214,7 +214,7 @@ module _ (counts : Counts) where
 
     perform_by : (scope : Scope) (head : PerformHead) → Gives IsNumbered (loops.perform_by level scope head) (λ found. PerformNamed head → Named counts found.0)
     unfolding loops.perform_by loops.loop_body loops.loop_end loops.loop_closed
-    perform_by scope (heads.Whole stmt not_read) = pure (λ h. h)
+    perform_by scope (heads.Whole stmt pending_not) = pure (λ h. h)
     perform_by scope (heads.Inline control) =
         L.stmts (loops.looped scope) >>= (λ held. chosen held.1 refuse (key (codes "END-PERFORM") >>
         pure (λ _ b c. made.made-Loop counts control held.0 c.0 c.1 b.0 b.1)))
@@ -434,7 +434,7 @@ module _ (counts : Counts) where
       whens_turn : (scope : Scope) (known : Option Known) (state : Whens) → Gives IsNumbered (choice.whens_turn parts level scope known state)
           (λ last. Full (branch_fine known) state.whens → Full (branch_fine known) last.whens)
       unfolding choice.whens_turn
-      whens_turn scope known state = chosen (state.other || state.not_read) refuse (when_next scope known state.whens)
+      whens_turn scope known state = chosen (state.other || state.pending_not) refuse (when_next scope known state.whens)
 
       whens : (scope : Scope) (known : Option Known) → Gives IsNumbered (choice.whens parts level scope known) (λ state. Full (branch_fine known) state.whens)
       unfolding choice.whens

@@ -22,7 +22,7 @@ use Rattle.cob_store.specs.sizes.Size.{sized}
 use Rattle.declaration_checks.specs.declared.clause.ClauseKind.TheVariants as kinds
 use Rattle.declaration_checks.specs.declared.judging.Judged.{Judged}
 use Rattle.declaration_checks.specs.Base.{base_of, condition_of, item_of, level_of, sign_in, spans_in, spans_of, span_of}
-use Rattle.declaration_checks.specs.Clause.{again_fault, other_fault, is_of, clause_of}
+use Rattle.declaration_checks.specs.Clause.{duplicate_fault, other_fault, is_of, clause_of}
 use Rattle.declaration_checks.specs.Declaring.{section_bases, record_bases, settled, settled_at, settle, settle_all, settle_records, judged_at, judge, judge_all, judge_records, bases_of, entries_of, start_of, fault_of, declared_of}
 use Rattle.declaration_checks.specs.Fault.{fault_at}
 use Rattle.declaration_checks.specs.File.{file_number, file_of}
@@ -77,7 +77,7 @@ spans-filled draft literal missing =
 
 missing-none : (bases : List Entry) (sizes : List ℕ) (draft : EntryDraft) (holder : Option ℕ) → condition_fault bases sizes draft holder ≡ None → missing_fault draft.at draft.clauses ≡ None
 missing-none bases sizes draft holder e =
-    let again = earliest None (again_fault draft.clauses) in
+    let again = earliest None (duplicate_fault draft.clauses) in
     let other = earliest again (other_fault draft.clauses) in
     let missing = earliest other (missing_fault draft.at draft.clauses) in
     (none_of other (missing_fault draft.at draft.clauses) (none_of missing (fits_fault bases sizes draft holder) e).0).1
@@ -108,7 +108,7 @@ sign-none : (bases : List Entry) (sizes : List ℕ) (at : ℕ) (entry : Entry) (
 sign-none bases sizes at entry draft e =
     let target = target_of bases sizes at entry in
     let standing = standing_of entry (before bases at) in
-    let picture = earliest (again_fault draft.clauses) (picture_fault entry.picture target.group draft.at draft.clauses) in
+    let picture = earliest (duplicate_fault draft.clauses) (picture_fault entry.picture target.group draft.at draft.clauses) in
     let sign = earliest picture (sign_fault entry.picture target.group draft.clauses) in
     let occurs = earliest sign (occurs_fault entry.level standing.dims draft.clauses) in
     let h = (none_of (clauses_fault entry target standing draft) (redefines_fault bases sizes at entry draft.clauses) e).0 in

@@ -13,7 +13,7 @@ use Rattle.parser_combinators.specs.declared.note.Note.{Note}
 use Rattle.parser_combinators.specs.Note.{precedes, earliest}
 use Rattle.declaration_checks.specs.Declaring.{files_fault}
 use Rattle.declaration_checks.specs.Fault.{fault_at, fault_unless}
-use Rattle.declaration_checks.specs.File.{is_selected, is_described, again_fault, named_fault, select_fault, selects_from, fd_fault, fds_from, fds_fault, selects_fault, number_by, file_number}
+use Rattle.declaration_checks.specs.File.{is_selected, is_described, duplicate_fault, named_fault, select_fault, selects_from, fd_fault, fds_from, fds_fault, selects_fault, number_by, file_number}
 use Rattle.control_flow_theory.specs.language.All.{all}
 use Rattle.program_facts.proofs.well_scoped_lemmas.Made.{both}
 use Rattle.grammar_laws.specs.whole_counts.entry_bounds.Bounds.{is_below, has_file}
@@ -78,7 +78,7 @@ AllNamed fds before (select ∷ selects) =
 select-named : (fds : List FdDraft) (before : List SelectDraft) (select : SelectDraft) → select_fault fds before select ≡ None →
     (list_any (is_selected select.name) before ≡ false) × (list_any (is_described select.name) fds ≡ true)
 select-named fds before select e =
-    go (list_any (is_selected select.name) before) (list_any (is_described select.name) fds) refl refl (none_of (named_fault fds before select) (again_fault select.statuses) e).0
+    go (list_any (is_selected select.name) before) (list_any (is_described select.name) fds) refl refl (none_of (named_fault fds before select) (duplicate_fault select.statuses) e).0
   where
     go : (again there : Bool) → list_any (is_selected select.name) before ≡ again → list_any (is_described select.name) fds ≡ there →
         (if again then fault_at Duplicate select.at else fault_unless there Usage select.at) ≡ None →

@@ -26,7 +26,7 @@ use Rattle.cobol_grammar.specs.stmt_forms.Paragraph.{with_pending, at_least_one,
 use Rattle.cobol_grammar.specs.stmt_forms.Verb.{begins_stmt}
 use Rattle.cobol_grammar.specs.declared.expr_forms.side.Side.{Side}
 use Rattle.cobol_grammar.specs.stmt_forms.Part.{Parts}
-use Rattle.cobol_grammar.specs.declared.known.Known.{Known}
+use Rattle.cobol_grammar.specs.declared.subject_kind.SubjectKind.{SubjectKind}
 use Rattle.cobol_grammar.specs.Name as words
 use Rattle.cobol_grammar.specs.Whole.{parts_of}
 use Rattle.grammar_laws.proofs.no_periods_lemmas.Makers as makers
@@ -90,7 +90,7 @@ go-on : (outline : Outline) (tokens rest : List Token) (may : Bool) (index : ℕ
 go-on outline tokens rest may index scan next all T G is = let h = G index in (h.0, next, T, is ∙ h.1)
 
 module _ (names : Names) (entries : List Entry) (table : ProcedureTable) where
-  abbrev here : Parts Side Known
+  abbrev here : Parts Side SubjectKind
   here = parts_of names entries table
 
   -- what stands behind the header of a section
@@ -156,12 +156,12 @@ module _ (names : Names) (entries : List Entry) (table : ProcedureTable) where
           (ap (λ ts. scanned ts true index scan) is ∙ header-first t mid.rest name false n h.0 index scan)
 
       noted : (name : List ℕ × Position) (mid : Input) (t : Token) → p.rest ≡ t ∷ mid.rest → procedures.header_name t.kind ≡ Some name.0 →
-          (form.◌>>◌ (note (here.again_fault name.0 name.1)) (where_next (is_key (codes "SECTION")) (paragraphs.section here name.0 state) (paragraphs.paragraph here name.0 state))).reads mid ≡ Got last q →
+          (form.◌>>◌ (note (here.duplicate_fault name.0 name.1)) (where_next (is_key (codes "SECTION")) (paragraphs.section here name.0 state) (paragraphs.paragraph here name.0 state))).reads mid ≡ Got last q →
           Follows last q.rest (scanned p.rest true index scan)
       noted name mid t is n e =
           let parts = where_next (is_key (codes "SECTION")) (paragraphs.section here name.0 state) (paragraphs.paragraph here name.0 state) in
-          let u = then_got ((note (here.again_fault name.0 name.1)).reads mid) (λ _ r. parts.reads r) last q e in
-          let same = note-got (here.again_fault name.0 name.1) mid u.0 u.1 u.2 in
+          let u = then_got ((note (here.duplicate_fault name.0 name.1)).reads mid) (λ _ r. parts.reads r) last q e in
+          let same = note-got (here.duplicate_fault name.0 name.1) mid u.0 u.1 u.2 in
           behind t name.0 u.1 (is ∙ ap (λ r. t ∷ r) (sym same)) n
           (where-got (is_key (codes "SECTION")) (paragraphs.section here name.0 state) (paragraphs.paragraph here name.0 state) u.1 last q u.3)
 

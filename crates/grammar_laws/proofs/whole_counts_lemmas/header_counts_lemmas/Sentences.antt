@@ -25,7 +25,7 @@ use Rattle.cobol_grammar.specs.stmt_forms.Stmt.{level, stmts, stmts_from}
 use Rattle.cobol_grammar.specs.stmt_forms.Verb.{begins_stmt}
 use Rattle.cobol_grammar.proofs.stmt_forms_lemmas.HoldingLaws as holding_laws
 use Rattle.cobol_grammar.proofs.stmt_forms_lemmas.ParagraphLaws as paragraph_laws
-use Rattle.cobol_grammar.specs.declared.known.Known.{Known}
+use Rattle.cobol_grammar.specs.declared.subject_kind.SubjectKind.{SubjectKind}
 use Rattle.cobol_grammar.specs.Whole.{parts_of}
 use Rattle.cobol_grammar.proofs.PartLaws as part_laws
 use Rattle.cobol_grammar.specs.declared.expr_forms.side.Side.{Side}
@@ -64,7 +64,7 @@ alone-over p a q e scan =
     subst (λ r. Goes p.rest false scan r.rest true scan) (got_is _ a s.1 q s.3).1 (period-over p s.0 s.1 s.2 scan)
 
 module _ (names : Names) (entries : List Entry) (table : ProcedureTable) where
-  abbrev parts : Parts Side Known
+  abbrev parts : Parts Side SubjectKind
   parts = parts_of names entries table
 
   abbrev lawful : PartsAreLawful parts

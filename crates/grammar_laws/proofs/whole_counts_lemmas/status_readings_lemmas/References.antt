@@ -8,14 +8,14 @@ use Rattle.cob_tree.specs.declared.place.Place.{Place}
 use Rattle.cob_tree.specs.declared.place.Sub.{Sub}
 use Rattle.parser_combinators.specs.declared.note.Position.{Position}
 use Rattle.parser_combinators.proofs.MakerLaws as laws
-use Rattle.symbol_tables.specs.declared.data_names.name.Found.{Found}
+use Rattle.symbol_tables.specs.declared.data_names.name.Referent.{Referent}
 use Rattle.symbol_tables.specs.data_names.Names.{Names}
 use Rattle.parser_combinators.proofs.words_lemmas.WordLaws as words
 use Rattle.cobol_grammar.specs.declared.expr_forms.chain.Chain.{Chain}
-use Rattle.cobol_grammar.specs.declared.expr_forms.either.Either.{Either}
-use Rattle.cobol_grammar.specs.declared.expr_forms.front.Front.{Front}
-use Rattle.cobol_grammar.specs.declared.expr_forms.front.Front.TheVariants as fronts
-use Rattle.cobol_grammar.specs.declared.expr_forms.reference.Behind.{Behind}
+use Rattle.cobol_grammar.specs.declared.expr_forms.either.MaybeSubscripts.{MaybeSubscripts}
+use Rattle.cobol_grammar.specs.declared.expr_forms.front.FirstInParens.{FirstInParens}
+use Rattle.cobol_grammar.specs.declared.expr_forms.front.FirstInParens.TheVariants as fronts
+use Rattle.cobol_grammar.specs.declared.expr_forms.reference.RefSuffixes.{RefSuffixes}
 use Rattle.cobol_grammar.specs.declared.expr_forms.reference.Suffix.{Suffix}
 use Rattle.cobol_grammar.specs.declared.expr_forms.reference.Suffix.TheVariants as suffixes
 use Rattle.cobol_grammar.specs.declared.expr_forms.side.Side.{Side}
@@ -48,14 +48,14 @@ SuffixAlike _ _ = ⊥
 abbrev SuffixCounted : Suffix × ℕ → Suffix × ℕ → Type 0
 SuffixCounted a b = SuffixAlike a.0 b.0 × (a.1 ≡ b.1)
 
-abbrev BehindAlike : Behind → Behind → Type 0
+abbrev BehindAlike : RefSuffixes → RefSuffixes → Type 0
 BehindAlike one other = one.count ≡ other.count
 
-pub record EitherAlike (one other : Either) : Type 0 where
+pub record EitherAlike (one other : MaybeSubscripts) : Type 0 where
   pub base : is_some one.base ≡ is_some other.base
   pub leaves : one.leaves ≡ other.leaves
 
-abbrev FrontAlike : Front → Front → Type 0
+abbrev FrontAlike : FirstInParens → FirstInParens → Type 0
 FrontAlike (fronts.Either one) (fronts.Either other) = EitherAlike one other
 FrontAlike (fronts.Sum chain count) (fronts.Sum other more) = count ≡ more
 FrontAlike _ _ = ⊥
@@ -65,10 +65,10 @@ pub record InnerAlike (one other : Inner) : Type 0 where
   pub suffix : (c d : ℕ) → c ≡ d → Alike (one.suffix c) (other.suffix d) SuffixCounted
   pub window : (c d : ℕ) → c ≡ d → Alike (one.window c) (other.window d) Counted
 
-tally : (c d more others : ℕ) → c ≡ d → more ≡ others → Alike (limits.tally c more) (limits.tally d others) (λ a b. a ≡ b)
+tally : (c d more others : ℕ) → c ≡ d → more ≡ others → Alike (limits.count_terms c more) (limits.count_terms d others) (λ a b. a ≡ b)
 tally c d more others e k =
-    subst (λ n. Alike (limits.tally c more) (limits.tally n others) (λ a b. a ≡ b)) e
-    (subst (λ n. Alike (limits.tally c more) (limits.tally c n) (λ a b. a ≡ b)) k (same (law.tally c more)))
+    subst (λ n. Alike (limits.count_terms c more) (limits.count_terms n others) (λ a b. a ≡ b)) e
+    (subst (λ n. Alike (limits.count_terms c more) (limits.count_terms c n) (λ a b. a ≡ b)) k (same (law.tally c more)))
 
 -- ---- without names
 
@@ -80,7 +80,7 @@ item_sub_behind : (place place' : Place) → Alike (subscripts.item_sub_behind p
 unfolding subscripts.item_sub_behind
 item_sub_behind place place' = where_next (item_sub_by plus_sign false false place place') (where_next (item_sub_by hyphen true true place place') (pure tt))
 
-number_turn : (one other : Op) (negative : Bool) (e f : Either) → EitherAlike e f → Alike (front_forms.number_turn one negative e) (front_forms.number_turn other negative f) FrontAlike
+number_turn : (one other : Op) (negative : Bool) (e f : MaybeSubscripts) → EitherAlike e f → Alike (front_forms.number_turn one negative e) (front_forms.number_turn other negative f) FrontAlike
 unfolding front_forms.number_turn with_number
 number_turn one other negative e f is = same laws.digits >>= (λ a b k. note >> pure (record { base = refl; leaves = ap more_leaves is.leaves }))
 
@@ -101,7 +101,7 @@ module _ {one other : Inner} (I : InnerAlike one other) where
   unfolding references.behind
   behind c d e = where_next (I.suffix c d e >>= (λ a b k. more_behind a.0 b.0 k.0 a.1 b.1 k.1)) (pure e)
 
-  ref_behind : (found found' : Found) (of of' : List (List ℕ)) (position position' : Position) (c d : ℕ) → c ≡ d →
+  ref_behind : (found found' : Referent) (of of' : List (List ℕ)) (position position' : Position) (c d : ℕ) → c ≡ d →
       Alike (references.ref_behind one found of position c) (references.ref_behind other found' of' position' d) Counted
   unfolding references.ref_behind
   ref_behind found found' of of' position position' c d e = behind c d e >>= (λ a b k. note >> pure k)
@@ -211,23 +211,23 @@ module _ {one other : Inner} (I : InnerAlike one other) where
     unfolding front_forms.first_front front_forms.other_front
     first_front c d e = where_next (plus_front c d e) (where_next digits_front (where_next (name_front c d e) (unary_front c d e)))
 
-    decided : (c d : ℕ) → c ≡ d → (e f : Either) → EitherAlike e f → (op op' : Op) → Alike (front_forms.decided names one c e op) (front_forms.decided others other d f op') FrontAlike
+    decided : (c d : ℕ) → c ≡ d → (e f : MaybeSubscripts) → EitherAlike e f → (op op' : Op) → Alike (front_forms.decided names one c e op) (front_forms.decided others other d f op') FrontAlike
     unfolding front_forms.decided
     decided c d same_count e f is op op' = tally c d e.leaves f.leaves same_count is.leaves >>= (λ a b k. operated op op' e.chain f.chain a b k >>= (λ s t l. pure l))
 
-    number_or_decided : (c d : ℕ) → c ≡ d → (e f : Either) → EitherAlike e f → (op : Op) (negative : Bool) →
+    number_or_decided : (c d : ℕ) → c ≡ d → (e f : MaybeSubscripts) → EitherAlike e f → (op : Op) (negative : Bool) →
         Alike (front_forms.number_or_decided names one c e op negative) (front_forms.number_or_decided others other d f op negative) FrontAlike
     unfolding front_forms.number_or_decided
     number_or_decided c d same_count e f is op negative = where_next (number_turn op op negative e f is) (decided c d same_count e f is op op)
 
-    minus_behind : (c d : ℕ) → c ≡ d → (e f : Either) → EitherAlike e f → Alike (front_forms.minus_behind names one c e) (front_forms.minus_behind others other d f) FrontAlike
+    minus_behind : (c d : ℕ) → c ≡ d → (e f : MaybeSubscripts) → EitherAlike e f → Alike (front_forms.minus_behind names one c e) (front_forms.minus_behind others other d f) FrontAlike
     unfolding front_forms.minus_behind
     minus_behind c d same_count e f is =
         subst (λ b. Alike (form.chosen (is_some e.base) (front_forms.number_or_decided names one c e ops.Sub true) (front_forms.decided names one c e ops.Sub))
         (form.chosen b (front_forms.number_or_decided others other d f ops.Sub true) (front_forms.decided others other d f ops.Sub)) FrontAlike) is.base
         (chosen (is_some e.base) (number_or_decided c d same_count e f is ops.Sub true) (decided c d same_count e f is ops.Sub ops.Sub))
 
-    front_turn : (c d : ℕ) → c ≡ d → (s t : Front) → FrontAlike s t → Alike (front_forms.front_turn names one c s) (front_forms.front_turn others other d t) FrontAlike
+    front_turn : (c d : ℕ) → c ≡ d → (s t : FirstInParens) → FrontAlike s t → Alike (front_forms.front_turn names one c s) (front_forms.front_turn others other d t) FrontAlike
     unfolding front_forms.front_turn front_forms.plus_turn front_forms.minus_turn front_forms.factor_turn
     front_turn c d e (fronts.Sum chain more) (fronts.Sum chain' more') is = turn (chain, more) (chain', more') is >>= (λ a b k. pure k)
     front_turn c d e (fronts.Sum chain more) (fronts.Either f) is = absurd is
@@ -239,12 +239,12 @@ module _ {one other : Inner} (I : InnerAlike one other) where
     window_suffix : (alone : Bool) (first first' : Side) (c d : ℕ) → c ≡ d → Alike (front_forms.window_suffix names one alone first c) (front_forms.window_suffix others other alone first' d) SuffixCounted
     window_suffix alone first first' c d e = window_behind alone first first' c d e >>= (λ a b k. pure (tt, k))
 
-    subs_suffix : (c d : ℕ) → c ≡ d → (e f : Either) → Alike (front_forms.subs_suffix names c e) (front_forms.subs_suffix others d f) SuffixCounted
+    subs_suffix : (c d : ℕ) → c ≡ d → (e f : MaybeSubscripts) → Alike (front_forms.subs_suffix names c e) (front_forms.subs_suffix others d f) SuffixCounted
     unfolding front_forms.subs_suffix
     subs_suffix c d same_count e f =
         note >> (loop {R = λ (a b : List Sub). Unit {0}} (λ a b is. sub >>= (λ x y k. pure tt)) tt >>= (λ a b is. same (laws.mark right_parenthesis) >> pure (tt, same_count)))
 
-    front_end : (alone : Bool) (c d : ℕ) → c ≡ d → (s t : Front) → FrontAlike s t → Alike (front_forms.front_end names one alone c s) (front_forms.front_end others other alone d t) SuffixCounted
+    front_end : (alone : Bool) (c d : ℕ) → c ≡ d → (s t : FirstInParens) → FrontAlike s t → Alike (front_forms.front_end names one alone c s) (front_forms.front_end others other alone d t) SuffixCounted
     unfolding front_forms.front_end
     front_end alone c d e (fronts.Sum chain more) (fronts.Sum chain' more') is = window_suffix alone _ _ more more' is
     front_end alone c d e (fronts.Sum chain more) (fronts.Either f) is = absurd is

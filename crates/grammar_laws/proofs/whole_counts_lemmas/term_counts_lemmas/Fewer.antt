@@ -12,7 +12,7 @@ use Rattle.parser_combinators.proofs.Lawful.{IsEnd, end_all, end_then, then_got,
 use Rattle.parser_combinators.proofs.MakerLaws as laws
 use Rattle.parser_combinators.proofs.MakerLaws.{Law}
 use Rattle.cob_base.specs.Limit.{max_terms}
-use Rattle.cobol_grammar.specs.expr_forms.Limit.{tally}
+use Rattle.cobol_grammar.specs.expr_forms.Limit.{count_terms}
 use Rattle.cobol_grammar.proofs.expr_forms_lemmas.ExpressionLaws as expression_laws
 
 -- `add` gives a value the terms before it, `count` is how many it comes to without them.
@@ -122,7 +122,7 @@ plus before n = n + before
 abbrev pub itself : ℕ → ℕ
 itself n = n
 
-pub tallied : (before count more : ℕ) → Counted before count false (plus before) itself (tally (count + before) more) (tally count more)
+pub tallied : (before count more : ℕ) → Counted before count false (plus before) itself (count_terms (count + before) more) (count_terms count more)
 tallied before count more = record {
   goes = λ p. go p (nat_lt max_terms (count + before + more)) (nat_lt max_terms (count + more)) refl refl;
   grows = λ p b q e. grown p b q (nat_lt max_terms (count + more)) e;

@@ -10,14 +10,14 @@ use Rattle.parser_combinators.proofs.Lawful.{got_is}
 use Rattle.parser_combinators.proofs.MakerLaws.{mark, digits, note, added}
 use Rattle.parser_combinators.proofs.MakerLaws as makers
 use Rattle.parser_combinators.proofs.words_lemmas.WordLaws.{name, literal}
-use Rattle.symbol_tables.specs.declared.data_names.name.Found.{Found}
+use Rattle.symbol_tables.specs.declared.data_names.name.Referent.{Referent}
 use Rattle.symbol_tables.specs.data_names.Names.{Names}
 use Rattle.symbol_tables.specs.data_names.Look.{look}
 use Rattle.cobol_grammar.specs.declared.expr_forms.chain.Chain.{Chain}
-use Rattle.cobol_grammar.specs.declared.expr_forms.either.Either.{Either}
-use Rattle.cobol_grammar.specs.declared.expr_forms.front.Front.{Front}
-use Rattle.cobol_grammar.specs.declared.expr_forms.front.Front.TheVariants as fronts
-use Rattle.cobol_grammar.specs.declared.expr_forms.reference.Behind.{Behind}
+use Rattle.cobol_grammar.specs.declared.expr_forms.either.MaybeSubscripts.{MaybeSubscripts}
+use Rattle.cobol_grammar.specs.declared.expr_forms.front.FirstInParens.{FirstInParens}
+use Rattle.cobol_grammar.specs.declared.expr_forms.front.FirstInParens.TheVariants as fronts
+use Rattle.cobol_grammar.specs.declared.expr_forms.reference.RefSuffixes.{RefSuffixes}
 use Rattle.cobol_grammar.specs.declared.expr_forms.reference.Suffix.{Suffix}
 use Rattle.cobol_grammar.specs.declared.expr_forms.reference.Suffix.TheVariants as suffixes
 use Rattle.cobol_grammar.specs.declared.expr_forms.side.Side.{Side}
@@ -49,22 +49,22 @@ abbrev pub Counts : {A : Type 0} → (before count : ℕ) (takes : Bool) → (�
 Counts before count takes f =
     Counted before count takes (more_terms before) term_count (f (count + before)) (f count)
 
-abbrev more_behind_terms : ℕ → Behind → Behind
+abbrev more_behind_terms : ℕ → RefSuffixes → RefSuffixes
 more_behind_terms before b = record b { count = b.count + before }
 
-abbrev behind_count : Behind → ℕ
+abbrev behind_count : RefSuffixes → ℕ
 behind_count b = b.count
 
-abbrev more_front : ℕ → Front → Front
+abbrev more_front : ℕ → FirstInParens → FirstInParens
 more_front before (fronts.Either e) = fronts.Either e
 more_front before (fronts.Sum chain n) = fronts.Sum chain (n + before)
 
 -- what may turn out to be subscripts isn't counted yet
-abbrev front_count : ℕ → Front → ℕ
+abbrev front_count : ℕ → FirstInParens → ℕ
 front_count count (fronts.Either e) = count
 front_count count (fronts.Sum chain n) = n
 
-abbrev Fronts : (before count least : ℕ) (takes : Bool) → Form Front → Form Front → Type 0
+abbrev Fronts : (before count least : ℕ) (takes : Bool) → Form FirstInParens → Form FirstInParens → Type 0
 Fronts before count least takes f g =
     Counted before least takes (more_front before) (front_count count) f g
 
@@ -92,7 +92,7 @@ module _ (names : Names) (before : ℕ) {inner : Inner} (I : InnerCounts before 
   behind_ref count = where_next (eased (and_then _ (I.suffix count) (λ suffix. more_behind suffix.0 suffix.1)))
       (done (record { subs = []; window = None; count = count }) (omega arith))
 
-  ref_behind : (found : Found) (of : List (List ℕ)) (position : Position) (count : ℕ) →
+  ref_behind : (found : Referent) (of : List (List ℕ)) (position : Position) (count : ℕ) →
       Counts before count false (λ n. references.ref_behind inner found of position n)
   unfolding references.ref_behind
   ref_behind found of position count = and_then _ (behind_ref count) (λ tail. behind note
@@ -233,13 +233,13 @@ module _ (names : Names) (before : ℕ) {inner : Inner} (I : InnerCounts before 
   unfolding front_forms.first_front
   first_front count = where_next (plus_front count) (where_next (digits_front count) (other_front count))
 
-  decided : (count : ℕ) (e : Either) (op : Op) →
+  decided : (count : ℕ) (e : MaybeSubscripts) (op : Op) →
       Fronts before count count true (front_forms.decided names inner (count + before) e op)
       (front_forms.decided names inner count e op)
   unfolding front_forms.decided
   decided count e op = and_then _ (tallied before count e.leaves) (λ more. and_then _ (operated op e.chain more) (λ state. done (fronts.Sum state.0 state.1) (omega arith)))
 
-  number_turn : (count : ℕ) (op : Op) (negative : Bool) (e : Either) →
+  number_turn : (count : ℕ) (op : Op) (negative : Bool) (e : MaybeSubscripts) →
       Fronts before count count true (front_forms.number_turn op negative e)
       (front_forms.number_turn op negative e)
   unfolding front_forms.number_turn
@@ -247,39 +247,39 @@ module _ (names : Names) (before : ℕ) {inner : Inner} (I : InnerCounts before 
       (λ found. behind note
       (λ u. done (fronts.Either (eithers.with_number op negative found.0 found.1 e)) (omega arith)))
 
-  number_or_decided : (count : ℕ) (e : Either) (op : Op) (negative : Bool) →
+  number_or_decided : (count : ℕ) (e : MaybeSubscripts) (op : Op) (negative : Bool) →
       Fronts before count count true
       (front_forms.number_or_decided names inner (count + before) e op negative)
       (front_forms.number_or_decided names inner count e op negative)
   unfolding front_forms.number_or_decided
   number_or_decided count e op negative = where_next (number_turn count op negative e) (decided count e op)
 
-  plus_turn : (count : ℕ) (e : Either) →
+  plus_turn : (count : ℕ) (e : MaybeSubscripts) →
       Fronts before count count true (front_forms.plus_turn names inner (count + before) e)
       (front_forms.plus_turn names inner count e)
   unfolding front_forms.plus_turn
   plus_turn count e = behind (mark plus_sign) (λ u. number_or_decided count e _ false)
 
-  minus_behind : (count : ℕ) (e : Either) →
+  minus_behind : (count : ℕ) (e : MaybeSubscripts) →
       Fronts before count count true (front_forms.minus_behind names inner (count + before) e)
       (front_forms.minus_behind names inner count e)
   unfolding front_forms.minus_behind
   minus_behind count e = chosen (front_forms.takes_minus e) (number_or_decided count e _ true)
       (decided count e _)
 
-  minus_turn : (count : ℕ) (e : Either) →
+  minus_turn : (count : ℕ) (e : MaybeSubscripts) →
       Fronts before count count true (front_forms.minus_turn names inner (count + before) e)
       (front_forms.minus_turn names inner count e)
   unfolding front_forms.minus_turn
   minus_turn count e = behind (mark hyphen) (λ u. minus_behind count e)
 
-  factor_turn : (count : ℕ) (e : Either) →
+  factor_turn : (count : ℕ) (e : MaybeSubscripts) →
       Fronts before count count true (front_forms.factor_turn names inner (count + before) e)
       (front_forms.factor_turn names inner count e)
   unfolding front_forms.factor_turn
   factor_turn count e = behind law.operator (λ op. decided count e op)
 
-  front_turn : (count : ℕ) (front : Front) →
+  front_turn : (count : ℕ) (front : FirstInParens) →
       Fronts before count (front_count count front) true
       (front_forms.front_turn names inner (count + before) (more_front before front))
       (front_forms.front_turn names inner count front)
@@ -288,7 +288,7 @@ module _ (names : Names) (before : ℕ) {inner : Inner} (I : InnerCounts before 
   front_turn count (fronts.Either e) = where_next (plus_turn count e)
       (where_next (minus_turn count e) (factor_turn count e))
 
-  subs_suffix : (count : ℕ) (e : Either) →
+  subs_suffix : (count : ℕ) (e : MaybeSubscripts) →
       Counts before count true (λ n. front_forms.subs_suffix names n e)
   unfolding front_forms.subs_suffix
   subs_suffix count e = behind note
@@ -299,7 +299,7 @@ module _ (names : Names) (before : ℕ) {inner : Inner} (I : InnerCounts before 
       Counts before count true (λ n. front_forms.window_suffix names inner false first n)
   window_suffix first count = and_then _ (window_behind first count) (λ window. done (suffixes.Window window.0, window.1) (omega arith))
 
-  front_end : (count : ℕ) (front : Front) →
+  front_end : (count : ℕ) (front : FirstInParens) →
       Counted before (front_count count front) true (more_terms before) term_count
       (front_forms.front_end names inner false (count + before) (more_front before front))
       (front_forms.front_end names inner false count front)

@@ -14,10 +14,10 @@ use Rattle.cob_tree.specs.declared.place.Place.{Place, out-roll-Place}
 use Rattle.cob_tree.specs.declared.place.Sub.{Sub}
 use Rattle.cob_tree.specs.declared.place.Window.{Window}
 use Rattle.parser_combinators.specs.declared.note.Position.{Position}
-use Rattle.symbol_tables.specs.declared.data_names.name.Found.{Found}
-use Rattle.symbol_tables.specs.declared.data_names.name.Found.TheVariants as found
-use Rattle.symbol_tables.specs.declared.data_names.name.Kind.{Kind}
-use Rattle.symbol_tables.specs.declared.data_names.name.Kind.TheVariants as items
+use Rattle.symbol_tables.specs.declared.data_names.name.Referent.{Referent}
+use Rattle.symbol_tables.specs.declared.data_names.name.Referent.TheVariants as found
+use Rattle.symbol_tables.specs.declared.data_names.name.ItemKind.{ItemKind}
+use Rattle.symbol_tables.specs.declared.data_names.name.ItemKind.TheVariants as items
 use Rattle.symbol_tables.specs.declared.data_names.name.Name.{Name}
 use Rattle.symbol_tables.specs.data_names.Names.{Names}
 use Rattle.symbol_tables.specs.data_names.Look as looks
@@ -46,7 +46,7 @@ use Rattle.grammar_laws.specs.whole_counts.whole_entries.Fitting.{NamesFit}
 -- ---- kinds in which no fault is found
 
 -- it is a number without decimals
-whole-kind : (position : Position) (kind : Kind) → whole_fault_at position (item_kind kind) ≡ None → kind ≡ items.Number true
+whole-kind : (position : Position) (kind : ItemKind) → whole_fault_at position (item_kind kind) ≡ None → kind ≡ items.Number true
 unfolding whole_fault_at
 whole-kind position (items.Number true) n = refl
 whole-kind position (items.Number false) n = absurd cc
@@ -55,7 +55,7 @@ whole-kind position items.Group n = absurd cc
 whole-kind position items.Condition n = absurd cc
 
 -- what a window shows is none
-no-window : (position : Position) (kind : Kind) → whole_fault_at position (windowed (item_kind kind)) ≡ None → ⊥
+no-window : (position : Position) (kind : ItemKind) → whole_fault_at position (windowed (item_kind kind)) ≡ None → ⊥
 unfolding whole_fault_at
 no-window position (items.Number whole) n = cc
 no-window position items.Text n = cc
@@ -99,12 +99,12 @@ module _ (entries : List Entry) where
 
   -- ---- what a name stands for
 
-  abbrev FoundFits : Found → Type 0
+  abbrev FoundFits : Referent → Type 0
   FoundFits (found.Item item kind dims) = kind ≡ items.Number true → is_whole_entry (slice_get entries item) ≡ true
   FoundFits found.Unknown = Unit {0}
   FoundFits found.Ambiguous = Unit {0}
 
-  ref-whole : (stands : Found) → FoundFits stands → (of : List (List ℕ)) (subs : List Sub) (window : Option Window) (position : Position) →
+  ref-whole : (stands : Referent) → FoundFits stands → (of : List (List ℕ)) (subs : List Sub) (window : Option Window) (position : Position) →
       found_fault stands (length subs) (is_some window) position ≡ None → whole_fault_at position (kind_within window (kind_of stands)) ≡ None → place_is_whole entries (place_of stands of subs window) ≡ true
   unfolding found_fault
   ref-whole (found.Item item kind dims) F of subs None position n w =
@@ -139,7 +139,7 @@ module _ (entries : List Entry) where
       item : faults.whole_fault side ≡ None → place_is_whole entries (uses.place_of side.what) ≡ true
       amount : IsWholeAmount side
 
-    ref_behind : (stands : Found) → FoundFits stands → (of : List (List ℕ)) (position : Position) (count : ℕ) →
+    ref_behind : (stands : Referent) → FoundFits stands → (of : List (List ℕ)) (position : Position) (count : ℕ) →
         Gives IsNumbered (references.ref_behind (knots.outer names) stands of position count) (λ side. RefFits side.0)
     unfolding references.ref_behind sides.ref_side
     ref_behind stands F of position count = do

@@ -6,7 +6,7 @@ use Rattle.cob_tree.specs.declared.entry.Entry.{Entry}
 use Rattle.cob_tree.specs.declared.file.FileEntry.{FileEntry}
 use Rattle.cob_tree.specs.declared.picture.Picture.{Picture}
 use Rattle.cob_tree.specs.declared.picture.Picture.TheVariants as pictures
-use Rattle.symbol_tables.specs.declared.data_names.name.Kind.TheVariants as kinds
+use Rattle.symbol_tables.specs.declared.data_names.name.ItemKind.TheVariants as kinds
 use Rattle.symbol_tables.specs.declared.data_names.name.Name.{Name}
 use Rattle.symbol_tables.specs.data_names.Names.{picture_kind, is_group, kind_of, name_of, names_from, names_of}
 use Rattle.control_flow_theory.specs.language.All.{all}

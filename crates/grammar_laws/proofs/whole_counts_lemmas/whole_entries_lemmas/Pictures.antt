@@ -6,8 +6,8 @@ use Rattle.cob_tree.specs.declared.picture.Picture.{Picture}
 use Rattle.cob_tree.specs.declared.picture.Picture.TheVariants as pictures
 use Rattle.picture_data.specs.declared.fault.Flaw.{Flaw}
 use Rattle.picture_data.specs.declared.fault.Flaw.TheVariants as flaws
-use Rattle.picture_data.specs.declared.reading.Place.{Place}
-use Rattle.picture_data.specs.declared.reading.Place.TheVariants as places
+use Rattle.picture_data.specs.declared.reading.SymbolPosition.{SymbolPosition}
+use Rattle.picture_data.specs.declared.reading.SymbolPosition.TheVariants as places
 use Rattle.picture_data.specs.declared.reading.Reading.{Reading}
 use Rattle.picture_data.specs.declared.symbols.Shape.{Shape}
 use Rattle.picture_data.specs.declared.symbols.Shape.TheVariants as shapes
@@ -38,7 +38,7 @@ symbols-short count (shapes.Point signed) symbols = number-short count signed sy
 symbols-short count shapes.Letters symbols = refl
 symbols-short count shapes.Any symbols = refl
 
-finish-short : (count : ℕ) (place : Place) (symbols : Symbols) → Short count (finish_by place symbols)
+finish-short : (count : ℕ) (place : SymbolPosition) (symbols : Symbols) → Short count (finish_by place symbols)
 finish-short count (places.Count n) symbols = refl
 finish-short count places.Open symbols = symbols-short count symbols.shape symbols
 finish-short count places.Behind symbols = symbols-short count symbols.shape symbols

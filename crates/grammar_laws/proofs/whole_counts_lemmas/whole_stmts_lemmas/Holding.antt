@@ -58,7 +58,7 @@ module _ (entries : List Entry) where
   ArmWhole arm = arm_counts_whole entries arm ≡ true
 
   abbrev HeadWhole : PerformHead → Type 0
-  HeadWhole (heads.Whole stmt not_read) = Whole entries stmt
+  HeadWhole (heads.Whole stmt pending_not) = Whole entries stmt
   HeadWhole (heads.Inline control) = ControlWhole control
 
   pub record LevelGives (level : Level) : Type 0 where
@@ -134,7 +134,7 @@ module _ (entries : List Entry) where
 
     perform_by : (scope : Scope) (head : PerformHead) → Gives IsNumbered (loops.perform_by level scope head) (λ found. HeadWhole head → Whole entries found.0)
     unfolding loops.perform_by
-    perform_by scope (heads.Whole stmt not_read) = pure (λ h. h)
+    perform_by scope (heads.Whole stmt pending_not) = pure (λ h. h)
     perform_by scope (heads.Inline control) = loop_body scope control
 
   module _ {Side Known : Type 0} {parts : Parts Side Known} (lawful : PartsAreLawful parts) (P : PartsCountWhole entries parts) where
@@ -244,7 +244,7 @@ module _ (entries : List Entry) where
 
       whens_turn : (scope : Scope) (known : Option Known) (state : Whens) → Gives IsNumbered (choice.whens_turn parts level scope known state) (λ last. WhensWhole state.whens → WhensWhole last.whens)
       unfolding choice.whens_turn
-      whens_turn scope known state = chosen (state.other || state.not_read) refuse (when_next scope known state.whens)
+      whens_turn scope known state = chosen (state.other || state.pending_not) refuse (when_next scope known state.whens)
 
       whens : (scope : Scope) (known : Option Known) → Gives IsNumbered (choice.whens parts level scope known) (λ state. WhensWhole state.whens)
       unfolding choice.whens

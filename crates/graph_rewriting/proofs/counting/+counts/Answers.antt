@@ -1,7 +1,7 @@
 use Rattle.std.proofs.Common.{◌+◌, ◌≤◌, length, take, ap, sym, ◌∙◌, arith}
 use Rattle.control_flow_theory.specs.graph_rules.Shapes.{leaves_to, end_leaves_to, arms_leaves_to}
-use Rattle.branch_tree.specs.Trees.{seen_tree, seen_trees}
-use Rattle.graph_rewriting.specs.Countings.{once_at}
+use Rattle.branch_tree.specs.Tree.{seen_tree, seen_trees}
+use Rattle.graph_rewriting.specs.Counting.{once_at}
 use Rattle.branch_tree.specs.declared.tree.End.TheVariants.{Pick, Jump, Return, Stop, Dead}
 use Rattle.branch_tree.proofs.TreeRows.{seen_pick, seen_jump, seen_return, seen_stop, seen_dead}
 use Rattle.graph_rewriting.proofs.CountRows.{counts_none, counts_as, counts_both, leaves_by_end, arm_next, arms_end}

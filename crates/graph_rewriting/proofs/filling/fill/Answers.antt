@@ -1,5 +1,5 @@
 use Rattle.std.proofs.Common.{◌≡◌, length, rules}
-use Rattle.branch_tree.specs.Graphs.{seen_nodes}
+use Rattle.branch_tree.specs.Graph.{seen_nodes}
 use Rattle.graph_rewriting.proofs.FillRows.{filling_next, filled_all, nothing_left}
 use Rattle.graph_rewriting.proofs.filling.fill.Goals as goal
 

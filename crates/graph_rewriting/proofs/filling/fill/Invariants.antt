@@ -1,5 +1,5 @@
 use Rattle.std.proofs.Common.{length}
-use Rattle.branch_tree.specs.Graphs.{seen_nodes}
+use Rattle.branch_tree.specs.Graph.{seen_nodes}
 use Rattle.graph_rewriting.proofs.FillRows.{Filling}
 use Rattle.graph_rewriting.proofs.filling.fill.Given as goal
 

@@ -1,6 +1,6 @@
 use Rattle.std.proofs.Common.{ap, sym, ◌∙◌}
 use Rattle.std.specs.Option.{option_copied}
-use Rattle.branch_tree.specs.Trees.{seen_tree}
+use Rattle.branch_tree.specs.Tree.{seen_tree}
 use Rattle.graph_rewriting.proofs.FillRows.{filled_none, filled_at}
 use Rattle.graph_rewriting.proofs.filling.fill_at.Goals as goal
 

@@ -1,8 +1,8 @@
 use Rattle.std.proofs.Common.{◌++◌, [], ◌∷◌, ap, sym, ◌∙◌, arith}
 use Rattle.std.proofs.lemmas.Grind.{common_steps}
 use Rattle.std.proofs.lemmas.List.{map-append}
-use Rattle.branch_tree.specs.Graphs.{seen_node, seen_nodes}
-use Rattle.graph_rewriting.specs.Works.{nodes_by}
+use Rattle.branch_tree.specs.Graph.{seen_node, seen_nodes}
+use Rattle.graph_rewriting.specs.Work.{nodes_by}
 use Rattle.graph_rewriting.proofs.FillRows.{emptying_led, emptying_next}
 use Rattle.graph_rewriting.proofs.filling.nodes_out.Goals as goal
 

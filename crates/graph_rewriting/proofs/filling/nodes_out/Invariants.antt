@@ -1,7 +1,7 @@
 use Rattle.std.proofs.Common.{◌≤◌, ◌+◌, length}
 use Rattle.std.specs.Vec.{vec_len, vec_capacity}
-use Rattle.branch_tree.specs.Graphs.{seen_nodes}
-use Rattle.graph_rewriting.specs.Works.{nodes_by}
+use Rattle.branch_tree.specs.Graph.{seen_nodes}
+use Rattle.graph_rewriting.specs.Work.{nodes_by}
 use Rattle.graph_rewriting.proofs.FillRows.{Emptying}
 use Rattle.graph_rewriting.proofs.filling.nodes_out.Given as goal
 

@@ -3,7 +3,7 @@ use Rattle.std.specs.Map.Iter.{deref_pair}
 use Rattle.std.specs.Option.{option_copied}
 use Rattle.std.proofs.lemmas.Map.Iter.{rest_more}
 use Rattle.slab.specs.Slab.{get}
-use Rattle.graph_rewriting.specs.Fillings.{NoneFull}
+use Rattle.graph_rewriting.specs.Filling.{NoneFull}
 use Rattle.graph_rewriting.proofs.filling.none_full.Goals as goal
 
 pub loop-key-preserved : goal.loop-key-preserved

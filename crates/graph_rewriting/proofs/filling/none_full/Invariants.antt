@@ -1,4 +1,4 @@
-use Rattle.graph_rewriting.specs.Fillings.{NoneFull}
+use Rattle.graph_rewriting.specs.Filling.{NoneFull}
 use Rattle.graph_rewriting.proofs.filling.none_full.Given as goal
 
 abbrev pub invariant-loop-key : goal.invariant-loop-key

@@ -1,7 +1,7 @@
 use Rattle.std.proofs.Common.{◌≡◌, Some, refl, ap, sym, ◌∙◌}
 use Rattle.std.specs.Option.{option_copied_mut}
 use Rattle.slab.specs.Slab.{get}
-use Rattle.branch_tree.specs.Trees.{seen_tree}
+use Rattle.branch_tree.specs.Tree.{seen_tree}
 use Rattle.graph_rewriting.proofs.CountRows.{rewrites_value, retreed}
 use Rattle.graph_rewriting.proofs.slots.take_out.Goals as goal
 

@@ -1,9 +1,9 @@
 use Rattle.std.proofs.Common.{true, ap, sym, ◌∙◌}
 use Rattle.control_flow_theory.specs.semantics.Graph.{tree}
-use Rattle.branch_tree.specs.Trees.{seen_tree, seen_body, seen_end}
+use Rattle.branch_tree.specs.Tree.{seen_tree, seen_body, seen_end}
 use Rattle.branch_tree.proofs.TreeRows.{seen_tree_is, seen_dead}
 use Rattle.tree_rules.specs.Targets.{seen_targets}
-use Rattle.loop_rules.specs.declared.forms.Form.TheVariants as form
+use Rattle.loop_rules.specs.declared.forms.LoopForm.TheVariants as form
 use Rattle.loop_rules.specs.Forms.{form_for, formed_if}
 use Rattle.loop_rules.proofs.FormRows.{turning, node_row, ways_from, after_row, looped_same}
 use Rattle.loop_rules.proofs.forms.close_after.Goals as goal

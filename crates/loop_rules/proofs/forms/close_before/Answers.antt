@@ -1,10 +1,10 @@
 use Rattle.std.proofs.Common.{◌≡◌, slice_get, Some, false, ap, sym, ◌∙◌, arith}
 use Rattle.control_flow_theory.specs.semantics.Graph.{tree}
 use Rattle.control_flow_theory.specs.graph_rules.Shapes.{followed, alone}
-use Rattle.branch_tree.specs.Trees.{seen_tree, seen_body, seen_end}
+use Rattle.branch_tree.specs.Tree.{seen_tree, seen_body, seen_end}
 use Rattle.branch_tree.proofs.TreeRows.{seen_tree_is}
 use Rattle.tree_rules.specs.Targets.{seen_targets}
-use Rattle.loop_rules.specs.declared.forms.Form.TheVariants as form
+use Rattle.loop_rules.specs.declared.forms.LoopForm.TheVariants as form
 use Rattle.loop_rules.specs.Forms.{end_by, form_for, formed_if, loop_by}
 use Rattle.loop_rules.proofs.FormRows.{arm_place, arm_place_small, two_arms, node_row, ways_from, turning, before_row}
 use Rattle.loop_rules.proofs.forms.close_before.Goals.{then-turned, else-turned}

@@ -1,4 +1,4 @@
-use Rattle.branch_tree.specs.Trees.{seen_body}
+use Rattle.branch_tree.specs.Tree.{seen_body}
 use Rattle.tree_rules.specs.Targets.{seen_targets}
 use Rattle.loop_rules.specs.Forms.{is_nothing}
 use Rattle.loop_rules.proofs.FormRows.{ways_other}

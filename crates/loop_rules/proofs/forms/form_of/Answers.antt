@@ -2,7 +2,7 @@ use Rattle.std.proofs.Common.{◌≡◌, ap, sym, ◌∙◌}
 use Rattle.control_flow_theory.specs.semantics.Graph.{tree, Pick}
 use Rattle.control_flow_theory.specs.language.Language.{If}
 use Rattle.branch_tree.specs.Choosers.{seen_test, seen_picker}
-use Rattle.branch_tree.specs.Trees.{seen_tree, seen_trees, seen_body, seen_end}
+use Rattle.branch_tree.specs.Tree.{seen_tree, seen_trees, seen_body, seen_end}
 use Rattle.branch_tree.proofs.TreeRows.{seen_tree_is, seen_pick}
 use Rattle.tree_rules.specs.Targets.{seen_targets}
 use Rattle.loop_rules.specs.Forms.{is_nothing, ways, form_at, form_for}

@@ -1,7 +1,7 @@
 use Rattle.std.proofs.Common.{ap, ◌∙◌}
 use Rattle.control_flow_theory.specs.semantics.Graph as graph
 use Rattle.control_flow_theory.specs.graph_rules.Shapes.{followed, alone}
-use Rattle.branch_tree.specs.Trees.{seen_tree, seen_body, seen_end}
+use Rattle.branch_tree.specs.Tree.{seen_tree, seen_body, seen_end}
 use Rattle.branch_tree.proofs.TreeRows.{seen_tree_is}
 use Rattle.loop_rules.specs.Forms.{loop_by}
 use Rattle.loop_rules.proofs.forms.looped.Goals as goal

@@ -1,7 +1,7 @@
 use Rattle.std.proofs.Common.{◌∷◌, [], ap, ◌∙◌}
 use Rattle.control_flow_theory.specs.graph_rules.Shapes.{followed, alone}
 use Rattle.branch_tree.specs.declared.tree.Piece.TheVariants as piece
-use Rattle.branch_tree.specs.Trees.{seen_body}
+use Rattle.branch_tree.specs.Tree.{seen_body}
 use Rattle.branch_tree.proofs.TreeRows.{seen_body-append, seen_loop}
 use Rattle.loop_rules.proofs.forms.put_loop.Goals as goal
 

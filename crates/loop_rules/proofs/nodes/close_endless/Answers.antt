@@ -3,7 +3,7 @@ use Rattle.control_flow_theory.specs.semantics.Graph.{tree, Dead}
 use Rattle.control_flow_theory.specs.language.Language.{also, none, Loop, Until, Is, Nested}
 use Rattle.branch_tree.specs.declared.chooser.Test.TheVariants as test
 use Rattle.branch_tree.specs.declared.tree.Leaves.TheVariants as leaves
-use Rattle.branch_tree.specs.Trees.{seen_tree, seen_body}
+use Rattle.branch_tree.specs.Tree.{seen_tree, seen_body}
 use Rattle.loop_rules.proofs.FormRows.{endless, looped_same}
 use Rattle.loop_rules.proofs.nodes.close_endless.Goals as goal
 

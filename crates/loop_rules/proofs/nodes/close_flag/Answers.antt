@@ -5,7 +5,7 @@ use Rattle.control_flow_theory.specs.graph_rules.Shapes.{alone}
 use Rattle.branch_tree.specs.declared.tree.Piece.TheVariants as piece
 use Rattle.branch_tree.specs.declared.chooser.Test.TheVariants as test
 use Rattle.branch_tree.specs.declared.tree.Leaves.TheVariants as leaves
-use Rattle.branch_tree.specs.Trees.{seen_tree, seen_body}
+use Rattle.branch_tree.specs.Tree.{seen_tree, seen_body}
 use Rattle.branch_tree.proofs.TreeRows.{seen_set}
 use Rattle.tree_rules.specs.Targets.{seen_targets}
 use Rattle.loop_rules.specs.Forms.{end_by}

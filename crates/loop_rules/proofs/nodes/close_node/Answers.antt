@@ -2,8 +2,8 @@ use Rattle.std.proofs.Common.{◌≡◌, ◌≤◌, ◌∷◌, [], length, None,
 use Rattle.control_flow_theory.specs.graph_rules.Shapes.{leaves_to}
 use Rattle.control_flow_theory.specs.graph_rules.Reduced.{count, close_graph}
 use Rattle.graph_rewriting.specs.Helds.{seen_work}
-use Rattle.branch_tree.specs.Trees.{seen_tree}
-use Rattle.loop_rules.specs.Closed.{Closes, closed, may_loop, with_kinds}
+use Rattle.branch_tree.specs.Tree.{seen_tree}
+use Rattle.loop_rules.specs.Nodes.{Closes, closed, may_loop, with_kinds}
 use Rattle.loop_rules.proofs.LeafRows.{closes_leaves}
 use Rattle.loop_rules.proofs.NodeRows.{count_is, append_none, close_row}
 use Rattle.loop_rules.proofs.TakenRows.{has_taken, bare_taken, fits_taken, put_again, put_with}

@@ -1,6 +1,6 @@
 use Rattle.std.proofs.Common.{refl}
 use Rattle.control_flow_theory.specs.language.Control.{control_of}
-use Rattle.program_points.specs.numbering.Kinds.{never_first_of}
+use Rattle.program_points.specs.numbering.Kind.{never_first_of}
 use Rattle.overlap_trail.proofs.Trails.{accepted, accepted-parts}
 use Rattle.overlap_trail.proofs.checking.check.Goals as goal
 

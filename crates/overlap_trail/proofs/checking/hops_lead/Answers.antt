@@ -1,7 +1,7 @@
 use Rattle.std.proofs.Common.{◌+◌, drop, take, refl, sym}
 use Rattle.program_points.specs.paths.Accepted.{lemma_ranges}
 use Rattle.control_flow_theory.specs.language.Control.{control_of}
-use Rattle.program_points.specs.numbering.Kinds.{never_first_of}
+use Rattle.program_points.specs.numbering.Kind.{never_first_of}
 use Rattle.overlap_trail.specs.Checking.{exits_of, aim_of, aim_behind}
 use Rattle.overlap_trail.proofs.Trails.{hops-on, hops-back, same-leads}
 use Rattle.overlap_trail.proofs.checking.hops_lead.Goals as goal

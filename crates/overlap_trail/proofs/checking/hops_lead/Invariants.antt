@@ -1,6 +1,6 @@
 use Rattle.std.proofs.Common.{[], take, drop}
 use Rattle.control_flow_theory.specs.language.Control.{control_of}
-use Rattle.program_points.specs.numbering.Kinds.{never_first_of}
+use Rattle.program_points.specs.numbering.Kind.{never_first_of}
 use Rattle.program_points.specs.paths.Accepted.{lemma_ranges}
 use Rattle.overlap_trail.specs.Checking.{HopsFrom, exits_of}
 use Rattle.overlap_trail.proofs.checking.hops_lead.Given as goal

@@ -1,6 +1,6 @@
 use Rattle.std.proofs.Common.{◌≡◌, ◌≤◌, ◌+◌, true, false, length, refl, sym, ◌∙◌, arith}
 use Rattle.control_flow_theory.specs.language.Control.{control_of}
-use Rattle.overlap_trail.specs.Following.{known_of, sought_of}
+use Rattle.overlap_trail.specs.Follow.{known_of, sought_of}
 use Rattle.overlap_trail.specs.Checking.{aim_of}
 use Rattle.overlap_trail.proofs.Legs.{is-there, is-not-there, on-way-begins, on-way-taken, on-way-quiet, too-long}
 use Rattle.overlap_trail.proofs.checking.leads.Goals as goal

@@ -1,6 +1,6 @@
 use Rattle.std.proofs.Common.{◌+◌, ◌-◌, ◌*◌, length}
 use Rattle.control_flow_theory.specs.language.Control.{control_of}
-use Rattle.overlap_trail.specs.Following.{known_of, sought_of}
+use Rattle.overlap_trail.specs.Follow.{known_of, sought_of}
 use Rattle.overlap_trail.specs.Checking.{aim_of}
 use Rattle.overlap_trail.proofs.Legs.{IsOnWay}
 use Rattle.overlap_trail.proofs.checking.leads.Given as goal

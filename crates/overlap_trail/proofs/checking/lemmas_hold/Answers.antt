@@ -1,6 +1,6 @@
 use Rattle.std.proofs.Common.{take, refl, sym}
 use Rattle.control_flow_theory.specs.language.Control.{control_of}
-use Rattle.program_points.specs.numbering.Kinds.{never_first_of}
+use Rattle.program_points.specs.numbering.Kind.{never_first_of}
 use Rattle.program_points.specs.paths.Accepted.{Return, lemma_ranges}
 use Rattle.overlap_trail.proofs.Trails.{lemmas-on, lemmas-back, same-leads}
 use Rattle.overlap_trail.proofs.checking.lemmas_hold.Goals as goal

@@ -1,5 +1,5 @@
 use Rattle.std.proofs.Common.{sym}
-use Rattle.overlap_trail.specs.Following.{knowing}
+use Rattle.overlap_trail.specs.Follow.{knowing}
 use Rattle.overlap_trail.proofs.Turning.{follows-over, follows-no-lemma, follows-met}
 use Rattle.overlap_trail.proofs.follow.follow_call.Goals as goal
 

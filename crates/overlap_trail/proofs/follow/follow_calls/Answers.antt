@@ -1,7 +1,7 @@
 use Rattle.std.proofs.Common.{◌+◌, length, arith}
 use Rattle.control_flow_theory.specs.language.Language.{Performed}
-use Rattle.overlap_trail.specs.declared.follow.Way.TheVariants.{Through, Lost}
-use Rattle.overlap_trail.specs.Following.{knowing}
+use Rattle.overlap_trail.specs.declared.follow.Followed.TheVariants.{Through, Lost}
+use Rattle.overlap_trail.specs.Follow.{knowing}
 use Rattle.overlap_trail.proofs.Steps.{taken-from, as-turned, cycled-taken}
 use Rattle.overlap_trail.proofs.Turning.{turns-begin, turns-join, turns-end, turn-leaves, turn-on, turn-out, turn-lost}
 use Rattle.overlap_trail.proofs.follow.follow_calls.Goals as goal

@@ -1,6 +1,6 @@
 use Rattle.std.proofs.Common.{◌≤◌, ◌-◌, Bool, length}
 use Rattle.control_flow_theory.specs.language.Language.{Chooser, Performed}
-use Rattle.overlap_trail.specs.Following.{knowing}
+use Rattle.overlap_trail.specs.Follow.{knowing}
 use Rattle.overlap_trail.proofs.Turning.{TurnsOn}
 use Rattle.overlap_trail.proofs.follow.follow_calls.Given as goal
 

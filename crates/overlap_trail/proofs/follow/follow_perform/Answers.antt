@@ -1,7 +1,7 @@
 use Rattle.std.proofs.Common.{◌∙◌, length}
 use Rattle.control_flow_theory.specs.language.Language.{Performed, Perform, Loop}
 use Rattle.control_flow_theory.specs.language.Control.{control_in, perform_of}
-use Rattle.overlap_trail.specs.Following.{knowing}
+use Rattle.overlap_trail.specs.Follow.{knowing}
 use Rattle.overlap_trail.proofs.Steps.{as-turned}
 use Rattle.overlap_trail.proofs.Rows.{perform-once, perform-loop}
 use Rattle.overlap_trail.proofs.Turning.{loop-before, loop-again, loop-after, loop-out}

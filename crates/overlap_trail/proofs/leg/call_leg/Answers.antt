@@ -1,7 +1,7 @@
 use Rattle.std.proofs.Common.{drop, refl, sym, subst}
 use Rattle.program_points.specs.paths.Accepted.{walk, Meets}
 use Rattle.program_points.specs.paths.Accepted as accepted
-use Rattle.overlap_trail.specs.Following.{sought_of}
+use Rattle.overlap_trail.specs.Follow.{sought_of}
 use Rattle.overlap_trail.specs.Checking.{aim_of}
 use Rattle.overlap_trail.proofs.Legs.{never-stuck, arrives-behind}
 use Rattle.overlap_trail.proofs.leg.call_leg.Goals as goal

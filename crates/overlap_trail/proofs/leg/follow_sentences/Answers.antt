@@ -1,6 +1,6 @@
 use Rattle.std.proofs.Common.{◌+◌, map, drop, subst, sym, arith}
 use Rattle.control_flow_theory.specs.language.Control.{seen_stmts, seen_sentence}
-use Rattle.overlap_trail.specs.Following.{known_of}
+use Rattle.overlap_trail.specs.Follow.{known_of}
 use Rattle.overlap_trail.proofs.Sentences.{SentencesOn, sentences-begin, sentences-through, sentences-left, sentences-to, sentences-ended, sentences-broken, sentences-cycled, sentences-section, sentences-met, sentences-lost, sentences-end, sentences-at, sentences-past}
 use Rattle.overlap_trail.proofs.leg.follow_sentences.Goals as goal
 use Rattle.overlap_trail.proofs.leg.follow_sentences.Goals.{in-Through, in-Left}

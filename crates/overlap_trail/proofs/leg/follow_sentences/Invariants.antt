@@ -1,6 +1,6 @@
 use Rattle.std.proofs.Common.{◌≤◌, ℕ, map, drop, length}
 use Rattle.control_flow_theory.specs.language.Control.{seen_sentence}
-use Rattle.overlap_trail.specs.Following.{known_of}
+use Rattle.overlap_trail.specs.Follow.{known_of}
 use Rattle.overlap_trail.proofs.Sentences.{SentencesOn}
 use Rattle.overlap_trail.proofs.leg.follow_sentences.Given as goal
 

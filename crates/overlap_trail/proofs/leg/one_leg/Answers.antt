@@ -5,9 +5,9 @@ use Rattle.control_flow_theory.specs.language.Control.{control_of, section_last,
 use Rattle.control_flow_theory.specs.language.Items.{items_of}
 use Rattle.program_points.specs.paths.Step.{Point, at}
 use Rattle.program_points.specs.paths.Accepted.{walk}
-use Rattle.overlap_trail.specs.declared.leg.Leg.TheVariants.{On}
-use Rattle.overlap_trail.specs.declared.leg.Out.TheVariants.{ToEnd, ToSectionEnd, ToStart, Met, Lost}
-use Rattle.overlap_trail.specs.Following.{known_of, sought_of}
+use Rattle.overlap_trail.specs.declared.leg.ParagraphStep.TheVariants.{On}
+use Rattle.overlap_trail.specs.declared.leg.ParagraphOutcome.TheVariants.{ToEnd, ToSectionEnd, ToStart, Met, Lost}
+use Rattle.overlap_trail.specs.Follow.{known_of, sought_of}
 use Rattle.overlap_trail.specs.Checking.{aim_of, IsLeg, Arrives, ComesOut}
 use Rattle.overlap_trail.proofs.Legs.{leg-behind, leg-earlier, start-there, start-missing, never-stuck}
 use Rattle.overlap_trail.proofs.leg.one_leg.Goals as goal

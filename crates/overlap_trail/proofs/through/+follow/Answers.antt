@@ -6,10 +6,10 @@ use Rattle.control_flow_theory.specs.language.Language.{also, none, Stmt, Choose
 use Rattle.control_flow_theory.specs.language.Control.{always, control_in, loop_of, perform_of, move_of, arith_stmt, Both, both_arms, seen, seen_stmts}
 use Rattle.control_flow_theory.specs.language.Language as language
 use Rattle.control_flow_theory.proofs.language_lemmas.Rows.{seen_both_is, seen_arith, seen_read, seen_if, seen_evaluate, seen_loop, seen_perform, seen_go, seen_go_depending, seen_next_sentence, seen_stop_run, seen_exit_paragraph, seen_exit_section, seen_exit_perform, seen_display, seen_move, seen_set_true, seen_opens, seen_closes, seen_write, seen_rewrite, seen_exit, seen_continue}
-use Rattle.program_points.specs.numbering.Kinds.{never_first_of}
-use Rattle.program_points.specs.numbering.Building.{seen_branches, seen_maybe}
-use Rattle.overlap_trail.specs.declared.follow.Way.TheVariants.{Through, To, Left, Ended, SectionEnded, Broken, Cycled, Lost}
-use Rattle.overlap_trail.specs.Following.{known_of, Follows, FollowsArm, IsBetween}
+use Rattle.program_points.specs.numbering.Kind.{never_first_of}
+use Rattle.program_points.specs.numbering.Build.{seen_branches, seen_maybe}
+use Rattle.overlap_trail.specs.declared.follow.Followed.TheVariants.{Through, To, Left, Ended, SectionEnded, Broken, Cycled, Lost}
+use Rattle.overlap_trail.specs.Follow.{known_of, Follows, FollowsArm, IsBetween}
 use Rattle.overlap_trail.proofs.Steps.{taken-from, as-turned, cycled-taken}
 use Rattle.overlap_trail.proofs.Rows.{loop-none, loop-some}
 use Rattle.overlap_trail.proofs.Turning.{turn-leaves, turn-on, turn-out, turn-lost, turns-begin, turns-join, turns-end, loop-before, loop-again, loop-after, loop-out, once-through}

@@ -1,7 +1,7 @@
 use Rattle.std.proofs.Common.{◌≡◌, ◌-◌, ◌≤◌, ℕ, drop, length}
 use Rattle.control_flow_theory.specs.language.Language.{Nested}
 use Rattle.control_flow_theory.specs.language.Control.{seen_stmts}
-use Rattle.overlap_trail.specs.Following.{known_of}
+use Rattle.overlap_trail.specs.Follow.{known_of}
 use Rattle.overlap_trail.proofs.Statements.{FollowsOn}
 use Rattle.overlap_trail.proofs.Turning.{TurnsOn}
 use Rattle.overlap_trail.proofs.through.+follow.Given as goal

@@ -1,4 +1,4 @@
-use Rattle.pending_returns.specs.levels.Fitting.{FitsTable}
+use Rattle.pending_returns.specs.levels.Level.{FitsTable}
 use Rattle.pending_returns.proofs.Leveling.{LevelsUpTo}
 use Rattle.pending_returns.proofs.facts.levels_of.Given as goal
 

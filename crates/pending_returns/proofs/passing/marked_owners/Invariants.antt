@@ -1,5 +1,5 @@
 use Rattle.std.proofs.Common.{◌≡◌, length}
-use Rattle.pending_returns.specs.levels.Reaching.{IsMarked}
+use Rattle.pending_returns.specs.levels.Reach.{IsMarked}
 use Rattle.pending_returns.proofs.Passed.{MarksUpTo}
 use Rattle.pending_returns.proofs.passing.marked_owners.Given as goal
 

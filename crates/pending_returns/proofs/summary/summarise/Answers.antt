@@ -1,4 +1,4 @@
-use Rattle.program_points.specs.numbering.Kinds.{never_first_of}
+use Rattle.program_points.specs.numbering.Kind.{never_first_of}
 use Rattle.pending_returns.proofs.Limits.{is-summary, main-first, ranges-rise}
 use Rattle.pending_returns.proofs.summary.summarise.Goals as goal
 

@@ -6,11 +6,11 @@ use Rattle.pending_returns.proofs.summary.summary_of.Goals as goal
 pub levels_of-requires-clause-known : goal.levels_of-requires-clause-known
 levels_of-requires-clause-known c = ap (λ bs. length bs) c.as_slice.ensures.value ∙ c.in_ok-returns.ensures.size
 
-pub led_to-requires-clause-main : goal.led_to-requires-clause-main
-led_to-requires-clause-main c = some-levels c.args.table.now c.as_slice.result.now c.in_ok-levels.levels c.as_slice-2.result.now c.requires.main c.in_ok-levels.ensures c.as_slice-2.ensures
+pub transitive_callees-requires-clause-main : goal.transitive_callees-requires-clause-main
+transitive_callees-requires-clause-main c = some-levels c.args.table.now c.as_slice.result.now c.in_ok-levels.levels c.as_slice-2.result.now c.requires.main c.in_ok-levels.ensures c.as_slice-2.ensures
 
-pub led_to-requires-clause-known : goal.led_to-requires-clause-known
-led_to-requires-clause-known c = calls-below c.args.table.now c.as_slice.result.now c.in_ok-levels.levels c.as_slice-2.result.now (length c.as_slice-2.result.now) c.requires.tidy c.in_ok-levels.ensures c.as_slice-2.ensures (ap (λ ls. length ls) c.as_slice-2.ensures)
+pub transitive_callees-requires-clause-known : goal.transitive_callees-requires-clause-known
+transitive_callees-requires-clause-known c = calls-below c.args.table.now c.as_slice.result.now c.in_ok-levels.levels c.as_slice-2.result.now (length c.as_slice-2.result.now) c.requires.tidy c.in_ok-levels.ensures c.as_slice-2.ensures (ap (λ ls. length ls) c.as_slice-2.ensures)
 
 pub ranks_of-requires-clause-rises : goal.ranks_of-requires-clause-rises
 ranks_of-requires-clause-rises c = kept-rises c.as_slice-3.result.now c.in_ok-kept.kept c.as_slice-4.result.now c.in_ok-kept.ensures c.as_slice-4.ensures

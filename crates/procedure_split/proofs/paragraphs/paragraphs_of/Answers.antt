@@ -2,9 +2,9 @@ use Rattle.std.proofs.Common.{◌≡◌, Some, None, ap, get_or, subst, sym, ◌
 use Rattle.std.proofs.lemmas.Grind.{common_steps}
 use Rattle.std.proofs.lemmas.Option.{slice_get-get_or}
 use Rattle.cob_tree.specs.declared.program.Range.{Range}
-use Rattle.branch_tree.specs.Trees.{seen_tree}
-use Rattle.lowering_labels.specs.points.Fall.{seen_range}
-use Rattle.body_rendering.specs.Procedures.{is_main}
+use Rattle.branch_tree.specs.Tree.{seen_tree}
+use Rattle.lowering_labels.specs.points.FallThrough.{seen_range}
+use Rattle.body_rendering.specs.Procedure.{is_main}
 use Rattle.procedure_split.specs.made_procedures.Made.{IsParagraphOf}
 use Rattle.procedure_split.proofs.ParagraphRows.{done-more}
 use Rattle.procedure_split.proofs.paragraphs.paragraphs_of.Goals as goal

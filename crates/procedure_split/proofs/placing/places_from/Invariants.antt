@@ -1,5 +1,5 @@
 use Rattle.std.proofs.Common.{◌≡◌, ◌++◌, drop}
-use Rattle.procedure_split.specs.Places.{places_from}
+use Rattle.procedure_split.specs.Placing.{places_from}
 use Rattle.procedure_split.proofs.placing.places_from.Given as goal
 
 abbrev pub invariant-loop-range : goal.invariant-loop-range

@@ -1,7 +1,7 @@
 use Rattle.std.proofs.Common.{subst, rules}
 use Rattle.std.specs.List.Sorted.{IsPermutation}
 use Rattle.std.proofs.lemmas.List.Sorted.{IsNonDecreasingBy-from_sort, answers_always}
-use Rattle.procedure_split.specs.Places.{key_of}
+use Rattle.procedure_split.specs.Placing.{key_of}
 use Rattle.procedure_split.proofs.PlaceRows.{are-places}
 use Rattle.procedure_split.proofs.placing.places_of.Goals as goal
 

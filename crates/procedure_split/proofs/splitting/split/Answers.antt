@@ -1,8 +1,8 @@
 use Rattle.std.proofs.Common.{ap, sym, subst, ◌∙◌, length}
-use Rattle.program_facts.specs.completion.Told.{told_of}
+use Rattle.program_facts.specs.completion.FlowFacts.{flow_facts_of}
 use Rattle.control_flow_theory.specs.language.Control.{control_of}
 use Rattle.procedure_split.proofs.Planning.{as-many, ranges-are, too-deep, too-large}
-use Rattle.procedure_split.specs.Written.{IsWrittenWith}
+use Rattle.procedure_split.specs.Writing.{IsWrittenWith}
 use Rattle.procedure_split.proofs.splitting.split.Goals as goal
 
 pub lower_ranges-requires-clause-ranges : goal.lower_ranges-requires-clause-ranges
@@ -16,7 +16,7 @@ write_program-made-requires c =
     let plan = c.in_ok-plan.plan in
     let program = c.args.program.now in
     ap length c.as_mut_slice.ensures.value
-    ∙ as-many (told_of program.files plan.returning) (control_of program) plan.order
+    ∙ as-many (flow_facts_of program.files plan.returning) (control_of program) plan.order
     c.in-Ok.graphs.items c.in-Ok-shape_all.closed.items c.in-Ok.ensures.lowered.are
     c.in-Ok-shape_all.ensures ∙ sym (ap length c.as_slice-order.ensures)
 

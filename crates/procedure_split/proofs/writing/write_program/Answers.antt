@@ -1,13 +1,13 @@
 use Rattle.std.proofs.Common.{◌≡◌, [], ap, sym, subst, ◌∙◌, length, map, arith}
 use Rattle.std.proofs.lemmas.Result.{IfOk-weaker}
-use Rattle.added_items.specs.item_table.CellItems.{AreCellItems}
-use Rattle.added_items.specs.item_table.Items.{item_kinds}
-use Rattle.added_items.specs.item_table.Names.{item_kind, seen_item}
+use Rattle.added_items.specs.item_table.CellItem.{AreCellItems}
+use Rattle.added_items.specs.item_table.Owners.{item_kinds}
+use Rattle.added_items.specs.item_table.Naming.{item_kind, seen_item}
 use Rattle.added_items.specs.item_table.Seen.{seen_ranges}
 use Rattle.out_names.specs.Words.{program_words, table_of}
 use Rattle.procedure_split.specs.made_procedures.Made.{ArePlacesIn}
-use Rattle.procedure_split.specs.Counted.{counts_of}
-use Rattle.procedure_split.specs.Written.{IsWrittenWith}
+use Rattle.procedure_split.specs.Counting.{counts_of}
+use Rattle.procedure_split.specs.Writing.{IsWrittenWith}
 use Rattle.procedure_split.proofs.RowLemmas.{rows-length}
 use Rattle.procedure_split.proofs.WordCounts.{names-length}
 use Rattle.procedure_split.proofs.WrittenRows.{written-from}

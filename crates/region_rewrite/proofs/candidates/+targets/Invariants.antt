@@ -1,5 +1,5 @@
 use Rattle.std.proofs.Common.{take}
-use Rattle.branch_tree.specs.Trees.{seen_trees}
+use Rattle.branch_tree.specs.Tree.{seen_trees}
 use Rattle.region_rewrite.specs.Candidates.{ArmTargetsIn, Grows}
 use Rattle.region_rewrite.proofs.candidates.+targets.Given as goal
 

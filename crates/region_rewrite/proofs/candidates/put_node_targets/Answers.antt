@@ -1,4 +1,4 @@
-use Rattle.branch_tree.specs.Graphs.{seen_nodes}
+use Rattle.branch_tree.specs.Graph.{seen_nodes}
 use Rattle.region_rewrite.proofs.SetRows.{targets_absent}
 use Rattle.region_rewrite.proofs.candidates.put_node_targets.Goals as goal
 

@@ -1,6 +1,6 @@
 use Rattle.std.proofs.Common.{◌≡◌, Some, ap, sym, ◌∙◌, arith}
-use Rattle.control_flow_theory.specs.closing.Closes.{reduced_by_all, any_step}
-use Rattle.region_rewrite.specs.Reducings.{graph_in}
+use Rattle.control_flow_theory.specs.structuring.Closes.{reduced_by_all, any_step}
+use Rattle.region_rewrite.specs.Reducing.{graph_in}
 use Rattle.region_rewrite.proofs.StepRows.{took, kept, all_reduced_next, stays_all}
 use Rattle.region_rewrite.proofs.exiting.all_steps.Goals as goal
 

@@ -1,6 +1,6 @@
 use Rattle.std.proofs.Common.{◌≡◌}
-use Rattle.control_flow_theory.specs.closing.Closes.{reduced_by_all}
-use Rattle.region_rewrite.specs.Reducings.{StateHolds, graph_in}
+use Rattle.control_flow_theory.specs.structuring.Closes.{reduced_by_all}
+use Rattle.region_rewrite.specs.Reducing.{StateHolds, graph_in}
 use Rattle.region_rewrite.proofs.exiting.all_steps.Given as goal
 
 abbrev pub invariant-loop-left : goal.invariant-loop-left

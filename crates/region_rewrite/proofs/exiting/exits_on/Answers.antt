@@ -2,7 +2,7 @@ use Rattle.std.proofs.Common.{ap, ◌∙◌, sym, subst}
 use Rattle.control_flow_theory.specs.graph_rules.Reduced.{has_node}
 use Rattle.graph_rewriting.specs.Helds.{seen_work}
 use Rattle.region_rewrite.specs.Candidates.{HoldsBut}
-use Rattle.region_rewrite.specs.Reducings.{graph_in}
+use Rattle.region_rewrite.specs.Reducing.{graph_in}
 use Rattle.region_rewrite.proofs.ReduceRows.{exits_but, exits_has, grown_but}
 use Rattle.region_rewrite.proofs.StepRows.{exited_there}
 use Rattle.region_rewrite.proofs.exiting.exits_on.Goals as goal

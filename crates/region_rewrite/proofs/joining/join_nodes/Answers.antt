@@ -3,8 +3,8 @@ use Rattle.std.proofs.lemmas.Grind.{common_steps}
 use Rattle.std.proofs.lemmas.List.{map-set, length-map}
 use Rattle.control_flow_theory.specs.graph_rules.Reduced.{each_tree}
 use Rattle.control_flow_theory.specs.graph_rules.Shapes.{joined}
-use Rattle.branch_tree.specs.Graphs.{seen_node, seen_nodes}
-use Rattle.branch_tree.specs.Trees.{seen_tree}
+use Rattle.branch_tree.specs.Graph.{seen_node, seen_nodes}
+use Rattle.branch_tree.specs.Tree.{seen_tree}
 use Rattle.tree_rules.proofs.JoinRows.{joins_joined}
 use Rattle.region_rewrite.proofs.StepRows.{each_next, each_all, get_changed, seen_node_at}
 use Rattle.region_rewrite.proofs.joining.join_nodes.Goals as goal

@@ -1,4 +1,4 @@
-use Rattle.branch_tree.specs.Graphs.{seen_graph}
+use Rattle.branch_tree.specs.Graph.{seen_graph}
 use Rattle.region_rewrite.proofs.StepRows.{joined_closed, joined_fixed}
 use Rattle.region_rewrite.proofs.ordering.close.Goals as goal
 

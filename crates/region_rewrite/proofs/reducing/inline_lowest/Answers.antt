@@ -1,5 +1,5 @@
 use Rattle.std.proofs.Common.{Some, ap, ◌∙◌, sym, refl}
-use Rattle.region_rewrite.specs.Reducings.{graph_in}
+use Rattle.region_rewrite.specs.Reducing.{graph_in}
 use Rattle.region_rewrite.proofs.CandidateRows.{inline_popped, rule_inline, rule_none}
 use Rattle.region_rewrite.proofs.reducing.inline_lowest.Goals as goal
 

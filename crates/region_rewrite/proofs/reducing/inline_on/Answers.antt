@@ -1,9 +1,9 @@
 use Rattle.std.proofs.Common.{Ok, ap, ◌∙◌, sym, subst}
 use Rattle.control_flow_theory.specs.graph_rules.Reduced.{has_node}
 use Rattle.graph_rewriting.specs.Helds.{seen_work}
-use Rattle.tree_rules.specs.Inlines.{InlinesInto}
+use Rattle.tree_rules.specs.Inlining.{InlinesInto}
 use Rattle.region_rewrite.specs.Candidates.{HoldsBut}
-use Rattle.region_rewrite.specs.Reducings.{graph_in}
+use Rattle.region_rewrite.specs.Reducing.{graph_in}
 use Rattle.region_rewrite.proofs.CandidateRows.{inline_but, inline_has}
 use Rattle.region_rewrite.proofs.reducing.inline_on.Goals as goal
 

@@ -1,5 +1,5 @@
 use Rattle.std.proofs.Common.{Some, ap, ◌∙◌, sym}
-use Rattle.region_rewrite.specs.Reducings.{graph_in}
+use Rattle.region_rewrite.specs.Reducing.{graph_in}
 use Rattle.region_rewrite.proofs.CandidateRows.{loop_popped, rule_loop}
 use Rattle.region_rewrite.proofs.reducing.loop_lowest.Goals as goal
 

@@ -1,7 +1,7 @@
 use Rattle.std.proofs.Common.{ap, ◌∙◌}
 use Rattle.std.proofs.lemmas.Result.{on_ok_weaker}
 use Rattle.graph_rewriting.specs.Helds.{seen_work}
-use Rattle.region_rewrite.specs.Reducings.{graph_in}
+use Rattle.region_rewrite.specs.Reducing.{graph_in}
 use Rattle.region_rewrite.proofs.ReduceRows.{looped_on}
 use Rattle.region_rewrite.proofs.StepRows.{all_three, closed_there}
 use Rattle.region_rewrite.proofs.reducing.loop_on.Goals as goal

@@ -1,7 +1,7 @@
 use Rattle.std.proofs.Common.{ap, ◌∙◌}
 use Rattle.std.proofs.lemmas.Result.{on_ok_weaker}
 use Rattle.graph_rewriting.specs.Helds.{seen_work}
-use Rattle.region_rewrite.specs.Reducings.{graph_in}
+use Rattle.region_rewrite.specs.Reducing.{graph_in}
 use Rattle.region_rewrite.proofs.ReduceRows.{settled, settled_is}
 use Rattle.region_rewrite.proofs.StepRows.{all_three}
 use Rattle.region_rewrite.proofs.reducing.settle.Goals as goal

@@ -1,6 +1,6 @@
 use Rattle.std.proofs.Common.{◌≡◌, Some, ap, sym, ◌∙◌, arith}
 use Rattle.control_flow_theory.specs.graph_rules.Reduced.{reduced, rule_step}
-use Rattle.region_rewrite.specs.Reducings.{graph_in}
+use Rattle.region_rewrite.specs.Reducing.{graph_in}
 use Rattle.region_rewrite.proofs.StepRows.{took, kept, reduced_next, stays}
 use Rattle.region_rewrite.proofs.reducing.steps.Goals as goal
 

@@ -1,6 +1,6 @@
 use Rattle.std.proofs.Common.{◌≡◌}
 use Rattle.control_flow_theory.specs.graph_rules.Reduced.{reduced}
-use Rattle.region_rewrite.specs.Reducings.{StateHolds, graph_in}
+use Rattle.region_rewrite.specs.Reducing.{StateHolds, graph_in}
 use Rattle.region_rewrite.proofs.reducing.steps.Given as goal
 
 abbrev pub invariant-loop-left : goal.invariant-loop-left

@@ -1,6 +1,6 @@
 use Rattle.std.proofs.Common.{ap, subst}
-use Rattle.branch_tree.specs.Graphs.{seen_graph}
-use Rattle.region_rewrite.specs.Shape.{Shapes}
+use Rattle.branch_tree.specs.Graph.{seen_graph}
+use Rattle.region_rewrite.specs.Shaping.{Shapes}
 use Rattle.region_rewrite.proofs.ShapeRows.{has_one, plain_of}
 use Rattle.region_rewrite.proofs.shaping.shape.Goals as goal
 

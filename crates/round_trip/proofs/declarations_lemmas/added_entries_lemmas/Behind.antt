@@ -4,8 +4,8 @@ use Rattle.std.specs.Prelude.{◌==◌}
 use Rattle.std.proofs.lemmas.Bool.{and_right, le-ltb}
 use Rattle.cob_tree.specs.declared.entry.Entry.{Entry}
 use Rattle.cob_tree.specs.declared.file.FileEntry.{FileEntry}
-use Rattle.symbol_tables.specs.declared.data_names.name.Kind.{Kind}
-use Rattle.symbol_tables.specs.declared.data_names.name.Kind.TheVariants as kinds
+use Rattle.symbol_tables.specs.declared.data_names.name.ItemKind.{ItemKind}
+use Rattle.symbol_tables.specs.declared.data_names.name.ItemKind.TheVariants as kinds
 use Rattle.symbol_tables.specs.declared.data_names.name.Name.{Name}
 use Rattle.symbol_tables.specs.data_names.Grouping.{bound_of, groups_of, has_items, is_numbered, same_file}
 use Rattle.symbol_tables.specs.data_names.Names.{is_group, picture_kind, name_in, name_of, names_from}
@@ -74,7 +74,7 @@ name-whole files before item items =
     ap (λ groups. name_in files groups (whole_entry item) (whole_entries items)) (no-groups None before)
     ∙ ap (λ b. named (if b then kinds.Group else picture_kind (whole_entry item).picture)) (no-group item items)
   where
-    named : Kind → Name
+    named : ItemKind → Name
     named kind = record { word = Some item.name; above = []; kind = kind; dims = 0 }
 
 names-whole : (files : List FileEntry) (before : List Entry) (items : List WholeItem) → names_from files before (whole_entries items) ≡ whole_names items
@@ -88,7 +88,7 @@ name-added : (files : List FileEntry) (before : List Entry) (entry : Entry) (beh
 name-added files before entry behind items =
     ap (λ b. named (if entry.level == 88 then kinds.Condition else (if b then kinds.Group else picture_kind entry.picture))) (group-added entry behind items)
   where
-    named : Kind → Name
+    named : ItemKind → Name
     named kind = record (name_of files before entry behind) { kind = kind }
 
 pub names-added : (files : List FileEntry) (before entries : List Entry) (items : List WholeItem) → names_from files before (entries ++ whole_entries items) ≡ names_from files before entries ++ whole_names items

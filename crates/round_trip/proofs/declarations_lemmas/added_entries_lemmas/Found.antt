@@ -15,9 +15,9 @@ use Rattle.cob_tree.specs.declared.program.Program.{Program}
 use Rattle.control_flow_theory.specs.language.All.{all}
 use Rattle.program_facts.specs.well_scoped.Part.{if_any}
 use Rattle.unparser.specs.Place.{entry_name, item_name}
-use Rattle.symbol_tables.specs.declared.data_names.name.Found.{Found}
-use Rattle.symbol_tables.specs.declared.data_names.name.Found.TheVariants as found
-use Rattle.symbol_tables.specs.declared.data_names.name.Kind.{Kind}
+use Rattle.symbol_tables.specs.declared.data_names.name.Referent.{Referent}
+use Rattle.symbol_tables.specs.declared.data_names.name.Referent.TheVariants as found
+use Rattle.symbol_tables.specs.declared.data_names.name.ItemKind.{ItemKind}
 use Rattle.symbol_tables.specs.declared.data_names.name.Name.{Name}
 use Rattle.symbol_tables.specs.data_names.Names.{names_from}
 use Rattle.symbol_tables.specs.data_names.Look.{are_within, find, fits, found_at, found_from, is_called, look, look_file}
@@ -124,12 +124,12 @@ found-here program items word of i name new p e =
     (other-word items word at.0.name (subst (λ w. is_called word w ≡ true) at.2 called) (other-at items program.entries i at.0 new at.1), slice_get_within program.entries i at.0 at.1)
 
 -- what is found has this number
-abbrev IsAt : ℕ → Found → Type 0
+abbrev IsAt : ℕ → Referent → Type 0
 IsAt number (found.Item item kind dims) = number ≡ item
 IsAt number found.Unknown = Unit {0}
 IsAt number found.Ambiguous = Unit {0}
 
-pub own-word : (program : Program) (items : List WholeItem) (word : List ℕ) (of : List (List ℕ)) (number : ℕ) (kind : Kind) (dims : ℕ) → AreNew program items → look (known_by program) word of ≡ found.Item number kind dims → FoundHere program items word number
+pub own-word : (program : Program) (items : List WholeItem) (word : List ℕ) (of : List (List ℕ)) (number : ℕ) (kind : ItemKind) (dims : ℕ) → AreNew program items → look (known_by program) word of ≡ found.Item number kind dims → FoundHere program items word number
 own-word program items word of number kind dims new e = by (position (fits word of) names) refl e
   where
     names : List Name

@@ -15,12 +15,12 @@ use Rattle.cob_tree.specs.declared.place.Window.{Window, map-Window, roll-Window
 use Rattle.cob_tree.specs.declared.program.Program.{Program}
 use Rattle.parser_combinators.specs.words.Word.{is_data_word}
 use Rattle.unparser.specs.Place.{item_name}
-use Rattle.symbol_tables.specs.declared.data_names.name.Found.{Found}
-use Rattle.symbol_tables.specs.declared.data_names.name.Found.TheVariants as found
-use Rattle.symbol_tables.specs.declared.data_names.name.Kind.{Kind}
+use Rattle.symbol_tables.specs.declared.data_names.name.Referent.{Referent}
+use Rattle.symbol_tables.specs.declared.data_names.name.Referent.TheVariants as found
+use Rattle.symbol_tables.specs.declared.data_names.name.ItemKind.{ItemKind}
 use Rattle.symbol_tables.specs.data_names.Look.{look}
 use Rattle.symbol_tables.specs.data_names.Names.{Names}
-use Rattle.cobol_grammar.specs.declared.expr_forms.side.Make.TheVariants as makes
+use Rattle.cobol_grammar.specs.declared.expr_forms.side.ExprContent.TheVariants as makes
 use Rattle.cobol_grammar.specs.expr_forms.Fault.{item_kind, kind_of, is_condition}
 use Rattle.round_trip.specs.spelling.expr_spelling.Printable as judging
 use Rattle.round_trip.specs.spelling.expr_spelling.Printable.{Judged, is_number, is_counting, are_data_words, suits, are_fit, if_fit, kind_seen, is_bare, reference, judged_expr, judged_operand, judged_place, judged_sub, judged_window}
@@ -32,14 +32,14 @@ use Rattle.round_trip.proofs.declarations_lemmas.added_entries_lemmas.Found.{loo
 
 -- ---- what suits is found
 
-suits-found : (item subs : ℕ) (windowed : Bool) (f : Found) → suits item subs windowed f ≡ true → (kind : Kind) × (dims : ℕ) × (f ≡ found.Item item kind dims)
+suits-found : (item subs : ℕ) (windowed : Bool) (f : Referent) → suits item subs windowed f ≡ true → (kind : ItemKind) × (dims : ℕ) × (f ≡ found.Item item kind dims)
 suits-found item subs windowed (found.Item number kind dims) h =
     (kind, dims, ap (λ n. found.Item n kind dims) (eqb-true number item (and_parts (number == item) (dims == subs && not (is_condition (item_kind kind) && windowed)) h).0))
 suits-found item subs windowed found.Unknown h = absurd cc
 suits-found item subs windowed found.Ambiguous h = absurd cc
 
 -- a place by its name, what that stands for and its parts
-abbrev placed : (word : List ℕ) (f : Found) (item : ℕ) (of : List (List ℕ)) (subs : List Judged) (window : Option Judged) → Judged
+abbrev placed : (word : List ℕ) (f : Referent) (item : ℕ) (of : List (List ℕ)) (subs : List Judged) (window : Option Judged) → Judged
 placed word f item of subs window = record {
   fit = (is_data_word word && are_data_words of) && (suits item (length subs) (is_some window) f && (are_fit subs && if_fit window));
   kind = kind_seen window (kind_of f);

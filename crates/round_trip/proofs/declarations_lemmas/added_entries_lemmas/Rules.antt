@@ -14,7 +14,7 @@ use Rattle.symbol_tables.specs.data_names.Grouping.{bound_of, holds, same_file}
 use Rattle.symbol_tables.specs.data_names.Nesting.{nearest}
 use Rattle.symbol_tables.specs.data_names.Names.{is_group}
 use Rattle.cob_store.specs.sizes.Size.{sized}
-use Rattle.declaration_checks.specs.declared.literal.Target.{Target}
+use Rattle.declaration_checks.specs.declared.literal.LiteralTarget.{LiteralTarget}
 use Rattle.declaration_checks.specs.Item.{level_stands}
 use Rattle.declaration_checks.specs.Literal.{fits}
 use Rattle.declaration_checks.specs.Redefining.{redefined, is_meant, is_short, last_alike, meant_at, if_meant, size_at}
@@ -109,7 +109,7 @@ module _ (program made : Program) (items : List WholeItem) (has : HasAdded progr
         ap (λ b. target_by b (sizes made) at entry) (group-is entry)
         ∙ ap (λ s. sized_target s) size-is
       where
-        sized_target : Option ℕ → Target
+        sized_target : Option ℕ → LiteralTarget
         sized_target s = record (target_by (is_group entry (behind (bases program) at)) (sizes program) at entry) { size = size_at s }
 
     redefines-is : (entry : Entry) (number : ℕ) → Redefines program at entry number → Redefines made at entry number

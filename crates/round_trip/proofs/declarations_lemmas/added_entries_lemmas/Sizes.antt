@@ -3,13 +3,13 @@ use Rattle.std.proofs.Common.{◌≡◌, ℕ, zero, suc, ◌+◌, Bool, true, fa
 use Rattle.std.specs.Prelude.{◌==◌}
 use Rattle.std.proofs.lemmas.Bool.{le-ltb}
 use Rattle.cob_tree.specs.declared.entry.Entry.{Entry}
-use Rattle.cob_store.specs.declared.size.Piece.{Piece}
+use Rattle.cob_store.specs.declared.size.SizedItem.{SizedItem}
 use Rattle.cob_store.specs.Size.{capped, is_apart, inside, behind, size_by, times, added, Sized, item_sized, apart_sized}
 use Rattle.cob_store.specs.sizes.Size.{is_bare, sized_by, sized}
 use Rattle.round_trip.specs.declarations.added_entries.Items.{WholeItem, whole_entries}
 
 -- none is below anything
-abbrev Stops : List Piece → Type 0
+abbrev Stops : List SizedItem → Type 0
 Stops [] = Unit {0}
 Stops (piece ∷ pieces) = piece.depth ≡ 1
 
@@ -21,24 +21,24 @@ low : (depth : ℕ) → (depth == 0) ≡ false → nat_lt depth 1 ≡ false
 low zero h = absurd cc
 low (suc n) h = le-ltb (suc n) 1 (omega arith)
 
-inside-ends : (depth bytes : ℕ) (pieces : List Piece) → (depth == 0) ≡ false → Stops pieces → inside depth bytes pieces ≡ bytes
+inside-ends : (depth bytes : ℕ) (pieces : List SizedItem) → (depth == 0) ≡ false → Stops pieces → inside depth bytes pieces ≡ bytes
 inside-ends depth bytes [] h s = refl
 inside-ends depth bytes (piece ∷ pieces) h s =
     ap (λ n. if nat_lt depth n then inside depth (capped (bytes + piece.bytes)) pieces else bytes) s
     ∙ ap (λ b. if b then inside depth (capped (bytes + piece.bytes)) pieces else bytes) (low depth h)
 
-inside-added : (depth bytes : ℕ) (pieces more : List Piece) → (depth == 0) ≡ false → Stops more → inside depth bytes (pieces ++ more) ≡ inside depth bytes pieces
+inside-added : (depth bytes : ℕ) (pieces more : List SizedItem) → (depth == 0) ≡ false → Stops more → inside depth bytes (pieces ++ more) ≡ inside depth bytes pieces
 inside-added depth bytes [] more h s = inside-ends depth bytes more h s
 inside-added depth bytes (piece ∷ pieces) more h s =
     ap (λ n. if nat_lt depth piece.depth then n else bytes) (inside-added depth (capped (bytes + piece.bytes)) pieces more h s)
 
-behind-ends : (depth : ℕ) (pieces : List Piece) → (depth == 0) ≡ false → Stops pieces → behind depth pieces ≡ pieces
+behind-ends : (depth : ℕ) (pieces : List SizedItem) → (depth == 0) ≡ false → Stops pieces → behind depth pieces ≡ pieces
 behind-ends depth [] h s = refl
 behind-ends depth (piece ∷ pieces) h s =
     ap (λ n. if nat_lt depth n then behind depth pieces else piece ∷ pieces) s
     ∙ ap (λ b. if b then behind depth pieces else piece ∷ pieces) (low depth h)
 
-behind-added : (depth : ℕ) (pieces more : List Piece) → (depth == 0) ≡ false → Stops more → behind depth (pieces ++ more) ≡ behind depth pieces ++ more
+behind-added : (depth : ℕ) (pieces more : List SizedItem) → (depth == 0) ≡ false → Stops more → behind depth (pieces ++ more) ≡ behind depth pieces ++ more
 behind-added depth [] more h s = behind-ends depth more h s
 behind-added depth (piece ∷ pieces) more h s =
     ap (λ l. if nat_lt depth piece.depth then l else piece ∷ (pieces ++ more)) (behind-added depth pieces more h s)
@@ -61,7 +61,7 @@ sized_by-added entry later more s = go (entry.level == 88) (entry.level == 0) re
         ap (λ n. item_sized entry (size_by entry.picture entry.sign n) (joined later more)) (inside-added entry.level 0 later.pieces more.pieces h s)
         ∙ ap (λ l. both_of (size_by entry.picture entry.sign (inside entry.level 0 later.pieces)) l) (behind-added entry.level later.pieces more.pieces h s)
       where
-        both_of : ℕ → List Piece → Sized
+        both_of : ℕ → List SizedItem → Sized
         both_of size l = record { sizes = size ∷ (later.sizes ++ more.sizes); pieces = (record { depth = entry.level; bytes = added entry.redefines (times entry.occurs size) }) ∷ l }
 
     by : Bool → Bool → Bool → Sized → Sized

@@ -14,15 +14,15 @@ use Rattle.control_flow_theory.specs.language.All.{all}
 use Rattle.program_facts.specs.well_scoped.Part.{if_any}
 use Rattle.parser_combinators.specs.words.Word.{is_data_word}
 use Rattle.unparser.specs.Place.{entry_name, item_name}
-use Rattle.symbol_tables.specs.declared.data_names.name.Found.{Found}
-use Rattle.symbol_tables.specs.declared.data_names.name.Found.TheVariants as found
-use Rattle.symbol_tables.specs.declared.data_names.name.Kind.TheVariants.{Number}
+use Rattle.symbol_tables.specs.declared.data_names.name.Referent.{Referent}
+use Rattle.symbol_tables.specs.declared.data_names.name.Referent.TheVariants as found
+use Rattle.symbol_tables.specs.declared.data_names.name.ItemKind.TheVariants.{Number}
 use Rattle.symbol_tables.specs.declared.data_names.name.Name.{Name}
 use Rattle.symbol_tables.specs.data_names.Names.{name_of, names_from}
 use Rattle.symbol_tables.specs.data_names.Look.{are_within, find, fits, found_at, found_from, is_called, look}
 use Rattle.symbol_tables.proofs.data_names_lemmas.NamesLemmas.{length-names_from}
 use Rattle.cobol_grammar.specs.expr_forms.Fault.{kind_of}
-use Rattle.cobol_grammar.specs.declared.expr_forms.side.Make.TheVariants as makes
+use Rattle.cobol_grammar.specs.declared.expr_forms.side.ExprContent.TheVariants as makes
 use Rattle.cobol_grammar.specs.declared.expr_forms.side.ValueKind.TheVariants as kinds
 use Rattle.round_trip.specs.spelling.expr_spelling.Printable.{Judged, suits, judged_place}
 use Rattle.round_trip.proofs.spelling_lemmas.expr_spelling_lemmas.Layers.{judged-place}
@@ -188,7 +188,7 @@ added-judged program made items number item has new different titled e =
     named : item_name made at ≡ item.name
     named = ap (λ list. entry_name (slice_get list at)) has.entries ∙ ap entry_name (get-behind program.entries items number item e)
 
-    judged : List ℕ → Found → Judged
+    judged : List ℕ → Referent → Judged
     judged word f = record { fit = (is_data_word word && true) && (suits at 0 false f && true); kind = kind_of f; make = makes.Item; bare = true }
 
     fit : ((is_data_word item.name && true) && (suits at 0 false (found.Item at (Number true) 0) && true)) ≡ true

@@ -21,9 +21,9 @@ use Rattle.parser_combinators.specs.declared.note.Note.{Note}
 use Rattle.parser_combinators.specs.declared.note.Position.{Position}
 use Rattle.parser_combinators.specs.Note.{earliest}
 use Rattle.declaration_checks.specs.declared.clause.ClauseKind.TheVariants as kinds
-use Rattle.declaration_checks.specs.declared.literal.Target.{Target}
+use Rattle.declaration_checks.specs.declared.literal.LiteralTarget.{LiteralTarget}
 use Rattle.declaration_checks.specs.Base.{is_count, number_of, spans_of, span_of, to_of}
-use Rattle.declaration_checks.specs.Clause.{again_fault, other_fault, clause_of}
+use Rattle.declaration_checks.specs.Clause.{duplicate_fault, other_fault, clause_of}
 use Rattle.declaration_checks.specs.Fault.{fault_at, fault_unless, first_of}
 use Rattle.declaration_checks.specs.Item.{picture_by, picture_fault, is_signed, sign_by, sign_fault, may_repeat, occurs_by, occurs_fault}
 use Rattle.declaration_checks.specs.Literal.{fits}
@@ -82,7 +82,7 @@ occurs-none level dims (Some count) list h is =
     (holds (may_repeat level dims) Usage is.0 h.0, (holds (is_count (number_of (decimal count))) Usage is.1 (counted count h.1 h.2), tt))
 
 -- drafts of one value alone
-literals-none : (target : Target) (value : Operand) (drafts : List SpanDraft) → fits value target ≡ true → map span_of drafts ≡ alone value ∷ [] → literals_fault target drafts ≡ None
+literals-none : (target : LiteralTarget) (value : Operand) (drafts : List SpanDraft) → fits value target ≡ true → map span_of drafts ≡ alone value ∷ [] → literals_fault target drafts ≡ None
 literals-none target value [] fit e = refl
 literals-none target value (draft ∷ []) fit e =
     let first : span_of draft ≡ alone value = head-is e in
@@ -103,7 +103,7 @@ literals-none target value (draft ∷ next ∷ drafts) fit e = absurd (more (tai
     more : {x : Span} {xs : List Span} → x ∷ xs ≡ [] → ⊥
     more e = cc
 
-value-none : (entry : Entry) (target : Target) (barred : Bool) (o : Option Operand) (list : List Clause) → IfAny (IsValued entry target barred) o → IsValue o list →
+value-none : (entry : Entry) (target : LiteralTarget) (barred : Bool) (o : Option Operand) (list : List Clause) → IfAny (IsValued entry target barred) o → IsValue o list →
     value_by (base entry) target barred (first_in list) ≡ None
 value-none entry target barred None list h is = ap (λ list. value_by (base entry) target barred (first_in list)) is
 value-none entry target barred (Some value) list h is =
@@ -121,7 +121,7 @@ redefines-none program at entry (Some number) list h is =
     ∙ holds (is_short (sizes program) at (base entry) number) BadRedefines is.1 h.1
 
 module _ (program : Program) (at : ℕ) (entry : Entry) (draft : EntryDraft) (D : IsDraft program entry draft) where
-  abbrev target : Target
+  abbrev target : LiteralTarget
   target = target_of (bases program) (sizes program) at (base entry)
 
   abbrev group : Bool
@@ -133,7 +133,7 @@ module _ (program : Program) (at : ℕ) (entry : Entry) (draft : EntryDraft) (D 
       let standing = standing_of (base entry) (before (bases program) at) in
       none-first (clauses_fault (base entry) target standing draft ∷ redefines_fault (bases program) (sizes program) at (base entry) draft.clauses ∷ []) (
         none-first
-            (again_fault draft.clauses
+            (duplicate_fault draft.clauses
             ∷ picture_fault entry.picture group draft.at draft.clauses
             ∷ sign_fault entry.picture group draft.clauses
             ∷ occurs_fault entry.level standing.dims draft.clauses
@@ -161,7 +161,7 @@ module _ (program : Program) (at : ℕ) (entry : Entry) (draft : EntryDraft) (D 
 
   -- ---- a level 88
 
-  span-none : (target : Target) (draft : SpanDraft) (span : Span) → span_of draft ≡ span → SpanFits target span → span_fault target draft ≡ None
+  span-none : (target : LiteralTarget) (draft : SpanDraft) (span : Span) → span_of draft ≡ span → SpanFits target span → span_fault target draft ≡ None
   span-none target draft span e fit =
       none-first (fault_unless (fits draft.from target) Value draft.from_at ∷ to_fault target draft.thru ∷ []) (
         holds (fits draft.from target) Value draft.from_at (ap (λ (span : Span). fits span.from target) e ∙ fit.0),
@@ -172,7 +172,7 @@ module _ (program : Program) (at : ℕ) (entry : Entry) (draft : EntryDraft) (D 
       to-none None h = refl
       to-none (Some thru) h = holds (fits thru.to target) Value thru.to_at h
 
-  spans-none : (target : Target) (drafts : List SpanDraft) (spans : List Span) → map span_of drafts ≡ spans → SpansFit target spans → fold (and_span target) None drafts ≡ None
+  spans-none : (target : LiteralTarget) (drafts : List SpanDraft) (spans : List Span) → map span_of drafts ≡ spans → SpansFit target spans → fold (and_span target) None drafts ≡ None
   spans-none target [] spans e fit = refl
   spans-none target (draft ∷ drafts) [] e fit = absurd cc
   spans-none target (draft ∷ drafts) (span ∷ spans) e fit =
@@ -200,9 +200,9 @@ module _ (program : Program) (at : ℕ) (entry : Entry) (draft : EntryDraft) (D 
       let S = condition-spans program at entry draft.clauses K D.clauses in
       let holder = holder_of (base entry) (before (bases program) at) in
       none-first
-      (again_fault draft.clauses ∷ other_fault draft.clauses ∷ missing_fault draft.at draft.clauses
+      (duplicate_fault draft.clauses ∷ other_fault draft.clauses ∷ missing_fault draft.at draft.clauses
       ∷ fits_fault (bases program) (sizes program) draft holder ∷ []) (
-        ap again_fault S.3,
+        ap duplicate_fault S.3,
         (
           ap other_fault S.3,
           (

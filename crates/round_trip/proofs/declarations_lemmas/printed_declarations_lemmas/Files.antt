@@ -13,7 +13,7 @@ use Rattle.cobol_grammar.specs.declared.data_forms.draft.SelectDraft.{SelectDraf
 use Rattle.cobol_grammar.specs.declared.data_forms.draft.StatusDraft.{StatusDraft}
 use Rattle.parser_combinators.specs.declared.note.NameKind.TheVariants.{Duplicate, Usage}
 use Rattle.declaration_checks.specs.Fault.{fault_at, fault_unless}
-use Rattle.declaration_checks.specs.File.{is_selected, is_described, again_fault, named_fault, select_fault, selects_from, fd_fault, fds_from, number_by, file_number, status_of, file_of}
+use Rattle.declaration_checks.specs.File.{is_selected, is_described, duplicate_fault, named_fault, select_fault, selects_from, fd_fault, fds_from, number_by, file_number, status_of, file_of}
 use Rattle.round_trip.specs.spelling.data_spelling.Sections.{Fd}
 use Rattle.round_trip.specs.spelling.data_spelling.Drafts.{IsStatus, IsSelect, AreSelects, file_title, IsFd, AreFds}
 use Rattle.round_trip.specs.declarations.printed_declarations.FileRules.{is_named, AreDistinct, fd_title, is_titled, AreThere, AreApartFds, AreDescribed}
@@ -25,9 +25,9 @@ status-is : (o : Option Place) (list : List StatusDraft) → IsStatus o list →
 status-is None list h = ap status_of h
 status-is (Some place) list h = ap status_of h.1
 
-once : (o : Option Place) (list : List StatusDraft) → IsStatus o list → again_fault list ≡ None
-once None list h = ap again_fault h
-once (Some place) list h = ap again_fault h.1
+once : (o : Option Place) (list : List StatusDraft) → IsStatus o list → duplicate_fault list ≡ None
+once None list h = ap duplicate_fault h
+once (Some place) list h = ap duplicate_fault h.1
 
 file-is : (file : FileEntry) (draft : SelectDraft) → IsSelect file draft → file_of draft ≡ file
 file-is file draft h =
@@ -94,7 +94,7 @@ module _ (program : Program) (fds : List Fd) (drafts : List FdDraft) (described 
           ∙ ap (λ v. fault_unless v Usage select.at) there
 
       here : select_fault drafts ahead select ≡ None
-      here = none-first (named_fault drafts ahead select ∷ again_fault select.statuses ∷ []) (named, (once file.status select.statuses h.0.status, tt))
+      here = none-first (named_fault drafts ahead select ∷ duplicate_fault select.statuses ∷ []) (named, (once file.status select.statuses h.0.status, tt))
 
 -- the file of a number has a name among those of all
 named-there : (files : List FileEntry) (n : ℕ) (file : FileEntry) → slice_get files n ≡ Some file → list_any (is_named file.name) files ≡ true

@@ -14,7 +14,7 @@ use Rattle.cobol_grammar.specs.declared.data_forms.draft.Clause.{Clause}
 use Rattle.parser_combinators.specs.declared.note.NameKind.TheVariants.{Usage}
 use Rattle.declaration_checks.specs.declared.clause.ClauseKind.{ClauseKind}
 use Rattle.declaration_checks.specs.declared.clause.ClauseKind.TheVariants as kinds
-use Rattle.declaration_checks.specs.Clause.{kind_of, kind_number, is_of, clause_of, again_from, again_fault, position_of}
+use Rattle.declaration_checks.specs.Clause.{kind_of, kind_number, is_of, clause_of, again_from, duplicate_fault, position_of}
 use Rattle.declaration_checks.specs.Fault.{fault_at}
 use Rattle.round_trip.specs.spelling.data_spelling.Drafts.{IsRedefines, IsPicture, IsSign, IsSpans, alone, IsOccurs, IsValue, IsRanges, AreClauses}
 
@@ -230,9 +230,9 @@ again-part kind next before front back (inr c) h earlier rest =
     ∙ ap (λ b. if b then fault_at Usage (position_of c.0) else again_from (before ++ c.0 ∷ []) back) (none-alike (kind_of c.0) before (subst (λ n. Earlier n before) (sym c.2) earlier))
     ∙ rest (before ++ c.0 ∷ []) (earlier-last next before c.0 (earlier-more (kind_number kind) next before (omega (arith, h)) earlier) (subst (λ n. n < next) (sym c.2) h))
 
-pub none-again : {program : Program} {entry : Entry} {list : List Clause} → Parts program entry list → again_fault list ≡ None
+pub none-again : {program : Program} {entry : Entry} {list : List Clause} → Parts program entry list → duplicate_fault list ≡ None
 none-again P =
-    ap again_fault P.is
+    ap duplicate_fault P.is
     ∙ again-part kinds.Redefines 1 [] P.redefines (P.picture ++ (P.sign ++ (P.occurs ++ P.value))) (redefines_only P) (omega arith) tt
     (λ a e. again-part kinds.Picture 3 a P.picture (P.sign ++ (P.occurs ++ P.value)) (picture_only P) (omega arith) e
     (λ b f. again-part kinds.Sign 4 b P.sign (P.occurs ++ P.value) (sign_only P) (omega arith) f

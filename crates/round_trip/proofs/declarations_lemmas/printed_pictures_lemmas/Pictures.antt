@@ -10,8 +10,8 @@ use Rattle.cob_base.specs.Bytes.{left_parenthesis, right_parenthesis, digit_0, d
 use Rattle.cob_tree.specs.declared.picture.Picture.{Picture}
 use Rattle.cob_tree.specs.declared.picture.Picture.TheVariants as pictures
 use Rattle.picture_data.specs.declared.fault.Flaw.TheVariants as flaws
-use Rattle.picture_data.specs.declared.reading.Place.{Place}
-use Rattle.picture_data.specs.declared.reading.Place.TheVariants as places
+use Rattle.picture_data.specs.declared.reading.SymbolPosition.{SymbolPosition}
+use Rattle.picture_data.specs.declared.reading.SymbolPosition.TheVariants as places
 use Rattle.picture_data.specs.declared.reading.Reading.{Reading}
 use Rattle.picture_data.specs.declared.symbols.Shape.{Shape}
 use Rattle.picture_data.specs.declared.symbols.Shape.TheVariants as shapes
@@ -33,7 +33,7 @@ at-end : (reading : Reading) (picture : Picture) → finish reading ≡ Ok pictu
 unfolding read_from
 at-end reading picture e n = ap (ended n) e
 
-abbrev at : Symbols → Place → Reading
+abbrev at : Symbols → SymbolPosition → Reading
 at symbols place = record { symbols = symbols; place = place }
 
 -- ---- the digits of a count
@@ -92,11 +92,11 @@ abbrev IsCounted : ℕ → Type 0
 IsCounted symbol = (to_ascii_uppercase symbol ≡ symbol) × ((symbol == symbol_s || symbol == symbol_v) ≡ false) × ((symbol == left_parenthesis) ≡ false)
 
 -- no count is being read
-abbrev IsBetween : Place → Type 0
+abbrev IsBetween : SymbolPosition → Type 0
 IsBetween (places.Count count) = ⊥
 IsBetween _ = Unit {0}
 
-symbol-read : (symbol : ℕ) (symbols : Symbols) (place : Place) (shape : Shape) → IsCounted symbol → IsBetween place → behind symbol symbols.shape ≡ Some shape → Fits 1 (record symbols { shape = shape }) →
+symbol-read : (symbol : ℕ) (symbols : Symbols) (place : SymbolPosition) (shape : Shape) → IsCounted symbol → IsBetween place → behind symbol symbols.shape ≡ Some shape → Fits 1 (record symbols { shape = shape }) →
     step (to_ascii_uppercase symbol) (at symbols place) ≡ Ok (at (counted 1 (record symbols { shape = shape }) shape) places.Behind)
 unfolding step
 symbol-read symbol symbols place shape is between e f = ap (λ b. step b (at symbols place)) is.0 ∙ go place between
@@ -107,7 +107,7 @@ symbol-read symbol symbols place shape is between e f = ap (λ b. step b (at sym
         ∙ ap (λ t. if t then placed places.Open (added 0 (record symbols { shape = shape })) else placed places.Behind (added 1 (record symbols { shape = shape }))) is.1
         ∙ ap (placed places.Behind) (fits 1 (record symbols { shape = shape }) f)
 
-    go : (p : Place) → IsBetween p → step_by p symbol (at symbols p) ≡ Ok (at (counted 1 (record symbols { shape = shape }) shape) places.Behind)
+    go : (p : SymbolPosition) → IsBetween p → step_by p symbol (at symbols p) ≡ Ok (at (counted 1 (record symbols { shape = shape }) shape) places.Behind)
     go places.Open b = by
     go places.Behind b =
         ap (λ t. if t then Ok (at symbols (places.Count 0)) else symbol_by symbol (behind symbol symbols.shape) symbols) is.2 ∙ by
@@ -126,7 +126,7 @@ closed-by symbols count some f =
     ap (λ t. if t then Err flaws.Order else placed places.Open (added (count - 1) symbols)) (not-zero count some) ∙ ap (placed places.Open) (fits (count - 1) symbols f)
 
 -- where a run leaves the reading
-abbrev run_place : ℕ → Place
+abbrev run_place : ℕ → SymbolPosition
 run_place count = if count == 1 then places.Behind else places.Open
 
 counted-on : (symbols : Symbols) (count : ℕ) → 1 ≤ count → counted (count - 1) (counted 1 symbols symbols.shape) symbols.shape ≡ counted count symbols symbols.shape
@@ -185,7 +185,7 @@ run-counted count symbols shape some =
 is-one : (count : ℕ) → (count == 1) ≡ true → 1 ≡ count
 is-one count e = grind (arith, nat_tests)
 
-run : (symbol count : ℕ) (symbols : Symbols) (place : Place) (shape : Shape) (rest : List ℕ) (picture : Picture) → IsCounted symbol → IsBetween place → behind symbol symbols.shape ≡ Some shape →
+run : (symbol count : ℕ) (symbols : Symbols) (place : SymbolPosition) (shape : Shape) (rest : List ℕ) (picture : Picture) → IsCounted symbol → IsBetween place → behind symbol symbols.shape ≡ Some shape →
     1 ≤ count → count ≤ 65535 → Fits count (shaped symbols shape) → Gives (at (counted count (shaped symbols shape) shape) (run_place count)) rest picture →
     Gives (at symbols place) (run_text symbol count ++ rest) picture
 run symbol count symbols place shape rest picture is between e some small f g =
@@ -205,7 +205,7 @@ run symbol count symbols place shape rest picture is between e some small f g =
 
 -- ---- the end
 
-finished : (symbols : Symbols) (place : Place) (found : Picture) → IsBetween place → picture symbols ≡ Ok found → finish (at symbols place) ≡ Ok found
+finished : (symbols : Symbols) (place : SymbolPosition) (found : Picture) → IsBetween place → picture symbols ≡ Ok found → finish (at symbols place) ≡ Ok found
 unfolding finish
 finished symbols places.Open found between e = e
 finished symbols places.Behind found between e = e
@@ -241,7 +241,7 @@ nines : IsCounted 57
 nines = (refl, refl, refl)
 
 -- V
-point-read : (signed : Bool) (shape : Shape) (whole : ℕ) (place : Place) → IsBetween place → behind 86 shape ≡ Some (shapes.Point signed) → whole ≤ 18 →
+point-read : (signed : Bool) (shape : Shape) (whole : ℕ) (place : SymbolPosition) → IsBetween place → behind 86 shape ≡ Some (shapes.Point signed) → whole ≤ 18 →
     step (to_ascii_uppercase 86) (at (some_symbols shape whole 0) place) ≡ Ok (at (some_symbols (shapes.Point signed) whole 0) places.Open)
 unfolding step
 point-read signed shape whole place between e few = go place between
@@ -251,12 +251,12 @@ point-read signed shape whole place between e few = go place between
         ap (λ o. symbol_by 86 o (some_symbols shape whole 0)) e
         ∙ ap (placed places.Open) (fits 0 (some_symbols (shapes.Point signed) whole 0) (omega (arith, few)))
 
-    go : (p : Place) → IsBetween p → step_by p 86 (at (some_symbols shape whole 0) p) ≡ Ok (at (some_symbols (shapes.Point signed) whole 0) places.Open)
+    go : (p : SymbolPosition) → IsBetween p → step_by p 86 (at (some_symbols shape whole 0) p) ≡ Ok (at (some_symbols (shapes.Point signed) whole 0) places.Open)
     go places.Open b = by
     go places.Behind b = by
     go (places.Count count) b = absurd b
 
-part-read : (signed : Bool) (shape : Shape) (whole part : ℕ) (place : Place) → IsBetween place → behind 86 shape ≡ Some (shapes.Point signed) → 1 ≤ part → whole + part ≤ 18 →
+part-read : (signed : Bool) (shape : Shape) (whole part : ℕ) (place : SymbolPosition) → IsBetween place → behind 86 shape ≡ Some (shapes.Point signed) → 1 ≤ part → whole + part ≤ 18 →
     Gives (at (some_symbols shape whole 0) place) (86 ∷ run_text 57 part) (pictures.Number signed whole part)
 part-read signed shape whole part place between e some few =
     let none : 0 + part ≡ part = omega arith in
@@ -269,7 +269,7 @@ part-read signed shape whole part place between e some few =
     (finished (counted part symbols (shapes.Point signed)) (run_place part) found (run-between part)
     (ap (number signed whole) none ∙ number-made signed whole part (omega (arith, some)) few)))))
 
-part-text-read : (signed : Bool) (shape : Shape) (whole part : ℕ) (place : Place) → IsBetween place → behind 86 shape ≡ Some (shapes.Point signed) → picture_by shape (some_symbols shape whole 0) ≡ number signed whole 0 →
+part-text-read : (signed : Bool) (shape : Shape) (whole part : ℕ) (place : SymbolPosition) → IsBetween place → behind 86 shape ≡ Some (shapes.Point signed) → picture_by shape (some_symbols shape whole 0) ≡ number signed whole 0 →
     1 ≤ whole + part → whole + part ≤ 18 → Gives (at (some_symbols shape whole 0) place) (part_text part) (pictures.Number signed whole part)
 part-text-read signed shape whole part place between e alone some few = go (part == 0) refl
   where

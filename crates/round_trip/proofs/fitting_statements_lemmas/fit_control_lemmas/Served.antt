@@ -24,10 +24,10 @@ use Rattle.cob_tree.specs.declared.stmt.Stmt.TheVariants as stmts
 use Rattle.control_flow_theory.specs.language.All.{all}
 use Rattle.control_flow_theory.specs.language.Language as language
 use Rattle.control_flow_theory.specs.language.Control.{cell_of, number_written, setting, move_to, move_of, lowered_cell, arith_act, arith_stmt, arith_alone, setting_item, augmenting, relation_of, cell_in, number_in, Tested, tested_step, tested, arm_before, else_of, stmts_of, control_in, loop_of, perform_of, test_of, picker_by, cell_chosen, count_from, tests_of, Branch, branches_before, Both, both_arms, both_step, branch_step, seen_step, seen, seen_when, seen_both, seen_stmts, seen_sentence, seen_paragraphs, section_last}
-use Rattle.control_flow_theory.specs.lowering.Told.{Told}
+use Rattle.control_flow_theory.specs.lowering.FlowFacts.{FlowFacts}
 use Rattle.control_flow_theory.specs.rendering.Rendering.{Naming, count_arms}
 use Rattle.control_flow_theory.specs.rendering.Procedures.{Writable}
-use Rattle.control_flow_theory.specs.served_graphs.Served.{ActIsServed, TestIsServed, PickerIsServed, StmtIsServed, StmtsAreServed, ArmsAreServed, ParagraphIsServed, ParagraphsAreServed}
+use Rattle.control_flow_theory.specs.expressible_graphs.Served.{ActIsServed, TestIsServed, PickerIsServed, StmtIsServed, StmtsAreServed, ArmsAreServed, ParagraphIsServed, ParagraphsAreServed}
 use Rattle.program_facts.specs.well_scoped.Part.{is_filled, if_any}
 use Rattle.program_facts.proofs.well_scoped_lemmas.Made.{both}
 use Rattle.round_trip.specs.fitting_statements.Fits.{Fits}
@@ -36,7 +36,7 @@ use Rattle.round_trip.specs.fitting_statements.fit_control.Fit.{without_jumps, f
 use Rattle.round_trip.specs.fitting_statements.fit_control.Written.{PartsServed}
 use Rattle.round_trip.proofs.fitting_statements_lemmas.fit_control_lemmas.Single.{some-names, filled-back, filled-on, calc-same, asked, out-is, is-asked, alone-fits, under, tests-fit}
 
-module _ (fits : Fits) (naming : Naming) (kinds : Writable) (serves : PartsServed fits kinds) (told : Told) (range : language.Range) where
+module _ (fits : Fits) (naming : Naming) (kinds : Writable) (serves : PartsServed fits kinds) (told : FlowFacts) (range : language.Range) where
   abbrev Served : language.Stmt → Type 0
   Served stmt = StmtIsServed naming kinds told range stmt
 

@@ -14,18 +14,18 @@ use Rattle.unparser.specs.Place.{item_name}
 use Rattle.program_facts.specs.term_counts.Condition.{cond_terms}
 use Rattle.program_facts.specs.term_counts.Expression.{expr_terms}
 use Rattle.parser_combinators.specs.words.Word.{is_data_word}
-use Rattle.symbol_tables.specs.declared.data_names.name.Found.{Found}
-use Rattle.symbol_tables.specs.declared.data_names.name.Found.TheVariants as founds
-use Rattle.symbol_tables.specs.declared.data_names.name.Kind.{Kind}
+use Rattle.symbol_tables.specs.declared.data_names.name.Referent.{Referent}
+use Rattle.symbol_tables.specs.declared.data_names.name.Referent.TheVariants as founds
+use Rattle.symbol_tables.specs.declared.data_names.name.ItemKind.{ItemKind}
 use Rattle.symbol_tables.specs.data_names.Look.{look_file}
 use Rattle.symbol_tables.specs.data_names.Names.{Names}
 use Rattle.symbol_tables.specs.declared.procedure_names.table.ProcedureTable.{ProcedureTable}
-use Rattle.cobol_grammar.specs.declared.expr_forms.side.Make.TheVariants as makes
+use Rattle.cobol_grammar.specs.declared.expr_forms.side.ExprContent.TheVariants as makes
 use Rattle.cobol_grammar.specs.declared.expr_forms.side.Side.{Side}
 use Rattle.cobol_grammar.specs.declared.expr_forms.side.ValueKind.{ValueKind}
 use Rattle.cobol_grammar.specs.expr_forms.Fault.{is_condition, kind_of}
 use Rattle.cobol_grammar.specs.stmt_forms.Part.{Parts}
-use Rattle.cobol_grammar.specs.declared.known.Known.{Known}
+use Rattle.cobol_grammar.specs.declared.subject_kind.SubjectKind.{SubjectKind}
 use Rattle.cobol_grammar.specs.Name.{is_record}
 use Rattle.cobol_grammar.specs.Use.{record_kind}
 use Rattle.cobol_grammar.specs.Whole.{parts_of}
@@ -56,7 +56,7 @@ at-is : (number : ℕ) (found : Option ℕ) → is_at number found ≡ true → 
 at-is number None e = absurd cc
 at-is number (Some other) e = ap Some (eqb-true other number e)
 
-item-is : (item : ℕ) (found : Found) → is_item item found ≡ true → (kind : Kind) × (dims : ℕ) × (found ≡ founds.Item item kind dims)
+item-is : (item : ℕ) (found : Referent) → is_item item found ≡ true → (kind : ItemKind) × (dims : ℕ) × (found ≡ founds.Item item kind dims)
 item-is item (founds.Item number kind dims) e = (kind, dims, ap (λ n. founds.Item n kind dims) (eqb-true number item e))
 item-is item found e = absurd (both_ways false refl e)
 
@@ -119,7 +119,7 @@ module _ (program : Program) where
     abbrev entries : List Entry
     entries = program.entries
 
-    abbrev parts : Parts Side Known
+    abbrev parts : Parts Side SubjectKind
     parts = parts_of names entries table
 
     abbrev kept : Kept Side

@@ -3,21 +3,21 @@ use Rattle.std.proofs.Common.{◌≡◌, ℕ, suc, ◌+◌, Bool, true, false, i
 use Rattle.control_flow_theory.specs.language.Language.{Simple, Control, Times, Until, Varying, Stmt, Choose, Loop, Perform, Go, GoDepending, NextSentence, ExitParagraph, ExitSection, ExitPerform, StopRun, Stmts, none, also, Arms, done, given, missing, Body, Nested, Performed}
 use Rattle.control_flow_theory.specs.language.Language as language
 use Rattle.control_flow_theory.specs.semantics.Graph.{Tree, tree, End, Pick, Jump, Dead, Trees}
-use Rattle.control_flow_theory.specs.lowering.Told.{Told}
+use Rattle.control_flow_theory.specs.lowering.FlowFacts.{FlowFacts}
 use Rattle.control_flow_theory.specs.lowering.Completes.{completes, cut, cuts, cut_arms, cut_body, whole, wholes, size, sizes, skips, first_is_dead}
-use Rattle.control_flow_theory.specs.lowering.Lower.{point, only, with_first, push, back, leaf, build, build_stmt, build_arms, depending, loop_start, Node, loop_nodes, nodes, nodes_in, nodes_of_arms, Leaving, within_loop}
+use Rattle.control_flow_theory.specs.lowering.Lower.{point, end_alone, with_first, push, loop_back_label, leaf, build, build_stmt, build_arms, depending, loop_start, Node, loop_nodes, nodes, nodes_in, nodes_of_arms, EscapeTargets, within_loop}
 use Rattle.control_flow_theory.specs.lowering.WellFormed.{tree_count}
 use Rattle.control_flow_theory.specs.rendering.Rendering.{count_arms}
 use Rattle.round_trip.specs.fitting_statements.sound_bodies.Sound.{PickerIsSound, StmtIsSound, StmtsAreSound, ArmsAreSound, BodyIsSound}
 use Rattle.round_trip.specs.fitting_statements.sound_bodies.Trees.{TreeIsSound, EndIsSound, TreesAreSound}
 
 -- cutting leaves as many arms
-cut-count : (told : Told) (arms : Arms) → count_arms (cut_arms told arms) ≡ count_arms arms
+cut-count : (told : FlowFacts) (arms : Arms) → count_arms (cut_arms told arms) ≡ count_arms arms
 cut-count told done = refl
 cut-count told (given arm others) = ap suc (cut-count told others)
 cut-count told (missing others) = ap suc (cut-count told others)
 
-module _ (begins : Simple → Bool) (enough : (cell arms : ℕ) → Bool) (told : Told) (place_of : ℕ → ℕ) where
+module _ (begins : Simple → Bool) (enough : (cell arms : ℕ) → Bool) (told : FlowFacts) (place_of : ℕ → ℕ) where
   abbrev StmtSound : Stmt → Type 0
   StmtSound stmt = StmtIsSound begins enough stmt
 
@@ -111,7 +111,7 @@ module _ (begins : Simple → Bool) (enough : (cell arms : ℕ) → Bool) (told 
       ]
 
   -- a choice has as many trees as arms
-  arms-count : (first : Bool) (arms : Arms) (n : ℕ) (leaving : Leaving) (after : End) → tree_count (build_arms told place_of first arms n leaving after) ≡ count_arms arms
+  arms-count : (first : Bool) (arms : Arms) (n : ℕ) (leaving : EscapeTargets) (after : End) → tree_count (build_arms told place_of first arms n leaving after) ≡ count_arms arms
   arms-count first done n leaving after = refl
   arms-count first (given arm others) n leaving after = ap suc (arms-count false others (n + sizes arm) leaving after)
   arms-count first (missing others) n leaving after = ap suc (arms-count false others n leaving after)
@@ -126,18 +126,18 @@ module _ (begins : Simple → Bool) (enough : (cell arms : ℕ) → Bool) (told 
   start-fine (Varying after set step test) n = ((tt, tt), tt)
 
   -- wherever what leaves goes on, that is sound
-  abbrev pub LeavingFine : Leaving → Type 0
+  abbrev pub LeavingFine : EscapeTargets → Type 0
   LeavingFine leaving = IsEnd leaving.sentence × IsEnd leaving.paragraph × ((last : ℕ) → IsEnd (leaving.section last)) × IsEnd leaving.loop × IsEnd leaving.cycle
 
   mutual
-    build-stmt-fine : (s : Stmt) (n : ℕ) (leaving : Leaving) (after : End) (behind : Tree) → StmtSound s →
+    build-stmt-fine : (s : Stmt) (n : ℕ) (leaving : EscapeTargets) (after : End) (behind : Tree) → StmtSound s →
         LeavingFine leaving → IsEnd after → IsFine behind → IsFine (build_stmt told place_of s n leaving after behind)
     build-stmt-fine (language.Do act) n leaving after behind c ws wa fb =
         elim (skips told act) as (λ b. IsFine (if b then behind else push told place_of (language.Do act) behind)) [ true ↦ fb | false ↦ push-fine (language.Do act) behind c fb ]
     build-stmt-fine (Choose picker arms) n leaving after behind c ws wa fb =
         let first = first_is_dead told picker in
         let trees = build_arms told place_of first arms (n + 1) leaving after in
-        elim (whole (cut told (Choose picker arms))) as (λ b. IsFine (if b then push told place_of (Choose picker arms) behind else only (Pick picker trees))) [
+        elim (whole (cut told (Choose picker arms))) as (λ b. IsFine (if b then push told place_of (Choose picker arms) behind else end_alone (Pick picker trees))) [
           | true ↦ push-fine (Choose picker arms) behind c fb
           | false ↦ (
             tt,
@@ -163,18 +163,18 @@ module _ (begins : Simple → Bool) (enough : (cell arms : ℕ) → Bool) (told 
     build-stmt-fine (ExitPerform true) n leaving after behind c ws wa fb = (tt, ws.4)
     build-stmt-fine StopRun n leaving after behind c ws wa fb = (tt, tt)
 
-    pub build-fine : (ss : Stmts) (n : ℕ) (leaving : Leaving) (after : End) (behind : Tree) → Sound ss →
+    pub build-fine : (ss : Stmts) (n : ℕ) (leaving : EscapeTargets) (after : End) (behind : Tree) → Sound ss →
         LeavingFine leaving → IsEnd after → IsFine behind → IsFine (build told place_of ss n leaving after behind)
     build-fine none n leaving after behind c ws wa fb = fb
     build-fine (also s ss) n leaving after behind c ws wa fb =
         build-stmt-fine s n leaving (leaf told place_of ss (n + size s) after) (build told place_of ss (n + size s) leaving after behind) c.0
         ws (leaf-fine ss (n + size s) after wa) (build-fine ss (n + size s) leaving after behind c.1 ws wa fb)
 
-    arms-fine : (first : Bool) (arms : Arms) (n : ℕ) (leaving : Leaving) (after : End) → ArmsSound arms →
+    arms-fine : (first : Bool) (arms : Arms) (n : ℕ) (leaving : EscapeTargets) (after : End) → ArmsSound arms →
         LeavingFine leaving → IsEnd after → AreFine (build_arms told place_of first arms n leaving after)
     arms-fine first done n leaving after c ws wa = tt
     arms-fine first (given arm others) n leaving after c ws wa =
-        (build-fine arm n leaving after (only after) c.0 ws wa (tt, wa), arms-fine false others (n + sizes arm) leaving after c.1 ws wa)
+        (build-fine arm n leaving after (end_alone after) c.0 ws wa (tt, wa), arms-fine false others (n + sizes arm) leaving after c.1 ws wa)
     arms-fine true (missing others) n leaving after c ws wa = ((tt, tt), arms-fine false others n leaving after c ws wa)
     arms-fine false (missing others) n leaving after c ws wa = ((tt, wa), arms-fine false others n leaving after c ws wa)
 
@@ -192,17 +192,17 @@ module _ (begins : Simple → Bool) (enough : (cell arms : ℕ) → Bool) (told 
       (f, ((tt, (tt, ((tt, wa), (((tt, tt), tt), tt)))), tt))
 
   mutual
-    nodes-in-fine : (s : Stmt) (n : ℕ) (leaving : Leaving) (after : End) (behind : Tree) → StmtSound s →
+    nodes-in-fine : (s : Stmt) (n : ℕ) (leaving : EscapeTargets) (after : End) (behind : Tree) → StmtSound s →
         LeavingFine leaving → IsEnd after → IsFine behind → AllFine (nodes_in told place_of s n leaving after behind)
     nodes-in-fine (language.Do act) n leaving after behind c ws wa fb = tt
     nodes-in-fine (Choose picker arms) n leaving after behind c ws wa fb = arms-nodes-fine arms (n + 1) leaving after behind c.1 ws wa fb
     nodes-in-fine (Loop control (Nested body)) n leaving after behind c ws wa fb =
-        let b1 = Jump (back control n) in
+        let b1 = Jump (loop_back_label control n) in
         let in_body = within_loop leaving after b1 in
         let wl : LeavingFine in_body = (ws.0, ws.1, ws.2, wa, tt) in
-        all-append (loop_nodes control n (build told place_of body (n + 1) in_body b1 (only b1)) after) (nodes told place_of body (n + 1) in_body b1 (only b1))
-        (loop-fine control n (build told place_of body (n + 1) in_body b1 (only b1)) after (build-fine body (n + 1) in_body b1 (only b1) c.1 wl tt (tt, tt)) wa)
-        (nodes-fine body (n + 1) in_body b1 (only b1) c.1 wl tt (tt, tt))
+        all-append (loop_nodes control n (build told place_of body (n + 1) in_body b1 (end_alone b1)) after) (nodes told place_of body (n + 1) in_body b1 (end_alone b1))
+        (loop-fine control n (build told place_of body (n + 1) in_body b1 (end_alone b1)) after (build-fine body (n + 1) in_body b1 (end_alone b1) c.1 wl tt (tt, tt)) wa)
+        (nodes-fine body (n + 1) in_body b1 (end_alone b1) c.1 wl tt (tt, tt))
     nodes-in-fine (Loop control (Performed e x)) n leaving after behind c ws wa fb = tt
     nodes-in-fine (Perform e x) n leaving after behind c ws wa fb = tt
     nodes-in-fine (Go to) n leaving after behind c ws wa fb = tt
@@ -213,7 +213,7 @@ module _ (begins : Simple → Bool) (enough : (cell arms : ℕ) → Bool) (told 
     nodes-in-fine (ExitPerform cycle) n leaving after behind c ws wa fb = tt
     nodes-in-fine StopRun n leaving after behind c ws wa fb = tt
 
-    pub nodes-fine : (ss : Stmts) (n : ℕ) (leaving : Leaving) (after : End) (behind : Tree) → Sound ss →
+    pub nodes-fine : (ss : Stmts) (n : ℕ) (leaving : EscapeTargets) (after : End) (behind : Tree) → Sound ss →
         LeavingFine leaving → IsEnd after → IsFine behind → AllFine (nodes told place_of ss n leaving after behind)
     nodes-fine none n leaving after behind c ws wa fb = tt
     nodes-fine (also s ss) n leaving after behind c ws wa fb =
@@ -226,7 +226,7 @@ module _ (begins : Simple → Bool) (enough : (cell arms : ℕ) → Bool) (told 
               (nodes-in-fine s n leaving lf bt c.0 ws wl ft) (nodes-fine ss (n + size s) leaving after behind c.1 ws wa fb),
         )
 
-    arms-nodes-fine : (arms : Arms) (n : ℕ) (leaving : Leaving) (after : End) (behind : Tree) → ArmsSound arms →
+    arms-nodes-fine : (arms : Arms) (n : ℕ) (leaving : EscapeTargets) (after : End) (behind : Tree) → ArmsSound arms →
         LeavingFine leaving → IsEnd after → IsFine behind → AllFine (nodes_of_arms told place_of arms n leaving after behind)
     arms-nodes-fine done n leaving after behind c ws wa fb = tt
     arms-nodes-fine (given arm others) n leaving after behind c ws wa fb =

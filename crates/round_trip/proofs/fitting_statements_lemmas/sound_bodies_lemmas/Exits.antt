@@ -6,9 +6,9 @@ use Rattle.control_flow_theory.specs.semantics.Graph.{Label, Tree, tree, End, Pi
 use Rattle.control_flow_theory.specs.lowering.WellFormed.{tree_count}
 use Rattle.control_flow_theory.specs.graph_rules.Shapes.{Live, ToLabel, Back, Targets, NoTarget, Only, Several, same_live, with_live, both_targets, other_targets, other_arms_targets}
 use Rattle.control_flow_theory.specs.graph_rules.Shapes as shapes
-use Rattle.control_flow_theory.specs.closing.Closes.{are_several}
-use Rattle.control_flow_theory.specs.closing.Dispatches.{either, end_returns, tree_returns, trees_return, length_of, bare}
-use Rattle.control_flow_theory.specs.closing.Targets.{is_below, inserted, end_targets, tree_targets, trees_targets, targets_of}
+use Rattle.control_flow_theory.specs.structuring.Closes.{are_several}
+use Rattle.control_flow_theory.specs.structuring.Dispatches.{either, end_returns, tree_returns, trees_return, length_of, bare}
+use Rattle.control_flow_theory.specs.structuring.Targets.{is_below, inserted, end_targets, tree_targets, trees_targets, targets_of}
 
 -- ---- lists of labels
 

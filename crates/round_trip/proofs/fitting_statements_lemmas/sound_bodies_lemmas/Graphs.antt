@@ -9,9 +9,9 @@ use Rattle.control_flow_theory.specs.graph_rules.Families.{Added}
 use Rattle.control_flow_theory.specs.graph_rules.Loops.{Flagged, Endless}
 use Rattle.control_flow_theory.specs.graph_rules.Shapes.{Live, Targets, NoTarget, Only, Several, joined, inlined, leaves_to, other_targets}
 use Rattle.control_flow_theory.specs.graph_rules.Reduced.{Node, Graph, Form, tree_in, count, each_tree, without, with_tree, join_graph, inline_graph, inlines, form_of, close_form, close_by, loops, lowest, inline_step, loop_step, rule_step, stepped, reduced, shaped, size}
-use Rattle.control_flow_theory.specs.closing.Closes.{none_left_out, are_several, has_exits, exits_graph, exits_step, or_exits, any_step, reduced_by_all, dispatch_graph, dispatch_rest, closed_graph}
-use Rattle.control_flow_theory.specs.closing.Dispatches.{labels_of, some_returns, tree_returns, state_jump, exit_jump, number_in, set_to, length_of, node_arms, return_if, bare}
-use Rattle.control_flow_theory.specs.closing.Targets.{targets_of, with_exits}
+use Rattle.control_flow_theory.specs.structuring.Closes.{none_left_out, are_several, has_exits, exits_graph, exits_step, or_exits, any_step, reduced_by_all, dispatch_graph, dispatch_rest, closed_graph}
+use Rattle.control_flow_theory.specs.structuring.Dispatches.{labels_of, some_returns, tree_returns, state_jump, exit_jump, number_in, set_to, length_of, node_arms, return_if, bare}
+use Rattle.control_flow_theory.specs.structuring.Targets.{targets_of, with_exits}
 use Rattle.round_trip.specs.fitting_statements.sound_bodies.Sound.{two_arms}
 use Rattle.round_trip.specs.fitting_statements.sound_bodies.Trees.{NodesAreSound}
 use Rattle.round_trip.proofs.fitting_statements_lemmas.sound_bodies_lemmas.Rules as rules

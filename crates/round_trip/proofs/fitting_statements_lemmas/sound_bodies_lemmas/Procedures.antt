@@ -4,7 +4,7 @@ use Rattle.std.specs.Prelude.{slice_get}
 use Rattle.control_flow_theory.specs.language.Language.{Simple, Act, Own, Set, Take, Lower, Picker, If, By, ByCell, Control, Times, Until, Varying, Stmt, Choose, Loop, Perform, Go, GoDepending, NextSentence, ExitParagraph, ExitSection, ExitPerform, StopRun, Stmts, none, also, Arms, done, given, missing, Body, Nested, Performed, Program, Range, Main}
 use Rattle.control_flow_theory.specs.language.Language as language
 use Rattle.control_flow_theory.specs.semantics.Graph.{Label, Tree, tree, End, Pick, Jump, Return, Stop, Dead, Trees, no_more, more}
-use Rattle.control_flow_theory.specs.lowering.Told.{Told}
+use Rattle.control_flow_theory.specs.lowering.FlowFacts.{FlowFacts}
 use Rattle.control_flow_theory.specs.lowering.Lower.{Node}
 use Rattle.control_flow_theory.specs.lowering.Lowered.{nodes_of}
 use Rattle.control_flow_theory.specs.lowering.Reached.{kept_nodes}
@@ -12,10 +12,10 @@ use Rattle.control_flow_theory.specs.lowering.Renamed.{act_anew, picker_anew, co
 use Rattle.control_flow_theory.specs.lowering.WellFormed.{tree_count}
 use Rattle.control_flow_theory.specs.rendering.Rendering.{Procedure, count_arms}
 use Rattle.control_flow_theory.specs.graph_rules.Reduced.{Graphs, tree_in}
-use Rattle.control_flow_theory.specs.closing.Closes.{closed_graph}
-use Rattle.control_flow_theory.specs.headline.Chain.{graph_nodes, procedure_of, procedures_of}
-use Rattle.control_flow_theory.specs.headline.Headline.{Plan, graphs_by}
-use Rattle.control_flow_theory.specs.headline.Numbering.{numbers_by}
+use Rattle.control_flow_theory.specs.structuring.Closes.{closed_graph}
+use Rattle.control_flow_theory.specs.main_theorem.Chain.{graph_nodes, procedure_of, procedures_of}
+use Rattle.control_flow_theory.specs.main_theorem.MainTheorem.{Plan, graphs_by}
+use Rattle.control_flow_theory.specs.main_theorem.Numbering.{numbers_by}
 use Rattle.round_trip.specs.fitting_statements.sound_bodies.Sound.{two_arms, ActBegins, PickerIsSound, ControlIsSound, StmtIsSound, StmtsAreSound, ArmsAreSound, BodyIsSound, ParagraphsAreSound}
 use Rattle.round_trip.specs.fitting_statements.sound_bodies.Trees.{TreeIsSound, EndIsSound, TreesAreSound, NodesAreSound}
 use Rattle.round_trip.specs.fitting_statements.sound_bodies.Laws.{ProceduresAreSound}
@@ -98,7 +98,7 @@ module _ (begins : Simple → Bool) where
 
   -- ---- graphs
 
-  module _ (told : Told) (range : Range) (program : Program) where
+  module _ (told : FlowFacts) (range : Range) (program : Program) where
     kept-fine : (keep : Label → Bool) (xs : List Node) → EachFine begins two_arms told range program xs → EachFine begins two_arms told range program (kept_nodes keep xs)
     kept-fine keep [] h = tt
     kept-fine keep (x ∷ xs) h = elim (keep x.key) as (λ b. EachFine begins two_arms told range program (if b then x ∷ kept_nodes keep xs else kept_nodes keep xs)) [

@@ -7,8 +7,8 @@ use Rattle.control_flow_theory.specs.rendering.Rendering.{count_arms}
 use Rattle.control_flow_theory.specs.graph_rules.Loops.{Keeper, Flagged, Endless}
 use Rattle.control_flow_theory.specs.graph_rules.Shapes.{followed, alone, Live, ToLabel, Back, end_at, Targets, NoTarget, Only, Several, arms_targets, last_stmts, arm_stmts, arms_stmts, join_by, joined, join_end, joined_arms, inlined, inline_end, inlined_arms, leaving, flat, flat_end, flat_arms}
 use Rattle.control_flow_theory.specs.graph_rules.Reduced.{Form, is_bare, stays, pretest, posttest, form_two, form_arms, form_pick, form_of}
-use Rattle.control_flow_theory.specs.closing.Closes.{none_left_out}
-use Rattle.control_flow_theory.specs.closing.Dispatches.{stated_end, stated_tree, stated_arms, bare}
+use Rattle.control_flow_theory.specs.structuring.Closes.{none_left_out}
+use Rattle.control_flow_theory.specs.structuring.Dispatches.{stated_end, stated_tree, stated_arms, bare}
 use Rattle.round_trip.specs.fitting_statements.sound_bodies.Sound.{PickerIsSound, StmtsAreSound, ArmsAreSound}
 use Rattle.round_trip.specs.fitting_statements.sound_bodies.Trees.{TreeIsSound, EndIsSound, TreesAreSound}
 

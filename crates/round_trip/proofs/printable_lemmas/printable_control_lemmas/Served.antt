@@ -26,10 +26,10 @@ use Rattle.cob_tree.specs.declared.stmt.Stmt.TheVariants as stmts
 use Rattle.control_flow_theory.specs.language.All.{all}
 use Rattle.control_flow_theory.specs.language.Language as language
 use Rattle.control_flow_theory.specs.language.Control.{cell_of, number_written, setting, move_to, move_of, lowered_cell, arith_act, arith_stmt, arith_alone, setting_item, augmenting, relation_of, cell_in, number_in, Tested, tested_step, tested, zero_side, always, arm_before, else_of, stmts_of, control_in, loop_of, perform_of, test_of, picker_by, cell_chosen, count_from, tests_of, Branch, branches_before, Both, both_arms, both_step, branch_step, seen_step, seen, seen_when, seen_both, seen_stmts, seen_sentence, seen_paragraphs, section_last}
-use Rattle.control_flow_theory.specs.lowering.Told.{Told}
+use Rattle.control_flow_theory.specs.lowering.FlowFacts.{FlowFacts}
 use Rattle.control_flow_theory.specs.rendering.Rendering.{Naming, count_arms}
 use Rattle.control_flow_theory.specs.rendering.Procedures.{Writable}
-use Rattle.control_flow_theory.specs.served_graphs.Served.{ActIsServed, TestIsServed, PickerIsServed, StmtIsServed, StmtsAreServed, ArmsAreServed, ParagraphIsServed, ParagraphsAreServed}
+use Rattle.control_flow_theory.specs.expressible_graphs.Served.{ActIsServed, TestIsServed, PickerIsServed, StmtIsServed, StmtsAreServed, ArmsAreServed, ParagraphIsServed, ParagraphsAreServed}
 use Rattle.program_facts.specs.well_scoped.Part.{if_any}
 use Rattle.program_facts.proofs.well_scoped_lemmas.Made.{both}
 use Rattle.round_trip.specs.printable.Part.{expr_step, operand_step, place_step, sub_step, window_step, is_printable_place, are_printable_places, is_printable_operand, is_printable_expr}
@@ -56,7 +56,7 @@ zero-printable =
 always-printable : is_printable_cond always ≡ true
 always-printable = made.made-Relation zero_side Equal zero_side zero-printable zero-printable
 
-module _ (naming : Naming) (kinds : Writable) (serves : PartsServed kinds) (told : Told) (range : language.Range) where
+module _ (naming : Naming) (kinds : Writable) (serves : PartsServed kinds) (told : FlowFacts) (range : language.Range) where
   abbrev Served : language.Stmt → Type 0
   Served stmt = StmtIsServed naming kinds told range stmt
 

@@ -9,8 +9,8 @@ use Rattle.cob_tree.specs.declared.picture.Picture.{Picture}
 use Rattle.cob_tree.specs.declared.picture.Picture.TheVariants as pictures
 use Rattle.picture_data.specs.declared.fault.Flaw.{Flaw}
 use Rattle.picture_data.specs.declared.fault.Flaw.TheVariants as flaws
-use Rattle.picture_data.specs.declared.reading.Place.{Place}
-use Rattle.picture_data.specs.declared.reading.Place.TheVariants as places
+use Rattle.picture_data.specs.declared.reading.SymbolPosition.{SymbolPosition}
+use Rattle.picture_data.specs.declared.reading.SymbolPosition.TheVariants as places
 use Rattle.picture_data.specs.declared.reading.Reading.{Reading}
 use Rattle.picture_data.specs.declared.symbols.Shape.{Shape}
 use Rattle.picture_data.specs.declared.symbols.Shape.TheVariants as shapes
@@ -77,7 +77,7 @@ added-fine count symbols some = go (nat_le (symbols.whole + symbols.part + count
         counted-fine count symbols symbols.shape refl (omega (arith, few, most_few)) some
     go false e = tt
 
-placed-fine : (place : Place) (found : Result Symbols Flaw) → SymbolsFine found → ReadingFine (placed place found)
+placed-fine : (place : SymbolPosition) (found : Result Symbols Flaw) → SymbolsFine found → ReadingFine (placed place found)
 placed-fine place (Ok symbols) h = h
 placed-fine place (Err flaw) h = tt
 
@@ -135,7 +135,7 @@ symbol-fine byte (Some shape) symbols is h = go (byte == symbol_s || byte == sym
 
 -- ---- a count
 
-kept-fine : (place : Place) (symbols : Symbols) (found : Result Symbols Flaw) → Fine symbols → ReadingFine (kept place symbols found)
+kept-fine : (place : SymbolPosition) (symbols : Symbols) (found : Result Symbols Flaw) → Fine symbols → ReadingFine (kept place symbols found)
 kept-fine place symbols (Ok more) h = h
 kept-fine place symbols (Err flaw) h = tt
 
@@ -160,7 +160,7 @@ count-fine count byte reading h =
     (if byte == right_parenthesis then closed count reading else Err (flaw_of byte)) (digit-fine count (byte - digit_0) reading h)
     (either ReadingFine (byte == right_parenthesis) (closed count reading) (Err (flaw_of byte)) (closed-fine count reading h) tt)
 
-step-fine : (place : Place) (byte : ℕ) (reading : Reading) → Fine reading.symbols → ReadingFine (step_by place byte reading)
+step-fine : (place : SymbolPosition) (byte : ℕ) (reading : Reading) → Fine reading.symbols → ReadingFine (step_by place byte reading)
 step-fine places.Open byte reading h = symbol-fine byte (behind byte reading.symbols.shape) reading.symbols refl h
 step-fine places.Behind byte reading h =
     either ReadingFine (byte == left_parenthesis) (Ok (record reading { place = places.Count 0 })) (symbol byte reading) h
@@ -192,7 +192,7 @@ picture-printable count (shapes.Point signed) symbols is h = number-printable co
 picture-printable count shapes.Letters symbols is h = both (le-leb 1 symbols.whole (h.some (ap is_lettered is))) (le-leb symbols.whole 65535 h.few)
 picture-printable count shapes.Any symbols is h = both (le-leb 1 symbols.whole (h.some (ap is_lettered is))) (le-leb symbols.whole 65535 h.few)
 
-finish-printable : (count : ℕ) (place : Place) (symbols : Symbols) → Fine symbols → Printable count (finish_by place symbols)
+finish-printable : (count : ℕ) (place : SymbolPosition) (symbols : Symbols) → Fine symbols → Printable count (finish_by place symbols)
 finish-printable count (places.Count n) symbols h = refl
 finish-printable count places.Open symbols h = picture-printable count symbols.shape symbols refl h
 finish-printable count places.Behind symbols h = picture-printable count symbols.shape symbols refl h

@@ -1,8 +1,8 @@
 -- What statements are made of, as far as it can be printed.
 use Rattle.std.proofs.Common.{◌≡◌, true, List, [], None, refl}
 use Rattle.cob_tree.specs.declared.entry.Entry.{Entry}
-use Rattle.cobol_grammar.specs.declared.expr_forms.side.What.{What}
-use Rattle.cobol_grammar.specs.declared.expr_forms.side.What.TheVariants as whats
+use Rattle.cobol_grammar.specs.declared.expr_forms.side.ParsedExpr.{ParsedExpr}
+use Rattle.cobol_grammar.specs.declared.expr_forms.side.ParsedExpr.TheVariants as whats
 use Rattle.cobol_grammar.specs.expr_forms.Side as sides
 use Rattle.symbol_tables.specs.data_names.Names.{Names}
 use Rattle.symbol_tables.specs.declared.procedure_names.table.ProcedureTable.{ProcedureTable}
@@ -25,13 +25,13 @@ use Rattle.round_trip.specs.printable.printable_stmts.Printable.{PartsPrint}
 use Rattle.round_trip.proofs.printable_lemmas.printable_stmts_lemmas.Paragraphs.{division}
 use Rattle.round_trip.specs.printable.printable_division.Laws.{DivisionsPrint}
 
-operand-fine : (what : What) → is_printable_what what ≡ true → is_printable_operand (uses.operand_of what) ≡ true
+operand-fine : (what : ParsedExpr) → is_printable_what what ≡ true → is_printable_operand (uses.operand_of what) ≡ true
 operand-fine (whats.Ref place) h = made-Place-operand place h
 operand-fine (whats.Literal operand) h = h
 operand-fine (whats.Enclosed place) h = made-Place-operand place h
 operand-fine (whats.Sum expr) h = made-Figure-operand _
 
-pub place-fine : (what : What) → is_printable_what what ≡ true → is_printable_place (uses.place_of what) ≡ true
+pub place-fine : (what : ParsedExpr) → is_printable_what what ≡ true → is_printable_place (uses.place_of what) ≡ true
 place-fine (whats.Ref place) h = h
 place-fine (whats.Literal operand) h = place-made 0 [] [] None refl refl refl
 place-fine (whats.Enclosed place) h = h

@@ -9,18 +9,18 @@ use Rattle.parser_combinators.specs.declared.note.Position.{Position}
 use Rattle.parser_combinators.specs.Form.{Form}
 use Rattle.parser_combinators.proofs.MakerLaws as laws
 use Rattle.symbol_tables.specs.data_names.Names.{Names}
-use Rattle.cobol_grammar.specs.declared.expr_forms.side.Shape.{Shape}
-use Rattle.cobol_grammar.specs.declared.expr_forms.side.Shape.TheVariants as shapes
+use Rattle.cobol_grammar.specs.declared.expr_forms.side.ExprForm.{ExprForm}
+use Rattle.cobol_grammar.specs.declared.expr_forms.side.ExprForm.TheVariants as shapes
 use Rattle.cobol_grammar.specs.declared.expr_forms.side.Side.{Side}
-use Rattle.cobol_grammar.specs.declared.expr_forms.side.What.{What}
-use Rattle.cobol_grammar.specs.declared.expr_forms.side.What.TheVariants as whats
+use Rattle.cobol_grammar.specs.declared.expr_forms.side.ParsedExpr.{ParsedExpr}
+use Rattle.cobol_grammar.specs.declared.expr_forms.side.ParsedExpr.TheVariants as whats
 use Rattle.cobol_grammar.specs.expr_forms.Fault as faults
 use Rattle.cobol_grammar.specs.expr_forms.Side as sides
 use Rattle.cobol_grammar.specs.expr_forms.Side.{expr_of}
 use Rattle.cob_base.specs.Limit.{max_parens}
 use Rattle.cobol_grammar.specs.expr_forms.Limit.{Inner}
 use Rattle.cobol_grammar.specs.declared.cond_forms.part.Joined.{Joined}
-use Rattle.cobol_grammar.specs.declared.cond_forms.part.Part.{Part}
+use Rattle.cobol_grammar.specs.declared.cond_forms.part.SimpleCond.{SimpleCond}
 use Rattle.cobol_grammar.specs.declared.cond_forms.test.Primary.{Primary}
 use Rattle.cobol_grammar.specs.declared.cond_forms.test.Primary.TheVariants as prims
 use Rattle.cobol_grammar.specs.declared.cond_forms.test.Read.{Read}
@@ -49,7 +49,7 @@ abbrev SetFine : Option Setting → Type 0
 SetFine None = Unit {0}
 SetFine (Some setting) = Fine setting.left
 
-abbrev PartFine : Part → Type 0
+abbrev PartFine : SimpleCond → Type 0
 PartFine part = (is_printable_cond part.cond ≡ true) × SetFine part.setting
 
 abbrev PrimFine : Primary → Type 0
@@ -73,7 +73,7 @@ whole-made : (before : Option Cond) (cond : Cond) → if_any (is_printable_cond)
 whole-made None cond b c = c
 whole-made (Some before) cond b c = made-Or before cond b c
 
-enclosed-fine : (what : What) → is_printable_what what ≡ true → is_printable_what (sides.enclosed_what what) ≡ true
+enclosed-fine : (what : ParsedExpr) → is_printable_what what ≡ true → is_printable_what (sides.enclosed_what what) ≡ true
 enclosed-fine (whats.Ref place) h = h
 enclosed-fine (whats.Enclosed place) h = h
 enclosed-fine (whats.Literal operand) h = exprs.leaf-fine operand h
@@ -86,7 +86,7 @@ unfolding tests.sign_test
 sign_test negated left count =
     any (laws.one (λ position kind. tokens.sign_of kind)) >>= (λ sign. note >> pure (λ _ _ l. (made-SignIs (expr_of left.what) sign negated (expr-fine left.what l), tt)))
 
-class_of_ref : (negated : Bool) (class : ClassKind) (what : What) (count : ℕ) → Gives IsPrintable (tests.class_of_ref negated class what count) (λ read. is_printable_what what ≡ true → ReadFine read)
+class_of_ref : (negated : Bool) (class : ClassKind) (what : ParsedExpr) (count : ℕ) → Gives IsPrintable (tests.class_of_ref negated class what count) (λ read. is_printable_what what ≡ true → ReadFine read)
 unfolding tests.class_of_ref
 class_of_ref negated class (whats.Ref place) count = pure (λ p. (made-Class place class negated p, tt))
 class_of_ref negated class (whats.Literal operand) count = refuse
@@ -101,9 +101,9 @@ class_test negated left count =
 untested : (end : Option Bool) (left : Side) (count : ℕ) → Gives IsPrintable (tests.untested end left count) (λ read. Fine left → ReadFine read)
 unfolding tests.untested
 untested None left count = refuse
-untested (Some not_read) left count = pure (λ l. l)
+untested (Some pending_not) left count = pure (λ l. l)
 
-class_or : (shape : Shape) (negated : Bool) (end : Option Bool) (left : Side) (count : ℕ) → Gives IsPrintable (tests.class_or shape negated end left count) (λ read. Fine left → ReadFine read)
+class_or : (shape : ExprForm) (negated : Bool) (end : Option Bool) (left : Side) (count : ℕ) → Gives IsPrintable (tests.class_or shape negated end left count) (λ read. Fine left → ReadFine read)
 unfolding tests.class_or
 class_or shapes.Ref negated end left count = where_next (class_test negated left count) (untested end left count)
 class_or shapes.Literal negated end left count = untested end left count
@@ -112,68 +112,68 @@ class_or shapes.Sum negated end left count = untested end left count
 
 -- ---- an expression without test
 
-carried : (setting : Setting) (right : Side) (count : ℕ) (not_read : Bool) → Gives IsPrintable (alones.carried setting right count not_read) (λ part. Fine right → Fine setting.left → PartFine part)
+carried : (setting : Setting) (right : Side) (count : ℕ) (pending_not : Bool) → Gives IsPrintable (alones.carried setting right count pending_not) (λ part. Fine right → Fine setting.left → PartFine part)
 unfolding alones.carried
-carried setting right count not_read = do
+carried setting right count pending_not = do
   more ← tally count setting.terms
   note
   note
   pure (λ _ _ _ r s. (relation-made setting.left setting.rel right s r, s))
 
-named_by : (negated : Bool) (what : What) (count : ℕ) (not_read : Bool) → Gives IsPrintable (alones.named_by negated what count not_read) (λ part. is_printable_what what ≡ true → PartFine part)
+named_by : (negated : Bool) (what : ParsedExpr) (count : ℕ) (pending_not : Bool) → Gives IsPrintable (alones.named_by negated what count pending_not) (λ part. is_printable_what what ≡ true → PartFine part)
 unfolding alones.named_by
-named_by negated (whats.Ref place) count not_read = pure (λ p. (not-made negated _ (made-Named place p), tt))
-named_by negated (whats.Enclosed place) count not_read = pure (λ p. (not-made negated _ (made-Named place p), tt))
-named_by negated (whats.Literal operand) count not_read = refuse
-named_by negated (whats.Sum expr) count not_read = refuse
+named_by negated (whats.Ref place) count pending_not = pure (λ p. (not-made negated _ (made-Named place p), tt))
+named_by negated (whats.Enclosed place) count pending_not = pure (λ p. (not-made negated _ (made-Named place p), tt))
+named_by negated (whats.Literal operand) count pending_not = refuse
+named_by negated (whats.Sum expr) count pending_not = refuse
 
-named : (negated : Bool) (side : Side) (count : ℕ) (not_read : Bool) → Gives IsPrintable (alones.named negated side count not_read) (λ part. Fine side → PartFine part)
+named : (negated : Bool) (side : Side) (count : ℕ) (pending_not : Bool) → Gives IsPrintable (alones.named negated side count pending_not) (λ part. Fine side → PartFine part)
 unfolding alones.named
-named negated side count not_read = note >> still (named_by negated side.what count not_read)
+named negated side count pending_not = note >> still (named_by negated side.what count pending_not)
 
-kept : (setting : Setting) (what : What) (count : ℕ) (not_read : Bool) → Gives IsPrintable (alones.kept setting what count not_read) (λ part. is_printable_what what ≡ true → Fine setting.left → PartFine part)
+kept : (setting : Setting) (what : ParsedExpr) (count : ℕ) (pending_not : Bool) → Gives IsPrintable (alones.kept setting what count pending_not) (λ part. is_printable_what what ≡ true → Fine setting.left → PartFine part)
 unfolding alones.kept
-kept setting (whats.Ref place) count not_read = pure (λ p s. (made-Named place p, s))
-kept setting (whats.Enclosed place) count not_read = refuse
-kept setting (whats.Literal operand) count not_read = refuse
-kept setting (whats.Sum expr) count not_read = refuse
+kept setting (whats.Ref place) count pending_not = pure (λ p s. (made-Named place p, s))
+kept setting (whats.Enclosed place) count pending_not = refuse
+kept setting (whats.Literal operand) count pending_not = refuse
+kept setting (whats.Sum expr) count pending_not = refuse
 
-ref_part : (negated : Bool) (setting : Option Setting) (side : Side) (count : ℕ) (not_read : Bool) →
-    Gives IsPrintable (alones.ref_part negated setting side count not_read) (λ part. Fine side → SetFine setting → PartFine part)
+ref_part : (negated : Bool) (setting : Option Setting) (side : Side) (count : ℕ) (pending_not : Bool) →
+    Gives IsPrintable (alones.ref_part negated setting side count pending_not) (λ part. Fine side → SetFine setting → PartFine part)
 unfolding alones.ref_part
-ref_part false (Some setting) side count not_read = chosen (faults.is_condition side.kind) (kept setting side.what count not_read) (carried setting side count not_read)
-ref_part false None side count not_read = hence (λ part h s _. h s) (named false side count not_read)
-ref_part true setting side count not_read = hence (λ part h s _. h s) (named true side count not_read)
+ref_part false (Some setting) side count pending_not = chosen (faults.is_condition side.kind) (kept setting side.what count pending_not) (carried setting side count pending_not)
+ref_part false None side count pending_not = hence (λ part h s _. h s) (named false side count pending_not)
+ref_part true setting side count pending_not = hence (λ part h s _. h s) (named true side count pending_not)
 
-literal_part : (negated : Bool) (setting : Option Setting) (side : Side) (count : ℕ) (not_read : Bool) →
-    Gives IsPrintable (alones.literal_part negated setting side count not_read) (λ part. Fine side → SetFine setting → PartFine part)
+literal_part : (negated : Bool) (setting : Option Setting) (side : Side) (count : ℕ) (pending_not : Bool) →
+    Gives IsPrintable (alones.literal_part negated setting side count pending_not) (λ part. Fine side → SetFine setting → PartFine part)
 unfolding alones.literal_part
-literal_part false (Some setting) side count not_read = carried setting side count not_read
-literal_part false None side count not_read = refuse
-literal_part true setting side count not_read = refuse
+literal_part false (Some setting) side count pending_not = carried setting side count pending_not
+literal_part false None side count pending_not = refuse
+literal_part true setting side count pending_not = refuse
 
-part_by_shape : (shape : Shape) (negated : Bool) (setting : Option Setting) (side : Side) (count : ℕ) (not_read : Bool) →
-    Gives IsPrintable (alones.part_by_shape shape negated setting side count not_read) (λ part. Fine side → SetFine setting → PartFine part)
+part_by_shape : (shape : ExprForm) (negated : Bool) (setting : Option Setting) (side : Side) (count : ℕ) (pending_not : Bool) →
+    Gives IsPrintable (alones.part_by_shape shape negated setting side count pending_not) (λ part. Fine side → SetFine setting → PartFine part)
 unfolding alones.part_by_shape
-part_by_shape shapes.Ref negated setting side count not_read = ref_part negated setting side count not_read
-part_by_shape shapes.Literal negated setting side count not_read = literal_part negated setting side count not_read
-part_by_shape shapes.Enclosed negated setting side count not_read = hence (λ part h s _. h s) (named negated side count not_read)
-part_by_shape shapes.Sum negated setting side count not_read = refuse
+part_by_shape shapes.Ref negated setting side count pending_not = ref_part negated setting side count pending_not
+part_by_shape shapes.Literal negated setting side count pending_not = literal_part negated setting side count pending_not
+part_by_shape shapes.Enclosed negated setting side count pending_not = hence (λ part h s _. h s) (named negated side count pending_not)
+part_by_shape shapes.Sum negated setting side count pending_not = refuse
 
-alone_part : (negated : Bool) (setting : Option Setting) (side : Side) (count : ℕ) (not_read : Bool) →
-    Gives IsPrintable (alones.alone_part negated setting side count not_read) (λ part. Fine side → SetFine setting → PartFine part)
+alone_part : (negated : Bool) (setting : Option Setting) (side : Side) (count : ℕ) (pending_not : Bool) →
+    Gives IsPrintable (alones.alone_part negated setting side count pending_not) (λ part. Fine side → SetFine setting → PartFine part)
 unfolding alones.alone_part
-alone_part negated setting side count not_read = part_by_shape (sides.shape_of side.what) negated setting side count not_read
+alone_part negated setting side count pending_not = part_by_shape (sides.shape_of side.what) negated setting side count pending_not
 
-part_by : (negated : Bool) (setting : Option Setting) (prim : Primary) (count : ℕ) (not_read : Bool) →
-    Gives IsPrintable (alones.part_by negated setting prim count not_read) (λ part. PrimFine prim → SetFine setting → PartFine part)
+part_by : (negated : Bool) (setting : Option Setting) (prim : Primary) (count : ℕ) (pending_not : Bool) →
+    Gives IsPrintable (alones.part_by negated setting prim count pending_not) (λ part. PrimFine prim → SetFine setting → PartFine part)
 unfolding alones.part_by
-part_by negated setting (prims.Test cond after) count not_read = pure (λ p _. (not-made negated cond p.0, p.1))
-part_by negated setting (prims.Alone side) count not_read = alone_part negated setting side count not_read
+part_by negated setting (prims.Test cond after) count pending_not = pure (λ p _. (not-made negated cond p.0, p.1))
+part_by negated setting (prims.Alone side) count pending_not = alone_part negated setting side count pending_not
 
-close_cond : (part : Part) → Gives IsPrintable (conditions.close_cond part) (λ read. PartFine part → ReadFine read)
+close_cond : (part : SimpleCond) → Gives IsPrintable (conditions.close_cond part) (λ read. PartFine part → ReadFine read)
 unfolding conditions.close_cond
-close_cond part = chosen part.not_read refuse (mark right_parenthesis >> pure (λ _ p. (p.0, tt)))
+close_cond part = chosen part.pending_not refuse (mark right_parenthesis >> pure (λ _ p. (p.0, tt)))
 
 close_side : (position : Position) (side : Side) (count : ℕ) → Gives IsPrintable (conditions.close_side position side count) (λ read. Fine side → ReadFine read)
 unfolding conditions.close_side sides.enclosed
@@ -253,7 +253,7 @@ module _ (names : Names) where
 
       prim_part : (negated : Bool) (setting : Option Setting) (count : ℕ) → Gives IsPrintable (negs.prim_part names inner content negated setting count) (λ part. SetFine setting → PartFine part)
       unfolding negs.prim_part
-      prim_part negated setting count = prim count >>= (λ read. part_by negated setting read.prim read.count read.not_read)
+      prim_part negated setting count = prim count >>= (λ read. part_by negated setting read.prim read.count read.pending_not)
 
       behind_not : (setting : Option Setting) (count : ℕ) → Gives IsPrintable (negs.behind_not names inner content setting count) (λ part. SetFine setting → PartFine part)
       unfolding negs.behind_not
@@ -288,11 +288,11 @@ module _ (names : Names) where
 
       join : (state : Joined) → Gives IsPrintable (conditions.join names inner content state) (λ last. JoinedFine state → JoinedFine last)
       unfolding conditions.join
-      join state = chosen state.part.not_read refuse
+      join state = chosen state.part.pending_not refuse
           (where_next (hence (λ last h j. h (j.0, j.1.0, j.1.1)) (and_part state.before state.part.cond state.part.setting state.part.count))
           (hence (λ last h j. h (j.0, j.1.0, j.1.1)) (or_part state.before state.part.cond state.part.setting state.part.count)))
 
-      conds_from : (first : Part) → Gives IsPrintable (conditions.conds_from names inner content first) (λ part. PartFine first → PartFine part)
+      conds_from : (first : SimpleCond) → Gives IsPrintable (conditions.conds_from names inner content first) (λ part. PartFine first → PartFine part)
       unfolding conditions.conds_from
       conds_from first = loop {P = JoinedFine} join >>= (λ state. pure (λ h p. let j = h (refl, p) in (whole-made state.before state.part.cond j.0 j.1.0, j.1.1)))
 
@@ -302,19 +302,19 @@ module _ (names : Names) where
 
       -- ---- in parentheses
 
-      content_from : (first : Part) → Gives IsPrintable (conditions.content_from names inner content first) (λ read. PartFine first → ReadFine read)
+      content_from : (first : SimpleCond) → Gives IsPrintable (conditions.content_from names inner content first) (λ read. PartFine first → ReadFine read)
       unfolding conditions.content_from
       content_from first = conds_from first >>= (λ part. hence (λ read h p f. h (p f)) (close_cond part))
 
-      alone_content : (side : Side) (count : ℕ) (not_read : Bool) → Gives IsPrintable (conditions.alone_content names inner content side count not_read) (λ read. Fine side → ReadFine read)
+      alone_content : (side : Side) (count : ℕ) (pending_not : Bool) → Gives IsPrintable (conditions.alone_content names inner content side count pending_not) (λ read. Fine side → ReadFine read)
       unfolding conditions.alone_content
-      alone_content side count not_read = alone_part false None side count not_read >>= (λ part. hence (λ read h p s. h (p s tt)) (content_from part))
+      alone_content side count pending_not = alone_part false None side count pending_not >>= (λ part. hence (λ read h p s. h (p s tt)) (content_from part))
 
-      content_by : (position : Position) (prim : Primary) (count : ℕ) (not_read : Bool) → Gives IsPrintable (conditions.content_by names inner content position prim count not_read) (λ read. PrimFine prim → ReadFine read)
+      content_by : (position : Position) (prim : Primary) (count : ℕ) (pending_not : Bool) → Gives IsPrintable (conditions.content_by names inner content position prim count pending_not) (λ read. PrimFine prim → ReadFine read)
       unfolding conditions.content_by
       content_by position (prims.Alone side) count false = where_next (close_side position side count) (alone_content side count false)
       content_by position (prims.Alone side) count true = alone_content side count true
-      content_by position (prims.Test cond after) count not_read = content_from (alones.part_of cond after count not_read)
+      content_by position (prims.Test cond after) count pending_not = content_from (alones.part_of cond after count pending_not)
 
       neg_content : (count : ℕ) → Gives IsPrintable (conditions.neg_content names inner content count) ReadFine
       unfolding conditions.neg_content
@@ -322,7 +322,7 @@ module _ (names : Names) where
 
       prim_content : (position : Position) (count : ℕ) → Gives IsPrintable (conditions.prim_content names inner content position count) ReadFine
       unfolding conditions.prim_content
-      prim_content position count = prim count >>= (λ read. content_by position read.prim read.count read.not_read)
+      prim_content position count = prim count >>= (λ read. content_by position read.prim read.count read.pending_not)
 
       in_content : (count : ℕ) → Gives IsPrintable (conditions.in_content names inner content count) ReadFine
       unfolding conditions.in_content

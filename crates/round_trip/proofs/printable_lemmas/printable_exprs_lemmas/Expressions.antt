@@ -10,21 +10,21 @@ use Rattle.cob_tree.specs.declared.place.Place.{Place}
 use Rattle.cob_tree.specs.declared.place.Sub.{Sub}
 use Rattle.parser_combinators.specs.declared.note.Position.{Position}
 use Rattle.parser_combinators.specs.declared.why.Why.TheVariants.{Terms}
-use Rattle.symbol_tables.specs.declared.data_names.name.Found.{Found}
+use Rattle.symbol_tables.specs.declared.data_names.name.Referent.{Referent}
 use Rattle.symbol_tables.specs.data_names.Names.{Names}
 use Rattle.symbol_tables.specs.data_names.Look.{look}
 use Rattle.parser_combinators.proofs.words_lemmas.WordLaws as words
-use Rattle.cobol_grammar.specs.declared.expr_forms.chain.Before.{Before}
+use Rattle.cobol_grammar.specs.declared.expr_forms.chain.PendingTerm.{PendingTerm}
 use Rattle.cobol_grammar.specs.declared.expr_forms.chain.Chain.{Chain}
-use Rattle.cobol_grammar.specs.declared.expr_forms.either.Either.{Either}
-use Rattle.cobol_grammar.specs.declared.expr_forms.front.Front.{Front}
-use Rattle.cobol_grammar.specs.declared.expr_forms.front.Front.TheVariants as fronts
-use Rattle.cobol_grammar.specs.declared.expr_forms.reference.Behind.{Behind}
+use Rattle.cobol_grammar.specs.declared.expr_forms.either.MaybeSubscripts.{MaybeSubscripts}
+use Rattle.cobol_grammar.specs.declared.expr_forms.front.FirstInParens.{FirstInParens}
+use Rattle.cobol_grammar.specs.declared.expr_forms.front.FirstInParens.TheVariants as fronts
+use Rattle.cobol_grammar.specs.declared.expr_forms.reference.RefSuffixes.{RefSuffixes}
 use Rattle.cobol_grammar.specs.declared.expr_forms.reference.Suffix.{Suffix}
 use Rattle.cobol_grammar.specs.declared.expr_forms.reference.Suffix.TheVariants as suffixes
 use Rattle.cobol_grammar.specs.declared.expr_forms.side.Side.{Side}
-use Rattle.cobol_grammar.specs.declared.expr_forms.side.What.{What}
-use Rattle.cobol_grammar.specs.declared.expr_forms.side.What.TheVariants as whats
+use Rattle.cobol_grammar.specs.declared.expr_forms.side.ParsedExpr.{ParsedExpr}
+use Rattle.cobol_grammar.specs.declared.expr_forms.side.ParsedExpr.TheVariants as whats
 use Rattle.cob_base.specs.Limit.{max_terms, max_parens}
 use Rattle.cobol_grammar.specs.expr_forms.Limit as limits
 use Rattle.cobol_grammar.specs.expr_forms.Limit.{Inner}
@@ -62,14 +62,14 @@ abbrev pub Fine : Side → Type 0
 Fine side = is_printable_what side.what ≡ true
 
 abbrev pub ChainFine : Chain → Type 0
-ChainFine chain = (if_any (λ (before : Before). is_printable_expr before.left) chain.before ≡ true) × Fine chain.last
+ChainFine chain = (if_any (λ (before : PendingTerm). is_printable_expr before.left) chain.before ≡ true) × Fine chain.last
 
-pub record EitherFine (either : Either) : Type 0 where
+pub record EitherFine (either : MaybeSubscripts) : Type 0 where
   pub subs : are_printable_subs either.subs ≡ true
   pub base : if_any (is_printable_place) either.base ≡ true
   pub chain : ChainFine either.chain
 
-abbrev FrontFine : Front → Type 0
+abbrev FrontFine : FirstInParens → Type 0
 FrontFine (fronts.Either either) = EitherFine either
 FrontFine (fronts.Sum chain count) = ChainFine chain
 
@@ -77,7 +77,7 @@ abbrev SuffixFine : Suffix → Type 0
 SuffixFine (suffixes.Subs subs) = are_printable_subs subs ≡ true
 SuffixFine (suffixes.Window window) = is_printable_window window ≡ true
 
-abbrev BehindFine : Behind → Type 0
+abbrev BehindFine : RefSuffixes → Type 0
 BehindFine behind = (are_printable_subs behind.subs ≡ true) × (if_any (is_printable_window) behind.window ≡ true)
 
 pub record InnerGives (inner : Inner) : Type 0 where
@@ -90,13 +90,13 @@ pub record InnerGives (inner : Inner) : Type 0 where
 pub leaf-fine : (operand : Operand) → is_printable_operand operand ≡ true → is_printable_expr (exprs.Leaf operand) ≡ true
 leaf-fine operand h = made-Leaf operand h
 
-pub expr-fine : (what : What) → is_printable_what what ≡ true → is_printable_expr (expr_of what) ≡ true
+pub expr-fine : (what : ParsedExpr) → is_printable_what what ≡ true → is_printable_expr (expr_of what) ≡ true
 expr-fine (whats.Ref place) h = made-Leaf _ (made-Place-operand place h)
 expr-fine (whats.Literal operand) h = made-Leaf operand h
 expr-fine (whats.Enclosed place) h = made-Leaf _ (made-Place-operand place h)
 expr-fine (whats.Sum expr) h = h
 
-finished-fine : (before : Option Before) (last : Side) → if_any (λ (before : Before). is_printable_expr before.left) before ≡ true → Fine last → Fine (chains.finished before last)
+finished-fine : (before : Option PendingTerm) (last : Side) → if_any (λ (before : PendingTerm). is_printable_expr before.left) before ≡ true → Fine last → Fine (chains.finished before last)
 finished-fine None last b l = l
 finished-fine (Some before) last b l = made-Both before.op before.left (expr_of last.what) b (expr-fine last.what l)
 
@@ -125,7 +125,7 @@ subs_with-fine : (base : Option Place) (subs : List Sub) → if_any (is_printabl
 subs_with-fine None subs b s = s
 subs_with-fine (Some place) subs b s = all-added (is_printable_sub) subs _ s (item_sub-fine place false (codes "0") b zero-fine)
 
-subs_of-fine : (either : Either) → EitherFine either → are_printable_subs (eithers.subs_of either) ≡ true
+subs_of-fine : (either : MaybeSubscripts) → EitherFine either → are_printable_subs (eithers.subs_of either) ≡ true
 unfolding eithers.subs_of
 subs_of-fine either e = subs_with-fine either.base either.subs e.base e.subs
 
@@ -140,7 +140,7 @@ number_either-fine found position d = record {
   chain = (refl, digits_side-fine found position d);
 }
 
-with_number-fine : (op : Op) (negative : Bool) (found : List ℕ) (position : Position) (either : Either) → are_digits found ≡ true → EitherFine either →
+with_number-fine : (op : Op) (negative : Bool) (found : List ℕ) (position : Position) (either : MaybeSubscripts) → are_digits found ≡ true → EitherFine either →
     EitherFine (eithers.with_number op negative found position either)
 unfolding eithers.with_number
 with_number-fine op negative found position either d e = record {
@@ -149,10 +149,10 @@ with_number-fine op negative found position either d e = record {
   chain = joined-fine op either.chain _ e.chain (digits_side-fine found position d);
 }
 
-bare_place-fine : (found : Found) (of : List (List ℕ)) → are_printable_names of ≡ true → is_printable_place (place_of found of [] None) ≡ true
+bare_place-fine : (found : Referent) (of : List (List ℕ)) → are_printable_names of ≡ true → is_printable_place (place_of found of [] None) ≡ true
 bare_place-fine found of i = place-made (item_of found) of [] None i refl refl
 
-ref_either-fine : (found : Found) (of : List (List ℕ)) (position : Position) → are_printable_names of ≡ true → EitherFine (eithers.ref_either found of position)
+ref_either-fine : (found : Referent) (of : List (List ℕ)) (position : Position) → are_printable_names of ≡ true → EitherFine (eithers.ref_either found of position)
 unfolding sides.ref_side
 ref_either-fine found of position i = record {
   subs = refl;
@@ -162,7 +162,7 @@ ref_either-fine found of position i = record {
 
 -- ---- references
 
-pub tally : (count more : ℕ) → Gives IsPrintable (limits.tally count more) (λ _. Unit {0})
+pub tally : (count more : ℕ) → Gives IsPrintable (limits.count_terms count more) (λ _. Unit {0})
 tally count more = unless Terms (nat_lt max_terms (count + more)) (count + more) tt
 
 more_behind : {inner : Inner} → InnerGives inner → (suffix : Suffix) (count : ℕ) → Gives IsPrintable (references.more_behind inner suffix count) (λ behind. SuffixFine suffix → BehindFine behind)
@@ -173,7 +173,7 @@ behind : {inner : Inner} → InnerGives inner → (count : ℕ) → Gives IsPrin
 unfolding references.behind
 behind I count = where_next (I.suffix count >>= (λ suffix. more_behind I suffix.0 suffix.1)) (pure (refl, refl))
 
-ref_behind : {inner : Inner} → InnerGives inner → (found : Found) (of : List (List ℕ)) (position : Position) (count : ℕ) →
+ref_behind : {inner : Inner} → InnerGives inner → (found : Referent) (of : List (List ℕ)) (position : Position) (count : ℕ) →
     Gives IsPrintable (references.ref_behind inner found of position count) (λ side. are_printable_names of ≡ true → Fine side.0)
 unfolding references.ref_behind sides.ref_side
 ref_behind I found of position count = do
@@ -345,39 +345,39 @@ module _ (names : Names) where
   unfolding front_forms.first_front
   first_front I count = where_next (plus_front I count) (where_next digits_front (other_front I count))
 
-  decided : {inner : Inner} → InnerGives inner → (count : ℕ) (e : Either) (op : Op) → Gives IsPrintable (front_forms.decided names inner count e op) (λ front. EitherFine e → FrontFine front)
+  decided : {inner : Inner} → InnerGives inner → (count : ℕ) (e : MaybeSubscripts) (op : Op) → Gives IsPrintable (front_forms.decided names inner count e op) (λ front. EitherFine e → FrontFine front)
   unfolding front_forms.decided
   decided I count e op = do
     more ← tally count e.leaves
     state ← operated I op e.chain more
     pure (λ h _ k. h k.chain)
 
-  number_turn : (op : Op) (negative : Bool) (e : Either) → Gives IsPrintable (front_forms.number_turn op negative e) (λ front. EitherFine e → FrontFine front)
+  number_turn : (op : Op) (negative : Bool) (e : MaybeSubscripts) → Gives IsPrintable (front_forms.number_turn op negative e) (λ front. EitherFine e → FrontFine front)
   unfolding front_forms.number_turn
   number_turn op negative e = digits >>= (λ found. note >> pure (λ _ d k. with_number-fine op negative found.0 found.1 e d k))
 
-  number_or_decided : {inner : Inner} → InnerGives inner → (count : ℕ) (e : Either) (op : Op) (negative : Bool) →
+  number_or_decided : {inner : Inner} → InnerGives inner → (count : ℕ) (e : MaybeSubscripts) (op : Op) (negative : Bool) →
       Gives IsPrintable (front_forms.number_or_decided names inner count e op negative) (λ front. EitherFine e → FrontFine front)
   unfolding front_forms.number_or_decided
   number_or_decided I count e op negative = where_next (number_turn op negative e) (decided I count e op)
 
-  plus_turn : {inner : Inner} → InnerGives inner → (count : ℕ) (e : Either) → Gives IsPrintable (front_forms.plus_turn names inner count e) (λ front. EitherFine e → FrontFine front)
+  plus_turn : {inner : Inner} → InnerGives inner → (count : ℕ) (e : MaybeSubscripts) → Gives IsPrintable (front_forms.plus_turn names inner count e) (λ front. EitherFine e → FrontFine front)
   unfolding front_forms.plus_turn
   plus_turn I count e = mark plus_sign >> still (number_or_decided I count e ops.Add false)
 
-  minus_behind : {inner : Inner} → InnerGives inner → (count : ℕ) (e : Either) → Gives IsPrintable (front_forms.minus_behind names inner count e) (λ front. EitherFine e → FrontFine front)
+  minus_behind : {inner : Inner} → InnerGives inner → (count : ℕ) (e : MaybeSubscripts) → Gives IsPrintable (front_forms.minus_behind names inner count e) (λ front. EitherFine e → FrontFine front)
   unfolding front_forms.minus_behind
   minus_behind I count e = chosen (front_forms.takes_minus e) (number_or_decided I count e ops.Sub true) (decided I count e ops.Sub)
 
-  minus_turn : {inner : Inner} → InnerGives inner → (count : ℕ) (e : Either) → Gives IsPrintable (front_forms.minus_turn names inner count e) (λ front. EitherFine e → FrontFine front)
+  minus_turn : {inner : Inner} → InnerGives inner → (count : ℕ) (e : MaybeSubscripts) → Gives IsPrintable (front_forms.minus_turn names inner count e) (λ front. EitherFine e → FrontFine front)
   unfolding front_forms.minus_turn
   minus_turn I count e = mark hyphen >> still (minus_behind I count e)
 
-  factor_turn : {inner : Inner} → InnerGives inner → (count : ℕ) (e : Either) → Gives IsPrintable (front_forms.factor_turn names inner count e) (λ front. EitherFine e → FrontFine front)
+  factor_turn : {inner : Inner} → InnerGives inner → (count : ℕ) (e : MaybeSubscripts) → Gives IsPrintable (front_forms.factor_turn names inner count e) (λ front. EitherFine e → FrontFine front)
   unfolding front_forms.factor_turn
   factor_turn I count e = any law.operator >>= (λ op. still (decided I count e op))
 
-  front_turn : {inner : Inner} → InnerGives inner → (count : ℕ) (front : Front) → Gives IsPrintable (front_forms.front_turn names inner count front) (λ last. FrontFine front → FrontFine last)
+  front_turn : {inner : Inner} → InnerGives inner → (count : ℕ) (front : FirstInParens) → Gives IsPrintable (front_forms.front_turn names inner count front) (λ last. FrontFine front → FrontFine last)
   unfolding front_forms.front_turn
   front_turn I count (fronts.Sum chain more) = turn I (chain, more) >>= (λ state. pure (λ h. h))
   front_turn I count (fronts.Either e) = where_next (plus_turn I count e) (where_next (minus_turn I count e) (factor_turn I count e))
@@ -386,7 +386,7 @@ module _ (names : Names) where
       Gives IsPrintable (front_forms.window_suffix names inner alone first count) (λ suffix. Fine first → SuffixFine suffix.0)
   window_suffix I alone first count = window_behind I alone first count >>= (λ window. pure (λ h. h))
 
-  subs_suffix : (count : ℕ) (e : Either) → Gives IsPrintable (front_forms.subs_suffix names count e) (λ suffix. EitherFine e → SuffixFine suffix.0)
+  subs_suffix : (count : ℕ) (e : MaybeSubscripts) → Gives IsPrintable (front_forms.subs_suffix names count e) (λ suffix. EitherFine e → SuffixFine suffix.0)
   unfolding front_forms.subs_suffix
   subs_suffix count e = do
     note
@@ -394,7 +394,7 @@ module _ (names : Names) where
     mark right_parenthesis
     pure (λ _ h _ k. h (subs_of-fine e k))
 
-  front_end : {inner : Inner} → InnerGives inner → (alone : Bool) (count : ℕ) (front : Front) →
+  front_end : {inner : Inner} → InnerGives inner → (alone : Bool) (count : ℕ) (front : FirstInParens) →
       Gives IsPrintable (front_forms.front_end names inner alone count front) (λ suffix. FrontFine front → SuffixFine suffix.0)
   unfolding front_forms.front_end
   front_end I alone count (fronts.Sum chain more) = hence (λ suffix h c. h (finish-fine chain c)) (window_suffix I alone (chains.finish chain) more)

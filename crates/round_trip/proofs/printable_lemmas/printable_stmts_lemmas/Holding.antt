@@ -78,7 +78,7 @@ abbrev Turning : Control → Type 0
 Turning control = is_printable_control control ≡ true
 
 abbrev PerformFine : PerformHead → Type 0
-PerformFine (heads.Whole stmt not_read) = is_printable_stmt stmt ≡ true
+PerformFine (heads.Whole stmt pending_not) = is_printable_stmt stmt ≡ true
 PerformFine (heads.Inline control) = Turning control
 
 module _ {level : Level} (L : LevelGives level) where
@@ -145,7 +145,7 @@ module _ {level : Level} (L : LevelGives level) where
 
   perform_by : (scope : Scope) (head : PerformHead) → Gives IsPrintable (loops.perform_by level scope head) (λ found. PerformFine head → Fine found.0)
   unfolding loops.perform_by loops.loop_body loops.loop_end loops.loop_closed
-  perform_by scope (heads.Whole stmt not_read) = pure (λ h. h)
+  perform_by scope (heads.Whole stmt pending_not) = pure (λ h. h)
   perform_by scope (heads.Inline control) =
       L.stmts (loops.looped scope) >>= (λ held. chosen held.1 refuse (key (codes "END-PERFORM") >>
       pure (λ _ b c. made.made-Loop control held.0 c b.1)))
@@ -348,7 +348,7 @@ module _ {Side Known : Type 0} {parts : Parts Side Known} (lawful : PartsAreLawf
     whens_turn : (scope : Scope) (known : Option Known) (state : Evaluated) → Gives IsPrintable (choice.whens_turn parts level scope known state)
         (λ last. Whens state.whens → Whens last.whens)
     unfolding choice.whens_turn
-    whens_turn scope known state = chosen (state.other || state.not_read) refuse (when_next scope known state.whens)
+    whens_turn scope known state = chosen (state.other || state.pending_not) refuse (when_next scope known state.whens)
 
     whens : (scope : Scope) (known : Option Known) → Gives IsPrintable (choice.whens parts level scope known) (λ state. Whens state.whens)
     unfolding choice.whens

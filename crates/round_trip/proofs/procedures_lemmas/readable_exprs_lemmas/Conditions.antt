@@ -11,18 +11,18 @@ use Rattle.parser_combinators.specs.Form.{Form}
 use Rattle.parser_combinators.specs.Form as form
 use Rattle.parser_combinators.proofs.MakerLaws as laws
 use Rattle.symbol_tables.specs.data_names.Names.{Names}
-use Rattle.cobol_grammar.specs.declared.expr_forms.side.Shape.{Shape}
-use Rattle.cobol_grammar.specs.declared.expr_forms.side.Shape.TheVariants as shapes
+use Rattle.cobol_grammar.specs.declared.expr_forms.side.ExprForm.{ExprForm}
+use Rattle.cobol_grammar.specs.declared.expr_forms.side.ExprForm.TheVariants as shapes
 use Rattle.cobol_grammar.specs.declared.expr_forms.side.Side.{Side}
-use Rattle.cobol_grammar.specs.declared.expr_forms.side.What.{What}
-use Rattle.cobol_grammar.specs.declared.expr_forms.side.What.TheVariants as whats
+use Rattle.cobol_grammar.specs.declared.expr_forms.side.ParsedExpr.{ParsedExpr}
+use Rattle.cobol_grammar.specs.declared.expr_forms.side.ParsedExpr.TheVariants as whats
 use Rattle.cobol_grammar.specs.expr_forms.Fault as faults
 use Rattle.cobol_grammar.specs.expr_forms.Side as sides
 use Rattle.cobol_grammar.specs.expr_forms.Side.{expr_of}
 use Rattle.cob_base.specs.Limit.{max_parens}
 use Rattle.cobol_grammar.specs.expr_forms.Limit.{Inner}
 use Rattle.cobol_grammar.specs.declared.cond_forms.part.Joined.{Joined}
-use Rattle.cobol_grammar.specs.declared.cond_forms.part.Part.{Part}
+use Rattle.cobol_grammar.specs.declared.cond_forms.part.SimpleCond.{SimpleCond}
 use Rattle.cobol_grammar.specs.declared.cond_forms.test.Primary.{Primary}
 use Rattle.cobol_grammar.specs.declared.cond_forms.test.Primary.TheVariants as prims
 use Rattle.cobol_grammar.specs.declared.cond_forms.test.Read.{Read}
@@ -55,7 +55,7 @@ module _ (Kind : TokenKind → Type 0) (names : Names) (program : Program) (find
       any (laws.one (λ position kind. tokens.sign_of kind))
       >>= (λ sign. note >> pure (λ n _ l. (tell.sign-told names program before left sign negated count l (number-known names program left l.known n.1), tt)))
 
-  class_of_ref : (before : ℕ) (negated : Bool) (class : ClassKind) (left : Side) (what : What) (count : ℕ) → left.what ≡ what →
+  class_of_ref : (before : ℕ) (negated : Bool) (class : ClassKind) (left : Side) (what : ParsedExpr) (count : ℕ) → left.what ≡ what →
       Gives Kind (tests.class_of_ref negated class what count) (λ read. not (faults.is_condition left.kind) ≡ true → Told names program before left count → ReadTold names program before read)
   unfolding tests.class_of_ref
   class_of_ref before negated class left (whats.Ref place) count e =
@@ -73,9 +73,9 @@ module _ (Kind : TokenKind → Type 0) (names : Names) (program : Program) (find
   untested : (before : ℕ) (end : Option Bool) (left : Side) (count : ℕ) → Gives Kind (tests.untested end left count) (λ read. Told names program before left count → ReadTold names program before read)
   unfolding tests.untested
   untested before None left count = refuse
-  untested before (Some not_read) left count = pure (λ l. l)
+  untested before (Some pending_not) left count = pure (λ l. l)
 
-  class_or : (before : ℕ) (shape : Shape) (negated : Bool) (end : Option Bool) (left : Side) (count : ℕ) →
+  class_or : (before : ℕ) (shape : ExprForm) (negated : Bool) (end : Option Bool) (left : Side) (count : ℕ) →
       Gives Kind (tests.class_or shape negated end left count) (λ read. Told names program before left count → ReadTold names program before read)
   unfolding tests.class_or
   class_or before shapes.Ref negated end left count = where_next (class_test before negated left count) (untested before end left count)
@@ -86,10 +86,10 @@ module _ (Kind : TokenKind → Type 0) (names : Names) (program : Program) (find
   -- ---- an expression without test
 
   -- an expression that is the right side of an abbreviated relation
-  carried : (before : ℕ) (setting : Setting) (right : Side) (count : ℕ) (not_read : Bool) →
-      Gives Kind (alones.carried setting right count not_read) (λ part. Told names program before right count → SettingTold names program setting → PartTold names program before part)
+  carried : (before : ℕ) (setting : Setting) (right : Side) (count : ℕ) (pending_not : Bool) →
+      Gives Kind (alones.carried setting right count pending_not) (λ part. Told names program before right count → SettingTold names program setting → PartTold names program before part)
   unfolding alones.carried
-  carried before setting right count not_read = do
+  carried before setting right count pending_not = do
     more ← tally count setting.terms
     note
     note
@@ -99,93 +99,93 @@ module _ (Kind : TokenKind → Type 0) (names : Names) (program : Program) (find
         (tell.carried-told names program before count more setting setting.rel right s r.known (v.1) (n.1) (omega (arith, e, c)) m.1, s))
 
   -- behind NOT, which is counted before the side
-  named_by : (before : ℕ) (negated : Bool) (side : Side) (what : What) (count : ℕ) (not_read : Bool) → side.what ≡ what →
-      Gives Kind (alones.named_by negated what count not_read)
+  named_by : (before : ℕ) (negated : Bool) (side : Side) (what : ParsedExpr) (count : ℕ) (pending_not : Bool) → side.what ≡ what →
+      Gives Kind (alones.named_by negated what count pending_not)
       (λ part. (before ≤ 500 → tell.behind_not names program negated before ≤ 500) → faults.condition_fault side ≡ None → Told names program (tell.behind_not names program negated before) side count →
       PartTold names program before part)
   unfolding alones.named_by
-  named_by before negated side (whats.Ref place) count not_read e =
+  named_by before negated side (whats.Ref place) count pending_not e =
       pure (λ some n h.
       let within = tell.behind_not names program negated before in
       let ref = tell.ref-told names program within place side count (ap (λ w. expr_of w) e) h in
       (tell.not-told names program negated before _ count some (tell.named-told names program within place side.kind count ref (condition-known side h.known.there n)), tt))
-  named_by before negated side (whats.Enclosed place) count not_read e =
+  named_by before negated side (whats.Enclosed place) count pending_not e =
       pure (λ some n h.
       let within = tell.behind_not names program negated before in
       let ref = tell.ref-told names program within place side count (ap (λ w. expr_of w) e) h in
       (tell.not-told names program negated before _ count some (tell.named-told names program within place side.kind count ref (condition-known side h.known.there n)), tt))
-  named_by before negated side (whats.Literal operand) count not_read e = refuse
-  named_by before negated side (whats.Sum expr) count not_read e = refuse
+  named_by before negated side (whats.Literal operand) count pending_not e = refuse
+  named_by before negated side (whats.Sum expr) count pending_not e = refuse
 
   -- what a form gives of a side that stands behind NOT, or doesn't
-  abbrev AloneTold : (before : ℕ) (negated : Bool) → Option Setting → Side → ℕ → Part → Type 0
+  abbrev AloneTold : (before : ℕ) (negated : Bool) → Option Setting → Side → ℕ → SimpleCond → Type 0
   AloneTold before negated setting side count part =
       (before ≤ 500 → tell.behind_not names program negated before ≤ 500) → Told names program (tell.behind_not names program negated before) side count → SetTold names program setting →
       PartTold names program before part
 
-  named : (before : ℕ) (negated : Bool) (setting : Option Setting) (side : Side) (count : ℕ) (not_read : Bool) →
-      Gives Kind (alones.named negated side count not_read) (λ part. AloneTold before negated setting side count part)
+  named : (before : ℕ) (negated : Bool) (setting : Option Setting) (side : Side) (count : ℕ) (pending_not : Bool) →
+      Gives Kind (alones.named negated side count pending_not) (λ part. AloneTold before negated setting side count part)
   unfolding alones.named
-  named before negated setting side count not_read =
-      note >> hence (λ part h n some l _. h some n.1 l) (named_by before negated side side.what count not_read refl)
+  named before negated setting side count pending_not =
+      note >> hence (λ part h n some l _. h some n.1 l) (named_by before negated side side.what count pending_not refl)
 
-  kept : (before : ℕ) (setting : Setting) (side : Side) (what : What) (count : ℕ) (not_read : Bool) → side.what ≡ what → faults.is_condition side.kind ≡ true →
-      Gives Kind (alones.kept setting what count not_read) (λ part. AloneTold before false (Some setting) side count part)
+  kept : (before : ℕ) (setting : Setting) (side : Side) (what : ParsedExpr) (count : ℕ) (pending_not : Bool) → side.what ≡ what → faults.is_condition side.kind ≡ true →
+      Gives Kind (alones.kept setting what count pending_not) (λ part. AloneTold before false (Some setting) side count part)
   unfolding alones.kept
-  kept before setting side (whats.Ref place) count not_read e c =
+  kept before setting side (whats.Ref place) count pending_not e c =
       pure (λ _ h s. (tell.named-told names program before place side.kind count (tell.ref-told names program before place side count (ap (λ w. expr_of w) e) h) c, s))
-  kept before setting side (whats.Enclosed place) count not_read e c = refuse
-  kept before setting side (whats.Literal operand) count not_read e c = refuse
-  kept before setting side (whats.Sum expr) count not_read e c = refuse
+  kept before setting side (whats.Enclosed place) count pending_not e c = refuse
+  kept before setting side (whats.Literal operand) count pending_not e c = refuse
+  kept before setting side (whats.Sum expr) count pending_not e c = refuse
 
-  carried_alone : (before : ℕ) (setting : Setting) (side : Side) (count : ℕ) (not_read : Bool) →
-      Gives Kind (alones.carried setting side count not_read) (λ part. AloneTold before false (Some setting) side count part)
-  carried_alone before setting side count not_read = hence (λ part h _ l s. h l s) (carried before setting side count not_read)
+  carried_alone : (before : ℕ) (setting : Setting) (side : Side) (count : ℕ) (pending_not : Bool) →
+      Gives Kind (alones.carried setting side count pending_not) (λ part. AloneTold before false (Some setting) side count part)
+  carried_alone before setting side count pending_not = hence (λ part h _ l s. h l s) (carried before setting side count pending_not)
 
   -- the name of a level 88 beside what was set, or an abbreviated relation
-  kept_or_carried : (before : ℕ) (setting : Setting) (side : Side) (count : ℕ) (not_read : Bool) (test : Bool) → faults.is_condition side.kind ≡ test →
-      Gives Kind (form.chosen test (alones.kept setting side.what count not_read) (alones.carried setting side count not_read)) (λ part. AloneTold before false (Some setting) side count part)
-  kept_or_carried before setting side count not_read true e = kept before setting side side.what count not_read refl e
-  kept_or_carried before setting side count not_read false e = carried_alone before setting side count not_read
+  kept_or_carried : (before : ℕ) (setting : Setting) (side : Side) (count : ℕ) (pending_not : Bool) (test : Bool) → faults.is_condition side.kind ≡ test →
+      Gives Kind (form.chosen test (alones.kept setting side.what count pending_not) (alones.carried setting side count pending_not)) (λ part. AloneTold before false (Some setting) side count part)
+  kept_or_carried before setting side count pending_not true e = kept before setting side side.what count pending_not refl e
+  kept_or_carried before setting side count pending_not false e = carried_alone before setting side count pending_not
 
-  ref_part : (before : ℕ) (negated : Bool) (setting : Option Setting) (side : Side) (count : ℕ) (not_read : Bool) →
-      Gives Kind (alones.ref_part negated setting side count not_read) (λ part. AloneTold before negated setting side count part)
+  ref_part : (before : ℕ) (negated : Bool) (setting : Option Setting) (side : Side) (count : ℕ) (pending_not : Bool) →
+      Gives Kind (alones.ref_part negated setting side count pending_not) (λ part. AloneTold before negated setting side count part)
   unfolding alones.ref_part
-  ref_part before false (Some setting) side count not_read = kept_or_carried before setting side count not_read (faults.is_condition side.kind) refl
-  ref_part before false None side count not_read = named before false None side count not_read
-  ref_part before true setting side count not_read = named before true setting side count not_read
+  ref_part before false (Some setting) side count pending_not = kept_or_carried before setting side count pending_not (faults.is_condition side.kind) refl
+  ref_part before false None side count pending_not = named before false None side count pending_not
+  ref_part before true setting side count pending_not = named before true setting side count pending_not
 
-  literal_part : (before : ℕ) (negated : Bool) (setting : Option Setting) (side : Side) (count : ℕ) (not_read : Bool) →
-      Gives Kind (alones.literal_part negated setting side count not_read) (λ part. AloneTold before negated setting side count part)
+  literal_part : (before : ℕ) (negated : Bool) (setting : Option Setting) (side : Side) (count : ℕ) (pending_not : Bool) →
+      Gives Kind (alones.literal_part negated setting side count pending_not) (λ part. AloneTold before negated setting side count part)
   unfolding alones.literal_part
-  literal_part before false (Some setting) side count not_read = carried_alone before setting side count not_read
-  literal_part before false None side count not_read = refuse
-  literal_part before true setting side count not_read = refuse
+  literal_part before false (Some setting) side count pending_not = carried_alone before setting side count pending_not
+  literal_part before false None side count pending_not = refuse
+  literal_part before true setting side count pending_not = refuse
 
-  part_by_shape : (before : ℕ) (shape : Shape) (negated : Bool) (setting : Option Setting) (side : Side) (count : ℕ) (not_read : Bool) →
-      Gives Kind (alones.part_by_shape shape negated setting side count not_read) (λ part. AloneTold before negated setting side count part)
+  part_by_shape : (before : ℕ) (shape : ExprForm) (negated : Bool) (setting : Option Setting) (side : Side) (count : ℕ) (pending_not : Bool) →
+      Gives Kind (alones.part_by_shape shape negated setting side count pending_not) (λ part. AloneTold before negated setting side count part)
   unfolding alones.part_by_shape
-  part_by_shape before shapes.Ref negated setting side count not_read = ref_part before negated setting side count not_read
-  part_by_shape before shapes.Literal negated setting side count not_read = literal_part before negated setting side count not_read
-  part_by_shape before shapes.Enclosed negated setting side count not_read = named before negated setting side count not_read
-  part_by_shape before shapes.Sum negated setting side count not_read = refuse
+  part_by_shape before shapes.Ref negated setting side count pending_not = ref_part before negated setting side count pending_not
+  part_by_shape before shapes.Literal negated setting side count pending_not = literal_part before negated setting side count pending_not
+  part_by_shape before shapes.Enclosed negated setting side count pending_not = named before negated setting side count pending_not
+  part_by_shape before shapes.Sum negated setting side count pending_not = refuse
 
-  alone_part : (before : ℕ) (negated : Bool) (setting : Option Setting) (side : Side) (count : ℕ) (not_read : Bool) →
-      Gives Kind (alones.alone_part negated setting side count not_read) (λ part. AloneTold before negated setting side count part)
+  alone_part : (before : ℕ) (negated : Bool) (setting : Option Setting) (side : Side) (count : ℕ) (pending_not : Bool) →
+      Gives Kind (alones.alone_part negated setting side count pending_not) (λ part. AloneTold before negated setting side count part)
   unfolding alones.alone_part
-  alone_part before negated setting side count not_read = part_by_shape before (sides.shape_of side.what) negated setting side count not_read
+  alone_part before negated setting side count pending_not = part_by_shape before (sides.shape_of side.what) negated setting side count pending_not
 
-  part_by : (before : ℕ) (negated : Bool) (setting : Option Setting) (prim : Primary) (count : ℕ) (not_read : Bool) →
-      Gives Kind (alones.part_by negated setting prim count not_read)
+  part_by : (before : ℕ) (negated : Bool) (setting : Option Setting) (prim : Primary) (count : ℕ) (pending_not : Bool) →
+      Gives Kind (alones.part_by negated setting prim count pending_not)
       (λ part. (before ≤ 500 → tell.behind_not names program negated before ≤ 500) → PrimTold names program (tell.behind_not names program negated before) prim count → SetTold names program setting →
       PartTold names program before part)
   unfolding alones.part_by
-  part_by before negated setting (prims.Test cond after) count not_read = pure (λ some p _. (tell.not-told names program negated before cond count some p.0, p.1))
-  part_by before negated setting (prims.Alone side) count not_read = alone_part before negated setting side count not_read
+  part_by before negated setting (prims.Test cond after) count pending_not = pure (λ some p _. (tell.not-told names program negated before cond count some p.0, p.1))
+  part_by before negated setting (prims.Alone side) count pending_not = alone_part before negated setting side count pending_not
 
-  close_cond : (before : ℕ) (part : Part) → Gives Kind (conditions.close_cond part) (λ read. PartTold names program before part → ReadTold names program before read)
+  close_cond : (before : ℕ) (part : SimpleCond) → Gives Kind (conditions.close_cond part) (λ read. PartTold names program before part → ReadTold names program before read)
   unfolding conditions.close_cond
-  close_cond before part = chosen part.not_read refuse (mark right_parenthesis >> pure (λ _ p. (p.0, tt)))
+  close_cond before part = chosen part.pending_not refuse (mark right_parenthesis >> pure (λ _ p. (p.0, tt)))
 
   close_side : (before : ℕ) (position : Position) (side : Side) (count : ℕ) →
       Gives Kind (conditions.close_side position side count) (λ read. Told names program before side count → ReadTold names program before read)
@@ -281,14 +281,14 @@ module _ (Kind : TokenKind → Type 0) (names : Names) (program : Program) (find
           Gives Kind (negs.prim_part names inner content false setting count) (λ part. SetTold names program setting → PartTold names program count part)
       unfolding negs.prim_part
       prim_part setting count =
-          prim count >>= (λ read. hence (λ part h p s. h (λ few. few) p s) (part_by count false setting read.prim read.count read.not_read))
+          prim count >>= (λ read. hence (λ part h p s. h (λ few. few) p s) (part_by count false setting read.prim read.count read.pending_not))
 
       not_part : (setting : Option Setting) (before more : ℕ) →
           Gives Kind (negs.prim_part names inner content true setting more) (λ part. (more ≡ before + 1) × (more ≤ 500) → SetTold names program setting → PartTold names program before part)
       unfolding negs.prim_part
       not_part setting before more =
           prim more >>= (λ read. hence (λ part h p m s.
-          h (λ _. subst (λ n. n ≤ 500) m.0 m.1) (subst (λ n. PrimTold names program n read.prim read.count) m.0 p) s) (part_by before true setting read.prim read.count read.not_read))
+          h (λ _. subst (λ n. n ≤ 500) m.0 m.1) (subst (λ n. PrimTold names program n read.prim read.count) m.0 p) s) (part_by before true setting read.prim read.count read.pending_not))
 
       behind_not : (setting : Option Setting) (count : ℕ) →
           Gives Kind (negs.behind_not names inner content setting count) (λ part. SetTold names program setting → PartTold names program count part)
@@ -325,11 +325,11 @@ module _ (Kind : TokenKind → Type 0) (names : Names) (program : Program) (find
 
       join : (start : ℕ) (state : Joined) → Gives Kind (conditions.join names inner content state) (λ last. JoinedTold names program start state → JoinedTold names program start last)
       unfolding conditions.join
-      join start state = chosen state.part.not_read refuse
+      join start state = chosen state.part.pending_not refuse
           (where_next (and_part start state.before state.part.cond state.part.setting state.part.count)
           (or_part start state.before state.part.cond state.part.setting state.part.count))
 
-      conds_from : (start : ℕ) (first : Part) → Gives Kind (conditions.conds_from names inner content first) (λ part. PartTold names program start first → PartTold names program start part)
+      conds_from : (start : ℕ) (first : SimpleCond) → Gives Kind (conditions.conds_from names inner content first) (λ part. PartTold names program start first → PartTold names program start part)
       unfolding conditions.conds_from
       conds_from start first =
           loop {P = λ state. JoinedTold names program start state} (join start)
@@ -341,22 +341,22 @@ module _ (Kind : TokenKind → Type 0) (names : Names) (program : Program) (find
 
       -- ---- in parentheses
 
-      content_from : (start : ℕ) (first : Part) → Gives Kind (conditions.content_from names inner content first) (λ read. PartTold names program start first → ReadTold names program start read)
+      content_from : (start : ℕ) (first : SimpleCond) → Gives Kind (conditions.content_from names inner content first) (λ read. PartTold names program start first → ReadTold names program start read)
       unfolding conditions.content_from
       content_from start first = conds_from start first >>= (λ part. hence (λ read h p f. h (p f)) (close_cond start part))
 
-      alone_content : (start : ℕ) (side : Side) (count : ℕ) (not_read : Bool) →
-          Gives Kind (conditions.alone_content names inner content side count not_read) (λ read. Told names program start side count → ReadTold names program start read)
+      alone_content : (start : ℕ) (side : Side) (count : ℕ) (pending_not : Bool) →
+          Gives Kind (conditions.alone_content names inner content side count pending_not) (λ read. Told names program start side count → ReadTold names program start read)
       unfolding conditions.alone_content
-      alone_content start side count not_read =
-          alone_part start false None side count not_read >>= (λ part. hence (λ read h p s. h (p (λ few. few) s tt)) (content_from start part))
+      alone_content start side count pending_not =
+          alone_part start false None side count pending_not >>= (λ part. hence (λ read h p s. h (p (λ few. few) s tt)) (content_from start part))
 
-      content_by : (start : ℕ) (position : Position) (prim : Primary) (count : ℕ) (not_read : Bool) →
-          Gives Kind (conditions.content_by names inner content position prim count not_read) (λ read. PrimTold names program start prim count → ReadTold names program start read)
+      content_by : (start : ℕ) (position : Position) (prim : Primary) (count : ℕ) (pending_not : Bool) →
+          Gives Kind (conditions.content_by names inner content position prim count pending_not) (λ read. PrimTold names program start prim count → ReadTold names program start read)
       unfolding conditions.content_by
       content_by start position (prims.Alone side) count false = where_next (close_side start position side count) (alone_content start side count false)
       content_by start position (prims.Alone side) count true = alone_content start side count true
-      content_by start position (prims.Test cond after) count not_read = content_from start (alones.part_of cond after count not_read)
+      content_by start position (prims.Test cond after) count pending_not = content_from start (alones.part_of cond after count pending_not)
 
       neg_content : (count : ℕ) → Gives Kind (conditions.neg_content names inner content count) (λ read. ReadTold names program count read)
       unfolding conditions.neg_content
@@ -364,7 +364,7 @@ module _ (Kind : TokenKind → Type 0) (names : Names) (program : Program) (find
 
       prim_content : (position : Position) (count : ℕ) → Gives Kind (conditions.prim_content names inner content position count) (λ read. ReadTold names program count read)
       unfolding conditions.prim_content
-      prim_content position count = prim count >>= (λ read. content_by count position read.prim read.count read.not_read)
+      prim_content position count = prim count >>= (λ read. content_by count position read.prim read.count read.pending_not)
 
       in_content : (count : ℕ) → Gives Kind (conditions.in_content names inner content count) (λ read. ReadTold names program count read)
       unfolding conditions.in_content

@@ -11,13 +11,13 @@ use Rattle.cobol_lex.specs.declared.token.TokenKind.{TokenKind}
 use Rattle.parser_combinators.specs.declared.note.Position.{Position}
 use Rattle.parser_combinators.proofs.MakerLaws as laws
 use Rattle.parser_combinators.specs.words.Word.{is_data_word}
-use Rattle.symbol_tables.specs.declared.data_names.name.Found.{Found}
+use Rattle.symbol_tables.specs.declared.data_names.name.Referent.{Referent}
 use Rattle.symbol_tables.specs.data_names.Names.{Names}
 use Rattle.symbol_tables.specs.data_names.Look.{look}
 use Rattle.cobol_grammar.specs.declared.expr_forms.chain.Chain.{Chain}
-use Rattle.cobol_grammar.specs.declared.expr_forms.either.Either.{Either}
-use Rattle.cobol_grammar.specs.declared.expr_forms.front.Front.{Front}
-use Rattle.cobol_grammar.specs.declared.expr_forms.front.Front.TheVariants as fronts
+use Rattle.cobol_grammar.specs.declared.expr_forms.either.MaybeSubscripts.{MaybeSubscripts}
+use Rattle.cobol_grammar.specs.declared.expr_forms.front.FirstInParens.{FirstInParens}
+use Rattle.cobol_grammar.specs.declared.expr_forms.front.FirstInParens.TheVariants as fronts
 use Rattle.cobol_grammar.specs.declared.expr_forms.reference.Suffix.{Suffix}
 use Rattle.cobol_grammar.specs.declared.expr_forms.reference.Suffix.TheVariants as suffixes
 use Rattle.cobol_grammar.specs.declared.expr_forms.side.Side.{Side}
@@ -78,7 +78,7 @@ module _ (Kind : TokenKind → Type 0) (names : Names) (program : Program) (find
         where_next (I.suffix count >>= (λ suffix. more_behind count suffix.0 suffix.1))
         (pure (record { subs = refl; fit = refl; room = λ few. none-room alone count; few = λ few. few; counted = λ within. omega arith }))
 
-    ref_behind : (found : Found) (of : List (List ℕ)) (position : Position) (count : ℕ) →
+    ref_behind : (found : Referent) (of : List (List ℕ)) (position : Position) (count : ℕ) →
         Gives Kind (references.ref_behind inner found of position count)
         (λ side. IsItem names program found of → are_data_words of ≡ true → PlaceTold names program alone count side.0 side.1)
     unfolding references.ref_behind
@@ -276,40 +276,40 @@ module _ (Kind : TokenKind → Type 0) (names : Names) (program : Program) (find
     unfolding front_forms.first_front
     first_front count = where_next (plus_front count) (where_next (digits_front count) (other_front count))
 
-    decided : (count : ℕ) (e : Either) (op : Op) → Gives Kind (front_forms.decided names inner count e op) (λ front. EitherTold names program e → FrontTold names program count front)
+    decided : (count : ℕ) (e : MaybeSubscripts) (op : Op) → Gives Kind (front_forms.decided names inner count e op) (λ front. EitherTold names program e → FrontTold names program count front)
     unfolding front_forms.decided
     decided count e op = do
       more ← tally count e.leaves
       state ← operated count op e.chain more
       pure (λ h m k. h (tell.either-told names program count more e m.0 m.1 k))
 
-    number_turn : (count : ℕ) (op : Op) (negative : Bool) (e : Either) → Gives Kind (front_forms.number_turn op negative e) (λ front. EitherTold names program e → FrontTold names program count front)
+    number_turn : (count : ℕ) (op : Op) (negative : Bool) (e : MaybeSubscripts) → Gives Kind (front_forms.number_turn op negative e) (λ front. EitherTold names program e → FrontTold names program count front)
     unfolding front_forms.number_turn
     number_turn count op negative e =
         any laws.digits >>= (λ found. note >> pure (λ n _ k. tell.with-number names program op negative found.0 found.1 e k (number-known names program e.chain.last k.chain.last n.1)))
 
-    number_or_decided : (count : ℕ) (e : Either) (op : Op) (negative : Bool) →
+    number_or_decided : (count : ℕ) (e : MaybeSubscripts) (op : Op) (negative : Bool) →
         Gives Kind (front_forms.number_or_decided names inner count e op negative) (λ front. EitherTold names program e → FrontTold names program count front)
     unfolding front_forms.number_or_decided
     number_or_decided count e op negative = where_next (number_turn count op negative e) (decided count e op)
 
-    plus_turn : (count : ℕ) (e : Either) → Gives Kind (front_forms.plus_turn names inner count e) (λ front. EitherTold names program e → FrontTold names program count front)
+    plus_turn : (count : ℕ) (e : MaybeSubscripts) → Gives Kind (front_forms.plus_turn names inner count e) (λ front. EitherTold names program e → FrontTold names program count front)
     unfolding front_forms.plus_turn
     plus_turn count e = mark plus_sign >> still (number_or_decided count e ops.Add false)
 
-    minus_behind : (count : ℕ) (e : Either) → Gives Kind (front_forms.minus_behind names inner count e) (λ front. EitherTold names program e → FrontTold names program count front)
+    minus_behind : (count : ℕ) (e : MaybeSubscripts) → Gives Kind (front_forms.minus_behind names inner count e) (λ front. EitherTold names program e → FrontTold names program count front)
     unfolding front_forms.minus_behind
     minus_behind count e = chosen (front_forms.takes_minus e) (number_or_decided count e ops.Sub true) (decided count e ops.Sub)
 
-    minus_turn : (count : ℕ) (e : Either) → Gives Kind (front_forms.minus_turn names inner count e) (λ front. EitherTold names program e → FrontTold names program count front)
+    minus_turn : (count : ℕ) (e : MaybeSubscripts) → Gives Kind (front_forms.minus_turn names inner count e) (λ front. EitherTold names program e → FrontTold names program count front)
     unfolding front_forms.minus_turn
     minus_turn count e = mark hyphen >> still (minus_behind count e)
 
-    factor_turn : (count : ℕ) (e : Either) → Gives Kind (front_forms.factor_turn names inner count e) (λ front. EitherTold names program e → FrontTold names program count front)
+    factor_turn : (count : ℕ) (e : MaybeSubscripts) → Gives Kind (front_forms.factor_turn names inner count e) (λ front. EitherTold names program e → FrontTold names program count front)
     unfolding front_forms.factor_turn
     factor_turn count e = any law.operator >>= (λ op. still (decided count e op))
 
-    front_turn : (count : ℕ) (front : Front) → Gives Kind (front_forms.front_turn names inner count front) (λ last. FrontTold names program count front → FrontTold names program count last)
+    front_turn : (count : ℕ) (front : FirstInParens) → Gives Kind (front_forms.front_turn names inner count front) (λ last. FrontTold names program count front → FrontTold names program count last)
     unfolding front_forms.front_turn
     front_turn count (fronts.Sum chain more) = turn count (chain, more) >>= (λ state. pure (λ h. h))
     front_turn count (fronts.Either e) = where_next (plus_turn count e) (where_next (minus_turn count e) (factor_turn count e))
@@ -318,7 +318,7 @@ module _ (Kind : TokenKind → Type 0) (names : Names) (program : Program) (find
         Gives Kind (front_forms.window_suffix names inner alone first count) (λ suffix. Told names program before first count → SuffixTold names program alone before suffix.0 suffix.1)
     window_suffix alone before first count = window_behind alone before first count >>= (λ window. pure (λ h. h))
 
-    subs_suffix : (alone : Bool) (count : ℕ) (e : Either) → Gives Kind (front_forms.subs_suffix names count e) (λ suffix. EitherTold names program e → SuffixTold names program alone count suffix.0 suffix.1)
+    subs_suffix : (alone : Bool) (count : ℕ) (e : MaybeSubscripts) → Gives Kind (front_forms.subs_suffix names count e) (λ suffix. EitherTold names program e → SuffixTold names program alone count suffix.0 suffix.1)
     unfolding front_forms.subs_suffix
     subs_suffix alone count e = do
       note
@@ -326,7 +326,7 @@ module _ (Kind : TokenKind → Type 0) (names : Names) (program : Program) (find
       mark right_parenthesis
       pure (λ _ h n k. (h (tell.subs-of names program e k n.1), refl))
 
-    front_end : (alone : Bool) (count : ℕ) (front : Front) →
+    front_end : (alone : Bool) (count : ℕ) (front : FirstInParens) →
         Gives Kind (front_forms.front_end names inner alone count front) (λ suffix. FrontTold names program count front → SuffixTold names program alone count suffix.0 suffix.1)
     unfolding front_forms.front_end
     front_end alone count (fronts.Sum chain more) =

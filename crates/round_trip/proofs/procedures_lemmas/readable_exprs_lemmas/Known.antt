@@ -16,20 +16,20 @@ use Rattle.cob_tree.specs.declared.program.Program.{Program}
 use Rattle.parser_combinators.specs.declared.note.Position.{Position}
 use Rattle.unparser.specs.Place.{item_name}
 use Rattle.parser_combinators.specs.words.Word.{is_data_word}
-use Rattle.symbol_tables.specs.declared.data_names.name.Found.{Found}
-use Rattle.symbol_tables.specs.declared.data_names.name.Found.TheVariants as founds
-use Rattle.symbol_tables.specs.declared.data_names.name.Kind.{Kind}
-use Rattle.symbol_tables.specs.declared.data_names.name.Kind.TheVariants as items
+use Rattle.symbol_tables.specs.declared.data_names.name.Referent.{Referent}
+use Rattle.symbol_tables.specs.declared.data_names.name.Referent.TheVariants as founds
+use Rattle.symbol_tables.specs.declared.data_names.name.ItemKind.{ItemKind}
+use Rattle.symbol_tables.specs.declared.data_names.name.ItemKind.TheVariants as items
 use Rattle.symbol_tables.specs.data_names.Names.{Names}
 use Rattle.symbol_tables.specs.data_names.Look.{look}
 use Rattle.program_facts.specs.term_counts.Expression.{expr_terms}
-use Rattle.cobol_grammar.specs.declared.expr_forms.chain.Before.{Before}
+use Rattle.cobol_grammar.specs.declared.expr_forms.chain.PendingTerm.{PendingTerm}
 use Rattle.cobol_grammar.specs.declared.expr_forms.chain.Chain.{Chain}
-use Rattle.cobol_grammar.specs.declared.expr_forms.side.Make.TheVariants as makes
+use Rattle.cobol_grammar.specs.declared.expr_forms.side.ExprContent.TheVariants as makes
 use Rattle.cobol_grammar.specs.declared.expr_forms.side.Side.{Side}
 use Rattle.cobol_grammar.specs.declared.expr_forms.side.ValueKind.{ValueKind}
 use Rattle.cobol_grammar.specs.declared.expr_forms.side.ValueKind.TheVariants as values
-use Rattle.cobol_grammar.specs.declared.expr_forms.side.What.TheVariants as whats
+use Rattle.cobol_grammar.specs.declared.expr_forms.side.ParsedExpr.TheVariants as whats
 use Rattle.cobol_grammar.specs.expr_forms.Chain as chains
 use Rattle.cobol_grammar.specs.expr_forms.Either as eithers
 use Rattle.cobol_grammar.specs.expr_forms.Fault.{usage, item_of, is_whole, number_fault, number_fault_at, whole_fault_at, value_fault_at, condition_fault_at, item_kind, kind_of, is_condition, found_fault}
@@ -80,19 +80,19 @@ condition-of position values.Figure n t = absurd cc
 condition-of position values.Condition n t = refl
 condition-of position values.Unknown n t = absurd (both_ways false refl t)
 
-kind-there : (kind : Kind) → is_there (item_kind kind) ≡ true
+kind-there : (kind : ItemKind) → is_there (item_kind kind) ≡ true
 kind-there (items.Number whole) = refl
 kind-there items.Text = refl
 kind-there items.Group = refl
 kind-there items.Condition = refl
 
-window-there : (kind : Kind) → is_there (windowed (item_kind kind)) ≡ true
+window-there : (kind : ItemKind) → is_there (windowed (item_kind kind)) ≡ true
 window-there (items.Number whole) = refl
 window-there items.Text = refl
 window-there items.Group = refl
 window-there items.Condition = refl
 
-within-there : (window : Option Window) (kind : Kind) → is_there (kind_within window (item_kind kind)) ≡ true
+within-there : (window : Option Window) (kind : ItemKind) → is_there (kind_within window (item_kind kind)) ≡ true
 within-there None kind = kind-there kind
 within-there (Some window) kind = window-there kind
 
@@ -181,7 +181,7 @@ module _ (names : Names) (program : Program) where
       (ap (λ j. j.fit) e ∙ both (both l.fit l.number) (both r.fit r.number))
       (ap (λ k. is_there k) kind)
 
-  abbrev BeforeKnown : Option Before → Side → Type 0
+  abbrev BeforeKnown : Option PendingTerm → Side → Type 0
   BeforeKnown None last = Unit {0}
   BeforeKnown (Some before) last =
       IsNumber before.left before.whole × (is_exact before.op ≡ true) × (is_number last.kind ≡ true)
@@ -190,7 +190,7 @@ module _ (names : Names) (program : Program) where
     pub before : BeforeKnown chain.before chain.last
     pub last : IsKnown chain.last
 
-  abbrev before_terms : Option Before → ℕ
+  abbrev before_terms : Option PendingTerm → ℕ
   before_terms None = 0
   before_terms (Some before) = expr_terms before.left
 
@@ -200,7 +200,7 @@ module _ (names : Names) (program : Program) where
   pub one-known : (side : Side) → IsKnown side → ChainKnown (chains.chain_of side)
   one-known side h = record { before = tt; last = h }
 
-  finished-known : (before : Option Before) (last : Side) → BeforeKnown before last → IsKnown last → IsKnown (chains.finished before last)
+  finished-known : (before : Option PendingTerm) (last : Side) → BeforeKnown before last → IsKnown last → IsKnown (chains.finished before last)
   finished-known None last b h = h
   finished-known (Some before) last b h =
       both-known before.op before.left (expr_of last.what) before.whole (is_whole last.kind) b.0 (number-side last h b.2) (chains.finished (Some before) last) refl
@@ -210,7 +210,7 @@ module _ (names : Names) (program : Program) where
   unfolding chains.finish
   finish-known chain h = finished-known chain.before chain.last h.before h.last
 
-  finished-terms : (before : Option Before) (last : Side) → expr_terms (expr_of (chains.finished before last).what) ≡ before_terms before + expr_terms (expr_of last.what)
+  finished-terms : (before : Option PendingTerm) (last : Side) → expr_terms (expr_of (chains.finished before last).what) ≡ before_terms before + expr_terms (expr_of last.what)
   finished-terms None last = omega arith
   finished-terms (Some before) last = terms-Both before.op before.left (expr_of last.what)
 
@@ -218,11 +218,11 @@ module _ (names : Names) (program : Program) where
   unfolding chains.finish
   finish-terms chain = finished-terms chain.before chain.last
 
-  finished-number : (before : Option Before) (last : Side) → is_number last.kind ≡ true → is_number (chains.finished before last).kind ≡ true
+  finished-number : (before : Option PendingTerm) (last : Side) → is_number last.kind ≡ true → is_number (chains.finished before last).kind ≡ true
   finished-number None last n = n
   finished-number (Some before) last n = refl
 
-  before-with : (before : Option Before) (last next : Side) → BeforeKnown before last → is_number next.kind ≡ true → BeforeKnown before next
+  before-with : (before : Option PendingTerm) (last next : Side) → BeforeKnown before last → is_number next.kind ≡ true → BeforeKnown before next
   before-with None last next b n = tt
   before-with (Some before) last next b n = (b.0, b.1, n)
 
@@ -264,8 +264,8 @@ module _ (names : Names) (program : Program) where
   -- ---- names
 
   -- the item that was found is found again by its own name
-  abbrev pub IsItem : Found → List (List ℕ) → Type 0
-  IsItem found of = (item : ℕ) (kind : Kind) (dims : ℕ) → found ≡ founds.Item item kind dims →
+  abbrev pub IsItem : Referent → List (List ℕ) → Type 0
+  IsItem found of = (item : ℕ) (kind : ItemKind) (dims : ℕ) → found ≡ founds.Item item kind dims →
       (is_data_word (item_name program item) ≡ true) × (reference names program item of ≡ founds.Item item kind dims)
 
   pub item-found : Finds names program → (word : List ℕ) (of : List (List ℕ)) → is_data_word word ≡ true → IsItem (look names word of) of
@@ -288,7 +288,7 @@ module _ (names : Names) (program : Program) where
   seen-kind (Some window) kind = refl
 
   -- it suits what stands behind it
-  item-suits : (item : ℕ) (kind : Kind) (dims : ℕ) (subs : ℕ) (windowed : Bool) (position : Position) →
+  item-suits : (item : ℕ) (kind : ItemKind) (dims : ℕ) (subs : ℕ) (windowed : Bool) (position : Position) →
       found_fault (founds.Item item kind dims) subs windowed position ≡ None → suits item subs windowed (founds.Item item kind dims) ≡ true
   unfolding found_fault
   item-suits item kind dims subs windowed position n = both (eq-eqb item item refl) (by (dims == subs && not (is_condition (item_kind kind) && windowed)) n)
@@ -297,7 +297,7 @@ module _ (names : Names) (program : Program) where
       by true n = refl
       by false n = absurd cc
 
-  item-place : (item : ℕ) (kind : Kind) (dims : ℕ) (of : List (List ℕ)) (subs : List Sub) (window : Option Window) (position : Position) →
+  item-place : (item : ℕ) (kind : ItemKind) (dims : ℕ) (of : List (List ℕ)) (subs : List Sub) (window : Option Window) (position : Position) →
       IsItem (founds.Item item kind dims) of → are_data_words of ≡ true → found_fault (founds.Item item kind dims) (length subs) (is_some window) position ≡ None →
       are_fit (map (judged_sub names program) subs) ≡ true → if_fit (judged_windows names program window) ≡ true →
       IsPlace (place_of (founds.Item item kind dims) of subs window) (sides.ref_side (founds.Item item kind dims) of subs window position)
@@ -323,7 +323,7 @@ module _ (names : Names) (program : Program) where
         there = within-there window kind;
       }
 
-  pub place-known : (found : Found) (of : List (List ℕ)) (subs : List Sub) (window : Option Window) (position : Position) →
+  pub place-known : (found : Referent) (of : List (List ℕ)) (subs : List Sub) (window : Option Window) (position : Position) →
       IsItem found of → are_data_words of ≡ true → found_fault found (length subs) (is_some window) position ≡ None →
       are_fit (map (judged_sub names program) subs) ≡ true → if_fit (judged_windows names program window) ≡ true →
       IsPlace (place_of found of subs window) (sides.ref_side found of subs window position)
@@ -368,7 +368,7 @@ module _ (names : Names) (program : Program) where
   pub item_sub-fit : (place : Place) (negative : Bool) (digits : List ℕ) → IsBase place → (judged_sub names program (eithers.item_sub place negative digits)).fit ≡ true
   item_sub-fit place negative digits h = ap (λ j. j.fit) (judged-sub names program (Some place) (sides.number_of negative digits)) ∙ h
 
-  pub base-known : (found : Found) (of : List (List ℕ)) (at position : Position) →
+  pub base-known : (found : Referent) (of : List (List ℕ)) (at position : Position) →
       IsPlace (place_of found of [] None) (sides.ref_side found of [] None at) → whole_fault_at position (kind_of found) ≡ None → IsBase (place_of found of [] None)
   unfolding sides.ref_side
   base-known found of at position h n =
@@ -376,7 +376,7 @@ module _ (names : Names) (program : Program) where
       let kind : kind_of found ≡ (judged_place names program place).kind = h.is.known.kind ∙ ap (λ j. j.kind) (judged-Place names program place) in
       both h.fit (both (ap (λ j. j.bare) (bare found of)) (subst (λ k. is_counting k ≡ true) kind (whole-of position (kind_of found) n h.there)))
     where
-      bare : (found : Found) (of : List (List ℕ)) → judged_place names program (place_of found of [] None)
+      bare : (found : Referent) (of : List (List ℕ)) → judged_place names program (place_of found of [] None)
           ≡ judging.place_step names program (record { item = item_of found; of = of; subs = []; window = None })
       bare found of = judged-place names program (item_of found) of [] None
 

@@ -13,18 +13,18 @@ use Rattle.parser_combinators.specs.declared.note.Position.{Position}
 use Rattle.symbol_tables.specs.data_names.Names.{Names}
 use Rattle.program_facts.specs.term_counts.Condition.{cond_terms}
 use Rattle.program_facts.specs.term_counts.Expression.{expr_terms, place_terms}
-use Rattle.cobol_grammar.specs.declared.expr_forms.side.Make.{Make}
-use Rattle.cobol_grammar.specs.declared.expr_forms.side.Make.TheVariants as makes
+use Rattle.cobol_grammar.specs.declared.expr_forms.side.ExprContent.{ExprContent}
+use Rattle.cobol_grammar.specs.declared.expr_forms.side.ExprContent.TheVariants as makes
 use Rattle.cobol_grammar.specs.declared.expr_forms.side.Side.{Side}
 use Rattle.cobol_grammar.specs.declared.expr_forms.side.ValueKind.{ValueKind}
 use Rattle.cobol_grammar.specs.declared.expr_forms.side.ValueKind.TheVariants as values
-use Rattle.cobol_grammar.specs.declared.expr_forms.side.What.{What}
-use Rattle.cobol_grammar.specs.declared.expr_forms.side.What.TheVariants as whats
+use Rattle.cobol_grammar.specs.declared.expr_forms.side.ParsedExpr.{ParsedExpr}
+use Rattle.cobol_grammar.specs.declared.expr_forms.side.ParsedExpr.TheVariants as whats
 use Rattle.cobol_grammar.specs.expr_forms.Fault.{is_condition, value_fault, condition_fault, relation_fault, inexact_fault, kinds_fault, makes_fault, compared_as}
 use Rattle.cobol_grammar.specs.expr_forms.Side as sides
 use Rattle.cobol_grammar.specs.expr_forms.Side.{expr_of}
 use Rattle.cobol_grammar.specs.declared.cond_forms.part.Joined.{Joined}
-use Rattle.cobol_grammar.specs.declared.cond_forms.part.Part.{Part}
+use Rattle.cobol_grammar.specs.declared.cond_forms.part.SimpleCond.{SimpleCond}
 use Rattle.cobol_grammar.specs.declared.cond_forms.test.Primary.{Primary}
 use Rattle.cobol_grammar.specs.declared.cond_forms.test.Primary.TheVariants as prims
 use Rattle.cobol_grammar.specs.declared.cond_forms.test.Read.{Read}
@@ -44,7 +44,7 @@ use Rattle.round_trip.proofs.procedures_lemmas.readable_exprs_lemmas.Told.{Told}
 
 -- ---- what may be compared
 
-plain-of : (make : Make) (kind : ValueKind) (position : Position) → is_there kind ≡ true → inexact_fault make kind position ≡ None → is_plain make kind ≡ true
+plain-of : (make : ExprContent) (kind : ValueKind) (position : Position) → is_there kind ≡ true → inexact_fault make kind position ≡ None → is_plain make kind ≡ true
 plain-of makes.Joined kind position t n = absurd cc
 plain-of makes.Item kind position t n = whole-of position kind n t
 plain-of makes.Literal kind position t n = whole-of position kind n t
@@ -59,7 +59,7 @@ kinds-of (values.Number whole) values.Figure left right first second l r t u n =
 kinds-of values.Figure (values.Number whole) left right first second l r t u n = absurd cc
 kinds-of one other left right first second l r t u n = refl
 
-makes-of : (one other : Make) (left right : Judged) (first second : Side) → IsKnownAs left first → IsKnownAs right second → is_there first.kind ≡ true → is_there second.kind ≡ true →
+makes-of : (one other : ExprContent) (left right : Judged) (first second : Side) → IsKnownAs left first → IsKnownAs right second → is_there first.kind ≡ true → is_there second.kind ≡ true →
     makes_fault one other first second ≡ None → makes_suit one other left right ≡ true
 makes-of makes.Literal makes.Literal left right first second l r t u n = absurd cc
 makes-of one other left right first second l r t u n =
@@ -102,7 +102,7 @@ module _ (names : Names) (program : Program) where
   SetTold None = Unit {0}
   SetTold (Some setting) = SettingTold setting
 
-  abbrev pub PartTold : ℕ → Part → Type 0
+  abbrev pub PartTold : ℕ → SimpleCond → Type 0
   PartTold before part = CondTold before part.cond part.count × SetTold part.setting
 
   abbrev pub PrimTold : ℕ → Primary → ℕ → Type 0
@@ -235,7 +235,7 @@ module _ (names : Names) (program : Program) where
       record { fit = fit-Not names program cond ∙ h.fit; counted = omega (arith, c, t); few = λ few. h.few (some few) }
   not-told false before cond after some h = h
 
-  pub first-told : (start : ℕ) (part : Part) → PartTold start part → JoinedTold start (record { before = None; part = part })
+  pub first-told : (start : ℕ) (part : SimpleCond) → PartTold start part → JoinedTold start (record { before = None; part = part })
   first-told start part h = record {
     before_is = refl;
     left_is = h.0.fit;
@@ -244,7 +244,7 @@ module _ (names : Names) (program : Program) where
     few = h.0.few;
   }
 
-  pub and-told : (start : ℕ) (before : Option Cond) (left : Cond) (setting : Option Setting) (count : ℕ) (next : Part) → LeftTold start before left setting count → PartTold count next →
+  pub and-told : (start : ℕ) (before : Option Cond) (left : Cond) (setting : Option Setting) (count : ℕ) (next : SimpleCond) → LeftTold start before left setting count → PartTold count next →
       LeftTold start before (conds.And left next.cond) next.setting next.count
   and-told start before left setting count next h n =
       let a = h.counted in
@@ -266,7 +266,7 @@ module _ (names : Names) (program : Program) where
   whole-terms None cond = omega arith
   whole-terms (Some before) cond = terms-Or before cond
 
-  pub or-told : (start : ℕ) (before : Option Cond) (left : Cond) (setting : Option Setting) (count : ℕ) (next : Part) → LeftTold start before left setting count → PartTold count next →
+  pub or-told : (start : ℕ) (before : Option Cond) (left : Cond) (setting : Option Setting) (count : ℕ) (next : SimpleCond) → LeftTold start before left setting count → PartTold count next →
       LeftTold start (Some (whole_of before left)) next.cond next.setting next.count
   or-told start before left setting count next h n =
       let a = h.counted in
@@ -280,7 +280,7 @@ module _ (names : Names) (program : Program) where
         few = λ few. n.0.few (h.few few);
       }
 
-  pub whole-told : (start : ℕ) (state : Joined) → JoinedTold start state → PartTold start (part_of (whole_of state.before state.part.cond) state.part.setting state.part.count state.part.not_read)
+  pub whole-told : (start : ℕ) (state : Joined) → JoinedTold start state → PartTold start (part_of (whole_of state.before state.part.cond) state.part.setting state.part.count state.part.pending_not)
   whole-told start state h = (
     record {
       fit = whole-fit state.before state.part.cond h.before_is h.left_is;
@@ -291,7 +291,7 @@ module _ (names : Names) (program : Program) where
   )
 
   -- in parentheses
-  enclosed-expr : (what : What) → expr_of (sides.enclosed_what what) ≡ expr_of what
+  enclosed-expr : (what : ParsedExpr) → expr_of (sides.enclosed_what what) ≡ expr_of what
   enclosed-expr (whats.Ref place) = refl
   enclosed-expr (whats.Enclosed place) = refl
   enclosed-expr (whats.Literal operand) = refl

@@ -11,18 +11,18 @@ use Rattle.cob_tree.specs.declared.place.Sub.{Sub}
 use Rattle.cob_tree.specs.declared.place.Window.{Window, out-Window, out-roll-Window}
 use Rattle.cob_tree.specs.declared.program.Program.{Program}
 use Rattle.parser_combinators.specs.declared.note.Position.{Position}
-use Rattle.symbol_tables.specs.declared.data_names.name.Found.{Found}
+use Rattle.symbol_tables.specs.declared.data_names.name.Referent.{Referent}
 use Rattle.symbol_tables.specs.data_names.Names.{Names}
 use Rattle.program_facts.specs.term_counts.Expression.{expr_terms, operand_terms, window_terms}
 use Rattle.cobol_grammar.specs.declared.expr_forms.chain.Chain.{Chain}
-use Rattle.cobol_grammar.specs.declared.expr_forms.either.Either.{Either}
-use Rattle.cobol_grammar.specs.declared.expr_forms.front.Front.{Front}
-use Rattle.cobol_grammar.specs.declared.expr_forms.front.Front.TheVariants as fronts
-use Rattle.cobol_grammar.specs.declared.expr_forms.reference.Behind.{Behind}
+use Rattle.cobol_grammar.specs.declared.expr_forms.either.MaybeSubscripts.{MaybeSubscripts}
+use Rattle.cobol_grammar.specs.declared.expr_forms.front.FirstInParens.{FirstInParens}
+use Rattle.cobol_grammar.specs.declared.expr_forms.front.FirstInParens.TheVariants as fronts
+use Rattle.cobol_grammar.specs.declared.expr_forms.reference.RefSuffixes.{RefSuffixes}
 use Rattle.cobol_grammar.specs.declared.expr_forms.reference.Suffix.{Suffix}
 use Rattle.cobol_grammar.specs.declared.expr_forms.reference.Suffix.TheVariants as suffixes
 use Rattle.cobol_grammar.specs.declared.expr_forms.side.Side.{Side}
-use Rattle.cobol_grammar.specs.declared.expr_forms.side.What.TheVariants as whats
+use Rattle.cobol_grammar.specs.declared.expr_forms.side.ParsedExpr.TheVariants as whats
 use Rattle.cobol_grammar.specs.expr_forms.Chain as chains
 use Rattle.cobol_grammar.specs.expr_forms.Either as eithers
 use Rattle.cobol_grammar.specs.expr_forms.Fault.{whole_fault, item_of}
@@ -104,7 +104,7 @@ module _ (names : Names) (program : Program) where
   SuffixTold alone before (suffixes.Subs subs) after = (are_fit (map (judged_sub names program) subs) ≡ true) × (after ≡ before)
   SuffixTold alone before (suffixes.Window window) after = WindowTold alone before window after
 
-  pub record BehindTold (alone : Bool) (before : ℕ) (behind : Behind) : Type 0 where
+  pub record BehindTold (alone : Bool) (before : ℕ) (behind : RefSuffixes) : Type 0 where
     pub subs : are_fit (map (judged_sub names program) behind.subs) ≡ true
     pub fit : if_fit (judged_windows names program behind.window) ≡ true
     pub room : before ≤ 500 → WindowHasRoom alone 501 before behind.window
@@ -144,13 +144,13 @@ module _ (names : Names) (program : Program) where
 
   -- its leaves are counted as long as they are few; its subscripts are fit where no fault is noted of
   -- them
-  pub record EitherTold (either : Either) : Type 0 where
+  pub record EitherTold (either : MaybeSubscripts) : Type 0 where
     pub subs : either.fault ≡ None → are_fit (map (judged_sub names program) either.subs) ≡ true
     pub base : either.fault ≡ None → BaseTold either.base
     pub chain : ChainKnown names program either.chain
     pub leaves : either.leaves ≤ 500 → either.leaves ≡ chain_terms names program either.chain
 
-  abbrev pub FrontTold : (before : ℕ) → Front → Type 0
+  abbrev pub FrontTold : (before : ℕ) → FirstInParens → Type 0
   FrontTold before (fronts.Either either) = EitherTold either
   FrontTold before (fronts.Sum chain after) = ChainTold before chain after
 
@@ -203,7 +203,7 @@ module _ (names : Names) (program : Program) where
     counted = λ within. let t = h.terms in omega (arith, t, e);
   }
 
-  pub place-told : (alone : Bool) (before : ℕ) (found : Found) (of : List (List ℕ)) (position : Position) (behind : Behind) →
+  pub place-told : (alone : Bool) (before : ℕ) (found : Referent) (of : List (List ℕ)) (position : Position) (behind : RefSuffixes) →
       IsPlace names program (place_of found of behind.subs behind.window) (sides.ref_side found of behind.subs behind.window position) → BehindTold alone before behind →
       PlaceTold alone before (sides.ref_side found of behind.subs behind.window position) behind.count
   place-told alone before found of position behind is h =
@@ -290,7 +290,7 @@ module _ (names : Names) (program : Program) where
   unfolding sides.literal_side
   digits-number digits position = refl
 
-  ref-terms : (found : Found) (of : List (List ℕ)) (position : Position) → expr_terms (expr_of (sides.ref_side found of [] None position).what) ≡ 1
+  ref-terms : (found : Referent) (of : List (List ℕ)) (position : Position) → expr_terms (expr_of (sides.ref_side found of [] None position).what) ≡ 1
   unfolding sides.ref_side
   ref-terms found of position =
       let place = place_of found of [] None in
@@ -306,7 +306,7 @@ module _ (names : Names) (program : Program) where
         leaves = λ _. let one = digits-terms digits position in omega (arith, one);
       }
 
-  pub ref-either : (found : Found) (of : List (List ℕ)) (position : Position) →
+  pub ref-either : (found : Referent) (of : List (List ℕ)) (position : Position) →
       IsPlace names program (place_of found of [] None) (sides.ref_side found of [] None position) → EitherTold (eithers.ref_either found of position)
   ref-either found of position h = record {
     subs = λ _. refl;
@@ -322,7 +322,7 @@ module _ (names : Names) (program : Program) where
   more-leaves : (leaves : ℕ) → eithers.more_leaves leaves ≤ 500 → eithers.more_leaves leaves ≡ leaves + 1
   more-leaves leaves few = omega (arith, few)
 
-  pub with-number : (op : Op) (negative : Bool) (digits : List ℕ) (position : Position) (e : Either) → EitherTold e → is_number e.chain.last.kind ≡ true →
+  pub with-number : (op : Op) (negative : Bool) (digits : List ℕ) (position : Position) (e : MaybeSubscripts) → EitherTold e → is_number e.chain.last.kind ≡ true →
       EitherTold (eithers.with_number op negative digits position e)
   unfolding eithers.with_number
   with-number op negative digits position e h n =
@@ -347,12 +347,12 @@ module _ (names : Names) (program : Program) where
   with-fit None subs b s = s
   with-fit (Some place) subs b s = subs-added names program subs (eithers.bare_sub place) s (item_sub-fit names program place false (codes "0") b)
 
-  pub subs-of : (e : Either) → EitherTold e → e.fault ≡ None → are_fit (map (judged_sub names program) (eithers.subs_of e)) ≡ true
+  pub subs-of : (e : MaybeSubscripts) → EitherTold e → e.fault ≡ None → are_fit (map (judged_sub names program) (eithers.subs_of e)) ≡ true
   unfolding eithers.subs_of
   subs-of e h n = with-fit e.base e.subs (h.base n) (h.subs n)
 
   -- its leaves are counted now
-  pub either-told : (before more : ℕ) (e : Either) → more ≡ before + e.leaves → more ≤ 500 → EitherTold e → ChainTold before e.chain more
+  pub either-told : (before more : ℕ) (e : MaybeSubscripts) → more ≡ before + e.leaves → more ≤ 500 → EitherTold e → ChainTold before e.chain more
   either-told before more e same few h =
       let leaves = h.leaves (omega (arith, same, few)) in
       record { known = h.chain; counted = omega (arith, same, leaves); few = λ _. few }

@@ -25,7 +25,7 @@ use Rattle.symbol_tables.specs.data_names.Names.{Names}
 use Rattle.program_facts.specs.term_counts.Expression.{operand_terms}
 use Rattle.cobol_grammar.specs.declared.expr_forms.side.ValueKind.{ValueKind}
 use Rattle.cobol_grammar.specs.declared.expr_forms.side.ValueKind.TheVariants as values
-use Rattle.cobol_grammar.specs.declared.expr_forms.side.What.TheVariants as whats
+use Rattle.cobol_grammar.specs.declared.expr_forms.side.ParsedExpr.TheVariants as whats
 use Rattle.cob_base.specs.Limit.{max_terms}
 use Rattle.cobol_grammar.specs.expr_forms.Limit as limits
 use Rattle.cobol_grammar.specs.expr_forms.Reference as references
@@ -156,7 +156,7 @@ module _ {Kind : TokenKind → Type 0} where
 
   -- ---- counts
 
-  pub tally : (count more : ℕ) → Gives Kind (limits.tally count more) (λ found. (found ≡ count + more) × (found ≤ 500))
+  pub tally : (count more : ℕ) → Gives Kind (limits.count_terms count more) (λ found. (found ≡ count + more) × (found ≤ 500))
   tally count more = by (nat_lt max_terms (count + more)) refl
     where
       by : (passes : Bool) → nat_lt max_terms (count + more) ≡ passes → Gives Kind (part.unless Terms passes (count + more)) (λ found. (found ≡ count + more) × (found ≤ 500))

@@ -248,7 +248,7 @@ module _ {Side Known : Type 0} {parts again : Parts Side Known} {kept : Kept Sid
 
   module _ (Held : Scope → List Stmt → Type 0) (scope : Scope) where
     abbrev pub PerformFine : PerformHead → Type 0
-    PerformFine (heads.Whole stmt not_read) = SpellsStmt again kept program Held scope stmt
+    PerformFine (heads.Whole stmt pending_not) = SpellsStmt again kept program Held scope stmt
     PerformFine (heads.Inline control) = SpellsTurns again kept program control
 
     perform_named : (name : List ℕ) (position : Position) → Gives Kind (loops.perform_named parts name position) PerformFine

@@ -14,7 +14,7 @@ use Rattle.unparser.specs.Condition.{cond_tokens}
 use Rattle.symbol_tables.specs.data_names.Names.{Names}
 use Rattle.program_facts.specs.term_counts.Condition.{cond_terms}
 use Rattle.cobol_grammar.specs.expr_forms.Limit.{Inner}
-use Rattle.cobol_grammar.specs.declared.cond_forms.part.Part.{Part}
+use Rattle.cobol_grammar.specs.declared.cond_forms.part.SimpleCond.{SimpleCond}
 use Rattle.cobol_grammar.specs.declared.cond_forms.test.Read.{Read}
 use Rattle.cobol_grammar.specs.cond_forms.Condition as conditions
 use Rattle.cobol_grammar.specs.cond_forms.Neg as negs
@@ -38,9 +38,9 @@ module _ (names : Names) (program : Program) where
       (N : NamesSpell names program content levels) where
     -- ---- parts that are joined
 
-    and_by : {n : ℕ} {tokens : Tokens} {Behind : Option TokenKind → Type 0} {Had Has : Part → Type 0} (first : Part) → first.not_read ≡ false → ((o : Option TokenKind) → Behind o → Ends joins o) →
+    and_by : {n : ℕ} {tokens : Tokens} {Behind : Option TokenKind → Type 0} {Had Has : SimpleCond → Type 0} (first : SimpleCond) → first.pending_not ≡ false → ((o : Option TokenKind) → Behind o → Ends joins o) →
         ((m : ℕ) → Spelled (negs.neg names inner content first.setting first.count) m tokens Behind Had) →
-        ((next : Part) → Had next → Has (conditions.joined_whole (conditions.and_joined None first.cond next))) →
+        ((next : SimpleCond) → Had next → Has (conditions.joined_whole (conditions.and_joined None first.cond next))) →
         Spelled (conditions.conds_from names inner content first) n (kinds.Word (codes "AND") ∷ tokens) Behind Has
     unfolding conditions.conds_from conditions.join conditions.and_part
     and_by {Has = Has} first unsaid none S G =
@@ -49,9 +49,9 @@ module _ (names : Names) (program : Program) where
         (then (key (codes "AND")) (λ _ _. ending (S _) (λ next m. pure (G next m))))))
         (λ o b. b) none) (λ state s. pure s)
 
-    or_by : {n : ℕ} {tokens : Tokens} {Behind : Option TokenKind → Type 0} {Had Has : Part → Type 0} (first : Part) → first.not_read ≡ false → ((o : Option TokenKind) → Behind o → Ends joins o) →
+    or_by : {n : ℕ} {tokens : Tokens} {Behind : Option TokenKind → Type 0} {Had Has : SimpleCond → Type 0} (first : SimpleCond) → first.pending_not ≡ false → ((o : Option TokenKind) → Behind o → Ends joins o) →
         ((m : ℕ) → Spelled (negs.neg names inner content first.setting first.count) m tokens Behind Had) →
-        ((next : Part) → Had next → Has (conditions.joined_whole (conditions.or_joined None first.cond next))) →
+        ((next : SimpleCond) → Had next → Has (conditions.joined_whole (conditions.or_joined None first.cond next))) →
         Spelled (conditions.conds_from names inner content first) n (kinds.Word (codes "OR") ∷ tokens) Behind Has
     unfolding conditions.conds_from conditions.join conditions.or_part
     or_by {Has = Has} first unsaid none S G =
@@ -60,11 +60,11 @@ module _ (names : Names) (program : Program) where
         (then (key (codes "OR")) (λ _ _. ending (S _) (λ next m. pure (G next m))))))
         (λ o b. b) none) (λ state s. pure s)
 
-    open_from : {n : ℕ} (count : ℕ) (cond : Cond) (first : Part) → IsNotPart count cond first → Spelled (conditions.conds_from names inner content first) n [] BeginsPhrase (IsNotPart count cond)
+    open_from : {n : ℕ} (count : ℕ) (cond : Cond) (first : SimpleCond) → IsNotPart count cond first → Spelled (conditions.conds_from names inner content first) n [] BeginsPhrase (IsNotPart count cond)
     unfolding conditions.conds_from
     open_from count cond first h =
         ending (no_turn joins (conditions.join names inner content) {Has = λ state. state ≡ record { before = None; part = first }} no-join refl)
-        (λ state e. pure (subst (λ state. IsNotPart count cond (conditions.joined_whole state)) (sym e) (record { cond_is = h.cond_is; counted = h.counted; not_read = h.not_read })))
+        (λ state e. pure (subst (λ state. IsNotPart count cond (conditions.joined_whole state)) (sym e) (record { cond_is = h.cond_is; counted = h.counted; pending_not = h.pending_not })))
 
     -- ---- whole conditions
 
@@ -108,12 +108,12 @@ module _ (names : Names) (program : Program) where
         by_tokens (plain-And names program left right)
         (bind (neg_within names program I C left n None count fits.0 (omega (arith, e, few, others)) (omega (arith, e, all))) (λ o b. and-ends)
         (λ first h. let k = h.counted in
-        and_by {Had = IsPart (first.count + cond_terms right) right} first h.not_read not-no-join
+        and_by {Had = IsPart (first.count + cond_terms right) right} first h.pending_not not-no-join
         (λ m. S m first.setting first.count fits.1 (omega (arith, e, few, some)) (omega (arith, e, all, k)))
         (λ next m. record {
           cond_is = ap (λ x. conds.And x next.cond) h.cond_is ∙ ap (λ x. conds.And left x) m.cond_is;
           counted = counted-both count first.count next.count (cond_terms left) (cond_terms right) (cond_terms (conds.And left right)) k m.counted e;
-          not_read = m.not_read;
+          pending_not = m.pending_not;
         })))
 
     and_open : (left right : Cond) → OpenWithin names program I C N right → WholeOpen (conds.And left right)
@@ -128,12 +128,12 @@ module _ (names : Names) (program : Program) where
         by_tokens (ap (λ list. list ++ not_kind) (plain-And names program left right) ∙ append_assoc (cond_tokens program left true) (kinds.Word (codes "AND") ∷ cond_tokens program right true) not_kind)
         (bind (neg_within names program I C left n None count fits.0 (omega (arith, e, few, others)) (omega (arith, e, all))) (λ o b. and-ends)
         (λ first h. let k = h.counted in
-        and_by {Had = IsNotPart (first.count + cond_terms right) right} first h.not_read no-join
+        and_by {Had = IsNotPart (first.count + cond_terms right) right} first h.pending_not no-join
         (λ m. S m first.setting first.count fits.1 (omega (arith, e, few, some)) (omega (arith, e, all, k)))
         (λ next m. record {
           cond_is = ap (λ x. conds.And x next.cond) h.cond_is ∙ ap (λ x. conds.And left x) m.cond_is;
           counted = counted-both count first.count next.count (cond_terms left) (cond_terms right) (cond_terms (conds.And left right)) k m.counted e;
-          not_read = m.not_read;
+          pending_not = m.pending_not;
         })))
 
     or_closed : (left right : Cond) → ClosedWithin names program I C N right → WholeClosed (conds.Or left right)
@@ -148,12 +148,12 @@ module _ (names : Names) (program : Program) where
         by_tokens (plain-Or names program left right)
         (bind (neg_within names program I C left n None count fits.0 (omega (arith, e, few, others)) (omega (arith, e, all))) (λ o b. or-ends)
         (λ first h. let k = h.counted in
-        or_by {Had = IsPart (first.count + cond_terms right) right} first h.not_read not-no-join
+        or_by {Had = IsPart (first.count + cond_terms right) right} first h.pending_not not-no-join
         (λ m. S m first.setting first.count fits.1 (omega (arith, e, few, some)) (omega (arith, e, all, k)))
         (λ next m. record {
           cond_is = ap (λ x. conds.Or x next.cond) h.cond_is ∙ ap (λ x. conds.Or left x) m.cond_is;
           counted = counted-both count first.count next.count (cond_terms left) (cond_terms right) (cond_terms (conds.Or left right)) k m.counted e;
-          not_read = m.not_read;
+          pending_not = m.pending_not;
         })))
 
     or_open : (left right : Cond) → OpenWithin names program I C N right → WholeOpen (conds.Or left right)
@@ -168,12 +168,12 @@ module _ (names : Names) (program : Program) where
         by_tokens (ap (λ list. list ++ not_kind) (plain-Or names program left right) ∙ append_assoc (cond_tokens program left true) (kinds.Word (codes "OR") ∷ cond_tokens program right true) not_kind)
         (bind (neg_within names program I C left n None count fits.0 (omega (arith, e, few, others)) (omega (arith, e, all))) (λ o b. or-ends)
         (λ first h. let k = h.counted in
-        or_by {Had = IsNotPart (first.count + cond_terms right) right} first h.not_read no-join
+        or_by {Had = IsNotPart (first.count + cond_terms right) right} first h.pending_not no-join
         (λ m. S m first.setting first.count fits.1 (omega (arith, e, few, some)) (omega (arith, e, all, k)))
         (λ next m. record {
           cond_is = ap (λ x. conds.Or x next.cond) h.cond_is ∙ ap (λ x. conds.Or left x) m.cond_is;
           counted = counted-both count first.count next.count (cond_terms left) (cond_terms right) (cond_terms (conds.Or left right)) k m.counted e;
-          not_read = m.not_read;
+          pending_not = m.pending_not;
         })))
 
     and_whole : (left right : Cond) → Within names program I C N right → Whole (conds.And left right)
@@ -221,10 +221,10 @@ module _ (names : Names) (program : Program) where
   unfolding conditions.whole_cond conditions.cond
   before_by cond fit few (inl S) =
       inl (λ taken. ending (S taken 0 (fit, few, omega (arith, few)))
-      (λ found h. pure (ap (λ c. (c, found.not_read)) h.cond_is ∙ ap (λ b. (cond, b)) h.not_read)))
+      (λ found h. pure (ap (λ c. (c, found.pending_not)) h.cond_is ∙ ap (λ b. (cond, b)) h.pending_not)))
   before_by cond fit few (inr S) =
       inr (λ taken. ending (S taken 0 (fit, few, omega (arith, few)))
-      (λ found h. pure (ap (λ c. (c, found.not_read)) h.cond_is ∙ ap (λ b. (cond, b)) h.not_read)))
+      (λ found h. pure (ap (λ c. (c, found.pending_not)) h.cond_is ∙ ap (λ b. (cond, b)) h.pending_not)))
 
   pub whole_before : (cond : Cond) → IsPrintableCond names program cond → cond_terms cond ≤ 500 → WholeBefore cond
   whole_before cond fit few =

@@ -25,13 +25,13 @@ use Rattle.symbol_tables.specs.data_names.Names.{Names}
 use Rattle.program_facts.specs.term_counts.Condition.{cond_terms}
 use Rattle.program_facts.specs.term_counts.Expression.{expr_terms}
 use Rattle.cobol_grammar.specs.declared.expr_forms.side.Side.{Side}
-use Rattle.cobol_grammar.specs.declared.expr_forms.side.What.{What}
-use Rattle.cobol_grammar.specs.declared.expr_forms.side.What.TheVariants as whats
+use Rattle.cobol_grammar.specs.declared.expr_forms.side.ParsedExpr.{ParsedExpr}
+use Rattle.cobol_grammar.specs.declared.expr_forms.side.ParsedExpr.TheVariants as whats
 use Rattle.cobol_grammar.specs.expr_forms.Fault.{is_condition}
 use Rattle.cobol_grammar.specs.expr_forms.Limit.{Inner}
 use Rattle.cobol_grammar.specs.expr_forms.Side.{expr_of, enclosed_what}
 use Rattle.cobol_grammar.specs.expr_forms.Side as sides
-use Rattle.cobol_grammar.specs.declared.cond_forms.part.Part.{Part}
+use Rattle.cobol_grammar.specs.declared.cond_forms.part.SimpleCond.{SimpleCond}
 use Rattle.cobol_grammar.specs.declared.cond_forms.test.Primary.{Primary}
 use Rattle.cobol_grammar.specs.declared.cond_forms.test.Primary.TheVariants as prims
 use Rattle.cobol_grammar.specs.declared.cond_forms.test.Read.{Read}
@@ -79,7 +79,7 @@ module _ (names : Names) (program : Program) where
         (behind_none (tally count 1 (omega (arith, e, room)))
         (λ more same. at_same (λ m. negs.prim_part names inner content true setting m) same
         (ending (paren_prim names program I C (count + 1) inside (sym (fit-Not names program inside) ∙ fit) (omega (arith, e, few)) (omega (arith, e, room)))
-        (λ read h. hence (λ found k. record { cond_is = k.cond_is; counted = k.counted ∙ not-counted count (cond_terms inside) (cond_terms (conds.Not inside)) e; not_read = k.not_read })
+        (λ read h. hence (λ found k. record { cond_is = k.cond_is; counted = k.counted ∙ not-counted count (cond_terms inside) (cond_terms (conds.Not inside)) e; pending_not = k.pending_not })
         (where_behind (λ o b. tt) (settled true setting (count + 1 + cond_terms inside) inside read h)))))))))
       where
         not-counted : (count a c : ℕ) → c ≡ 1 + a → count + 1 + a ≡ count + c
@@ -173,13 +173,13 @@ module _ (names : Names) (program : Program) where
 
     -- ---- parts, joined or not
 
-    pub alone_from : {n : ℕ} (count : ℕ) (cond : Cond) (first : Part) → IsPart count cond first → Spelled (conditions.conds_from names inner content first) n [] (Ends joins) (IsPart count cond)
+    pub alone_from : {n : ℕ} (count : ℕ) (cond : Cond) (first : SimpleCond) → IsPart count cond first → Spelled (conditions.conds_from names inner content first) n [] (Ends joins) (IsPart count cond)
     unfolding conditions.conds_from
     alone_from count cond first h =
         ending (no_turn joins (conditions.join names inner content) {Has = λ state. state ≡ record { before = None; part = first }} (λ o b. b) refl)
-        (λ state e. pure (subst (λ state. IsPart count cond (conditions.joined_whole state)) (sym e) (record { cond_is = h.cond_is; counted = h.counted; not_read = h.not_read })))
+        (λ state e. pure (subst (λ state. IsPart count cond (conditions.joined_whole state)) (sym e) (record { cond_is = h.cond_is; counted = h.counted; pending_not = h.pending_not })))
 
-    and_from : {n : ℕ} (count : ℕ) (left right : Cond) (first : Part) → IsPart (count + cond_terms left) left first → IsPrintableCond names program right → cond_terms right < levels →
+    and_from : {n : ℕ} (count : ℕ) (left right : Cond) (first : SimpleCond) → IsPart (count + cond_terms left) left first → IsPrintableCond names program right → cond_terms right < levels →
         count + (cond_terms left + cond_terms right) ≤ 500 →
         Spelled (conditions.conds_from names inner content first) n (kinds.Word (codes "AND") ∷ cond_tokens program right true) (Ends continues_cond)
         (IsPart (count + cond_terms (conds.And left right)) (conds.And left right))
@@ -189,16 +189,16 @@ module _ (names : Names) (program : Program) where
         let e = terms-And left right in
         ending (last_turn joins (conditions.join names inner content)
         {Has = λ state. IsPart (count + cond_terms (conds.And left right)) (conds.And left right) (conditions.joined_whole state)} (λ o. and-joins)
-        (chosen_other (form.refuse Syntax) h.not_read (there_next (part.is_key (codes "AND")) _ (λ o b. refl)
+        (chosen_other (form.refuse Syntax) h.pending_not (there_next (part.is_key (codes "AND")) _ (λ o b. refl)
         (then (key (codes "AND")) (λ _ _. ending (neg_within right _ first.setting first.count fit few (omega (arith, k, room)))
         (λ next m. let c = m.counted in pure (record {
           cond_is = ap (λ x. conds.And x next.cond) h.cond_is ∙ ap (λ x. conds.And left x) m.cond_is;
           counted = omega (arith, c, k, e);
-          not_read = m.not_read;
+          pending_not = m.pending_not;
         }))))))
         (λ o b. (cond-ends o b).0) (λ o b. (cond-ends o b).1)) (λ state s. pure s)
 
-    or_from : {n : ℕ} (count : ℕ) (left right : Cond) (first : Part) → IsPart (count + cond_terms left) left first → IsPrintableCond names program right → cond_terms right < levels →
+    or_from : {n : ℕ} (count : ℕ) (left right : Cond) (first : SimpleCond) → IsPart (count + cond_terms left) left first → IsPrintableCond names program right → cond_terms right < levels →
         count + (cond_terms left + cond_terms right) ≤ 500 →
         Spelled (conditions.conds_from names inner content first) n (kinds.Word (codes "OR") ∷ cond_tokens program right true) (Ends continues_cond)
         (IsPart (count + cond_terms (conds.Or left right)) (conds.Or left right))
@@ -208,12 +208,12 @@ module _ (names : Names) (program : Program) where
         let e = terms-Or left right in
         ending (last_turn joins (conditions.join names inner content)
         {Has = λ state. IsPart (count + cond_terms (conds.Or left right)) (conds.Or left right) (conditions.joined_whole state)} (λ o. or-joins)
-        (chosen_other (form.refuse Syntax) h.not_read (other_next (part.is_key (codes "AND")) _ (λ o b. refl)
+        (chosen_other (form.refuse Syntax) h.pending_not (other_next (part.is_key (codes "AND")) _ (λ o b. refl)
         (then (key (codes "OR")) (λ _ _. ending (neg_within right _ first.setting first.count fit few (omega (arith, k, room)))
         (λ next m. let c = m.counted in pure (record {
           cond_is = ap (λ x. conds.Or x next.cond) h.cond_is ∙ ap (λ x. conds.Or left x) m.cond_is;
           counted = omega (arith, c, k, e);
-          not_read = m.not_read;
+          pending_not = m.pending_not;
         }))))))
         (λ o b. (cond-ends o b).0) (λ o b. (cond-ends o b).1)) (λ state s. pure s)
 
@@ -269,13 +269,13 @@ module _ (names : Names) (program : Program) where
 
     -- ---- in parentheses
 
-    close : {n : ℕ} (count : ℕ) (cond : Cond) (found : Part) → IsPart count cond found → Spelled (conditions.close_cond found) n (kinds.Mark right_parenthesis ∷ []) Any (IsRead count cond)
+    close : {n : ℕ} (count : ℕ) (cond : Cond) (found : SimpleCond) → IsPart count cond found → Spelled (conditions.close_cond found) n (kinds.Mark right_parenthesis ∷ []) Any (IsRead count cond)
     unfolding conditions.close_cond
     close count cond found h =
-        chosen_other (form.refuse Syntax) h.not_read
-        (ending (sign (part.is_mark right_parenthesis) refl) (λ _ _. pure (record { prim = h.cond_is; counted = h.counted; not_read = refl })))
+        chosen_other (form.refuse Syntax) h.pending_not
+        (ending (sign (part.is_mark right_parenthesis) refl) (λ _ _. pure (record { prim = h.cond_is; counted = h.counted; pending_not = refl })))
 
-    single_content : {n : ℕ} (count : ℕ) (cond : Cond) (first : Part) → IsPart count cond first →
+    single_content : {n : ℕ} (count : ℕ) (cond : Cond) (first : SimpleCond) → IsPart count cond first →
         Spelled (conditions.content_from names inner content first) n (kinds.Mark right_parenthesis ∷ []) Any (IsRead count cond)
     unfolding conditions.content_from joins
     single_content count cond first h =
@@ -290,7 +290,7 @@ module _ (names : Names) (program : Program) where
         form.where_next (part.is_key (codes "NOT")) (conditions.neg_content names inner content count) (conditions.prim_content names inner content position count)
 
     not_opening : {n : ℕ} (count : ℕ) (position : Position) (inside : Cond) {tail : Tokens} {Has : Read → Type 0} → Room names program levels count (conds.Not inside) → ((o : Option TokenKind) → Ends continues_part (first_of tail o)) →
-        ((first : Part) (m : ℕ) → IsPart (count + cond_terms (conds.Not inside)) (conds.Not inside) first → Spelled (conditions.content_from names inner content first) m tail Any Has) →
+        ((first : SimpleCond) (m : ℕ) → IsPart (count + cond_terms (conds.Not inside)) (conds.Not inside) first → Spelled (conditions.content_from names inner content first) m tail Any Has) →
         Spelled (opening count position) n (cond_tokens program (conds.Not inside) true ++ tail) Any Has
     unfolding conditions.neg_content
     not_opening count position inside {tail = tail} room ends G =
@@ -299,26 +299,26 @@ module _ (names : Names) (program : Program) where
 
     content_by : {n : ℕ} (count : ℕ) (position : Position) (cond : Cond) (prim : Primary) (k : ℕ) {tail : Tokens} {Has : Read → Type 0} → PrimIs cond prim → k ≡ count →
         ((o : Option TokenKind) → Ends (part.is_mark right_parenthesis) (first_of tail o)) →
-        ((first : Part) (m : ℕ) → IsPart count cond first → Spelled (conditions.content_from names inner content first) m tail Any Has) →
+        ((first : SimpleCond) (m : ℕ) → IsPart count cond first → Spelled (conditions.content_from names inner content first) m tail Any Has) →
         Spelled (conditions.content_by names inner content position prim k false) n tail Any Has
     unfolding conditions.content_by conditions.alone_content
     content_by count position cond (prims.Test found after) k is e other G =
-        G (alones.part_of found after k false) _ (record { cond_is = is; counted = e; not_read = refl })
+        G (alones.part_of found after k false) _ (record { cond_is = is; counted = e; pending_not = refl })
     content_by count position cond (prims.Alone side) k is e other G =
         other_next (part.is_mark right_parenthesis) _ (λ o b. other o)
-        (behind_none (alone_named false None is.0 side k false is.2 is.3) (λ first h. G first _ (record { cond_is = h.0 ∙ sym is.1; counted = h.1 ∙ e; not_read = h.2 })))
+        (behind_none (alone_named false None is.0 side k false is.2 is.3) (λ first h. G first _ (record { cond_is = h.0 ∙ sym is.1; counted = h.1 ∙ e; pending_not = h.2 })))
 
     prim_opening : {n : ℕ} (count : ℕ) (position : Position) (cond : Cond) {tail : Tokens} {Has : Read → Type 0} →
         ((o : Option TokenKind) → Ends (part.is_key (codes "NOT")) (first_of (cond_tokens program cond true) o)) →
         ((m : ℕ) → Spelled (primaries.prim names inner content count) m (cond_tokens program cond true) (Ends continues_part) (IsRead (count + cond_terms cond) cond)) →
         ((o : Option TokenKind) → Ends continues_part (first_of tail o)) → ((o : Option TokenKind) → Ends (part.is_mark right_parenthesis) (first_of tail o)) →
-        ((first : Part) (m : ℕ) → IsPart (count + cond_terms cond) cond first → Spelled (conditions.content_from names inner content first) m tail Any Has) →
+        ((first : SimpleCond) (m : ℕ) → IsPart (count + cond_terms cond) cond first → Spelled (conditions.content_from names inner content first) m tail Any Has) →
         Spelled (opening count position) n (cond_tokens program cond true ++ tail) Any Has
     unfolding conditions.prim_content
     prim_opening count position cond {tail = tail} no_not P ends other G =
         other_next (part.is_key (codes "NOT")) _ (λ o b. ap (λ k. begins_by (part.is_key (codes "NOT")) k) (front-of (cond_tokens program cond true) tail o) ∙ no_not (first_of tail o))
         (bind (P _) (λ o b. ends o)
-        (λ read h. at_same (λ said. conditions.content_by names inner content position read.prim read.count said) h.not_read
+        (λ read h. at_same (λ said. conditions.content_by names inner content position read.prim read.count said) h.pending_not
         (content_by (count + cond_terms cond) position cond read.prim read.count h.prim h.counted other G)))
 
     -- a name alone in parentheses stays one
@@ -326,13 +326,13 @@ module _ (names : Names) (program : Program) where
         Spelled (conditions.content_by names inner content position prim k false) n (kinds.Mark right_parenthesis ∷ []) Any (IsRead count cond)
     unfolding conditions.content_by conditions.close_side sides.enclosed
     single_by count position cond (prims.Test found after) k is e =
-        single_content count cond (alones.part_of found after k false) (record { cond_is = is; counted = e; not_read = refl })
+        single_content count cond (alones.part_of found after k false) (record { cond_is = is; counted = e; pending_not = refl })
     single_by count position cond (prims.Alone side) k is e =
         there_next (part.is_mark right_parenthesis) _ (λ o b. refl)
         (ending (sign (part.is_mark right_parenthesis) refl)
-        (λ _ _. pure (record { prim = (is.0, is.1, inr (stays side.what is.2), is.3); counted = e; not_read = refl })))
+        (λ _ _. pure (record { prim = (is.0, is.1, inr (stays side.what is.2), is.3); counted = e; pending_not = refl })))
       where
-        stays : {place : Place} (what : What) → (what ≡ whats.Ref place) ⊎ (what ≡ whats.Enclosed place) → enclosed_what what ≡ whats.Enclosed place
+        stays : {place : Place} (what : ParsedExpr) → (what ≡ whats.Ref place) ⊎ (what ≡ whats.Enclosed place) → enclosed_what what ≡ whats.Enclosed place
         stays what (inl e) = ap (λ w. enclosed_what w) e
         stays what (inr e) = ap (λ w. enclosed_what w) e
 
@@ -348,7 +348,7 @@ module _ (names : Names) (program : Program) where
         other_next (part.is_key (codes "NOT")) _
         (λ o b. ap (λ k. begins_by (part.is_key (codes "NOT")) k) (front-of (cond_tokens program cond true) (kinds.Mark right_parenthesis ∷ []) o) ∙ no_not (Some (kinds.Mark right_parenthesis)))
         (bind (P _) (λ o b. close-part)
-        (λ read h. at_same (λ said. conditions.content_by names inner content position read.prim read.count said) h.not_read
+        (λ read h. at_same (λ said. conditions.content_by names inner content position read.prim read.count said) h.pending_not
         (single_by (count + cond_terms cond) position cond read.prim read.count h.prim h.counted)))
 
     -- ---- the first part in parentheses, before AND or OR
@@ -399,11 +399,11 @@ module _ (names : Names) (program : Program) where
     opening_by : {n : ℕ} (count : ℕ) (position : Position) (cond : Cond) {tail : Tokens} {Has : Read → Type 0} → IsNot cond ⊎ HasPrim cond →
         IsPrintableCond names program cond → cond_terms cond < levels → count + cond_terms cond ≤ 500 →
         ((o : Option TokenKind) → Ends continues_part (first_of tail o)) → ((o : Option TokenKind) → Ends (part.is_mark right_parenthesis) (first_of tail o)) →
-        ((first : Part) (m : ℕ) → IsPart (count + cond_terms cond) cond first → Spelled (conditions.content_from names inner content first) m tail Any Has) →
+        ((first : SimpleCond) (m : ℕ) → IsPart (count + cond_terms cond) cond first → Spelled (conditions.content_from names inner content first) m tail Any Has) →
         Spelled (opening count position) n (cond_tokens program cond true ++ tail) Any Has
     opening_by {n = n} count position cond {tail = tail} {Has = Has} (inl (inside, is)) fit few room ends other G =
         (subst (λ cond. IsPrintableCond names program cond → cond_terms cond < levels → count + cond_terms cond ≤ 500 →
-        ((first : Part) (m : ℕ) → IsPart (count + cond_terms cond) cond first → Spelled (conditions.content_from names inner content first) m tail Any Has) →
+        ((first : SimpleCond) (m : ℕ) → IsPart (count + cond_terms cond) cond first → Spelled (conditions.content_from names inner content first) m tail Any Has) →
         Spelled (opening count position) n (cond_tokens program cond true ++ tail) Any Has) (sym is)
         (λ fit few room G. not_opening count position inside (fit, omega (arith, few), room) ends G)) fit few room G
     opening_by count position cond (inr H) fit few room ends other G =
@@ -493,7 +493,7 @@ module _ (names : Names) (program : Program) where
     closed-part : (o : Option TokenKind) → Closed o → Ends continues_part o
     closed-part o e = subst (λ k. Ends continues_part k) (sym e) close-part
 
-    same-inside : (what : What) → expr_of (enclosed_what what) ≡ expr_of what
+    same-inside : (what : ParsedExpr) → expr_of (enclosed_what what) ≡ expr_of what
     same-inside (whats.Ref place) = refl
     same-inside (whats.Literal operand) = refl
     same-inside (whats.Enclosed place) = refl
@@ -510,7 +510,7 @@ module _ (names : Names) (program : Program) where
           prim = refl;
           is = record { told = same-inside side.what ∙ is.told; known = record { kind = is.known.kind; make = is.known.make } };
           counted = e;
-          not_read = refl;
+          pending_not = refl;
         })))
 
     pub expr_inside : {n : ℕ} (count : ℕ) (expr : Expr) → IsPrintableExpr names program expr → expr_terms expr ≤ levels → count + expr_terms expr ≤ 500 →
@@ -521,9 +521,9 @@ module _ (names : Names) (program : Program) where
         (λ position _. other_next (part.is_key (codes "NOT")) _ (λ o b. expr-front names program rejects-not expr fit (kinds.Mark right_parenthesis ∷ []) o)
         (bind {Had = IsExprRead names program count expr} (by_tokens (sym (append-nil (expr_tokens program expr false)))
         (expr_with names program I C {tail = []} {Behind = Closed} (λ o b. (part-ends o (closed-part o b)).expr) count expr fit few room
-        (λ side k m h. where_behind closed-part (hence (λ read t. record { side = side; prim = t.prim; is = h.side; counted = t.counted ∙ h.counted; not_read = t.not_read }) (no_test names program inner side count k)))))
+        (λ side k m h. where_behind closed-part (hence (λ read t. record { side = side; prim = t.prim; is = h.side; counted = t.counted ∙ h.counted; pending_not = t.pending_not }) (no_test names program inner side count k)))))
         (λ o b. refl)
-        (λ read h. at_same (λ said. conditions.content_by names inner content position read.prim read.count said) h.not_read
+        (λ read h. at_same (λ said. conditions.content_by names inner content position read.prim read.count said) h.pending_not
         (at_same (λ prim. conditions.content_by names inner content position prim read.count false) h.prim (close_expr count expr position h.side read.count h.is h.counted)))))
 
   -- ---- with so many levels of parentheses
@@ -551,4 +551,4 @@ module _ (names : Names) (program : Program) where
   unfolding conditions.whole_cond conditions.cond
   whole_cond cond fit few =
       ending (cond_spelled (inner_spells names program 500) (content_spells 500) cond _ 0 (fit, few, omega (arith, few)))
-      (λ found h. pure (ap (λ c. (c, found.not_read)) h.cond_is ∙ ap (λ b. (cond, b)) h.not_read))
+      (λ found h. pure (ap (λ c. (c, found.pending_not)) h.cond_is ∙ ap (λ b. (cond, b)) h.pending_not))

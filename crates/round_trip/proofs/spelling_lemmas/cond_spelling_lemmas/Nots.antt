@@ -25,16 +25,16 @@ use Rattle.unparser.specs.Condition.{cond_tokens, rel_tokens, not_tokens, class_
 use Rattle.symbol_tables.specs.data_names.Names.{Names}
 use Rattle.program_facts.specs.term_counts.Condition.{cond_terms}
 use Rattle.program_facts.specs.term_counts.Expression.{place_terms}
-use Rattle.cobol_grammar.specs.declared.expr_forms.side.Shape.{Shape}
-use Rattle.cobol_grammar.specs.declared.expr_forms.side.Shape.TheVariants as shapes
+use Rattle.cobol_grammar.specs.declared.expr_forms.side.ExprForm.{ExprForm}
+use Rattle.cobol_grammar.specs.declared.expr_forms.side.ExprForm.TheVariants as shapes
 use Rattle.cobol_grammar.specs.declared.expr_forms.side.Side.{Side}
-use Rattle.cobol_grammar.specs.declared.expr_forms.side.What.TheVariants as whats
+use Rattle.cobol_grammar.specs.declared.expr_forms.side.ParsedExpr.TheVariants as whats
 use Rattle.cobol_grammar.specs.expr_forms.Fault.{is_condition}
 use Rattle.cobol_grammar.specs.expr_forms.Limit.{Inner}
 use Rattle.cobol_grammar.specs.expr_forms.Side.{shape_of, enclosed_what}
 use Rattle.cobol_grammar.specs.expr_forms.Side as sides
 use Rattle.cobol_grammar.specs.expr_forms.Token.{is_of, begins_turn}
-use Rattle.cobol_grammar.specs.declared.cond_forms.part.Part.{Part}
+use Rattle.cobol_grammar.specs.declared.cond_forms.part.SimpleCond.{SimpleCond}
 use Rattle.cobol_grammar.specs.declared.cond_forms.test.Primary.{Primary}
 use Rattle.cobol_grammar.specs.declared.cond_forms.test.Primary.TheVariants as prims
 use Rattle.cobol_grammar.specs.declared.cond_forms.test.Read.{Read}
@@ -114,7 +114,7 @@ no-join o b = phrase-no-join o b
 record IsNotAlone (count : ℕ) (side : Side) (read : Read) : Type 0 where
   pub prim : read.prim ≡ prims.Alone side
   pub counted : read.count ≡ count
-  pub not_read : read.not_read ≡ true
+  pub pending_not : read.pending_not ≡ true
 
 record IsNotRead (count : ℕ) (place : Place) (read : Read) : Type 0 where
   pub side : Side
@@ -122,12 +122,12 @@ record IsNotRead (count : ℕ) (place : Place) (read : Read) : Type 0 where
   pub what : (side.what ≡ whats.Ref place) ⊎ (side.what ≡ whats.Enclosed place)
   pub is : is_condition side.kind ≡ true
   pub counted : read.count ≡ count
-  pub not_read : read.not_read ≡ true
+  pub pending_not : read.pending_not ≡ true
 
-pub record IsNotPart (count : ℕ) (cond : Cond) (found : Part) : Type 0 where
+pub record IsNotPart (count : ℕ) (cond : Cond) (found : SimpleCond) : Type 0 where
   pub cond_is : found.cond ≡ cond
   pub counted : found.count ≡ count
-  pub not_read : found.not_read ≡ true
+  pub pending_not : found.pending_not ≡ true
 
 -- the name of a level 88 in parentheses
 pub record IsEnclosed (count : ℕ) (place : Place) (read : Read) : Type 0 where
@@ -137,12 +137,12 @@ pub record IsEnclosed (count : ℕ) (place : Place) (read : Read) : Type 0 where
   pub is : is_condition side.kind ≡ true
   pub counted : read.count ≡ count
 
-untested : {n : ℕ} (shape : Shape) (side : Side) (count : ℕ) → Spelled (tests.class_or shape true (Some true) side count) n [] (Ends begins_class) (IsNotAlone count side)
+untested : {n : ℕ} (shape : ExprForm) (side : Side) (count : ℕ) → Spelled (tests.class_or shape true (Some true) side count) n [] (Ends begins_class) (IsNotAlone count side)
 unfolding tests.class_or tests.untested
-untested shapes.Ref side count = other_next begins_class _ (λ o b. b) (pure (record { prim = refl; counted = refl; not_read = refl }))
-untested shapes.Literal side count = pure (record { prim = refl; counted = refl; not_read = refl })
-untested shapes.Enclosed side count = pure (record { prim = refl; counted = refl; not_read = refl })
-untested shapes.Sum side count = pure (record { prim = refl; counted = refl; not_read = refl })
+untested shapes.Ref side count = other_next begins_class _ (λ o b. b) (pure (record { prim = refl; counted = refl; pending_not = refl }))
+untested shapes.Literal side count = pure (record { prim = refl; counted = refl; pending_not = refl })
+untested shapes.Enclosed side count = pure (record { prim = refl; counted = refl; pending_not = refl })
+untested shapes.Sum side count = pure (record { prim = refl; counted = refl; pending_not = refl })
 
 not_tested : {n : ℕ} (names : Names) (inner : Inner) (side : Side) (before count : ℕ) →
     Spelled (tests.tested names inner side before count) n not_kind BeginsPhrase (IsNotAlone count side)
@@ -159,9 +159,9 @@ not_settled : {n : ℕ} (negated : Bool) (setting : Option Setting) (count : ℕ
     Spelled (alones.settled negated setting read) n [] Any (IsNotPart count (alones.with_not negated (conds.Named place)))
 unfolding alones.part_by
 not_settled negated setting count place read h =
-    at_same (λ prim. alones.part_by negated setting prim read.count read.not_read) h.prim
-    (hence (λ found k. record { cond_is = k.0; counted = k.1 ∙ h.counted; not_read = k.2 ∙ h.not_read })
-    (alone_named negated setting place h.side read.count read.not_read h.what h.is))
+    at_same (λ prim. alones.part_by negated setting prim read.count read.pending_not) h.prim
+    (hence (λ found k. record { cond_is = k.0; counted = k.1 ∙ h.counted; pending_not = k.2 ∙ h.pending_not })
+    (alone_named negated setting place h.side read.count read.pending_not h.what h.is))
 
 -- ---- names
 
@@ -205,7 +205,7 @@ module _ (names : Names) (program : Program) where
       pub what : side.what ≡ whats.Ref place
       pub is : is_condition side.kind ≡ true
       pub counted : read.count ≡ count
-      pub not_read : read.not_read ≡ false
+      pub pending_not : read.pending_not ≡ false
 
     condition-side : (place : Place) (side : Side) → IsOperandSide names program (operands.Place place) side → is_condition (judged_place names program place).kind ≡ true → is_condition side.kind ≡ true
     condition-side place side h is = subst (λ kind. is_condition kind ≡ true) (sym (h.known.kind ∙ ap (λ j. j.kind) (judged-Place names program place))) is
@@ -227,10 +227,10 @@ module _ (names : Names) (program : Program) where
         (λ position _. other_next (part.is_key (codes "NOT")) _ (λ o b. place-front names program rejects-not place fit (kinds.Mark right_parenthesis ∷ []) o)
         (bind {Had = IsBare (count + (1 + place_terms place)) place} (by_tokens (sym (append-nil (place_tokens program place)))
         (place_with names program I C {tail = []} {Behind = Closes} (λ o b. (part-ends o (closes-part o b)).expr) count place fit few room
-        (λ side k m h c. where_behind closes-part (hence (λ read t. record { side = side; prim = t.prim; what = h.what; is = condition-side place side h is; counted = t.counted ∙ c; not_read = t.not_read })
+        (λ side k m h c. where_behind closes-part (hence (λ read t. record { side = side; prim = t.prim; what = h.what; is = condition-side place side h is; counted = t.counted ∙ c; pending_not = t.pending_not })
         (no_test names program inner side count k)))))
         (λ o b. refl)
-        (λ read h. at_same (λ said. conditions.content_by names inner content position read.prim read.count said) h.not_read
+        (λ read h. at_same (λ said. conditions.content_by names inner content position read.prim read.count said) h.pending_not
         (at_same (λ prim. conditions.content_by names inner content position prim read.count false) h.prim
         (close_name (count + (1 + place_terms place)) place position h.side read.count h.what h.is h.counted)))))
 
@@ -244,7 +244,7 @@ module _ (names : Names) (program : Program) where
     Open cond = (n : ℕ) (setting : Option Setting) (count : ℕ) → Room names program levels count cond →
         Spelled (negs.neg names inner content setting count) n (cond_tokens program cond true ++ not_kind) BeginsPhrase (IsNotPart (count + cond_terms cond) cond)
 
-    neg_by : {n : ℕ} {tokens : Tokens} {Behind : Option TokenKind → Type 0} {Had : Read → Type 0} {Has : Part → Type 0} (setting : Option Setting) (count : ℕ) →
+    neg_by : {n : ℕ} {tokens : Tokens} {Behind : Option TokenKind → Type 0} {Had : Read → Type 0} {Has : SimpleCond → Type 0} (setting : Option Setting) (count : ℕ) →
         ((o : Option TokenKind) → Behind o → Ends (part.is_key (codes "NOT")) (first_of tokens o)) → ((o : Option TokenKind) → Behind o → Ends begins_rel (first_of tokens o)) →
         Spelled (primaries.prim names inner content count) n tokens Behind Had → ((read : Read) (m : ℕ) → Had read → Spelled (alones.settled false setting read) m [] Behind Has) →
         Spelled (negs.neg names inner content setting count) n tokens Behind Has
@@ -302,7 +302,7 @@ module _ (names : Names) (program : Program) where
           what = inl h.what;
           is = condition-side place side h is.1;
           counted = t.counted ∙ c ∙ ap (λ x. count + x) (sym e);
-          not_read = t.not_read;
+          pending_not = t.pending_not;
         }) (not_tested names inner side count k)))
         (λ read m h. where_behind (λ o b. tt) (not_settled false setting (count + cond_terms (conds.Named place)) place read h)))
 
@@ -311,7 +311,7 @@ module _ (names : Names) (program : Program) where
     after_test : {m : ℕ} (before count k : ℕ) (cond : Cond) (prim : Primary) → is_named cond ≡ false → PrimIs cond prim → k ≡ count →
         Spelled (primaries.prim_behind names inner before prim k) m [] Any (IsRead count cond)
     unfolding primaries.prim_behind
-    after_test before count k cond (prims.Test found setting) other is e = pure (record { prim = is; counted = e; not_read = refl })
+    after_test before count k cond (prims.Test found setting) other is e = pure (record { prim = is; counted = e; pending_not = refl })
     after_test before count k cond (prims.Alone side) other is e = absurd (both_ways (is_named cond) other (ap (λ c. is_named c) is.1))
 
     paren_closed : {n : ℕ} (count : ℕ) (cond : Cond) → is_named cond ≡ false → IsPrintableCond names program cond → cond_terms cond < levels → count + cond_terms cond ≤ 500 →
@@ -327,7 +327,7 @@ module _ (names : Names) (program : Program) where
     after_name before count k place side what is e =
         behind_first (sum_none names program I k side) (λ o b. not-turns)
         (λ left same. at_same (λ left. tests.tested names inner left.0 before left.1) same
-        (hence (λ read t. record { side = side; prim = t.prim; what = inr what; is = is; counted = t.counted ∙ e; not_read = t.not_read }) (not_tested names inner side before k)))
+        (hence (λ read t. record { side = side; prim = t.prim; what = inr what; is = is; counted = t.counted ∙ e; pending_not = t.pending_not }) (not_tested names inner side before k)))
 
     not-counted : (count a c : ℕ) → c ≡ 1 + a → count + 1 + a ≡ count + c
     not-counted count a c e = omega (arith, e)
@@ -342,7 +342,7 @@ module _ (names : Names) (program : Program) where
         (behind_none (tally count 1 (omega (arith, e, room)))
         (λ more same. at_same (λ m. negs.prim_part names inner content true setting m) same
         (ending (where_behind (λ o b. tt) (paren_closed (count + 1) inside other (sym (fit-Not names program inside) ∙ fit) (omega (arith, e, few)) (omega (arith, e, room))))
-        (λ read h. hence (λ found k. record { cond_is = k.cond_is; counted = k.counted ∙ not-counted count (cond_terms inside) (cond_terms (conds.Not inside)) e; not_read = k.not_read })
+        (λ read h. hence (λ found k. record { cond_is = k.cond_is; counted = k.counted ∙ not-counted count (cond_terms inside) (cond_terms (conds.Not inside)) e; pending_not = k.pending_not })
         (where_behind (λ o b. tt) (settled true setting (count + 1 + cond_terms inside) inside read h)))))))))
 
     module _ (N : NamesSpell content levels) where
@@ -375,7 +375,7 @@ module _ (names : Names) (program : Program) where
           (λ read h. hence (λ found k. record {
             cond_is = k.cond_is;
             counted = k.counted ∙ not-counted count (1 + place_terms place) (cond_terms (conds.Not (conds.Named place))) (e ∙ ap (λ x. 1 + x) t);
-            not_read = k.not_read;
+            pending_not = k.pending_not;
           })
           (where_behind (λ o b. tt) (not_settled true setting (count + 1 + (1 + place_terms place)) place read h)))))))))
 

@@ -35,14 +35,14 @@ use Rattle.program_facts.specs.term_counts.Expression.{expr_terms, place_terms}
 use Rattle.cobol_grammar.specs.declared.expr_forms.side.Side.{Side}
 use Rattle.cobol_grammar.specs.declared.expr_forms.side.ValueKind.{ValueKind}
 use Rattle.cobol_grammar.specs.declared.expr_forms.side.ValueKind.TheVariants as values
-use Rattle.cobol_grammar.specs.declared.expr_forms.side.What.{What}
-use Rattle.cobol_grammar.specs.declared.expr_forms.side.What.TheVariants as whats
+use Rattle.cobol_grammar.specs.declared.expr_forms.side.ParsedExpr.{ParsedExpr}
+use Rattle.cobol_grammar.specs.declared.expr_forms.side.ParsedExpr.TheVariants as whats
 use Rattle.cobol_grammar.specs.expr_forms.Expression as expressions
 use Rattle.cobol_grammar.specs.expr_forms.Fault.{condition_fault, condition_fault_at, is_condition}
 use Rattle.cobol_grammar.specs.expr_forms.Limit.{Inner}
 use Rattle.cobol_grammar.specs.expr_forms.Side.{shape_of}
 use Rattle.cobol_grammar.specs.expr_forms.Token.{is_of, begins_turn}
-use Rattle.cobol_grammar.specs.declared.cond_forms.part.Part.{Part}
+use Rattle.cobol_grammar.specs.declared.cond_forms.part.SimpleCond.{SimpleCond}
 use Rattle.cobol_grammar.specs.declared.cond_forms.test.Primary.{Primary}
 use Rattle.cobol_grammar.specs.declared.cond_forms.test.Primary.TheVariants as prims
 use Rattle.cobol_grammar.specs.declared.cond_forms.test.Read.{Read}
@@ -117,32 +117,32 @@ PrimIs cond (prims.Alone side) =
 pub record IsRead (count : ℕ) (cond : Cond) (read : Read) : Type 0 where
   pub prim : PrimIs cond read.prim
   pub counted : read.count ≡ count
-  pub not_read : read.not_read ≡ false
+  pub pending_not : read.pending_not ≡ false
 
-pub record IsPart (count : ℕ) (cond : Cond) (found : Part) : Type 0 where
+pub record IsPart (count : ℕ) (cond : Cond) (found : SimpleCond) : Type 0 where
   pub cond_is : found.cond ≡ cond
   pub counted : found.count ≡ count
-  pub not_read : found.not_read ≡ false
+  pub pending_not : found.pending_not ≡ false
 
 test-read : (count : ℕ) (cond : Cond) (read : Read) → IsTest count cond read → IsRead count cond read
-test-read count cond read h = record { prim = subst (λ prim. PrimIs cond prim) (sym h.prim) refl; counted = h.counted; not_read = h.not_read }
+test-read count cond read h = record { prim = subst (λ prim. PrimIs cond prim) (sym h.prim) refl; counted = h.counted; pending_not = h.pending_not }
 
 -- a name alone is settled as a condition
-named_by : {n : ℕ} (negated : Bool) (place : Place) (what : What) (count : ℕ) (said : Bool) → (what ≡ whats.Ref place) ⊎ (what ≡ whats.Enclosed place) →
-    Spelled (alones.named_by negated what count said) n [] Any (λ found. (found.cond ≡ alones.with_not negated (conds.Named place)) × (found.count ≡ count) × (found.not_read ≡ said))
+named_by : {n : ℕ} (negated : Bool) (place : Place) (what : ParsedExpr) (count : ℕ) (said : Bool) → (what ≡ whats.Ref place) ⊎ (what ≡ whats.Enclosed place) →
+    Spelled (alones.named_by negated what count said) n [] Any (λ found. (found.cond ≡ alones.with_not negated (conds.Named place)) × (found.count ≡ count) × (found.pending_not ≡ said))
 unfolding alones.named_by
 named_by negated place what count said (inl is) = at_same (λ what. alones.named_by negated what count said) is (pure (refl, refl, refl))
 named_by negated place what count said (inr is) = at_same (λ what. alones.named_by negated what count said) is (pure (refl, refl, refl))
 
 pub alone_named : {n : ℕ} (negated : Bool) (setting : Option Setting) (place : Place) (side : Side) (count : ℕ) (said : Bool) → (side.what ≡ whats.Ref place) ⊎ (side.what ≡ whats.Enclosed place) →
     is_condition side.kind ≡ true →
-    Spelled (alones.alone_part negated setting side count said) n [] Any (λ found. (found.cond ≡ alones.with_not negated (conds.Named place)) × (found.count ≡ count) × (found.not_read ≡ said))
+    Spelled (alones.alone_part negated setting side count said) n [] Any (λ found. (found.cond ≡ alones.with_not negated (conds.Named place)) × (found.count ≡ count) × (found.pending_not ≡ said))
 unfolding alones.alone_part alones.part_by_shape alones.named alones.ref_part alones.kept
 alone_named {n = n} negated setting place side count said (inl is) cond =
     at_same (λ shape. alones.part_by_shape shape negated setting side count said) (ap (λ what. shape_of what) is) (by negated setting)
   where
     by : (negated : Bool) (setting : Option Setting) →
-        Spelled (alones.ref_part negated setting side count said) n [] Any (λ found. (found.cond ≡ alones.with_not negated (conds.Named place)) × (found.count ≡ count) × (found.not_read ≡ said))
+        Spelled (alones.ref_part negated setting side count said) n [] Any (λ found. (found.cond ≡ alones.with_not negated (conds.Named place)) × (found.count ≡ count) × (found.pending_not ≡ said))
     by true setting = behind_none (note (condition-free side cond)) (λ _ _. named_by true place side.what count said (inl is))
     by false None = behind_none (note (condition-free side cond)) (λ _ _. named_by false place side.what count said (inl is))
     by false (Some setting) = chosen_there _ cond (at_same (λ what. alones.kept setting what count said) is (pure (refl, refl, refl)))
@@ -153,14 +153,14 @@ alone_named negated setting place side count said (inr is) cond =
 settled_by : {n : ℕ} (negated : Bool) (setting : Option Setting) (cond : Cond) (prim : Primary) (count : ℕ) (said : Bool) → PrimIs cond prim → said ≡ false →
     Spelled (alones.part_by negated setting prim count said) n [] Any (IsPart count (alones.with_not negated cond))
 unfolding alones.part_by
-settled_by negated setting cond (prims.Test found after) count said is unsaid = pure (record { cond_is = ap (λ c. alones.with_not negated c) is; counted = refl; not_read = unsaid })
+settled_by negated setting cond (prims.Test found after) count said is unsaid = pure (record { cond_is = ap (λ c. alones.with_not negated c) is; counted = refl; pending_not = unsaid })
 settled_by negated setting cond (prims.Alone side) count said is unsaid =
-    hence (λ found h. record { cond_is = h.0 ∙ ap (λ c. alones.with_not negated c) (sym is.1); counted = h.1; not_read = h.2 ∙ unsaid }) (alone_named negated setting is.0 side count said is.2 is.3)
+    hence (λ found h. record { cond_is = h.0 ∙ ap (λ c. alones.with_not negated c) (sym is.1); counted = h.1; pending_not = h.2 ∙ unsaid }) (alone_named negated setting is.0 side count said is.2 is.3)
 
 pub settled : {n : ℕ} (negated : Bool) (setting : Option Setting) (count : ℕ) (cond : Cond) (read : Read) → IsRead count cond read →
     Spelled (alones.settled negated setting read) n [] Any (IsPart count (alones.with_not negated cond))
 settled negated setting count cond read h =
-    hence (λ found k. record { cond_is = k.cond_is; counted = k.counted ∙ h.counted; not_read = k.not_read }) (settled_by negated setting cond read.prim read.count read.not_read h.prim h.not_read)
+    hence (λ found k. record { cond_is = k.cond_is; counted = k.counted ∙ h.counted; pending_not = k.pending_not }) (settled_by negated setting cond read.prim read.count read.pending_not h.prim h.pending_not)
 
 module _ (names : Names) (program : Program) where
   pub record IsExprRead (count : ℕ) (expr : Expr) (read : Read) : Type 0 where
@@ -168,7 +168,7 @@ module _ (names : Names) (program : Program) where
     pub prim : read.prim ≡ prims.Alone side
     pub is : IsExprSide names program expr side
     pub counted : read.count ≡ count + expr_terms expr
-    pub not_read : read.not_read ≡ false
+    pub pending_not : read.pending_not ≡ false
 
   -- what stands in parentheses is spelled, within fewer levels of parentheses than these
   pub record ContentSpells (content : ℕ → form.Form Read) (levels : ℕ) : Type 0 where
@@ -333,7 +333,7 @@ module _ (names : Names) (program : Program) where
         (expr_with {tail = rel_tokens rel ++ expr_tokens program right false} (λ o b. rel-ends rel (expr_tokens program right false) o) count left is.left_fit (omega (arith, e, few)) (omega (arith, e, room))
         (λ side k m h. let c = h.counted in
         hence (λ read t. let r = test-read (k + expr_terms right) (conds.Relation left rel right) read t in
-        record { prim = r.prim; counted = r.counted ∙ ap (λ x. x + expr_terms right) c ∙ sum-is count (expr_terms left) (expr_terms right) (cond_terms (conds.Relation left rel right)) e; not_read = r.not_read })
+        record { prim = r.prim; counted = r.counted ∙ ap (λ x. x + expr_terms right) c ∙ sum-is count (expr_terms left) (expr_terms right) (cond_terms (conds.Relation left rel right)) e; pending_not = r.pending_not })
         (relation_spelled names program I left rel right side count k h.side is (omega (arith, e, few)) (omega (arith, e, room, c)))))
       where
         sum-is : (count a b c : ℕ) → c ≡ a + b → (count + a) + b ≡ count + c
@@ -354,7 +354,7 @@ module _ (names : Names) (program : Program) where
         by_tokens (tokens-Class program place class said true)
         (place_with {tail = not_tokens said ++ kinds.Word (class_word class) ∷ []} (λ o b. class-ends said class o) count place is.0 (omega (arith, e, few)) (omega (arith, e, room))
         (λ side k m h c.
-        hence (λ read t. let r = test-read k (conds.Class place class said) read t in record { prim = r.prim; counted = r.counted ∙ c ∙ ap (λ x. count + x) (sym e); not_read = r.not_read })
+        hence (λ read t. let r = test-read k (conds.Class place class said) read t in record { prim = r.prim; counted = r.counted ∙ c ∙ ap (λ x. count + x) (sym e); pending_not = r.pending_not })
         (class_spelled names program inner place class said side count k h (subst (λ j. not (is_condition j.kind) ≡ true) (sym (judged-Place names program place)) is.1))))
 
     pub class_prim : {n : ℕ} (count : ℕ) (place : Place) (class : ClassKind) (said : Bool) → Room levels count (conds.Class place class said) →
@@ -372,7 +372,7 @@ module _ (names : Names) (program : Program) where
         by_tokens (tokens-SignIs program expr sign said true)
         (expr_with {tail = not_tokens said ++ kinds.Word (sign_word sign) ∷ []} (λ o b. sign-ends said sign o) count expr is.0 (omega (arith, e, few)) (omega (arith, e, room))
         (λ side k m h.
-        hence (λ read t. let r = test-read k (conds.SignIs expr sign said) read t in record { prim = r.prim; counted = r.counted ∙ h.counted ∙ ap (λ x. count + x) (sym e); not_read = r.not_read })
+        hence (λ read t. let r = test-read k (conds.SignIs expr sign said) read t in record { prim = r.prim; counted = r.counted ∙ h.counted ∙ ap (λ x. count + x) (sym e); pending_not = r.pending_not })
         (sign_is_spelled names program inner expr sign said side count k h.side is.1)))
 
     pub sign_prim : {n : ℕ} (count : ℕ) (expr : Expr) (sign : SignKind) (said : Bool) → Room levels count (conds.SignIs expr sign said) →
@@ -393,7 +393,7 @@ module _ (names : Names) (program : Program) where
           prim = subst (λ prim. PrimIs (conds.Named place) prim) (sym t.prim)
               (place, refl, inl h.what, subst (λ kind. is_condition kind ≡ true) (sym (h.known.kind ∙ ap (λ j. j.kind) (judged-Place names program place))) is.1);
           counted = t.counted ∙ c ∙ ap (λ x. count + x) (sym e);
-          not_read = t.not_read;
+          pending_not = t.pending_not;
         })
         (no_test names program inner side count k)))
 
@@ -401,11 +401,11 @@ module _ (names : Names) (program : Program) where
     prim_after : {m : ℕ} (before count k : ℕ) (cond : Cond) (prim : Primary) → PrimIs cond prim → k ≡ count →
         Spelled (primaries.prim_behind names inner before prim k) m [] (Ends continues_part) (IsRead count cond)
     unfolding primaries.prim_behind primaries.side_prim
-    prim_after before count k cond (prims.Test found setting) is e = pure (record { prim = is; counted = e; not_read = refl })
+    prim_after before count k cond (prims.Test found setting) is e = pure (record { prim = is; counted = e; pending_not = refl })
     prim_after before count k cond (prims.Alone side) is e =
         behind_first (sum_none names program I k side) (λ o b. (expr-ends o (part-ends o b).expr).1)
         (λ left same. at_same (λ left. tests.tested names inner left.0 before left.1) same
-        (hence (λ read t. record { prim = subst (λ prim. PrimIs cond prim) (sym t.prim) is; counted = t.counted ∙ e; not_read = t.not_read }) (no_test names program inner side before k)))
+        (hence (λ read t. record { prim = subst (λ prim. PrimIs cond prim) (sym t.prim) is; counted = t.counted ∙ e; pending_not = t.pending_not }) (no_test names program inner side before k)))
 
     pub paren_prim : {n : ℕ} (count : ℕ) (cond : Cond) → IsPrintableCond names program cond → cond_terms cond < levels → count + cond_terms cond ≤ 500 →
         Spelled (primaries.prim names inner content count) n (in_parentheses (cond_tokens program cond false)) (Ends continues_part) (IsRead (count + cond_terms cond) cond)

@@ -25,10 +25,10 @@ use Rattle.unparser.specs.Place.{expr_tokens}
 use Rattle.unparser.specs.Condition.{rel_tokens, not_tokens, class_word, sign_word}
 use Rattle.symbol_tables.specs.data_names.Names.{Names}
 use Rattle.program_facts.specs.term_counts.Expression.{expr_terms}
-use Rattle.cobol_grammar.specs.declared.expr_forms.side.Make.{Make}
-use Rattle.cobol_grammar.specs.declared.expr_forms.side.Make.TheVariants as makes
-use Rattle.cobol_grammar.specs.declared.expr_forms.side.Shape.{Shape}
-use Rattle.cobol_grammar.specs.declared.expr_forms.side.Shape.TheVariants as shapes
+use Rattle.cobol_grammar.specs.declared.expr_forms.side.ExprContent.{ExprContent}
+use Rattle.cobol_grammar.specs.declared.expr_forms.side.ExprContent.TheVariants as makes
+use Rattle.cobol_grammar.specs.declared.expr_forms.side.ExprForm.{ExprForm}
+use Rattle.cobol_grammar.specs.declared.expr_forms.side.ExprForm.TheVariants as shapes
 use Rattle.cobol_grammar.specs.declared.expr_forms.side.Side.{Side}
 use Rattle.cobol_grammar.specs.declared.expr_forms.side.ValueKind.{ValueKind}
 use Rattle.cobol_grammar.specs.declared.expr_forms.side.ValueKind.TheVariants as values
@@ -68,7 +68,7 @@ as_known judged side = record side { kind = judged.kind; make = judged.make }
 same-known : (judged : Judged) (side : Side) → IsKnownAs judged side → side ≡ as_known judged side
 same-known judged side known = ap (λ k. record side { kind = k }) known.kind ∙ ap (λ m. record side { kind = judged.kind; make = m }) known.make
 
-inexact-none : (make : Make) (kind : ValueKind) (position : Position) → is_plain make kind ≡ true → inexact_fault make kind position ≡ None
+inexact-none : (make : ExprContent) (kind : ValueKind) (position : Position) → is_plain make kind ≡ true → inexact_fault make kind position ≡ None
 inexact-none makes.Joined kind position e = absurd (both_ways false refl e)
 inexact-none makes.Item kind position e = whole-none position kind e
 inexact-none makes.Literal kind position e = whole-none position kind e
@@ -80,7 +80,7 @@ kinds-none (values.Number whole) values.Figure left right first second e = absur
 kinds-none values.Figure (values.Number whole) left right first second e = absurd (both_ways false refl e)
 kinds-none one other left right first second e = refl
 
-makes-none : (ml mr : Make) (kl kr : ValueKind) (bl br fl fr : Bool) (first second : Side) →
+makes-none : (ml mr : ExprContent) (kl kr : ValueKind) (bl br fl fr : Bool) (first second : Side) →
     are_comparable (record { fit = fl; kind = kl; make = ml; bare = bl }) (record { fit = fr; kind = kr; make = mr; bare = br }) ≡ true →
     relation_fault (record first { kind = kl; make = ml }) (record second { kind = kr; make = mr }) ≡ None
 unfolding relation_fault
@@ -130,13 +130,13 @@ pub record IsTest (count : ℕ) (cond : Cond) (read : Read) : Type 0 where
   pub setting : Option Setting
   pub prim : read.prim ≡ prims.Test cond setting
   pub counted : read.count ≡ count
-  pub not_read : read.not_read ≡ false
+  pub pending_not : read.pending_not ≡ false
 
 -- what was read is an expression without a test
 pub record IsAlone (count : ℕ) (side : Side) (read : Read) : Type 0 where
   pub prim : read.prim ≡ prims.Alone side
   pub counted : read.count ≡ count
-  pub not_read : read.not_read ≡ false
+  pub pending_not : read.pending_not ≡ false
 
 module _ (names : Names) (program : Program) where
   -- both sides are values, and may be compared
@@ -149,12 +149,12 @@ module _ (names : Names) (program : Program) where
 
   -- ---- no test
 
-  untested : {n : ℕ} (shape : Shape) (side : Side) (count : ℕ) → Spelled (tests.class_or shape false (Some false) side count) n [] (Ends begins_class) (IsAlone count side)
+  untested : {n : ℕ} (shape : ExprForm) (side : Side) (count : ℕ) → Spelled (tests.class_or shape false (Some false) side count) n [] (Ends begins_class) (IsAlone count side)
   unfolding tests.class_or tests.untested
-  untested shapes.Ref side count = other_next begins_class _ (λ o b. b) (pure (record { prim = refl; counted = refl; not_read = refl }))
-  untested shapes.Literal side count = pure (record { prim = refl; counted = refl; not_read = refl })
-  untested shapes.Enclosed side count = pure (record { prim = refl; counted = refl; not_read = refl })
-  untested shapes.Sum side count = pure (record { prim = refl; counted = refl; not_read = refl })
+  untested shapes.Ref side count = other_next begins_class _ (λ o b. b) (pure (record { prim = refl; counted = refl; pending_not = refl }))
+  untested shapes.Literal side count = pure (record { prim = refl; counted = refl; pending_not = refl })
+  untested shapes.Enclosed side count = pure (record { prim = refl; counted = refl; pending_not = refl })
+  untested shapes.Sum side count = pure (record { prim = refl; counted = refl; pending_not = refl })
 
   pub no_test : {n : ℕ} (inner : Inner) (side : Side) (before count : ℕ) → Spelled (tests.tested names inner side before count) n [] (Ends continues_part) (IsAlone count side)
   unfolding tests.tested tests.one_test
@@ -190,7 +190,7 @@ module _ (names : Names) (program : Program) where
       (ending (one (λ position kind. class_of kind) (λ position i. (class, (class-first class).4, refl)))
       (λ found e. behind_none (note (value-free (judged_operand names program (operands.Place place)) side h.known value))
       (λ _ _. at_same (λ what. tests.class_of_ref negated found what count) h.what
-      (pure (record { setting = None; prim = ap (λ class. prims.Test (conds.Class place class negated) None) e; counted = refl; not_read = refl }))))))
+      (pure (record { setting = None; prim = ap (λ class. prims.Test (conds.Class place class negated) None) e; counted = refl; pending_not = refl }))))))
 
   pub class_spelled : {n : ℕ} (inner : Inner) (place : Place) (class : ClassKind) (not_said : Bool) (side : Side) (before count : ℕ) → IsOperandSide names program (operands.Place place) side →
       not (is_condition (judged_operand names program (operands.Place place)).kind) ≡ true →
@@ -214,7 +214,7 @@ module _ (names : Names) (program : Program) where
         setting = None;
         prim = ap (λ sign. prims.Test (conds.SignIs (expr_of side.what) sign negated) None) e ∙ ap (λ e. prims.Test (conds.SignIs e sign negated) None) h.told;
         counted = refl;
-        not_read = refl;
+        pending_not = refl;
       })))
 
   pub sign_is_spelled : {n : ℕ} (inner : Inner) (expr : Expr) (sign : SignKind) (not_said : Bool) (side : Side) (before count : ℕ) → IsExprSide names program expr side →
@@ -247,7 +247,7 @@ module _ (names : Names) (program : Program) where
           prim = ap (λ c. prims.Test c (Some (tests.setting_of side sign (count - before))))
               (ap (λ e. conds.Relation e sign (expr_of second.0.what)) h.told ∙ ap (λ s. conds.Relation left s (expr_of second.0.what)) e ∙ ap (λ e. conds.Relation left rel e) k.side.told);
           counted = k.counted;
-          not_read = refl;
+          pending_not = refl;
         }))))))
 
     plain_relation : {n : ℕ} (left : Expr) (rel : Rel) (right : Expr) (side : Side) (before count : ℕ) → IsPlainRel rel → IsExprSide names program left side → FitRelation left right →

@@ -26,14 +26,14 @@ use Rattle.parser_combinators.specs.words.Word.{is_name, is_data_word}
 use Rattle.parser_combinators.specs.words.Constant as constants
 use Rattle.symbol_tables.specs.data_names.Names.{Names}
 use Rattle.symbol_tables.specs.data_names.Look.{look}
-use Rattle.symbol_tables.specs.declared.data_names.name.Found.{Found}
+use Rattle.symbol_tables.specs.declared.data_names.name.Referent.{Referent}
 use Rattle.program_facts.specs.term_counts.Expression.{expr_terms, operand_terms}
-use Rattle.cobol_grammar.specs.declared.expr_forms.either.Either.{Either}
-use Rattle.cobol_grammar.specs.declared.expr_forms.front.Front.{Front}
-use Rattle.cobol_grammar.specs.declared.expr_forms.front.Front.TheVariants as fronts
+use Rattle.cobol_grammar.specs.declared.expr_forms.either.MaybeSubscripts.{MaybeSubscripts}
+use Rattle.cobol_grammar.specs.declared.expr_forms.front.FirstInParens.{FirstInParens}
+use Rattle.cobol_grammar.specs.declared.expr_forms.front.FirstInParens.TheVariants as fronts
 use Rattle.cobol_grammar.specs.declared.expr_forms.reference.Suffix.TheVariants as suffixes
 use Rattle.cobol_grammar.specs.declared.expr_forms.side.Side.{Side}
-use Rattle.cobol_grammar.specs.declared.expr_forms.side.What.TheVariants as whats
+use Rattle.cobol_grammar.specs.declared.expr_forms.side.ParsedExpr.TheVariants as whats
 use Rattle.cobol_grammar.specs.expr_forms.Chain.{chain_of, finish, joined}
 use Rattle.cobol_grammar.specs.expr_forms.Either.{number_either, ref_either, with_number, more_leaves}
 use Rattle.cobol_grammar.specs.expr_forms.Expression as expressions
@@ -77,12 +77,12 @@ module _ (names : Names) (program : Program) where
   }
 
   -- what stands first: a sum so far, or what may be subscripts too
-  abbrev IsFirst : ℕ → Expr → Front → Type 0
+  abbrev IsFirst : ℕ → Expr → FirstInParens → Type 0
   IsFirst count expr (fronts.Sum chain more) = (side : Side) × (chain ≡ chain_of side) × IsFound names program count expr (side, more)
   IsFirst count expr (fronts.Either e) = (side : Side) × (e.chain ≡ chain_of side) × IsExprSide names program expr side × (e.leaves ≡ 1) × (expr_terms expr ≡ 1)
 
   -- a whole expression so read
-  abbrev IsFront : ℕ → Expr → Front → Type 0
+  abbrev IsFront : ℕ → Expr → FirstInParens → Type 0
   IsFront count expr (fronts.Sum chain more) = IsFound names program count expr (finish chain, more)
   IsFront count expr (fronts.Either e) = IsExprSide names program expr (finish e.chain) × (e.leaves ≡ expr_terms expr)
 
@@ -90,14 +90,14 @@ module _ (names : Names) (program : Program) where
   one-term operand none = terms-Leaf operand ∙ ap (λ m. 1 + m) none
 
   module _ {inner : Inner} {levels : ℕ} (I : InnerSpells names program inner false levels) where
-    abbrev name_rest : ℕ → Found → List (List ℕ) → Position → form.Form Front
+    abbrev name_rest : ℕ → Referent → List (List ℕ) → Position → form.Form FirstInParens
     name_rest count found of position =
         form.where_next (part.is_mark left_parenthesis)
-        (limits.tally count 1 >>= (λ more. references.ref_behind inner found of position more >>= front_forms.sum_front))
+        (limits.count_terms count 1 >>= (λ more. references.ref_behind inner found of position more >>= front_forms.sum_front))
         (form.note (found_fault found 0 false position) >> form.pure (fronts.Either (ref_either found of position)))
 
     -- the words of a reference stand first
-    named_first : {n : ℕ} (count item : ℕ) (of : List (List ℕ)) {tail : List TokenKind} {Behind : Option TokenKind → Type 0} {Has : Front → Type 0} →
+    named_first : {n : ℕ} (count item : ℕ) (of : List (List ℕ)) {tail : List TokenKind} {Behind : Option TokenKind → Type 0} {Has : FirstInParens → Type 0} →
         is_data_word (item_name program item) ≡ true → are_data_words of ≡ true → ((o : Option TokenKind) → Behind o → Ends is_of (first_of tail o)) →
         ((position : Position) (m : ℕ) → Spelled (name_rest count (reference names program item of) of position) m tail Behind Has) →
         Spelled (front_forms.first_front names inner count) n (kinds.Word (item_name program item) ∷ (of_tokens of ++ tail)) Behind Has
@@ -141,7 +141,7 @@ module _ (names : Names) (program : Program) where
         )))))
 
     -- an item without subscripts and window
-    bare-is : (item : ℕ) (of : List (List ℕ)) → FitPlace names program item of [] None → (count : ℕ) (front : Front) →
+    bare-is : (item : ℕ) (of : List (List ℕ)) → FitPlace names program item of [] None → (count : ℕ) (front : FirstInParens) →
         ((position : Position) × (front ≡ fronts.Either (ref_either (reference names program item of) of position))) → IsFirst count (exprs.Leaf (operands.Place (made_place item of [] None))) front
     bare-is item of F count front h =
         subst (λ front. IsFirst count (exprs.Leaf (operands.Place (made_place item of [] None))) front) (sym h.1) (
@@ -298,7 +298,7 @@ module _ (names : Names) (program : Program) where
         (λ inner. inr (λ o. ap (λ list. begins_by constants.is_digits (first_of list o)) (within-Minus names program inner)))
         (λ op left right. inr (λ o. ap (λ list. begins_by constants.is_digits (first_of list o)) (within-Both names program op left right))) right
 
-    decided : {n : ℕ} (count : ℕ) (e : Either) (op : Op) (left right : Expr) (first : Side) → e.chain ≡ chain_of first → e.leaves ≡ 1 → expr_terms left ≡ 1 →
+    decided : {n : ℕ} (count : ℕ) (e : MaybeSubscripts) (op : Op) (left right : Expr) (first : Side) → e.chain ≡ chain_of first → e.leaves ≡ 1 → expr_terms left ≡ 1 →
         IsExprSide names program left first → FitBoth names program left right → expr_terms right < levels → count + (1 + expr_terms right) ≤ 500 →
         Spelled (front_forms.decided names inner count e op) n (expr_tokens program right true) (Ends continues_place) (IsFront count (exprs.Both op left right))
     unfolding front_forms.decided
@@ -308,7 +308,7 @@ module _ (names : Names) (program : Program) where
         (operated_spelled names program I count more op left right first l fit few (omega (arith, same, leaves, one)) (omega (arith, same, leaves, room))))
         (λ state h. pure h))
 
-    number_turn : {n : ℕ} (count : ℕ) (e : Either) (op : Op) (negative : Bool) (left : Expr) (number : Number) (first : Side) → e.chain ≡ chain_of first → e.leaves ≡ 1 → expr_terms left ≡ 1 →
+    number_turn : {n : ℕ} (count : ℕ) (e : MaybeSubscripts) (op : Op) (negative : Bool) (left : Expr) (number : Number) (first : Side) → e.chain ≡ chain_of first → e.leaves ≡ 1 → expr_terms left ≡ 1 →
         IsExprSide names program left first → is_number (judged_expr names program left).kind ≡ true → (not number.negative && number.scale == 0) ≡ true →
         Spelled (front_forms.number_turn op negative e) n (kinds.Digits number.digits ∷ []) Any (IsFront count (exprs.Both op left (exprs.Leaf (operands.Number number))))
     unfolding front_forms.number_turn with_number
@@ -326,7 +326,7 @@ module _ (names : Names) (program : Program) where
           ap (λ m. more_leaves m) leaves ∙ sym (terms-Both op left right ∙ ap (λ m. m + expr_terms right) one ∙ ap (λ m. 1 + m) (one-term (operands.Number number) (terms-Number number))),
         )))
 
-    number_or_decided : {n : ℕ} (count : ℕ) (e : Either) (op : Op) (negative : Bool) (left right : Expr) (first : Side) → e.chain ≡ chain_of first → e.leaves ≡ 1 → expr_terms left ≡ 1 →
+    number_or_decided : {n : ℕ} (count : ℕ) (e : MaybeSubscripts) (op : Op) (negative : Bool) (left right : Expr) (first : Side) → e.chain ≡ chain_of first → e.leaves ≡ 1 → expr_terms left ≡ 1 →
         IsExprSide names program left first → FitBoth names program left right → expr_terms right < levels → count + (1 + expr_terms right) ≤ 500 → NumberNext right →
         Spelled (front_forms.number_or_decided names inner count e op negative) n (expr_tokens program right true) (Ends continues_place) (IsFront count (exprs.Both op left right))
     unfolding front_forms.number_or_decided
@@ -338,7 +338,7 @@ module _ (names : Names) (program : Program) where
     number_or_decided count e op negative left right first chain leaves one l fit few room (inr other) =
         other_next constants.is_digits _ (λ o b. other o) (decided count e op left right first chain leaves one l fit few room)
 
-    either_turn : {n : ℕ} (count : ℕ) (e : Either) (op : Op) (left right : Expr) (first : Side) → e.chain ≡ chain_of first → e.leaves ≡ 1 → expr_terms left ≡ 1 →
+    either_turn : {n : ℕ} (count : ℕ) (e : MaybeSubscripts) (op : Op) (left right : Expr) (first : Side) → e.chain ≡ chain_of first → e.leaves ≡ 1 → expr_terms left ≡ 1 →
         IsExprSide names program left first → FitBoth names program left right → expr_terms right < levels → count + (1 + expr_terms right) ≤ 500 →
         Spelled (front_forms.front_turn names inner count (fronts.Either e)) n (kinds.Mark (op_mark op) ∷ expr_tokens program right true) (Ends continues_place) (IsFront count (exprs.Both op left right))
     unfolding front_forms.front_turn front_forms.plus_turn front_forms.minus_turn front_forms.minus_behind front_forms.factor_turn
@@ -361,7 +361,7 @@ module _ (names : Names) (program : Program) where
         other_next (part.is_mark plus_sign) _ (λ o b. refl) (other_next (part.is_mark hyphen) _ (λ o b. refl)
         ((then) (operator ops.Div) (λ o is. at_same (λ op. front_forms.decided names inner count e op) is (decided count e ops.Div left right first chain leaves one l fit few room))))
 
-    front_turn_spelled : {n : ℕ} (count : ℕ) (front : Front) (op : Op) (left right : Expr) → IsFirst count left front → FitBoth names program left right → expr_terms right < levels →
+    front_turn_spelled : {n : ℕ} (count : ℕ) (front : FirstInParens) (op : Op) (left right : Expr) → IsFirst count left front → FitBoth names program left right → expr_terms right < levels →
         count + (expr_terms left + expr_terms right) ≤ 500 →
         Spelled (front_forms.front_turn names inner count front) n (kinds.Mark (op_mark op) ∷ expr_tokens program right true) (Ends continues_place) (IsFront count (exprs.Both op left right))
     unfolding front_forms.front_turn
@@ -378,7 +378,7 @@ module _ (names : Names) (program : Program) where
     abbrev AtColon : Option TokenKind → Type 0
     AtColon behind = behind ≡ Some (kinds.Mark colon)
 
-    alone-front : (count : ℕ) (expr : Expr) (front : Front) → IsFirst count expr front → IsFront count expr front
+    alone-front : (count : ℕ) (expr : Expr) (front : FirstInParens) → IsFirst count expr front → IsFront count expr front
     unfolding finish
     alone-front count expr (fronts.Sum chain more) first = subst (λ c. IsFound names program count expr (finish c, more)) (sym first.1) first.2
     alone-front count expr (fronts.Either e) first = (subst (λ c. IsExprSide names program expr (finish c)) (sym first.1) first.2, first.3 ∙ sym first.4)
@@ -390,19 +390,19 @@ module _ (names : Names) (program : Program) where
     colon-no-place o e = (expr-ends o (subst (λ k. Ends continues_expr k) (sym e) colon-ends)).0
 
     -- what stands first, operators behind it, and more
-    abbrev whole_front : {A : Type 0} → (Front → form.Form A) → ℕ → form.Form A
+    abbrev whole_front : {A : Type 0} → (FirstInParens → form.Form A) → ℕ → form.Form A
     whole_front more count = front_forms.first_front names inner count >>= (λ first. front_forms.front_turns names inner count first >>= more)
 
-    module _ {tail : List TokenKind} {A : Type 0} {Has : A → Type 0} (more : Front → form.Form A) (begun : (o : Option TokenKind) → AtColon (first_of tail o)) where
+    module _ {tail : List TokenKind} {A : Type 0} {Has : A → Type 0} (more : FirstInParens → form.Form A) (begun : (o : Option TokenKind) → AtColon (first_of tail o)) where
       alone_front : {n : ℕ} (count : ℕ) (expr : Expr) {tokens : List TokenKind} → Spelled (front_forms.first_front names inner count) n tokens (Ends continues_place) (IsFirst count expr) →
-          ((m : ℕ) (front : Front) → IsFront count expr front → Spelled (more front) m tail Any Has) → Spelled (whole_front more count) n (tokens ++ tail) Any Has
+          ((m : ℕ) (front : FirstInParens) → IsFront count expr front → Spelled (more front) m tail Any Has) → Spelled (whole_front more count) n (tokens ++ tail) Any Has
       alone_front count expr F G =
           bind F (λ o b. colon-no-place (first_of tail o) (begun o))
           (λ first h. behind_first (no_turn begins_turn (front_forms.front_turn names inner count) (λ o b. colon-no-turn o b) (alone-front count expr first h)) (λ o b. begun o) (λ front k. G _ front k))
 
       both_front : {n : ℕ} (count : ℕ) (op : Op) (left right : Expr) → FitBoth names program left right → expr_terms left < levels → expr_terms right < levels →
           count + (expr_terms left + expr_terms right) ≤ 500 →
-          ((m : ℕ) (front : Front) → IsFront count (exprs.Both op left right) front → Spelled (more front) m tail Any Has) →
+          ((m : ℕ) (front : FirstInParens) → IsFront count (exprs.Both op left right) front → Spelled (more front) m tail Any Has) →
           Spelled (whole_front more count) n (expr_tokens program left true ++ ((kinds.Mark (op_mark op) ∷ expr_tokens program right true) ++ tail)) Any Has
       both_front count op left right fit first second room G =
           bind (within_first count left fit.left_fit first (omega (arith, room))) (λ o b. op-ends op)
@@ -410,10 +410,10 @@ module _ (names : Names) (program : Program) where
           (λ o b. colon-no-place o b) (λ o b. colon-no-turn o b)) (λ o b. begun o) (λ front k. G _ front k))
 
       front_spelled : {n : ℕ} (count : ℕ) (expr : Expr) → IsPrintableExpr names program expr → expr_terms expr ≤ levels → count + expr_terms expr ≤ 500 →
-          ((m : ℕ) (front : Front) → IsFront count expr front → Spelled (more front) m tail Any Has) → Spelled (whole_front more count) n (expr_tokens program expr false ++ tail) Any Has
+          ((m : ℕ) (front : FirstInParens) → IsFront count expr front → Spelled (more front) m tail Any Has) → Spelled (whole_front more count) n (expr_tokens program expr false ++ tail) Any Has
       front_spelled {n = n} count expr =
           expr-cases (λ expr. IsPrintableExpr names program expr → expr_terms expr ≤ levels → count + expr_terms expr ≤ 500 →
-          ((m : ℕ) (front : Front) → IsFront count expr front → Spelled (more front) m tail Any Has) → Spelled (whole_front more count) n (expr_tokens program expr false ++ tail) Any Has)
+          ((m : ℕ) (front : FirstInParens) → IsFront count expr front → Spelled (more front) m tail Any Has) → Spelled (whole_front more count) n (expr_tokens program expr false ++ tail) Any Has)
           (λ operand fit few room G. alone_front count (exprs.Leaf operand) (leaf_first count operand false fit few room) G)
           (λ inner fit few room G. by_tokens (ap (λ list. list ++ tail) (plain-Minus names program inner)) (alone_front count (exprs.Minus inner) (minus_first count inner fit few room) G))
           (λ op left right fit few room G.
@@ -424,7 +424,7 @@ module _ (names : Names) (program : Program) where
           ∙ append_assoc (expr_tokens program left true) (kinds.Mark (op_mark op) ∷ expr_tokens program right true) tail)
           (both_front count op left right (both-fit names program op left right fit) (omega (arith, e, few, others)) (omega (arith, e, few, some)) (omega (arith, e, room)) G)) expr
 
-    end_spelled : {m : ℕ} (alone : Bool) (count : ℕ) (from : Expr) (size : Option Expr) (front : Front) → FitWindow names program from size → HasRoom alone (suc levels) count from size →
+    end_spelled : {m : ℕ} (alone : Bool) (count : ℕ) (from : Expr) (size : Option Expr) (front : FirstInParens) → FitWindow names program from size → HasRoom alone (suc levels) count from size →
         IsFront count from front →
         Spelled (front_forms.front_end names inner alone count front) m (kinds.Mark colon ∷ (size_tokens program size ++ kinds.Mark right_parenthesis ∷ [])) Any
         (λ found. (found.0 ≡ suffixes.Window (made_window from size)) × (alone ≡ false → found.1 ≡ count + (expr_terms from + size_terms size)))

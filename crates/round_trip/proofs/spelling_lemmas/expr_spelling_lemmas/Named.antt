@@ -8,9 +8,9 @@ use Rattle.std.proofs.lemmas.Slice.Eq.{bytes_eq-Decides}
 use Rattle.cob_tree.specs.declared.entry.Entry.{Entry}
 use Rattle.cob_tree.specs.declared.file.FileEntry.{FileEntry}
 use Rattle.unparser.specs.Place.{entry_name, item_name}
-use Rattle.symbol_tables.specs.declared.data_names.name.Found.{Found}
-use Rattle.symbol_tables.specs.declared.data_names.name.Found.TheVariants as found
-use Rattle.symbol_tables.specs.declared.data_names.name.Kind.{Kind}
+use Rattle.symbol_tables.specs.declared.data_names.name.Referent.{Referent}
+use Rattle.symbol_tables.specs.declared.data_names.name.Referent.TheVariants as found
+use Rattle.symbol_tables.specs.declared.data_names.name.ItemKind.{ItemKind}
 use Rattle.symbol_tables.specs.declared.data_names.name.Name.{Name}
 use Rattle.symbol_tables.specs.data_names.Names.{names_from, names_of}
 use Rattle.symbol_tables.specs.data_names.Look.{are_within, fits, found_at, found_from, is_called, look}
@@ -49,7 +49,7 @@ called word (Some other) e = sym ((bytes_eq-Decides word other).0 e)
 
 -- ---- what was found
 
-abbrev Is : ℕ → List Name → Found → Type 0
+abbrev Is : ℕ → List Name → Referent → Type 0
 Is i names (found.Item item kind dims) = (i ≡ item) × ((name : Name) × (slice_get names i ≡ Some name))
 Is i names found.Unknown = Unit {0}
 Is i names found.Ambiguous = Unit {0}
@@ -65,7 +65,7 @@ from-is names word of i = by (list_any (fits word of) (drop (i + 1) names))
     by true = tt
     by false = at-is names i (slice_get names i) refl
 
-found-word : (names : List Name) (word : List ℕ) (of : List (List ℕ)) (item : ℕ) (kind : Kind) (dims : ℕ) (place : Option ℕ) → position (fits word of) names ≡ place →
+found-word : (names : List Name) (word : List ℕ) (of : List (List ℕ)) (item : ℕ) (kind : ItemKind) (dims : ℕ) (place : Option ℕ) → position (fits word of) names ≡ place →
     found_from names word of place ≡ found.Item item kind dims → (name : Name) × (slice_get names item ≡ Some name) × (is_called word name.word ≡ true)
 found-word names word of item kind dims None p e = absurd cc
 found-word names word of item kind dims (Some i) p e =

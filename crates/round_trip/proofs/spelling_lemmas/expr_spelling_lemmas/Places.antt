@@ -24,15 +24,15 @@ use Rattle.unparser.specs.Token.{number_token, joined, in_parentheses}
 use Rattle.unparser.specs.Place.{item_name, of_tokens, figure_word, subs_tokens, place_tokens, operand_tokens, expr_tokens, sub_tokens, window_tokens}
 use Rattle.parser_combinators.specs.words.Word.{is_data_word, is_name}
 use Rattle.parser_combinators.specs.words.Constant as constants
-use Rattle.symbol_tables.specs.declared.data_names.name.Found.{Found}
-use Rattle.symbol_tables.specs.declared.data_names.name.Found.TheVariants as found
+use Rattle.symbol_tables.specs.declared.data_names.name.Referent.{Referent}
+use Rattle.symbol_tables.specs.declared.data_names.name.Referent.TheVariants as found
 use Rattle.symbol_tables.specs.data_names.Names.{Names}
 use Rattle.symbol_tables.specs.data_names.Look.{look}
 use Rattle.program_facts.specs.term_counts.Expression.{expr_terms, operand_terms}
-use Rattle.cobol_grammar.specs.declared.expr_forms.reference.Behind.{Behind}
+use Rattle.cobol_grammar.specs.declared.expr_forms.reference.RefSuffixes.{RefSuffixes}
 use Rattle.cobol_grammar.specs.declared.expr_forms.reference.Suffix.TheVariants as suffixes
 use Rattle.cobol_grammar.specs.declared.expr_forms.side.Side.{Side}
-use Rattle.cobol_grammar.specs.declared.expr_forms.side.What.TheVariants as whats
+use Rattle.cobol_grammar.specs.declared.expr_forms.side.ParsedExpr.TheVariants as whats
 use Rattle.cobol_grammar.specs.expr_forms.Fault.{found_fault, item_of, item_kind, kind_of, is_condition, usage}
 use Rattle.cobol_grammar.specs.expr_forms.Side.{literal_kind, literal_side, ref_side, kind_within}
 use Rattle.cobol_grammar.specs.expr_forms.Token.{is_of, begins_operand}
@@ -51,18 +51,18 @@ use Rattle.round_trip.proofs.spelling_lemmas.expr_spelling_lemmas.Tests.{of-is, 
 
 -- ---- the same tokens
 
-pub by_tokens : {A : Type 0} {f : form.Form A} {n : ℕ} {kinds others : List TokenKind} {Behind : Option TokenKind → Type 0} {Has : A → Type 0} →
-    others ≡ kinds → Spelled f n kinds Behind Has → Spelled f n others Behind Has
-by_tokens {f = f} {n = n} {Behind = Behind} {Has = Has} e F = subst (λ list. Spelled f n list Behind Has) (sym e) F
+pub by_tokens : {A : Type 0} {f : form.Form A} {n : ℕ} {kinds others : List TokenKind} {RefSuffixes : Option TokenKind → Type 0} {Has : A → Type 0} →
+    others ≡ kinds → Spelled f n kinds RefSuffixes Has → Spelled f n others RefSuffixes Has
+by_tokens {f = f} {n = n} {RefSuffixes = RefSuffixes} {Has = Has} e F = subst (λ list. Spelled f n list RefSuffixes Has) (sym e) F
 
 -- a form that the same value gives
-pub at_same : {A B : Type 0} (g : B → form.Form A) {n : ℕ} {kinds : List TokenKind} {Behind : Option TokenKind → Type 0} {Has : A → Type 0} {x y : B} →
-    x ≡ y → Spelled (g y) n kinds Behind Has → Spelled (g x) n kinds Behind Has
-at_same g {n = n} {kinds = kinds} {Behind = Behind} {Has = Has} e F = subst (λ z. Spelled (g z) n kinds Behind Has) (sym e) F
+pub at_same : {A B : Type 0} (g : B → form.Form A) {n : ℕ} {kinds : List TokenKind} {RefSuffixes : Option TokenKind → Type 0} {Has : A → Type 0} {x y : B} →
+    x ≡ y → Spelled (g y) n kinds RefSuffixes Has → Spelled (g x) n kinds RefSuffixes Has
+at_same g {n = n} {kinds = kinds} {RefSuffixes = RefSuffixes} {Has = Has} e F = subst (λ z. Spelled (g z) n kinds RefSuffixes Has) (sym e) F
 
 -- ---- counts
 
-pub tally : {n : ℕ} (count more : ℕ) → count + more ≤ 500 → Spelled (limits.tally count more) n [] Any (λ found. found ≡ count + more)
+pub tally : {n : ℕ} (count more : ℕ) → count + more ≤ 500 → Spelled (limits.count_terms count more) n [] Any (λ found. found ≡ count + more)
 tally count more few = chosen_other (form.refuse Terms) (le-ltb 500 (count + more) few) (pure refl)
 
 -- ---- literals
@@ -132,10 +132,10 @@ pub qualifiers : {n : ℕ} (of : List (List ℕ)) → are_data_words of ≡ true
 qualifiers of h = qualifiers_from of [] _ h
 
 -- the words of a reference, and what stands behind them
-pub reference_words : (names : Names) (inner : Inner) (count : ℕ) (word : List ℕ) (of : List (List ℕ)) {n : ℕ} {tail : List TokenKind} {Behind : Option TokenKind → Type 0} {Has : Side × ℕ → Type 0} →
-    is_data_word word ≡ true → are_data_words of ≡ true → ((o : Option TokenKind) → Behind o → Ends is_of (first_of tail o)) →
-    ((position : Position) (m : ℕ) → Spelled (references.ref_behind inner (look names word of) of position count) m tail Behind Has) →
-    Spelled (references.reference names inner count) n (kinds.Word word ∷ (of_tokens of ++ tail)) Behind Has
+pub reference_words : (names : Names) (inner : Inner) (count : ℕ) (word : List ℕ) (of : List (List ℕ)) {n : ℕ} {tail : List TokenKind} {RefSuffixes : Option TokenKind → Type 0} {Has : Side × ℕ → Type 0} →
+    is_data_word word ≡ true → are_data_words of ≡ true → ((o : Option TokenKind) → RefSuffixes o → Ends is_of (first_of tail o)) →
+    ((position : Position) (m : ℕ) → Spelled (references.ref_behind inner (look names word of) of position count) m tail RefSuffixes Has) →
+    Spelled (references.reference names inner count) n (kinds.Word word ∷ (of_tokens of ++ tail)) RefSuffixes Has
 unfolding references.reference references.reference_behind
 reference_words names inner count word of w q mid G =
     (then) (name word w)
@@ -145,13 +145,13 @@ reference_words names inner count word of w q mid G =
 
 -- ---- what a name stands for
 
-pub item-is : (item subs : ℕ) (windowed : Bool) (found : Found) → suits item subs windowed found ≡ true → item_of found ≡ item
+pub item-is : (item subs : ℕ) (windowed : Bool) (found : Referent) → suits item subs windowed found ≡ true → item_of found ≡ item
 item-is item subs windowed found.Unknown e = absurd (both_ways false refl e)
 item-is item subs windowed found.Ambiguous e = absurd (both_ways false refl e)
 item-is item subs windowed (found.Item number kind dims) e =
     eqb-true number item (and_parts (number == item) (dims == subs && not (is_condition (item_kind kind) && windowed)) e).0
 
-pub no-fault : (item subs : ℕ) (windowed : Bool) (found : Found) (position : Position) → suits item subs windowed found ≡ true → found_fault found subs windowed position ≡ None
+pub no-fault : (item subs : ℕ) (windowed : Bool) (found : Referent) (position : Position) → suits item subs windowed found ≡ true → found_fault found subs windowed position ≡ None
 unfolding found_fault
 no-fault item subs windowed found.Unknown position e = absurd (both_ways false refl e)
 no-fault item subs windowed found.Ambiguous position e = absurd (both_ways false refl e)
@@ -216,7 +216,7 @@ module _ (names : Names) (program : Program) where
   module _ {inner : Inner} {alone : Bool} {levels : ℕ} (I : InnerSpells inner alone levels) where
     -- ---- behind the words of a reference
 
-    record IsBehind (count : ℕ) (subs : List Sub) (window : Option Window) (found : Behind) : Type 0 where
+    record IsBehind (count : ℕ) (subs : List Sub) (window : Option Window) (found : RefSuffixes) : Type 0 where
       pub subs_are : found.subs ≡ subs
       pub window_is : found.window ≡ window
       pub counted : alone ≡ false → found.count ≡ count + window_count window

@@ -25,9 +25,9 @@ use Rattle.parser_combinators.specs.words.Word.{is_data_word}
 use Rattle.parser_combinators.specs.words.Constant as constants
 use Rattle.symbol_tables.specs.data_names.Names.{Names}
 use Rattle.symbol_tables.specs.data_names.Look.{look}
-use Rattle.symbol_tables.specs.declared.data_names.name.Found.{Found}
-use Rattle.cobol_grammar.specs.declared.expr_forms.front.Front.{Front}
-use Rattle.cobol_grammar.specs.declared.expr_forms.front.Front.TheVariants as fronts
+use Rattle.symbol_tables.specs.declared.data_names.name.Referent.{Referent}
+use Rattle.cobol_grammar.specs.declared.expr_forms.front.FirstInParens.{FirstInParens}
+use Rattle.cobol_grammar.specs.declared.expr_forms.front.FirstInParens.TheVariants as fronts
 use Rattle.cobol_grammar.specs.declared.expr_forms.reference.Suffix.TheVariants as suffixes
 use Rattle.cobol_grammar.specs.declared.expr_forms.side.ValueKind.{ValueKind}
 use Rattle.cobol_grammar.specs.declared.expr_forms.side.ValueKind.TheVariants as values
@@ -214,7 +214,7 @@ module _ (names : Names) (program : Program) where
 
   -- ---- the first one, which may turn out to be an expression
 
-  abbrev IsSubFront : Sub → Front → Type 0
+  abbrev IsSubFront : Sub → FirstInParens → Type 0
   IsSubFront sub (fronts.Sum chain more) = ⊥
   IsSubFront sub (fronts.Either e) = (e.fault ≡ None) × (subs_of e ≡ sub ∷ [])
 
@@ -235,12 +235,12 @@ module _ (names : Names) (program : Program) where
         (λ found h. behind_none (note (ref-free item of position c))
         (λ _ _. pure (whole-none position (kind_of (reference names program item of)) c, ap (λ sub. sub ∷ []) (sub-is item of plus negative found.0 F s n (sym h.0)))))
 
-    abbrev first_and_more : {A : Type 0} → (Front → form.Form A) → ℕ → form.Form A
+    abbrev first_and_more : {A : Type 0} → (FirstInParens → form.Form A) → ℕ → form.Form A
     first_and_more more count = front_forms.first_front names inner count >>= (λ first. front_forms.front_turns names inner count first >>= more)
 
-    module _ {A : Type 0} {Has : A → Type 0} {tail : List TokenKind} (begun : (o : Option TokenKind) → BehindSub (first_of tail o)) (more : Front → form.Form A) where
+    module _ {A : Type 0} {Has : A → Type 0} {tail : List TokenKind} (begun : (o : Option TokenKind) → BehindSub (first_of tail o)) (more : FirstInParens → form.Form A) where
       number_sub_first : {n : ℕ} (count : ℕ) (plus : Number) → plus.negative ≡ false → plus.scale ≡ 0 →
-          ((m : ℕ) (front : Front) → IsSubFront (made_sub None plus) front → Spelled (more front) m tail Any Has) →
+          ((m : ℕ) (front : FirstInParens) → IsSubFront (made_sub None plus) front → Spelled (more front) m tail Any Has) →
           Spelled (first_and_more more count) n (kinds.Digits plus.digits ∷ tail) Any Has
       unfolding subs_of
       number_sub_first count plus negative scale G =
@@ -249,7 +249,7 @@ module _ (names : Names) (program : Program) where
           (subst (λ front. IsSubFront (made_sub None plus) front) (sym h.1) (refl, ap (λ number. made_sub None number ∷ []) (whole-is plus negative scale)))) (λ o b. begun o) (λ front k. G _ front k))
 
       item_sub_first : {n : ℕ} (count item : ℕ) (of : List (List ℕ)) (plus : Number) → FitPlace names program item of [] None → is_counting (kind_of (reference names program item of)) ≡ true → plus.scale ≡ 0 →
-          PlusView plus → ((m : ℕ) (front : Front) → IsSubFront (made_sub (Some (made_place item of [] None)) plus) front → Spelled (more front) m tail Any Has) →
+          PlusView plus → ((m : ℕ) (front : FirstInParens) → IsSubFront (made_sub (Some (made_place item of [] None)) plus) front → Spelled (more front) m tail Any Has) →
           Spelled (first_and_more more count) n ((kinds.Word (item_name program item) ∷ of_tokens of) ++ (plus_tokens plus ++ tail)) Any Has
       unfolding subs_of front_forms.front_turn front_forms.plus_turn front_forms.minus_turn front_forms.minus_behind front_forms.number_or_decided
       item_sub_first count item of plus F c s (inl (none, positive, zero)) G =
@@ -306,7 +306,7 @@ module _ (names : Names) (program : Program) where
   plus-no-of plus (inr (inr (one, negative))) o b = subst (λ list. Ends is_of (first_of list o)) (sym one) (mark-no-of hyphen)
 
   -- behind the words of an item
-  abbrev sub_rest : Found → List (List ℕ) → Position → form.Form Sub
+  abbrev sub_rest : Referent → List (List ℕ) → Position → form.Form Sub
   sub_rest found of position =
       form.note (found_fault found 0 false position) >> (form.note (whole_fault_at position (kind_of found)) >> subscripts.item_sub_behind (place_of found of [] None))
 
@@ -381,7 +381,7 @@ module _ (names : Names) (program : Program) where
       (λ mid e. hence (λ list k. k ∙ ap (λ f. f ++ others) e ∙ append_assoc front (sub ∷ []) others) (more_subs_spelled others mid _ both.1))
 
   module _ {inner : Inner} {levels : ℕ} (I : InnerSpells names program inner false levels) where
-    end_subs : {m : ℕ} (alone : Bool) (count : ℕ) (first : Sub) (others : List Sub) (front : Front) → are_fit (map (judged_sub names program) others) ≡ true → IsSubFront first front →
+    end_subs : {m : ℕ} (alone : Bool) (count : ℕ) (first : Sub) (others : List Sub) (front : FirstInParens) → are_fit (map (judged_sub names program) others) ≡ true → IsSubFront first front →
         Spelled (front_forms.front_end names inner alone count front) m (joined (map (sub_tokens program) others) ++ kinds.Mark right_parenthesis ∷ []) Any (λ found. found ≡ (suffixes.Subs (first ∷ others), count))
     unfolding front_forms.front_end front_forms.subs_suffix
     end_subs alone count first others (fronts.Sum chain more) fit h = absurd h

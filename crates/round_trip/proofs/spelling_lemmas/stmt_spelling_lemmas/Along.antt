@@ -39,7 +39,7 @@ abbrev pub EndsAll : Bool → Option TokenKind → Type 0
 EndsAll closed o = Among (ends_of closed) o
 
 abbrev pub Is : List Stmt → Bool → Found → Type 0
-Is list not_read found = found ≡ (list, not_read)
+Is list pending_not found = found ≡ (list, pending_not)
 
 pub ends-behind : (closed : Bool) (o : Option TokenKind) → EndsOne closed o → BehindStmt o
 ends-behind true o b = within (verbs ++ ends_of true) behind_stmts refl o b
@@ -92,7 +92,7 @@ first-of-list P tokens closed x h (y ∷ xs) o =
 module _ {Side Known : Type 0} (parts : Parts Side Known) (level : Level) (scope : Scope) where
   -- one form of a statement gives these
   abbrev pub Gives : List Stmt → Tokens → (Option TokenKind → Type 0) → Bool → Type 0
-  Gives new tokens Behind not_read = (before : List Stmt) (n : ℕ) → Spelled (forms.stmt parts level scope before) n tokens Behind (Is (before ++ new) not_read)
+  Gives new tokens Behind pending_not = (before : List Stmt) (n : ℕ) → Spelled (forms.stmt parts level scope before) n tokens Behind (Is (before ++ new) pending_not)
 
   -- a statement whose tokens depend on whether it is closed; behind READ alone NEXT SENTENCE would be read with it
   pub record One (tokens : Bool → Tokens) (x : Stmt) : Type 0 where
@@ -118,24 +118,24 @@ module _ {Side Known : Type 0} (parts : Parts Side Known) (level : Level) (scope
   Loop found = form.loop begins_stmt (forms.stmts_turn parts level scope) found
 
   abbrev pub Turns : List Stmt → Tokens → (Option TokenKind → Type 0) → Bool → Type 0
-  Turns xs tokens Behind not_read = (before : List Stmt) (n : ℕ) → Spelled (Loop (before, false)) n tokens Behind (Is (before ++ xs) not_read)
+  Turns xs tokens Behind pending_not = (before : List Stmt) (n : ℕ) → Spelled (Loop (before, false)) n tokens Behind (Is (before ++ xs) pending_not)
 
   turn_from : {n : ℕ} {tokens : Tokens} {Behind : Option TokenKind → Type 0} {Has : Found → Type 0} (before : List Stmt) →
       Spelled (forms.stmt parts level scope before) n tokens Behind Has → Spelled (forms.stmts_turn parts level scope (before, false)) n tokens Behind Has
   unfolding forms.stmts_turn
   turn_from before F = chosen_other (form.refuse Syntax) refl F
 
-  last : {new : List Stmt} {tokens : Tokens} {Behind : Option TokenKind → Type 0} {not_read : Bool} → ((o : Option TokenKind) → begins_by begins_stmt (first_of tokens o) ≡ true) →
-      ((o : Option TokenKind) → Behind o → begins_by begins_stmt o ≡ false) → Gives new tokens Behind not_read → Turns new tokens Behind not_read
+  last : {new : List Stmt} {tokens : Tokens} {Behind : Option TokenKind → Type 0} {pending_not : Bool} → ((o : Option TokenKind) → begins_by begins_stmt (first_of tokens o) ≡ true) →
+      ((o : Option TokenKind) → Behind o → begins_by begins_stmt o ≡ false) → Gives new tokens Behind pending_not → Turns new tokens Behind pending_not
   last begins none F before n = last_turn begins_stmt (forms.stmts_turn parts level scope) begins (turn_from before (F before n)) (λ o b. b) none
 
-  more : {new xs : List Stmt} {tokens others : Tokens} {Mid Behind : Option TokenKind → Type 0} {not_read : Bool} →
+  more : {new xs : List Stmt} {tokens others : Tokens} {Mid Behind : Option TokenKind → Type 0} {pending_not : Bool} →
       ((o : Option TokenKind) → begins_by begins_stmt (first_of tokens o) ≡ true) → ((o : Option TokenKind) → Mid (first_of others o)) →
-      Gives new tokens Mid false → Turns xs others Behind not_read → Turns (new ++ xs) (tokens ++ others) Behind not_read
-  more {new = new} {xs = xs} {tokens = tokens} {others = others} {Behind = Behind} {not_read = not_read} begins mid F G before n =
+      Gives new tokens Mid false → Turns xs others Behind pending_not → Turns (new ++ xs) (tokens ++ others) Behind pending_not
+  more {new = new} {xs = xs} {tokens = tokens} {others = others} {Behind = Behind} {pending_not = pending_not} begins mid F G before n =
       turn begins_stmt (forms.stmts_turn parts level scope) begins (turn_from before (F before n)) (λ o b. mid o)
-      (λ found e. subst (λ f. Spelled (Loop f) (n + length tokens) others Behind (Is (before ++ (new ++ xs)) not_read)) (sym e)
-      (hence (λ f k. k ∙ ap (λ l. (l, not_read)) (append_assoc before new xs)) (G (before ++ new) (n + length tokens))))
+      (λ found e. subst (λ f. Spelled (Loop f) (n + length tokens) others Behind (Is (before ++ (new ++ xs)) pending_not)) (sym e)
+      (hence (λ f k. k ∙ ap (λ l. (l, pending_not)) (append_assoc before new xs)) (G (before ++ new) (n + length tokens))))
 
   -- a list whose last statement is closed or not
   pub record Along (closed : Bool) (xs : List Stmt) (tokens : Tokens) : Type 0 where

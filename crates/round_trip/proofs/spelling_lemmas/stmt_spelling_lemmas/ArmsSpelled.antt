@@ -73,8 +73,8 @@ module _ (phrase : Phrase) (level : Level) (scope : Scope) where
   abbrev Given : Option (List Stmt) → Option (List Stmt) → Arms × Bool → Type 0
   Given first second found = found ≡ (arm.arms_of first second, false)
 
-  held_arm : {n : ℕ} {Behind : Option TokenKind → Type 0} {tokens : Tokens} {not_read : Bool} (xs : List Stmt) →
-      Spelled (level.stmts scope) n tokens Behind (λ found. found ≡ (xs, not_read)) → Spelled (arm.held_arm level scope) n tokens Behind (λ found. found ≡ (Some xs, not_read))
+  held_arm : {n : ℕ} {Behind : Option TokenKind → Type 0} {tokens : Tokens} {pending_not : Bool} (xs : List Stmt) →
+      Spelled (level.stmts scope) n tokens Behind (λ found. found ≡ (xs, pending_not)) → Spelled (arm.held_arm level scope) n tokens Behind (λ found. found ≡ (Some xs, pending_not))
   unfolding arm.held_arm
   held_arm xs F = ending F (λ found e. pure (ap (λ f. (Some f.0, f.1)) e))
 

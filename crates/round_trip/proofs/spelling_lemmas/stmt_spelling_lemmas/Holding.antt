@@ -49,11 +49,11 @@ one-head true o b = within (verbs ++ ends_of true) behind_heads refl o b
 one-head false o b = within (verbs ++ ends_of false) behind_heads refl o b
 
 module _ {Side Known : Type 0} {parts : Parts Side Known} {kept : Kept Side} (T : PartsAreTold parts kept) (program : Program) (level : Level) (scope : Scope) where
-  pub holding : (x : Stmt) (tokens : Tokens) (Behind : Option TokenKind → Type 0) (not_read : Bool) → ((o : Option TokenKind) → begins_by begins_simple (first_of tokens o) ≡ false) →
+  pub holding : (x : Stmt) (tokens : Tokens) (Behind : Option TokenKind → Type 0) (pending_not : Bool) → ((o : Option TokenKind) → begins_by begins_simple (first_of tokens o) ≡ false) →
       ((o : Option TokenKind) → begins_by (part.is_key (codes "READ")) (first_of tokens o) ≡ false) →
-      ((n : ℕ) → Spelled (forms.holding_stmt parts level scope) n tokens Behind (λ found. found ≡ (x, not_read))) → Gives parts level scope (x ∷ []) tokens Behind not_read
+      ((n : ℕ) → Spelled (forms.holding_stmt parts level scope) n tokens Behind (λ found. found ≡ (x, pending_not))) → Gives parts level scope (x ∷ []) tokens Behind pending_not
   unfolding forms.stmt forms.held_stmts
-  holding x tokens Behind not_read simple read F before n =
+  holding x tokens Behind pending_not simple read F before n =
       other_next begins_simple _ (λ o b. simple o) (other_next (part.is_key (codes "READ")) _ (λ o b. read o) (ending (F n) (λ found e. pure (ap (forms.behind before) e))))
 
   -- one that is closed by a word of its own
@@ -89,8 +89,8 @@ module _ {Side Known : Type 0} {parts : Parts Side Known} {kept : Kept Side} (T 
       behind_none (E _) (λ _ _. then (key (codes "IF")) (λ _ _. ending (where_behind verb-ends (test_cond cond S))
       (λ c e. ending unsaid-then (λ _ _. pure e))))
 
-  pub said-by : {n : ℕ} (word : List ℕ) (not_read : Bool) → not_read ≡ false → Spelled (arm.end_word word not_read) n (kinds.Word word ∷ []) Any (λ _. Unit {0})
-  said-by {n = n} word not_read e = subst (λ v. Spelled (arm.end_word word v) n (kinds.Word word ∷ []) Any (λ _. Unit {0})) (sym e) (end-said word)
+  pub said-by : {n : ℕ} (word : List ℕ) (pending_not : Bool) → pending_not ≡ false → Spelled (arm.end_word word pending_not) n (kinds.Word word ∷ []) Any (λ _. Unit {0})
+  said-by {n = n} word pending_not e = subst (λ v. Spelled (arm.end_word word v) n (kinds.Word word ∷ []) Any (λ _. Unit {0})) (sym e) (end-said word)
 
   if_ended : {n : ℕ} (cond : Cond) (met unmet : List Stmt) (tokens : Tokens) → ((m : ℕ) → Spelled (choice.else_part level scope) m tokens (λ o. o ≡ Some (kinds.Word (codes "END-IF"))) (λ found. found ≡ (unmet, false))) →
       (c : Cond) → c ≡ cond → (found : Found) → found ≡ (met, false) →
@@ -187,11 +187,11 @@ module _ {Side Known : Type 0} {parts : Parts Side Known} {kept : Kept Side} (T 
   calc-verb (calcs.DivideGiving x y) into more o = refl
   calc-verb (calcs.Compute x) into more o = refl
 
-  ended-by : {n : ℕ} {close : Tokens} {Behind : Option TokenKind → Type 0} (calc : Calc) (verb : ArithmeticVerb) (not_read : Bool) → verb ≡ verb_of calc → not_read ≡ false →
-      Spelled (arm.end_word (end_word calc) false) n close Behind (λ _. Unit {0}) → Spelled (arm.end_work verb not_read) n close Behind (λ _. Unit {0})
+  ended-by : {n : ℕ} {close : Tokens} {Behind : Option TokenKind → Type 0} (calc : Calc) (verb : ArithmeticVerb) (pending_not : Bool) → verb ≡ verb_of calc → pending_not ≡ false →
+      Spelled (arm.end_word (end_word calc) false) n close Behind (λ _. Unit {0}) → Spelled (arm.end_work verb pending_not) n close Behind (λ _. Unit {0})
   unfolding arm.end_work
-  ended-by {n = n} {close = close} {Behind = Behind} calc verb not_read e k E =
-      subst (λ v. Spelled (arm.end_word (arm.end_of v) not_read) n close Behind (λ _. Unit {0})) (sym e)
+  ended-by {n = n} {close = close} {Behind = Behind} calc verb pending_not e k E =
+      subst (λ v. Spelled (arm.end_word (arm.end_of v) pending_not) n close Behind (λ _. Unit {0})) (sym e)
       (subst (λ f. Spelled (arm.end_word (arm.end_of (verb_of calc)) f) n close Behind (λ _. Unit {0})) (sym k)
       (subst (λ t. Spelled (arm.end_word t false) n close Behind (λ _. Unit {0})) (sym (same-end calc)) E))
 

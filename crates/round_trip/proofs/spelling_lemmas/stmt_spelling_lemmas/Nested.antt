@@ -21,7 +21,7 @@ use Rattle.unparser.specs.Arithmetic.{arithmetic_tokens, end_word}
 use Rattle.unparser.specs.Head.{head_step}
 use Rattle.unparser.specs.Choice.{test_tokens}
 use Rattle.unparser.specs.Token.{Tokens, joined}
-use Rattle.cobol_print.specs.declared.units.statement.Phrase.TheVariants.{AtEnd, OnSizeError}
+use Rattle.cobol_print.specs.declared.units.statement.ArmPhrase.TheVariants.{AtEnd, OnSizeError}
 use Rattle.cobol_print.specs.declared.units.unit.PrintUnit.{PrintUnit}
 use Rattle.cobol_print.specs.units.Unit.{deeper}
 use Rattle.cobol_print.specs.units.Statement.{Lines, ArmLines, WhenLines, some_lines, list_lines, word_line, held_by_else, held_by_other, tests_lines, whens_lines, arm_if_any, end_lines, stmt_step, arms_step, when_step, stmt_lines, arms_lines, when_lines}
@@ -124,7 +124,7 @@ module _ {Side Known : Type 0} {parts : Parts Side Known} {kept : Kept Side} (T 
     -- by the tokens of its statements
     held-by : (toks : Bool → Stmt → Tokens) (xs : List Stmt) → is_filled xs ≡ true → Each (λ x. One parts Below scope (λ c. toks c x) x) xs →
         IsHeld (forms.level parts (suc levels)) scope xs (λ c. list_tokens toks c xs)
-    unfolding forms.held forms.enter
+    unfolding forms.held forms.enter_level
     held-by toks xs f h = record {
       enter = λ n. pure tt;
       begins = λ c o. list-begins parts Below scope toks c xs f h o;

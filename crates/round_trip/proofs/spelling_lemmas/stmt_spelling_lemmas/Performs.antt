@@ -63,15 +63,15 @@ apart test word w u false more o = u
 
 module _ {Side Known : Type 0} {parts : Parts Side Known} {kept : Kept Side} (T : PartsAreTold parts kept) (program : Program) where
   -- a condition with what may stand behind it, and whether a NOT is read with it
-  record Conded (cond : Cond) (Behind : Option TokenKind → Type 0) (tokens : Tokens) (not_read : Bool) : Type 0 where
-    spelled : (taken : ℕ) → Spelled parts.cond taken tokens Behind (λ found. found ≡ (cond, not_read))
+  record Conded (cond : Cond) (Behind : Option TokenKind → Type 0) (tokens : Tokens) (pending_not : Bool) : Type 0 where
+    spelled : (taken : ℕ) → Spelled parts.cond taken tokens Behind (λ found. found ≡ (cond, pending_not))
 
-  until_cond : {n : ℕ} {Behind : Option TokenKind → Type 0} {tokens : Tokens} {not_read : Bool} (after : Bool) (cond : Cond) → Conded cond Behind tokens not_read →
-      Spelled (loops.until_control parts) n (after_tokens after ++ kinds.Word (codes "UNTIL") ∷ tokens) Behind (λ found. found ≡ (controls.Until after cond, not_read))
+  until_cond : {n : ℕ} {Behind : Option TokenKind → Type 0} {tokens : Tokens} {pending_not : Bool} (after : Bool) (cond : Cond) → Conded cond Behind tokens pending_not →
+      Spelled (loops.until_control parts) n (after_tokens after ++ kinds.Word (codes "UNTIL") ∷ tokens) Behind (λ found. found ≡ (controls.Until after cond, pending_not))
   unfolding loops.until_control loops.until_cond
-  until_cond {n = n} {Behind = Behind} {tokens = tokens} {not_read = not_read} after cond C =
+  until_cond {n = n} {Behind = Behind} {tokens = tokens} {pending_not = pending_not} after cond C =
       bind (after_part after) (λ o b. refl) (λ found e. other_next (part.is_key (codes "VARYING")) _ (λ o b. refl)
-      (and_then (key (codes "UNTIL")) (λ _ _. ending (C.spelled _) (λ x k. pure (ap (λ v. (controls.Until found v.0, v.1)) k ∙ ap (λ v. (controls.Until v cond, not_read)) e)))))
+      (and_then (key (codes "UNTIL")) (λ _ _. ending (C.spelled _) (λ x k. pure (ap (λ v. (controls.Until found v.0, v.1)) k ∙ ap (λ v. (controls.Until v cond, pending_not)) e)))))
 
   -- what is done for an item, with what stands behind BY
   abbrev Behind_item : Place → Operand → Operand → Tokens → Tokens
@@ -94,26 +94,26 @@ module _ {Side Known : Type 0} {parts : Parts Side Known} {kept : Kept Side} (T 
   unfolding loops.varied
   varied {n = n} item S = ending (S.0.spelled n) (λ side k. behind_none (note (S.1 side k)) (λ _ _. pure (T.place_told item side k)))
 
-  varying_behind : {n : ℕ} {Behind : Option TokenKind → Type 0} {tokens : Tokens} {not_read : Bool} (after : Bool) (item : Place) (from by : Operand) (cond : Cond) →
-      SpellsNumberPlace parts kept program item → Number parts kept program from → Number parts kept program by → Conded cond Behind tokens not_read → (found : Bool) → found ≡ after →
+  varying_behind : {n : ℕ} {Behind : Option TokenKind → Type 0} {tokens : Tokens} {pending_not : Bool} (after : Bool) (item : Place) (from by : Operand) (cond : Cond) →
+      SpellsNumberPlace parts kept program item → Number parts kept program from → Number parts kept program by → Conded cond Behind tokens pending_not → (found : Bool) → found ≡ after →
       Spelled (loops.varying_cond parts found) n
       (kinds.Word (codes "VARYING") ∷ Behind_item item from by (kinds.Word (codes "UNTIL") ∷ tokens)) Behind
-      (λ x. x ≡ (controls.Varying after item from by cond, not_read))
+      (λ x. x ≡ (controls.Varying after item from by cond, pending_not))
   unfolding loops.varying_cond
-  varying_behind {not_read = not_read} after item from by cond I F B C found e =
+  varying_behind {pending_not = pending_not} after item from by cond I F B C found e =
       and_then (key (codes "VARYING")) (λ _ _. bind (varied item I) (λ o b. inl refl)
       (λ place i. and_then (key (codes "FROM")) (λ _ _. bind (number T from F) (λ o b. inl refl)
       (λ first j. and_then (key (codes "BY")) (λ _ _. bind (number T by B) (λ o b. inl refl)
       (λ step l. and_then (key (codes "UNTIL")) (λ _ _. ending (C.spelled _) (λ x k. pure
-      (ap (λ v. (controls.Varying found place first step v.0, v.1)) k ∙ ap (λ v. (controls.Varying v place first step cond, not_read)) e
-      ∙ ap (λ v. (controls.Varying after v first step cond, not_read)) i ∙ ap (λ v. (controls.Varying after item v step cond, not_read)) j
-      ∙ ap (λ v. (controls.Varying after item from v cond, not_read)) l)))))))))
+      (ap (λ v. (controls.Varying found place first step v.0, v.1)) k ∙ ap (λ v. (controls.Varying v place first step cond, pending_not)) e
+      ∙ ap (λ v. (controls.Varying after v first step cond, pending_not)) i ∙ ap (λ v. (controls.Varying after item v step cond, pending_not)) j
+      ∙ ap (λ v. (controls.Varying after item from v cond, pending_not)) l)))))))))
 
-  varying_cond : {n : ℕ} {Behind : Option TokenKind → Type 0} {tokens : Tokens} {not_read : Bool} (after : Bool) (item : Place) (from by : Operand) (cond : Cond) →
-      SpellsControl parts kept program (controls.Varying after item from by cond) → Conded cond Behind tokens not_read →
+  varying_cond : {n : ℕ} {Behind : Option TokenKind → Type 0} {tokens : Tokens} {pending_not : Bool} (after : Bool) (item : Place) (from by : Operand) (cond : Cond) →
+      SpellsControl parts kept program (controls.Varying after item from by cond) → Conded cond Behind tokens pending_not →
       Spelled (loops.until_control parts) n
       (Varying after item from by (kinds.Word (codes "UNTIL") ∷ tokens)) Behind
-      (λ found. found ≡ (controls.Varying after item from by cond, not_read))
+      (λ found. found ≡ (controls.Varying after item from by cond, pending_not))
   unfolding loops.until_control
   varying_cond after item from by cond h C =
       bind (after_part after) (λ o b. refl) (λ found e. there_next (part.is_key (codes "VARYING")) _ (λ o b. refl) (varying_behind after item from by cond h.0 h.1.0 h.1.1.0 C found e))
@@ -142,26 +142,26 @@ module _ {Side Known : Type 0} {parts : Parts Side Known} {kept : Kept Side} (T 
       (λ _ _. ending (where_behind (λ o b. tt) (procedure T program exit (R.last_label e).1)) (λ span k. pure (ap (λ s. s.1) k)))))
 
   -- the control behind the names, as it is printed or with a NOT
-  pub record Controls (control : Control) (Behind : Option TokenKind → Type 0) (tokens : Tokens) (not_read : Bool) : Type 0 where
-    pub spelled : (taken : ℕ) → Spelled (loops.control_part parts) taken tokens Behind (λ found. found ≡ (control, not_read))
+  pub record Controls (control : Control) (Behind : Option TokenKind → Type 0) (tokens : Tokens) (pending_not : Bool) : Type 0 where
+    pub spelled : (taken : ℕ) → Spelled (loops.control_part parts) taken tokens Behind (λ found. found ≡ (control, pending_not))
     -- none of them goes on with a name
     pub no_thru : (o : Option TokenKind) → Behind o → begins_by begins_thru (first_of tokens o) ≡ false
     pub no_item : (o : Option TokenKind) → Behind o → begins_by loops.continues_item (first_of tokens o) ≡ false
 
-  perform_named : {n : ℕ} {Behind : Option TokenKind → Type 0} {tokens : Tokens} {not_read : Bool} (entry exit : ℕ) (R : SpellsRange parts kept program entry exit) (control : Control) →
-      Controls control Behind tokens not_read → (found : List ℕ) → found ≡ R.first_label.name → (position : Position) →
+  perform_named : {n : ℕ} {Behind : Option TokenKind → Type 0} {tokens : Tokens} {pending_not : Bool} (entry exit : ℕ) (R : SpellsRange parts kept program entry exit) (control : Control) →
+      Controls control Behind tokens pending_not → (found : List ℕ) → found ≡ R.first_label.name → (position : Position) →
       Spelled (loops.perform_named parts found position) n
       ((if entry == exit then [] else kinds.Word (codes "THRU") ∷ label_tokens program exit) ++ tokens) Behind
-      (λ head. head ≡ heads.Whole (stmts.Perform entry exit control) not_read)
+      (λ head. head ≡ heads.Whole (stmts.Perform entry exit control) pending_not)
   unfolding loops.perform_named
-  perform_named {n = n} {Behind = Behind} {tokens = tokens} {not_read = not_read} entry exit R control C found is position =
+  perform_named {n = n} {Behind = Behind} {tokens = tokens} {pending_not = pending_not} entry exit R control C found is position =
       behind_none (named T program R.first_label.name R.first_label.found found is position)
       (λ first e. bind {Mid = λ o. begins_by begins_thru o ≡ false}
       (subst (λ s. Spelled (loops.exit_of parts s.1) n (if entry == exit then [] else kinds.Word (codes "THRU") ∷ label_tokens program exit) (λ o. begins_by begins_thru o ≡ false) (λ x. x ≡ exit)) (sym e)
       (range-by entry exit R (entry == exit) refl (λ o. begins_by begins_thru o ≡ false) (λ o b. b))) C.no_thru
       (λ last k. ending (C.spelled _) (λ x l. pure
-      (ap (λ v. heads.Whole (stmts.Perform first.0 last v.0) v.1) l ∙ ap (λ v. heads.Whole (stmts.Perform v.0 last control) not_read) e
-      ∙ ap (λ v. heads.Whole (stmts.Perform entry v control) not_read) k))))
+      (ap (λ v. heads.Whole (stmts.Perform first.0 last v.0) v.1) l ∙ ap (λ v. heads.Whole (stmts.Perform v.0 last control) pending_not) e
+      ∙ ap (λ v. heads.Whole (stmts.Perform entry v control) pending_not) k))))
 
   -- ---- PERFORM of paragraphs
 
@@ -184,7 +184,7 @@ module _ {Side Known : Type 0} {parts : Parts Side Known} {kept : Kept Side} (T 
       (or-false (part.is_key (codes "WITH") kind) (part.is_key (codes "TEST") kind) (no-key test kind (codes "WITH") e w) (no-key test kind (codes "TEST") e t))
       (or-false (part.is_key (codes "VARYING") kind) (part.is_key (codes "UNTIL") kind) (no-key test kind (codes "VARYING") e v) (no-key test kind (codes "UNTIL") e u))
 
-  behind-range : (entry exit : ℕ) {control : Control} {Behind : Option TokenKind → Type 0} {tokens : Tokens} {not_read : Bool} → Controls control Behind tokens not_read →
+  behind-range : (entry exit : ℕ) {control : Control} {Behind : Option TokenKind → Type 0} {tokens : Tokens} {pending_not : Bool} → Controls control Behind tokens pending_not →
       (b : Bool) → (entry == exit) ≡ b → (o : Option TokenKind) → Behind o →
       begins_by loops.continues_item (first_of ((if entry == exit then [] else kinds.Word (codes "THRU") ∷ label_tokens program exit) ++ tokens) o) ≡ false
   unfolding loops.continues_item
@@ -194,11 +194,11 @@ module _ {Side Known : Type 0} {parts : Parts Side Known} {kept : Kept Side} (T 
       ap (λ v. begins_by loops.continues_item (first_of ((if v then [] else kinds.Word (codes "THRU") ∷ label_tokens program exit) ++ tokens) o)) e
 
   module _ (enter : Form (Unit {0})) where
-    word-or-other : {n : ℕ} {Behind : Option TokenKind → Type 0} {tokens : Tokens} {not_read : Bool} (entry exit : ℕ) (R : SpellsRange parts kept program entry exit) (control : Control) →
-        Controls control Behind tokens not_read → parts.is_procedure_word (kinds.Word R.first_label.name) ≡ true → (b : Bool) → parts.is_name (kinds.Word R.first_label.name) ≡ b →
+    word-or-other : {n : ℕ} {Behind : Option TokenKind → Type 0} {tokens : Tokens} {pending_not : Bool} (entry exit : ℕ) (R : SpellsRange parts kept program entry exit) (control : Control) →
+        Controls control Behind tokens pending_not → parts.is_procedure_word (kinds.Word R.first_label.name) ≡ true → (b : Bool) → parts.is_name (kinds.Word R.first_label.name) ≡ b →
         Spelled (form.where_next parts.is_name (loops.perform_name parts enter) (loops.perform_other parts enter)) n
         (kinds.Word R.first_label.name ∷ ((if entry == exit then [] else kinds.Word (codes "THRU") ∷ label_tokens program exit) ++ tokens)) Behind
-        (λ head. head ≡ heads.Whole (stmts.Perform entry exit control) not_read)
+        (λ head. head ≡ heads.Whole (stmts.Perform entry exit control) pending_not)
     unfolding loops.perform_name loops.perform_other loops.perform_operand loops.perform_word
     word-or-other entry exit R control C p true e =
         there_next parts.is_name _ (λ o b. e) (and_then (word R.first_label.name) (λ found k.
@@ -207,33 +207,33 @@ module _ {Side Known : Type 0} {parts : Parts Side Known} {kept : Kept Side} (T 
         other_next parts.is_name _ (λ o b. e) (other_next is_digits _ (λ o b. refl) (there_next parts.is_procedure_word _ (λ o b. p)
         (and_then (word R.first_label.name) (λ found k. perform_named entry exit R control C found.0 k.0 found.1))))
 
-    by-label : {n : ℕ} {Behind : Option TokenKind → Type 0} {tokens : Tokens} {not_read : Bool} (entry exit : ℕ) (R : SpellsRange parts kept program entry exit) (control : Control) →
-        Controls control Behind tokens not_read → (kind : TokenKind) →
+    by-label : {n : ℕ} {Behind : Option TokenKind → Type 0} {tokens : Tokens} {pending_not : Bool} (entry exit : ℕ) (R : SpellsRange parts kept program entry exit) (control : Control) →
+        Controls control Behind tokens pending_not → (kind : TokenKind) →
         ((kind ≡ kinds.Word R.first_label.name) × (parts.is_procedure_word (kinds.Word R.first_label.name) ≡ true)) ⊎ (kind ≡ kinds.Digits R.first_label.name) →
         Spelled (loops.perform_behind parts enter) n (kind ∷ ((if entry == exit then [] else kinds.Word (codes "THRU") ∷ label_tokens program exit) ++ tokens)) Behind
-        (λ head. head ≡ heads.Whole (stmts.Perform entry exit control) not_read)
+        (λ head. head ≡ heads.Whole (stmts.Perform entry exit control) pending_not)
     unfolding loops.perform_behind loops.perform_other loops.perform_digits loops.begins_until
-    by-label {n = n} {Behind = Behind} {tokens = tokens} {not_read = not_read} entry exit R control C kind (inl w) =
+    by-label {n = n} {Behind = Behind} {tokens = tokens} {pending_not = pending_not} entry exit R control C kind (inl w) =
         subst (λ k. Spelled (loops.perform_behind parts enter) n (k ∷ ((if entry == exit then [] else kinds.Word (codes "THRU") ∷ label_tokens program exit) ++ tokens)) Behind
-        (λ head. head ≡ heads.Whole (stmts.Perform entry exit control) not_read)) (sym w.0)
+        (λ head. head ≡ heads.Whole (stmts.Perform entry exit control) pending_not)) (sym w.0)
         (other_next loops.begins_until _ (λ o b. no-until parts.is_procedure_word (T.word_no_procedure (codes "WITH") refl) (T.word_no_procedure (codes "TEST") refl)
         (T.word_no_procedure (codes "VARYING") refl) (T.word_no_procedure (codes "UNTIL") refl) (kinds.Word R.first_label.name) w.1)
         (word-or-other entry exit R control C w.1 (parts.is_name (kinds.Word R.first_label.name)) refl))
-    by-label {n = n} {Behind = Behind} {tokens = tokens} {not_read = not_read} entry exit R control C kind (inr d) =
+    by-label {n = n} {Behind = Behind} {tokens = tokens} {pending_not = pending_not} entry exit R control C kind (inr d) =
         subst (λ k. Spelled (loops.perform_behind parts enter) n (k ∷ ((if entry == exit then [] else kinds.Word (codes "THRU") ∷ label_tokens program exit) ++ tokens)) Behind
-        (λ head. head ≡ heads.Whole (stmts.Perform entry exit control) not_read)) (sym d)
+        (λ head. head ≡ heads.Whole (stmts.Perform entry exit control) pending_not)) (sym d)
         (other_next loops.begins_until _ (λ o b. refl) (other_next parts.is_name _ (λ o b. T.digits_no_name R.first_label.name) (there_next is_digits _ (λ o b. refl)
         (and_then (valued part.digits_of R.first_label.name refl) (λ found k.
         other_next (part.is_key (codes "TIMES")) _ (λ o b. no-times _ (behind-range entry exit C (entry == exit) refl o b)) (perform_named entry exit R control C found.0 k.0 found.1))))))
 
-    pub whole-with : {n : ℕ} {Behind : Option TokenKind → Type 0} {tokens : Tokens} {not_read : Bool} (entry exit : ℕ) (R : SpellsRange parts kept program entry exit) (control : Control) →
-        Controls control Behind tokens not_read →
+    pub whole-with : {n : ℕ} {Behind : Option TokenKind → Type 0} {tokens : Tokens} {pending_not : Bool} (entry exit : ℕ) (R : SpellsRange parts kept program entry exit) (control : Control) →
+        Controls control Behind tokens pending_not →
         Spelled (loops.perform_head parts enter) n (kinds.Word (codes "PERFORM") ∷ (range_tokens program entry exit ++ tokens)) Behind
-        (λ head. head ≡ heads.Whole (stmts.Perform entry exit control) not_read)
+        (λ head. head ≡ heads.Whole (stmts.Perform entry exit control) pending_not)
     unfolding loops.perform_head
-    whole-with {n = n} {Behind = Behind} {tokens = tokens} {not_read = not_read} entry exit R control C =
+    whole-with {n = n} {Behind = Behind} {tokens = tokens} {pending_not = pending_not} entry exit R control C =
         let thru : Tokens = if entry == exit then [] else kinds.Word (codes "THRU") ∷ label_tokens program exit in
-        subst (λ t. Spelled (loops.perform_head parts enter) n (kinds.Word (codes "PERFORM") ∷ ((t ++ thru) ++ tokens)) Behind (λ head. head ≡ heads.Whole (stmts.Perform entry exit control) not_read))
+        subst (λ t. Spelled (loops.perform_head parts enter) n (kinds.Word (codes "PERFORM") ∷ ((t ++ thru) ++ tokens)) Behind (λ head. head ≡ heads.Whole (stmts.Perform entry exit control) pending_not))
         (sym R.first_label.tokens)
         (and_then (key (codes "PERFORM")) (λ _ _. by-label entry exit R control C (procedure_token R.first_label.name) R.first_label.begins))
 
@@ -275,8 +275,8 @@ module _ {Side Known : Type 0} {parts : Parts Side Known} {kept : Kept Side} (T 
         no_item = λ o b. operand-item _ (begins o);
       }
 
-  until : {Behind : Option TokenKind → Type 0} {tokens : Tokens} {not_read : Bool} (after : Bool) (cond : Cond) → Conded cond Behind tokens not_read →
-      Controls (controls.Until after cond) Behind (after_tokens after ++ kinds.Word (codes "UNTIL") ∷ tokens) not_read
+  until : {Behind : Option TokenKind → Type 0} {tokens : Tokens} {pending_not : Bool} (after : Bool) (cond : Cond) → Conded cond Behind tokens pending_not →
+      Controls (controls.Until after cond) Behind (after_tokens after ++ kinds.Word (codes "UNTIL") ∷ tokens) pending_not
   unfolding loops.control_part loops.begins_until loops.continues_item
   until {tokens = tokens} after cond C = record {
     spelled = λ n. there_next loops.begins_until _ (λ o b. until-begins after (codes "UNTIL") refl tokens o) (until_cond after cond C);
@@ -284,10 +284,10 @@ module _ {Side Known : Type 0} {parts : Parts Side Known} {kept : Kept Side} (T 
     no_item = λ o b. apart loops.continues_item (codes "UNTIL") refl refl after tokens o;
   }
 
-  varying : {Behind : Option TokenKind → Type 0} {tokens : Tokens} {not_read : Bool} (after : Bool) (item : Place) (from by : Operand) (cond : Cond) →
-      SpellsControl parts kept program (controls.Varying after item from by cond) → Conded cond Behind tokens not_read →
+  varying : {Behind : Option TokenKind → Type 0} {tokens : Tokens} {pending_not : Bool} (after : Bool) (item : Place) (from by : Operand) (cond : Cond) →
+      SpellsControl parts kept program (controls.Varying after item from by cond) → Conded cond Behind tokens pending_not →
       Controls (controls.Varying after item from by cond) Behind
-      (Varying after item from by (kinds.Word (codes "UNTIL") ∷ tokens)) not_read
+      (Varying after item from by (kinds.Word (codes "UNTIL") ∷ tokens)) pending_not
   unfolding loops.control_part loops.begins_until loops.continues_item
   varying {tokens = tokens} after item from by cond h C =
       let more : Tokens = Behind_item item from by (kinds.Word (codes "UNTIL") ∷ tokens) in
@@ -297,8 +297,8 @@ module _ {Side Known : Type 0} {parts : Parts Side Known} {kept : Kept Side} (T 
         no_item = λ o b. apart loops.continues_item (codes "VARYING") refl refl after more o;
       }
 
-  narrowed : {control : Control} {Behind Less : Option TokenKind → Type 0} {tokens : Tokens} {not_read : Bool} → ((o : Option TokenKind) → Less o → Behind o) →
-      Controls control Behind tokens not_read → Controls control Less tokens not_read
+  narrowed : {control : Control} {Behind Less : Option TokenKind → Type 0} {tokens : Tokens} {pending_not : Bool} → ((o : Option TokenKind) → Less o → Behind o) →
+      Controls control Behind tokens pending_not → Controls control Less tokens pending_not
   narrowed h C = record {
     spelled = λ n. where_behind h (C.spelled n);
     no_thru = λ o b. C.no_thru o (h o b);

@@ -67,9 +67,9 @@ module _ {Side Known : Type 0} {parts : Parts Side Known} {kept : Kept Side} (T 
   read_head number into S I head next =
       bind (read_file number S) (λ o b. behind-into into o (head o b)) (λ found e. other_next (part.is_key (codes "NEXT")) _ next (where_behind head (open-by number into I found e)))
 
-  ended : {n : ℕ} {close : Tokens} {Behind : Option TokenKind → Type 0} (not_read : Bool) → not_read ≡ false →
-      Spelled (arm.end_word (codes "END-READ") false) n close Behind (λ _. Unit {0}) → Spelled (arm.end_word (codes "END-READ") not_read) n close Behind (λ _. Unit {0})
-  ended {n = n} {close = close} {Behind = Behind} not_read e E = subst (λ v. Spelled (arm.end_word (codes "END-READ") v) n close Behind (λ _. Unit {0})) (sym e) E
+  ended : {n : ℕ} {close : Tokens} {Behind : Option TokenKind → Type 0} (pending_not : Bool) → pending_not ≡ false →
+      Spelled (arm.end_word (codes "END-READ") false) n close Behind (λ _. Unit {0}) → Spelled (arm.end_word (codes "END-READ") pending_not) n close Behind (λ _. Unit {0})
+  ended {n = n} {close = close} {Behind = Behind} pending_not e E = subst (λ v. Spelled (arm.end_word (codes "END-READ") v) n close Behind (λ _. Unit {0})) (sym e) E
 
   by-head : {n : ℕ} {tokens close : Tokens} {Mid Behind : Option TokenKind → Type 0} (number : ℕ) (into : Option Place) (arms : Arms) (before : List Stmt) (head : ReadHead) → head ≡ reads.Open number into →
       ((m : ℕ) → Spelled (arm.arms phrases.End level scope) m tokens Mid (λ found. found ≡ (arms, false))) →

@@ -81,18 +81,18 @@ module _ {Side Known : Type 0} {parts : Parts Side Known} {kept : Kept Side} (T 
       simple parts level scope x (codes "EXIT") rest refl refl refl (still x (codes "EXIT") rest refl refl (λ n. jumping x (codes "EXIT") rest refl
       (other_next (part.is_key (codes "GO")) _ (λ o b. refl) (there_next (part.is_key (codes "EXIT")) _ (λ o b. refl) (then (key (codes "EXIT")) (λ position _. F _ position))))))
 
-  whole-by : {n : ℕ} {Behind : Option TokenKind → Type 0} (x : Stmt) (not_read : Bool) (head : PerformHead) → head ≡ heads.Whole x not_read →
-      Spelled (loops.perform_by level scope head) n [] Behind (λ found. found ≡ (x, not_read))
+  whole-by : {n : ℕ} {Behind : Option TokenKind → Type 0} (x : Stmt) (pending_not : Bool) (head : PerformHead) → head ≡ heads.Whole x pending_not →
+      Spelled (loops.perform_by level scope head) n [] Behind (λ found. found ≡ (x, pending_not))
   unfolding loops.perform_by
-  whole-by {n = n} {Behind = Behind} x not_read head e = subst (λ h. Spelled (loops.perform_by level scope h) n [] Behind (λ found. found ≡ (x, not_read))) (sym e) (pure refl)
+  whole-by {n = n} {Behind = Behind} x pending_not head e = subst (λ h. Spelled (loops.perform_by level scope h) n [] Behind (λ found. found ≡ (x, pending_not))) (sym e) (pure refl)
 
-  whole-perform : {Behind : Option TokenKind → Type 0} {tokens : Tokens} {not_read : Bool} (entry exit : ℕ) → SpellsRange parts kept program entry exit → (control : Control) →
-      Controls T program control Behind tokens not_read →
-      Gives parts level scope (stmts.Perform entry exit control ∷ []) (kinds.Word (codes "PERFORM") ∷ (range_tokens program entry exit ++ tokens)) Behind not_read
+  whole-perform : {Behind : Option TokenKind → Type 0} {tokens : Tokens} {pending_not : Bool} (entry exit : ℕ) → SpellsRange parts kept program entry exit → (control : Control) →
+      Controls T program control Behind tokens pending_not →
+      Gives parts level scope (stmts.Perform entry exit control ∷ []) (kinds.Word (codes "PERFORM") ∷ (range_tokens program entry exit ++ tokens)) Behind pending_not
   unfolding forms.stmt forms.held_stmts forms.holding_stmt begins_simple begins_moving begins_filing begins_jumping begins_arithmetic begins_adding begins_multiplying begins_choice loops.perform_stmt
-  whole-perform {not_read = not_read} entry exit R control C before n =
+  whole-perform {pending_not = pending_not} entry exit R control C before n =
       other_next begins_simple _ (λ o b. refl) (other_next (part.is_key (codes "READ")) _ (λ o b. refl) (ending (other_next begins_arithmetic _ (λ o b. refl) (other_next begins_choice _ (λ o b. refl)
-      (ending (whole-with T program level.enter entry exit R control C) (λ head e. whole-by (stmts.Perform entry exit control) not_read head e))))
+      (ending (whole-with T program level.enter entry exit R control C) (λ head e. whole-by (stmts.Perform entry exit control) pending_not head e))))
       (λ found e. pure (ap (forms.behind before) e))))
 
   perform-not : (entry exit : ℕ) → SpellsRange parts kept program entry exit → (control : Control) →

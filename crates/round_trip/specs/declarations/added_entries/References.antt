@@ -5,11 +5,11 @@ use Rattle.cob_tree.specs.declared.place.Expr.{Expr}
 use Rattle.cob_tree.specs.declared.place.Operand.{Operand}
 use Rattle.cob_tree.specs.declared.place.Place.{Place}
 use Rattle.cob_tree.specs.declared.program.Program.{Program}
-use Rattle.symbol_tables.specs.declared.data_names.name.Found.TheVariants as found
-use Rattle.symbol_tables.specs.declared.data_names.name.Kind.TheVariants.{Number}
+use Rattle.symbol_tables.specs.declared.data_names.name.Referent.TheVariants as found
+use Rattle.symbol_tables.specs.declared.data_names.name.ItemKind.TheVariants.{Number}
 use Rattle.symbol_tables.specs.data_names.Look.{look, look_file}
 use Rattle.symbol_tables.specs.data_names.Names.{Names, names_of}
-use Rattle.cobol_grammar.specs.declared.expr_forms.side.Make.TheVariants as makes
+use Rattle.cobol_grammar.specs.declared.expr_forms.side.ExprContent.TheVariants as makes
 use Rattle.cobol_grammar.specs.declared.expr_forms.side.ValueKind.TheVariants as kinds
 use Rattle.unparser.specs.Place.{item_name}
 use Rattle.round_trip.specs.spelling.expr_spelling.Printable.{judged_expr, judged_operand, judged_place, IsPrintableExpr, IsPrintableOperand, IsPrintablePlace}

@@ -9,7 +9,7 @@ use Rattle.cob_tree.specs.declared.place.Operand.{Operand}
 use Rattle.cob_tree.specs.declared.program.Program.{Program}
 use Rattle.symbol_tables.specs.data_names.Names.{is_group}
 use Rattle.cob_store.specs.sizes.Size.{sized}
-use Rattle.declaration_checks.specs.declared.literal.Target.{Target}
+use Rattle.declaration_checks.specs.declared.literal.LiteralTarget.{LiteralTarget}
 use Rattle.declaration_checks.specs.Item.{level_stands, is_signed, may_repeat}
 use Rattle.declaration_checks.specs.Literal.{fits}
 use Rattle.declaration_checks.specs.Redefining.{redefined, is_short}
@@ -61,7 +61,7 @@ SignSuits _ picture = is_signed picture ≡ true
 abbrev pub Repeats : (level dims : ℕ) → ℕ → Type 0
 Repeats level dims count = (may_repeat level dims ≡ true) × (1 ≤ count) × (count ≤ 65535)
 
-abbrev pub IsValued : Entry → Target → (barred : Bool) → Operand → Type 0
+abbrev pub IsValued : Entry → LiteralTarget → (barred : Bool) → Operand → Type 0
 IsValued entry target barred value =
     (may_have_value (base entry) target.group barred ≡ true) × (fits value target ≡ true)
 
@@ -86,11 +86,11 @@ pub record ItemKeeps (program : Program) (at : ℕ) (entry : Entry) : Type 0 whe
 
 -- ---- a level 88
 
-abbrev pub SpanFits : Target → Span → Type 0
+abbrev pub SpanFits : LiteralTarget → Span → Type 0
 SpanFits target span =
     (fits span.from target ≡ true) × IfAny (λ to. fits to target ≡ true) span.to
 
-abbrev pub SpansFit : Target → List Span → Type 0
+abbrev pub SpansFit : LiteralTarget → List Span → Type 0
 SpansFit target [] = Unit {0}
 SpansFit target (span ∷ spans) = SpanFits target span × SpansFit target spans
 

@@ -4,10 +4,10 @@ use Rattle.cob_tree.specs.declared.program.Program as trees
 use Rattle.cob_tree.specs.declared.stmt.Stmt as stmts
 use Rattle.control_flow_theory.specs.language.Language.{Simple, Range}
 use Rattle.control_flow_theory.specs.language.Control.{control_of, seen_stmts}
-use Rattle.control_flow_theory.specs.lowering.Told.{Told}
+use Rattle.control_flow_theory.specs.lowering.FlowFacts.{FlowFacts}
 use Rattle.control_flow_theory.specs.rendering.Rendering.{Naming, Procedure, place_of, required, then_stmts, closing, written_stmts}
 use Rattle.control_flow_theory.specs.rendering.Procedures.{Writable, StmtsStand}
-use Rattle.control_flow_theory.specs.served_graphs.Served.{ProgramIsServed}
+use Rattle.control_flow_theory.specs.expressible_graphs.Served.{ProgramIsServed}
 use Rattle.cob_base.specs.Limit.{max_terms}
 use Rattle.program_facts.specs.term_counts.Statement.{stmts_most}
 use Rattle.round_trip.specs.fitting_statements.sound_bodies.Sound.{two_arms, StmtsAreSound, ParagraphsAreSound}
@@ -20,7 +20,7 @@ use Rattle.round_trip.specs.fitting_statements.fit_control.Written.{CondsFit, Pa
 abbrev pub FitSourcesAreServed : Type 0
 FitSourcesAreServed =
     (fits : Fits) (naming : Naming) (kinds : Writable) → PartsServed fits kinds →
-    (told : Told) (range : Range) (program : trees.Program) →
+    (told : FlowFacts) (range : Range) (program : trees.Program) →
     are_fit_paragraphs fits program.paragraphs ≡ true →
     ProgramIsServed naming kinds told range (control_of program)
 

@@ -12,11 +12,11 @@ use Rattle.program_facts.specs.term_counts.Condition.{cond_terms}
 use Rattle.program_facts.specs.term_counts.Expression.{expr_terms}
 use Rattle.cob_base.specs.Limit.{max_terms}
 use Rattle.parser_combinators.specs.words.Word.{is_data_word}
-use Rattle.symbol_tables.specs.declared.data_names.name.Found.{Found}
-use Rattle.symbol_tables.specs.declared.data_names.name.Found.TheVariants as found
+use Rattle.symbol_tables.specs.declared.data_names.name.Referent.{Referent}
+use Rattle.symbol_tables.specs.declared.data_names.name.Referent.TheVariants as found
 use Rattle.symbol_tables.specs.data_names.Look.{look_file}
 use Rattle.symbol_tables.specs.data_names.Names.{Names, names_of}
-use Rattle.cobol_grammar.specs.declared.expr_forms.side.Make.TheVariants as makes
+use Rattle.cobol_grammar.specs.declared.expr_forms.side.ExprContent.TheVariants as makes
 use Rattle.cobol_grammar.specs.declared.expr_forms.side.ValueKind.{ValueKind}
 use Rattle.cobol_grammar.specs.expr_forms.Fault.{compared_as, is_condition, kind_of}
 use Rattle.cobol_grammar.specs.Name.{is_record}
@@ -45,7 +45,7 @@ abbrev pub is_at : ℕ → Option ℕ → Bool
 is_at number None = false
 is_at number (Some other) = other == number
 
-abbrev pub is_item : ℕ → Found → Bool
+abbrev pub is_item : ℕ → Referent → Bool
 is_item item (found.Item number kind dims) = number == item
 is_item item _ = false
 
@@ -65,7 +65,7 @@ module _ (program : Program) where
   own_expr expr = judged_expr own_names program expr
 
   -- what the name of a record stands for
-  abbrev pub own_record : ℕ → Found
+  abbrev pub own_record : ℕ → Referent
   own_record entry = reference own_names program entry []
 
   -- ---- operands and places of such a kind

@@ -4,8 +4,8 @@ use Rattle.std.specs.Prelude.{ℕ, ◌≡◌, Bool, Some, slice_get}
 use Rattle.control_flow_theory.specs.language.Language.{Simple, Program}
 use Rattle.control_flow_theory.specs.rendering.Rendering.{Procedure}
 use Rattle.control_flow_theory.specs.graph_rules.Reduced.{Graph}
-use Rattle.control_flow_theory.specs.closing.Closes.{closed_graph}
-use Rattle.control_flow_theory.specs.headline.Headline.{Plan, procedures_by}
+use Rattle.control_flow_theory.specs.structuring.Closes.{closed_graph}
+use Rattle.control_flow_theory.specs.main_theorem.MainTheorem.{Plan, procedures_by}
 use Rattle.round_trip.specs.fitting_statements.sound_bodies.Sound.{two_arms, StmtsAreSound, ParagraphsAreSound}
 use Rattle.round_trip.specs.fitting_statements.sound_bodies.Trees.{NodesAreSound}
 

@@ -4,10 +4,10 @@ use Rattle.cob_tree.specs.declared.program.Program as trees
 use Rattle.cob_tree.specs.declared.stmt.Stmt as stmts
 use Rattle.control_flow_theory.specs.language.Language.{Range}
 use Rattle.control_flow_theory.specs.language.Control.{control_of, seen_stmts}
-use Rattle.control_flow_theory.specs.lowering.Told.{Told}
+use Rattle.control_flow_theory.specs.lowering.FlowFacts.{FlowFacts}
 use Rattle.control_flow_theory.specs.rendering.Rendering.{Naming, Procedure, place_of, required, then_stmts, closing, written_stmts}
 use Rattle.control_flow_theory.specs.rendering.Procedures.{Writable, StmtsStand}
-use Rattle.control_flow_theory.specs.served_graphs.Served.{ProgramIsServed}
+use Rattle.control_flow_theory.specs.expressible_graphs.Served.{ProgramIsServed}
 use Rattle.grammar_laws.specs.form_results.Giving.{Each}
 use Rattle.round_trip.specs.printable.Statement.{are_printable_stmts}
 use Rattle.round_trip.specs.printable.Whole.{IsPrintableParagraph}
@@ -17,7 +17,7 @@ use Rattle.round_trip.specs.printable.printable_control.Written.{PartsServed, Na
 -- each part of a program that can be printed may be written, where what can be printed may be
 abbrev pub PrintableSourcesAreServed : Type 0
 PrintableSourcesAreServed =
-    (naming : Naming) (kinds : Writable) → PartsServed kinds → (told : Told) (range : Range)
+    (naming : Naming) (kinds : Writable) → PartsServed kinds → (told : FlowFacts) (range : Range)
     (program : trees.Program) → Each IsPrintableParagraph program.paragraphs →
     ProgramIsServed naming kinds told range (control_of program)
 

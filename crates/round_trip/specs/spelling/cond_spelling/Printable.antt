@@ -5,15 +5,15 @@ use Rattle.cob_tree.specs.declared.cond.Cond.{Cond, fold-Cond}
 use Rattle.cob_tree.specs.declared.cond.Cond.TheOpen.{Cond-F}
 use Rattle.cob_tree.specs.declared.program.Program.{Program}
 use Rattle.symbol_tables.specs.data_names.Names.{Names}
-use Rattle.cobol_grammar.specs.declared.expr_forms.side.Make.{Make}
-use Rattle.cobol_grammar.specs.declared.expr_forms.side.Make.TheVariants as makes
+use Rattle.cobol_grammar.specs.declared.expr_forms.side.ExprContent.{ExprContent}
+use Rattle.cobol_grammar.specs.declared.expr_forms.side.ExprContent.TheVariants as makes
 use Rattle.cobol_grammar.specs.declared.expr_forms.side.ValueKind.{ValueKind}
 use Rattle.cobol_grammar.specs.declared.expr_forms.side.ValueKind.TheVariants as kinds
 use Rattle.cobol_grammar.specs.expr_forms.Fault.{compared_as, is_condition}
 use Rattle.round_trip.specs.spelling.expr_spelling.Printable.{Judged, is_number, is_counting, judged_expr, judged_place}
 
 -- a number without decimals that isn't made of others
-abbrev pub is_plain : Make → ValueKind → Bool
+abbrev pub is_plain : ExprContent → ValueKind → Bool
 is_plain makes.Joined kind = false
 is_plain _ kind = is_counting kind
 
@@ -26,7 +26,7 @@ kinds_suit kinds.Figure (kinds.Number whole) left right = false
 kinds_suit _ _ left right = true
 
 -- no two literals
-abbrev pub makes_suit : (one other : Make) → (left right : Judged) → Bool
+abbrev pub makes_suit : (one other : ExprContent) → (left right : Judged) → Bool
 makes_suit makes.Literal makes.Literal left right = false
 makes_suit _ _ left right = kinds_suit (compared_as left.kind) (compared_as right.kind) left right
 

@@ -6,8 +6,8 @@ use Rattle.cob_tree.specs.declared.place.Operand.TheVariants as operands
 use Rattle.cob_tree.specs.declared.place.Place.{Place}
 use Rattle.cob_tree.specs.declared.program.Program.{Program}
 use Rattle.unparser.specs.Place.{place_tokens, operand_tokens, expr_tokens}
-use Rattle.symbol_tables.specs.declared.data_names.name.Found.TheVariants as found
-use Rattle.symbol_tables.specs.declared.data_names.name.Kind.{Kind}
+use Rattle.symbol_tables.specs.declared.data_names.name.Referent.TheVariants as found
+use Rattle.symbol_tables.specs.declared.data_names.name.ItemKind.{ItemKind}
 use Rattle.symbol_tables.specs.data_names.Look.{look}
 use Rattle.symbol_tables.specs.data_names.Names.{Names, names_of}
 use Rattle.program_facts.specs.term_counts.Expression.{expr_terms}
@@ -34,6 +34,7 @@ pub record ExpressionsAreSpelled : Type 0 where
 -- a reference that was read stands for the same item where it is printed
 abbrev pub ReferencesAreFound : Type 0
 ReferencesAreFound =
-    (program : Program) (word : List ℕ) (of : List (List ℕ)) (item : ℕ) (kind : Kind) (dims : ℕ) →
+    (program : Program) (word : List ℕ) (of : List (List ℕ)) (item : ℕ) (kind : ItemKind) (dims : ℕ)
+    →
     look (names_of program.files program.entries) word of ≡ found.Item item kind dims →
     reference (names_of program.files program.entries) program item of ≡ found.Item item kind dims

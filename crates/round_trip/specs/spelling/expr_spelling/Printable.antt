@@ -13,12 +13,12 @@ use Rattle.cob_tree.specs.declared.place.Window.{Window, fold-Window}
 use Rattle.cob_tree.specs.declared.program.Program.{Program}
 use Rattle.unparser.specs.Place.{item_name}
 use Rattle.parser_combinators.specs.words.Word.{is_data_word}
-use Rattle.symbol_tables.specs.declared.data_names.name.Found.{Found}
-use Rattle.symbol_tables.specs.declared.data_names.name.Found.TheVariants as found
+use Rattle.symbol_tables.specs.declared.data_names.name.Referent.{Referent}
+use Rattle.symbol_tables.specs.declared.data_names.name.Referent.TheVariants as found
 use Rattle.symbol_tables.specs.data_names.Names.{Names}
 use Rattle.symbol_tables.specs.data_names.Look.{look}
-use Rattle.cobol_grammar.specs.declared.expr_forms.side.Make.{Make}
-use Rattle.cobol_grammar.specs.declared.expr_forms.side.Make.TheVariants as makes
+use Rattle.cobol_grammar.specs.declared.expr_forms.side.ExprContent.{ExprContent}
+use Rattle.cobol_grammar.specs.declared.expr_forms.side.ExprContent.TheVariants as makes
 use Rattle.cobol_grammar.specs.declared.expr_forms.side.ValueKind.{ValueKind}
 use Rattle.cobol_grammar.specs.declared.expr_forms.side.ValueKind.TheVariants as kinds
 use Rattle.cobol_grammar.specs.expr_forms.Fault.{is_whole, item_kind, kind_of, is_condition}
@@ -29,7 +29,7 @@ pub record Judged : Type 0 where
   -- it can be printed so that it is read back
   pub fit : Bool
   pub kind : ValueKind
-  pub make : Make
+  pub make : ExprContent
   -- it is an item without subscripts and window
   pub bare : Bool
 
@@ -61,7 +61,7 @@ are_data_words [] = true
 are_data_words (word ∷ words) = is_data_word word && are_data_words words
 
 -- the item of this number was found, and takes so many subscripts, and a window where it has one
-abbrev pub suits : (item subs : ℕ) → (windowed : Bool) → Found → Bool
+abbrev pub suits : (item subs : ℕ) → (windowed : Bool) → Referent → Bool
 suits item subs windowed (found.Item number kind dims) =
     number == item && (dims == subs && not (is_condition (item_kind kind) && windowed))
 suits item subs windowed _ = false
@@ -128,7 +128,7 @@ window_step window = record {
 
 module _ (names : Names) (program : Program) where
   -- what the name of an item stands for, as it is printed
-  abbrev pub reference : (item : ℕ) → (of : List (List ℕ)) → Found
+  abbrev pub reference : (item : ℕ) → (of : List (List ℕ)) → Referent
   reference item of = look names (item_name program item) of
 
   -- the name with what qualifies it stands for the item, and suits what stands behind it

@@ -15,8 +15,8 @@ use Rattle.parser_combinators.specs.Part.{is_mark}
 use Rattle.program_facts.specs.term_counts.Expression.{expr_terms}
 use Rattle.symbol_tables.specs.data_names.Names.{Names}
 use Rattle.cobol_grammar.specs.declared.expr_forms.side.Side.{Side}
-use Rattle.cobol_grammar.specs.declared.expr_forms.side.What.{What}
-use Rattle.cobol_grammar.specs.declared.expr_forms.side.What.TheVariants as whats
+use Rattle.cobol_grammar.specs.declared.expr_forms.side.ParsedExpr.{ParsedExpr}
+use Rattle.cobol_grammar.specs.declared.expr_forms.side.ParsedExpr.TheVariants as whats
 use Rattle.cobol_grammar.specs.expr_forms.Side.{expr_of}
 use Rattle.cobol_grammar.specs.expr_forms.Token.{is_of, begins_turn}
 use Rattle.cobol_grammar.specs.expr_forms.Window.{second_count}
@@ -37,7 +37,7 @@ continues_expr kind = continues_place kind || begins_turn kind
 
 -- ---- what is read
 
-abbrev pub what_of : Operand → What
+abbrev pub what_of : Operand → ParsedExpr
 what_of (operands.Place place) = whats.Ref place
 what_of operand = whats.Literal operand
 

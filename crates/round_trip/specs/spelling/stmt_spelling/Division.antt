@@ -44,7 +44,7 @@ module _ {Side Known : Type 0} (parts : Parts Side Known) (kept : Kept Side) (pr
     -- statement begins with it.
     pub record SpellsHeader (name : List ℕ) (taken : ℕ) : Type 0 where
       pub spelled : Spelled parts.header_name taken (procedure_token name ∷ []) Any
-          (λ found. (found.0 ≡ name) × (parts.again_fault found.0 found.1 ≡ None))
+          (λ found. (found.0 ≡ name) × (parts.duplicate_fault found.0 found.1 ≡ None))
       pub begins : begins_procedure parts (procedure_token name) ≡ true
       pub no_stmt : begins_stmt (procedure_token name) ≡ false
 

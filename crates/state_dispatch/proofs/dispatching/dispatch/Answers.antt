@@ -1,5 +1,5 @@
 use Rattle.std.proofs.Common.{◌≡◌, length, ap, ◌∙◌, arith}
-use Rattle.control_flow_theory.specs.closing.Dispatches.{labels_of}
+use Rattle.control_flow_theory.specs.structuring.Dispatches.{labels_of}
 use Rattle.state_dispatch.proofs.DispatchRows.{labels_len}
 use Rattle.state_dispatch.proofs.dispatching.dispatch.Goals as goal
 

@@ -1,10 +1,10 @@
 use Rattle.std.proofs.Common.{◌≡◌, map, ap, sym, ◌∙◌, subst}
 use Rattle.control_flow_theory.specs.graph_rules.Reduced.{with_tree}
-use Rattle.control_flow_theory.specs.closing.Dispatches.{labels_of, trees_return}
-use Rattle.branch_tree.specs.Graphs.{seen_nodes}
-use Rattle.graph_rewriting.specs.Sounds.{bare}
-use Rattle.branch_tree.specs.Trees.{seen_tree, seen_trees, seen_body}
-use Rattle.state_dispatch.specs.Clearing.{taken_trees, Clears, one_node}
+use Rattle.control_flow_theory.specs.structuring.Dispatches.{labels_of, trees_return}
+use Rattle.branch_tree.specs.Graph.{seen_nodes}
+use Rattle.graph_rewriting.specs.Rewriting.{bare}
+use Rattle.branch_tree.specs.Tree.{seen_tree, seen_trees, seen_body}
+use Rattle.state_dispatch.specs.Dispatching.{taken_trees, Clears, one_node}
 use Rattle.state_dispatch.proofs.ClearRows.{all_trees, clears_taken, one_with}
 use Rattle.state_dispatch.proofs.DispatchRows.{dispatch_row}
 use Rattle.state_dispatch.proofs.dispatching.gather.Goals as goal

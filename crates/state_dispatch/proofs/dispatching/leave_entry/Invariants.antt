@@ -1,6 +1,6 @@
 use Rattle.std.proofs.Common.{◌≡◌, drop}
-use Rattle.branch_tree.specs.Graphs.{seen_nodes}
-use Rattle.state_dispatch.specs.Clearing.{Clears}
+use Rattle.branch_tree.specs.Graph.{seen_nodes}
+use Rattle.state_dispatch.specs.Dispatching.{Clears}
 use Rattle.state_dispatch.proofs.dispatching.leave_entry.Given as goal
 
 abbrev pub invariant-loop-label : goal.invariant-loop-label

@@ -1,8 +1,8 @@
 use Rattle.std.proofs.Common.{◌++◌, ◌∷◌, map, drop, ◌+◌, ap, sym, ◌∙◌, arith}
 use Rattle.std.proofs.lemmas.Grind.{common_steps}
-use Rattle.branch_tree.specs.Graphs.{seen_nodes}
-use Rattle.branch_tree.specs.Trees.{seen_tree}
-use Rattle.state_dispatch.specs.Clearing.{all_taken, taken_trees}
+use Rattle.branch_tree.specs.Graph.{seen_nodes}
+use Rattle.branch_tree.specs.Tree.{seen_tree}
+use Rattle.state_dispatch.specs.Dispatching.{all_taken, taken_trees}
 use Rattle.state_dispatch.proofs.ClearRows.{length_next, trees_next, all_next, trees_past, all_past, pushed}
 use Rattle.state_dispatch.proofs.dispatching.take_trees.Goals.{in-None, in-Some}
 use Rattle.state_dispatch.proofs.dispatching.take_trees.Goals as goal

@@ -1,8 +1,8 @@
 use Rattle.std.proofs.Common.{◌≡◌, ◌≤◌, ◌+◌, ◌++◌, length, map, drop}
 use Rattle.std.specs.Vec.{vec_len, vec_capacity}
-use Rattle.branch_tree.specs.Graphs.{seen_nodes}
-use Rattle.branch_tree.specs.Trees.{seen_tree}
-use Rattle.state_dispatch.specs.Clearing.{all_taken, taken_trees}
+use Rattle.branch_tree.specs.Graph.{seen_nodes}
+use Rattle.branch_tree.specs.Tree.{seen_tree}
+use Rattle.state_dispatch.specs.Dispatching.{all_taken, taken_trees}
 use Rattle.state_dispatch.proofs.dispatching.take_trees.Given as goal
 
 abbrev pub invariant-loop-label : goal.invariant-loop-label

@@ -1,5 +1,5 @@
 use Rattle.std.proofs.Common.{◌≡◌, ◌≤◌, ◌+◌, length, drop}
-use Rattle.control_flow_theory.specs.closing.Dispatches.{number_in}
+use Rattle.control_flow_theory.specs.structuring.Dispatches.{number_in}
 use Rattle.state_dispatch.proofs.numbers.number_in.Given as goal
 
 abbrev pub invariant-loop-left : goal.invariant-loop-left

@@ -1,6 +1,6 @@
 use Rattle.std.proofs.Common.{◌≡◌, drop}
-use Rattle.control_flow_theory.specs.closing.Dispatches.{trees_return}
-use Rattle.branch_tree.specs.Trees.{seen_trees}
+use Rattle.control_flow_theory.specs.structuring.Dispatches.{trees_return}
+use Rattle.branch_tree.specs.Tree.{seen_trees}
 use Rattle.state_dispatch.proofs.returns.+returns.Given as goal
 
 abbrev pub invariant-trees_return-loop-arm : goal.invariant-trees_return-loop-arm

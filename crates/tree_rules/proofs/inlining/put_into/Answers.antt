@@ -1,8 +1,8 @@
 use Rattle.std.proofs.Common.{◌≡◌, ap, sym, ◌∙◌}
 use Rattle.control_flow_theory.specs.graph_rules.Reduced.{Graph, has_node, tree_in, inline_graph, with_tree}
-use Rattle.branch_tree.specs.Graphs.{seen_nodes}
+use Rattle.branch_tree.specs.Graph.{seen_nodes}
 use Rattle.graph_rewriting.specs.Helds.{seen_work, Held}
-use Rattle.branch_tree.specs.Trees.{seen_tree}
+use Rattle.branch_tree.specs.Tree.{seen_tree}
 use Rattle.tree_rules.proofs.MoveRows.{has_it, has_one, no_entry, jumps_once, put_has, put_bare, put_fits, remove_has, remove_bare, remove_unused, removed_is, again_has, again_bare, again_fits, again_nodes}
 use Rattle.tree_rules.proofs.WorkRows.{same_work}
 use Rattle.tree_rules.proofs.inlining.put_into.Goals as goal

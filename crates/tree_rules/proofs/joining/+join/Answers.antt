@@ -2,11 +2,11 @@ use Rattle.std.proofs.Common.{◌≡◌, ◌<◌, ◌≤◌, List, map, length, 
 use Rattle.std.specs.Prelude.{All}
 use Rattle.std.proofs.lemmas.Grind.{common_steps}
 use Rattle.std.proofs.lemmas.List.{map-set, length-map}
-use Rattle.branch_tree.specs.Trees.{seen_tree, seen_trees, trees_of}
+use Rattle.branch_tree.specs.Tree.{seen_tree, seen_trees, trees_of}
 use Rattle.branch_tree.specs.declared.tree.End.TheViews.{the_lemmas}
 use Rattle.control_flow_theory.specs.semantics.Graph as graph
 use Rattle.control_flow_theory.specs.graph_rules.Shapes.{joined, joined_arms}
-use Rattle.tree_rules.specs.Joins.{may_join, arms_may_join}
+use Rattle.tree_rules.specs.Joining.{may_join, arms_may_join}
 use Rattle.tree_rules.specs.Rooms.{HasRoom}
 use Rattle.tree_rules.proofs.Arms.{changed_next, changed_all, joined_each, seen_at}
 use Rattle.tree_rules.proofs.JoinRows.{joined_row, joins_row, some_joins}

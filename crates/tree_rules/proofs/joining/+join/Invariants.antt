@@ -1,7 +1,7 @@
 use Rattle.std.proofs.Common.{◌≡◌, map, take}
-use Rattle.branch_tree.specs.Trees.{seen_tree, trees_of}
+use Rattle.branch_tree.specs.Tree.{seen_tree, trees_of}
 use Rattle.control_flow_theory.specs.graph_rules.Shapes.{joined}
-use Rattle.tree_rules.specs.Joins.{arms_may_join}
+use Rattle.tree_rules.specs.Joining.{arms_may_join}
 use Rattle.tree_rules.proofs.Arms.{changed_to}
 use Rattle.tree_rules.proofs.joining.+join.Given as goal
 

@@ -3,7 +3,7 @@ use Rattle.std.specs.Prelude.{All}
 use Rattle.std.proofs.lemmas.List.Elements.{AllWithin-more_set}
 use Rattle.std.proofs.lemmas.Grind.{common_steps}
 use Rattle.std.proofs.Math.Seq.{map-set_same}
-use Rattle.branch_tree.specs.Trees.{seen_tree, trees_of}
+use Rattle.branch_tree.specs.Tree.{seen_tree, trees_of}
 use Rattle.tree_rules.specs.Rooms.{HasRoom}
 use Rattle.tree_rules.proofs.RoomRows.{room_by_pick, written_back}
 use Rattle.tree_rules.proofs.joining.+room.Goals as goal

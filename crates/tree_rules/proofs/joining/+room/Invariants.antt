@@ -1,6 +1,6 @@
 use Rattle.std.proofs.Common.{◌≡◌, map}
 use Rattle.std.specs.List.{AllWithin}
-use Rattle.branch_tree.specs.Trees.{seen_tree}
+use Rattle.branch_tree.specs.Tree.{seen_tree}
 use Rattle.tree_rules.specs.Rooms.{HasRoom}
 use Rattle.tree_rules.proofs.joining.+room.Given as goal
 

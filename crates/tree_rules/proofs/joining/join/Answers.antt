@@ -1,7 +1,7 @@
 use Rattle.std.proofs.Common.{ap, ◌∙◌}
-use Rattle.branch_tree.specs.Trees.{seen_tree}
+use Rattle.branch_tree.specs.Tree.{seen_tree}
 use Rattle.control_flow_theory.specs.graph_rules.Shapes.{joined}
-use Rattle.tree_rules.specs.Joins.{may_join}
+use Rattle.tree_rules.specs.Joining.{may_join}
 use Rattle.tree_rules.proofs.JoinRows.{joins_by}
 use Rattle.tree_rules.proofs.joining.join.Goals as goal
 

@@ -1,7 +1,7 @@
 use Rattle.std.proofs.Common.{◌≡◌, ap, sym, ◌∙◌}
-use Rattle.branch_tree.specs.Graphs.{seen_nodes}
+use Rattle.branch_tree.specs.Graph.{seen_nodes}
 use Rattle.graph_rewriting.specs.Helds.{seen_work}
-use Rattle.branch_tree.specs.Trees.{seen_tree}
+use Rattle.branch_tree.specs.Tree.{seen_tree}
 use Rattle.tree_rules.proofs.JoinAtRows.{put_has, put_bare, put_fits, none_joins, joins_at}
 use Rattle.tree_rules.proofs.joining.join_at.Goals as goal
 

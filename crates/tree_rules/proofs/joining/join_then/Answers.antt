@@ -1,7 +1,7 @@
 use Rattle.std.proofs.Common.{ap, ◌∙◌}
 use Rattle.control_flow_theory.specs.semantics.Graph as graph
 use Rattle.control_flow_theory.specs.graph_rules.Shapes.{followed, alone}
-use Rattle.branch_tree.specs.Trees.{seen_body, seen_end}
+use Rattle.branch_tree.specs.Tree.{seen_body, seen_end}
 use Rattle.branch_tree.proofs.TreeRows.{seen_tree_is, seen_body-append, seen_choose}
 use Rattle.tree_rules.proofs.joining.join_then.Goals as goal
 

@@ -6,7 +6,7 @@ use denote.Param.Weighed.{at_most}
 use Rattle.control_flow_theory.specs.semantics.Graph as graph
 use Rattle.control_flow_theory.specs.graph_rules.Shapes.{inlined, leaves_to, arms_leaves_to}
 use Rattle.branch_tree.proofs.tree.Tree.TheLaws.{the_size}
-use Rattle.branch_tree.specs.Trees.{seen_tree, trees_of}
+use Rattle.branch_tree.specs.Tree.{seen_tree, trees_of}
 use Rattle.tree_rules.proofs.Arms.{seen_at}
 use Rattle.tree_rules.proofs.OneJump.{few_in_arm, placed_set, none_next}
 use Rattle.tree_rules.proofs.putting.+place.Goals as goal

@@ -1,6 +1,6 @@
 use Rattle.std.proofs.Common.{◌≡◌, ◌+◌, ◌*◌, map, take}
 use Rattle.control_flow_theory.specs.graph_rules.Shapes.{arms_leaves_to}
-use Rattle.branch_tree.specs.Trees.{seen_tree, seen_trees}
+use Rattle.branch_tree.specs.Tree.{seen_tree, seen_trees}
 use Rattle.tree_rules.proofs.putting.+place.Given as goal
 
 abbrev pub decreases-place : goal.decreases-place

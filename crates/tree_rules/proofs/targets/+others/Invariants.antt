@@ -1,6 +1,6 @@
 use Rattle.std.proofs.Common.{◌≡◌, ◌≤◌, length, drop}
 use Rattle.control_flow_theory.specs.graph_rules.Shapes.{other_arms_targets}
-use Rattle.branch_tree.specs.Trees.{seen_trees}
+use Rattle.branch_tree.specs.Tree.{seen_trees}
 use Rattle.tree_rules.specs.Targets.{seen_targets}
 use Rattle.tree_rules.proofs.targets.+others.Given as goal
 

@@ -1,6 +1,6 @@
 use Rattle.std.proofs.Common.{◌≡◌, ◌++◌, drop}
-use Rattle.branch_tree.specs.Graphs.{seen_nodes}
-use Rattle.added_items.specs.counters.Counters.{counters_from, counters_in}
+use Rattle.branch_tree.specs.Graph.{seen_nodes}
+use Rattle.added_items.specs.counters.Counting.{counters_from, counters_in}
 use Rattle.added_items.proofs.counters.counting.counters_in.Given as goal
 
 abbrev pub invariant-loop-node : goal.invariant-loop-node

@@ -1,5 +1,5 @@
 use Rattle.std.proofs.lemmas.Result.{on_ok_weaker}
-use Rattle.branch_tree.specs.Graphs.{seen_graph}
+use Rattle.branch_tree.specs.Graph.{seen_graph}
 use Rattle.added_items.proofs.counters_lemmas.Placed.{numbers-placed, closes-placed}
 use Rattle.added_items.proofs.counters.numbering.number_counters.Goals as goal
 

@@ -1,6 +1,6 @@
 use Rattle.std.proofs.Common.{subst, sym, ◌∙◌}
-use Rattle.branch_tree.specs.Graphs.{seen_nodes}
-use Rattle.added_items.specs.counters.Counters.{Rises}
+use Rattle.branch_tree.specs.Graph.{seen_nodes}
+use Rattle.added_items.specs.counters.Counting.{Rises}
 use Rattle.added_items.proofs.counters_lemmas.CellRows.{counters-rise}
 use Rattle.added_items.proofs.counters.numbering.number_graph.Goals as goal
 

@@ -1,7 +1,7 @@
 use Rattle.std.proofs.Common.{ap, sym, ◌∙◌}
 use Rattle.control_flow_theory.specs.language.Control.{test_of}
 use Rattle.control_flow_theory.specs.lowering.Renamed.{test_anew}
-use Rattle.control_flow_theory.specs.headline.Numbering.{place_among}
+use Rattle.control_flow_theory.specs.main_theorem.Numbering.{place_among}
 use Rattle.branch_tree.specs.Choosers.{seen_test}
 use Rattle.added_items.proofs.counters_lemmas.AnewRows.{own-test}
 use Rattle.added_items.proofs.counters.parts.number_test.Goals as goal

@@ -4,8 +4,8 @@ use Rattle.std.proofs.lemmas.Result.{on_ok_weaker}
 use Rattle.control_flow_theory.specs.language.Control.{stmts_of}
 use Rattle.control_flow_theory.specs.lowering.Renamed.{picker_anew, stmt_anew, test_anew, tree_anew, trees_anew}
 use Rattle.branch_tree.specs.Choosers.{seen_picker, seen_test}
-use Rattle.control_flow_theory.specs.headline.Numbering.{place_among}
-use Rattle.branch_tree.specs.Trees.{seen_piece, seen_tree, seen_trees, trees_of}
+use Rattle.control_flow_theory.specs.main_theorem.Numbering.{place_among}
+use Rattle.branch_tree.specs.Tree.{seen_piece, seen_tree, seen_trees, trees_of}
 use Rattle.branch_tree.specs.declared.tree.Piece.{out-Piece}
 use Rattle.branch_tree.specs.declared.tree.Piece.TheVariants as piece
 use Rattle.added_items.specs.counters.Anew.{leaves_anew}

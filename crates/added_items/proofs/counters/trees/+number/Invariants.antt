@@ -1,7 +1,7 @@
 use Rattle.std.proofs.Common.{◌≡◌, map}
 use Rattle.control_flow_theory.specs.lowering.Renamed.{stmt_anew, tree_anew}
-use Rattle.control_flow_theory.specs.headline.Numbering.{place_among}
-use Rattle.branch_tree.specs.Trees.{seen_piece, seen_tree}
+use Rattle.control_flow_theory.specs.main_theorem.Numbering.{place_among}
+use Rattle.branch_tree.specs.Tree.{seen_piece, seen_tree}
 use Rattle.added_items.proofs.counters_lemmas.Each.{changed}
 use Rattle.added_items.proofs.counters.trees.+number.Given as goal
 

@@ -1,7 +1,7 @@
 use Rattle.std.proofs.Common.{◌≤◌, length, map, ◌∙◌, arith}
 use Rattle.std.proofs.lemmas.Grind.{common_steps}
-use Rattle.control_flow_theory.specs.headline.Numbering.{place_among}
-use Rattle.branch_tree.specs.Graphs.{seen_node}
+use Rattle.control_flow_theory.specs.main_theorem.Numbering.{place_among}
+use Rattle.branch_tree.specs.Graph.{seen_node}
 use Rattle.added_items.specs.counters.Anew.{node_anew}
 use Rattle.added_items.proofs.counters_lemmas.AnewRows.{nodes-anew}
 use Rattle.added_items.proofs.counters_lemmas.Each.{next-changed, all-changed}

@@ -1,5 +1,5 @@
 use Rattle.std.proofs.Common.{sym, subst}
-use Rattle.branch_tree.specs.Trees.{seen_piece}
+use Rattle.branch_tree.specs.Tree.{seen_piece}
 use Rattle.added_items.specs.counters.Anew.{NamesNoCell}
 use Rattle.added_items.proofs.counters_lemmas.AnewRows.{piece-own}
 use Rattle.added_items.proofs.counters.trees.own_piece.Goals as goal

@@ -1,6 +1,6 @@
 use Rattle.std.proofs.Common.{◌≡◌, ◌++◌, drop, map}
 use Rattle.cobol_theory.specs.cell_serving.Entries.{entries_of}
-use Rattle.added_items.specs.item_table.Names.{seen_item}
+use Rattle.added_items.specs.item_table.Naming.{seen_item}
 use Rattle.added_items.proofs.entries.entries.add_entries.Given as goal
 
 abbrev pub invariant-loop-item : goal.invariant-loop-item

@@ -1,10 +1,10 @@
 use Rattle.std.proofs.Common.{◌≡◌, suc, ◌+◌, Some, map, take, length, get_or, ap, sym, ◌∙◌, subst, add-one, arith}
 use Rattle.std.specs.Prelude.{slice_get}
 use Rattle.std.proofs.lemmas.List.{length_push, length-map}
-use Rattle.branch_tree.specs.Graphs.{seen_added}
-use Rattle.branch_tree.specs.Trees.{seen_body}
-use Rattle.added_items.specs.mentions.Mentions.{mentions, first_arms}
-use Rattle.added_items.specs.item_table.CellItems.{AreAsked}
+use Rattle.branch_tree.specs.Graph.{seen_added}
+use Rattle.branch_tree.specs.Tree.{seen_body}
+use Rattle.added_items.specs.mentions.CellUse.{cell_uses, first_arms}
+use Rattle.added_items.specs.item_table.CellItem.{AreAsked}
 use Rattle.added_items.specs.item_table.Numbering.{number_at}
 use Rattle.added_items.specs.item_table.Row.{kinds_of_row}
 use Rattle.added_items.specs.item_table.Seen.{seen_ranges}
@@ -43,7 +43,7 @@ loop-at-preserved c =
     let made = c.in_ok-range_items.field-0 in
     let told = c.as_slice.result.now in
     let next = row-next ranges at c.index-ranges-at.result c.loop-at-test.true in
-    let tells : told ≡ mentions (seen_body one.body.now.items) =
+    let tells : told ≡ cell_uses (seen_body one.body.now.items) =
     c.as_slice.ensures ∙ c.index-told-at.is ∙ ap (λ ts. get_or ts at c.index-told-at.result) c.requires.told
     ∙ told-at ranges at c.index-ranges-at.result c.index-told-at.result c.loop-at-test.true in
     let last : AreAsked number c.args.first (length (kinds_of_row (take at seen))) (map seen_added one.added.now) (λ cell. first_arms cell told) made =

@@ -1,7 +1,7 @@
 use Rattle.std.proofs.Common.{◌≡◌, ℕ, take, length, Some}
 use Rattle.std.specs.Prelude.{slice_get, List}
-use Rattle.control_flow_theory.specs.headline.Chain.{stmts_arms}
-use Rattle.added_items.specs.item_table.CellItems.{AreAsked}
+use Rattle.control_flow_theory.specs.main_theorem.Chain.{stmts_arms}
+use Rattle.added_items.specs.item_table.CellItem.{AreAsked}
 use Rattle.added_items.specs.item_table.Numbering.{number_at}
 use Rattle.added_items.specs.item_table.Row.{CellRange, kinds_of_row}
 use Rattle.added_items.specs.item_table.Seen.{seen_ranges}

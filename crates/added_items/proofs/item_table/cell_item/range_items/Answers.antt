@@ -1,10 +1,10 @@
 use Rattle.std.proofs.Common.{◌≡◌, ℕ, ◌+◌, ◌<◌, None, Some, map, length, ap, sym, ◌∙◌, subst, arith}
 use Rattle.std.specs.Prelude.{slice_get}
 use Rattle.std.proofs.lemmas.List.{length_push, get_or_default}
-use Rattle.branch_tree.specs.Graphs.{seen_added}
-use Rattle.added_items.specs.mentions.Mentions.{first_arms}
-use Rattle.added_items.specs.item_table.CellItems.{IsAsked}
-use Rattle.added_items.specs.item_table.Items.{kind_in}
+use Rattle.branch_tree.specs.Graph.{seen_added}
+use Rattle.added_items.specs.mentions.CellUse.{first_arms}
+use Rattle.added_items.specs.item_table.CellItem.{IsAsked}
+use Rattle.added_items.specs.item_table.Owners.{kind_in}
 use Rattle.added_items.specs.item_table.Numbering.{number_at}
 use Rattle.added_items.specs.item_table.Tables.{ends_in_other, most_by}
 use Rattle.statement_builders.specs.declared.item_words.cells.CellItem.{CellItem}

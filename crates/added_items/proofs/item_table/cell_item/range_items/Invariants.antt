@@ -1,9 +1,9 @@
 use Rattle.std.proofs.Common.{◌≡◌, ℕ, ◌+◌, map, length, Some}
 use Rattle.std.specs.Prelude.{slice_get}
-use Rattle.branch_tree.specs.Graphs.{seen_added}
-use Rattle.added_items.specs.mentions.Mentions.{first_arms}
-use Rattle.added_items.specs.item_table.CellItems.{IsAsked}
-use Rattle.added_items.specs.item_table.Items.{kind_in}
+use Rattle.branch_tree.specs.Graph.{seen_added}
+use Rattle.added_items.specs.mentions.CellUse.{first_arms}
+use Rattle.added_items.specs.item_table.CellItem.{IsAsked}
+use Rattle.added_items.specs.item_table.Owners.{kind_in}
 use Rattle.added_items.specs.item_table.Numbering.{number_at}
 use Rattle.added_items.specs.item_table.Tables.{ends_in_other, most_by}
 use Rattle.statement_builders.specs.declared.item_words.cells.CellItem.{CellItem}

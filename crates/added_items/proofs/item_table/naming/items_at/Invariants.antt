@@ -1,7 +1,7 @@
 use Rattle.std.proofs.Common.{◌≡◌, ◌++◌, drop, map}
-use Rattle.branch_tree.specs.Graphs.{seen_added}
-use Rattle.added_items.specs.item_table.Items.{kind_in}
-use Rattle.added_items.specs.item_table.Names.{all_from_one, entries_from, item_kind, seen_item}
+use Rattle.branch_tree.specs.Graph.{seen_added}
+use Rattle.added_items.specs.item_table.Owners.{kind_in}
+use Rattle.added_items.specs.item_table.Naming.{all_from_one, entries_from, item_kind, seen_item}
 use Rattle.added_items.proofs.item_table.naming.items_at.Given as goal
 
 abbrev pub invariant-loop-place : goal.invariant-loop-place

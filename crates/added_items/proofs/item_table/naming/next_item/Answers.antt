@@ -1,7 +1,7 @@
 use Rattle.std.proofs.Common.{ap, arith}
 use Rattle.out_names.proofs.FreshLemmas.{fresh_is_near}
-use Rattle.branch_tree.specs.Graphs.{seen_added}
-use Rattle.added_items.specs.item_table.Names.{stem_of}
+use Rattle.branch_tree.specs.Graph.{seen_added}
+use Rattle.added_items.specs.item_table.Naming.{stem_of}
 use Rattle.added_items.proofs.item_table.naming.next_item.Goals as goal
 
 pub overflow_add-made : goal.overflow_add-made

@@ -1,13 +1,13 @@
 use Rattle.std.proofs.Common.{◌≡◌, length, ap, sym, ◌∙◌}
 use Rattle.std.proofs.lemmas.List.{length-map}
-use Rattle.branch_tree.specs.Graphs.{seen_added}
+use Rattle.branch_tree.specs.Graph.{seen_added}
 use Rattle.added_items.specs.item_table.Row.{kinds_of_row}
 use Rattle.added_items.specs.item_table.Seen.{seen_ranges}
 use Rattle.added_items.proofs.item_table_lemmas.Within.{within-as}
 use Rattle.added_items.proofs.item_table.numbering.numbering_of.Goals as goal
 
-pub hold_all-requires-clause-within : goal.hold_all-requires-clause-within
-hold_all-requires-clause-within c =
+pub assign_items-requires-clause-within : goal.assign_items-requires-clause-within
+assign_items-requires-clause-within c =
     let ranges = seen_ranges c.args.ranges.now in
     let kinds = c.in_ok-kinds.kinds in
     let row : length kinds ≡ length (kinds_of_row ranges) = sym (length-map kinds seen_added) ∙ ap length c.in_ok-kinds.ensures in

@@ -1,5 +1,5 @@
 use Rattle.std.proofs.Common.{◌≡◌, ◌++◌, drop, map}
-use Rattle.branch_tree.specs.Graphs.{seen_added}
+use Rattle.branch_tree.specs.Graph.{seen_added}
 use Rattle.added_items.specs.item_table.Row.{kinds_of_row}
 use Rattle.added_items.specs.item_table.Seen.{seen_ranges}
 use Rattle.added_items.proofs.item_table.row.kinds_of_row.Given as goal

@@ -1,6 +1,6 @@
 use Rattle.std.proofs.Common.{◌+◌, ◌-◌, ◌++◌, [], ◌∷◌, ap, sym, ◌∙◌}
 use Rattle.std.proofs.lemmas.List.{append_assoc}
-use Rattle.added_items.specs.item_table.Items.{counted_on}
+use Rattle.added_items.specs.item_table.Owners.{counted_on}
 use Rattle.added_items.proofs.item_table_lemmas.Places.{counted-next}
 use Rattle.added_items.proofs.item_table.row.places_named.Goals as goal
 

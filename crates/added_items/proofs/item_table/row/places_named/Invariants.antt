@@ -1,5 +1,5 @@
 use Rattle.std.proofs.Common.{◌≡◌, ◌-◌, ◌++◌}
-use Rattle.added_items.specs.item_table.Items.{counted_on}
+use Rattle.added_items.specs.item_table.Owners.{counted_on}
 use Rattle.added_items.specs.item_table.Row.{named_behind}
 use Rattle.added_items.specs.item_table.Seen.{seen_ranges}
 use Rattle.added_items.proofs.item_table.row.places_named.Given as goal

@@ -1,8 +1,8 @@
 use Rattle.std.proofs.Common.{◌++◌, ap, ap₂, sym, ◌∙◌}
 use Rattle.control_flow_theory.specs.graph_rules.Shapes.{arms_stmts}
 use Rattle.branch_tree.specs.Choosers.{seen_picker, seen_test}
-use Rattle.branch_tree.specs.Trees.{seen_piece, seen_body, seen_end, seen_tree, seen_trees, stated}
-use Rattle.added_items.specs.mentions.Mentions.{mentions, stmt_mentions, arms_mentions, picker_mentions, test_mentions}
+use Rattle.branch_tree.specs.Tree.{seen_piece, seen_body, seen_end, seen_tree, seen_trees, stated}
+use Rattle.added_items.specs.mentions.CellUse.{cell_uses, stmt_mentions, arms_mentions, picker_mentions, test_mentions}
 use Rattle.added_items.specs.mentions.Within.{end_within, trees_within}
 use Rattle.added_items.proofs.mentions_lemmas.MentionRows.{pick_names, choose_names, loop_names, tree_names, both_added}
 use Rattle.added_items.proofs.mentions.bodies.+add.Goals as goal
@@ -16,7 +16,7 @@ add_end-returns-in_ok-add_picker-in-Pick t c =
     both_added c.add_within.result c.args.made.now c.add_picker.new.made c.add_within.new.made front more _
     c.in_ok-add_picker-in-Pick.ensures
     (ap₂ (λ n ts. picker_mentions (seen_picker by) n ++ trees_within leaves (seen_trees ts)) c.len.ensures c.as_slice.ensures
-    ∙ sym (pick_names leaves by c.in-Pick.arms) ∙ ap (λ e. mentions (end_within leaves (seen_end e))) (sym c.in-Pick.is))
+    ∙ sym (pick_names leaves by c.in-Pick.arms) ∙ ap (λ e. cell_uses (end_within leaves (seen_end e))) (sym c.in-Pick.is))
     c.add_within.ensures
 
 pub add_piece-returns-in_ok-add_picker-in-Choose : goal.add_piece-returns-in_ok-add_picker-in-Choose
@@ -34,7 +34,7 @@ pub add_piece-returns-in_ok-add_test-in-Loop : goal.add_piece-returns-in_ok-add_
 add_piece-returns-in_ok-add_test-in-Loop t c =
     let loop = c.in-Loop in
     both_added c.add_tree.result c.args.made.now c.add_test.new.made c.add_tree.new.made
-    (test_mentions (seen_test loop.test)) (mentions (stated loop.leaves (seen_tree loop.body))) _
+    (test_mentions (seen_test loop.test)) (cell_uses (stated loop.leaves (seen_tree loop.body))) _
     c.in_ok-add_test-in-Loop.ensures
     (sym (loop_names loop.after loop.turned loop.test loop.leaves loop.body) ∙ ap (λ p. stmt_mentions (seen_piece p)) (sym loop.is))
     c.add_tree.ensures
@@ -44,7 +44,7 @@ add_tree-returns t c =
     let leaves = c.args.leaves.now in
     let tree = c.args.tree.now in
     both_added c.add_end.result c.args.made.now c.add_body.new.made c.add_end.new.made
-    (mentions (seen_body tree.body.items)) (mentions (end_within leaves (seen_end tree.end))) _
+    (cell_uses (seen_body tree.body.items)) (cell_uses (end_within leaves (seen_end tree.end))) _
     c.in_ok-add_body.ensures
     (sym (tree_names leaves tree))
     c.add_end.ensures

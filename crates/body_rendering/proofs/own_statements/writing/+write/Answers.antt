@@ -5,11 +5,11 @@ use Rattle.std.proofs.Math.ListN.{get_or-map}
 use Rattle.cob_tree.specs.declared.stmt.Stmt.TheVariants.{Arith, Loop, Read}
 use Rattle.control_flow_theory.specs.language.Control.{Branch, seen, seen_when, seen_stmts, stmts_of}
 use Rattle.control_flow_theory.specs.language.Language as language
-use Rattle.statement_builders.specs.arms.Choices.{IsArith, IsEvaluate, IsOwnLoop, IsRead}
+use Rattle.statement_builders.specs.arms.Choosing.{IsArith, IsEvaluate, IsOwnLoop, IsRead}
 use Rattle.statement_builders.specs.arms.Written.{AreWhensWritten, AreWritten, IsArmWritten, IsWritten, written, written_branch}
-use Rattle.body_rendering.specs.own_statements.Arms.{HasPhrases, IsOwnEvaluate, IsOwnIf}
+use Rattle.body_rendering.specs.own_statements.Writing.{HasPhrases, IsOwnEvaluate, IsOwnIf}
 use Rattle.body_rendering.specs.declared.own_statements.writing.Branches.{Branches}
-use Rattle.body_rendering.specs.declared.own_statements.writing.Pair.{Pair}
+use Rattle.statement_builders.specs.declared.item_words.choices.BothArms.{BothArms}
 use Rattle.body_rendering.proofs.own_statements_lemmas.Each.{changed_next, changed_all}
 use Rattle.body_rendering.proofs.own_statements_lemmas.OwnRows.{arith_row, if_row, loop_row, read_row}
 use Rattle.body_rendering.proofs.own_statements_lemmas.Results.{if_ok, ok_holds}
@@ -102,7 +102,7 @@ write_stmt-returns-in-If t c =
     if_ok c.own_if.result (IsOwnIf c.in-If.cond c.pair_of.result) (IsWritten places c.args.stmt)
     (λ made h way placed.
     let pair = h.0 in
-    let both = ok_holds c.pair_of.result (λ (p : Pair). (c.write_stmts-yes.result ≡ Ok p.first) × (c.write_stmts-no.result ≡ Ok p.second)) pair c.pair_of.ensures h.1 in
+    let both = ok_holds c.pair_of.result (λ (p : BothArms). (c.write_stmts-yes.result ≡ Ok p.first) × (c.write_stmts-no.result ≡ Ok p.second)) pair c.pair_of.ensures h.1 in
     let met = ok_holds c.write_stmts-yes.result (AreWritten places yes) pair.first c.write_stmts-yes.ensures both.0 in
     let unmet = ok_holds c.write_stmts-no.result (AreWritten places no) pair.second c.write_stmts-no.ensures both.1 in
     if_row way c.in-If.cond yes pair.first no pair.second made h.2.0 (met way placed) (unmet way placed) h.2.1

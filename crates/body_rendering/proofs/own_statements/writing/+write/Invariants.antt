@@ -1,6 +1,6 @@
 use Rattle.std.proofs.Common.{◌≡◌, ◌+◌, ◌*◌, map}
 use Rattle.control_flow_theory.specs.language.Control.{seen, seen_when}
-use Rattle.statement_builders.specs.arms.Places.{ArePlaced}
+use Rattle.statement_builders.specs.arms.Placing.{ArePlaced}
 use Rattle.statement_builders.specs.arms.Written.{Way, written, written_branch}
 use Rattle.body_rendering.proofs.own_statements_lemmas.Each.{changed_to}
 use Rattle.body_rendering.proofs.own_statements.writing.+write.Given as goal

@@ -1,5 +1,5 @@
 use Rattle.cob_tree.specs.declared.stmt.Stmt.TheVariants.{Perform}
-use Rattle.statement_builders.specs.arms.Choices.{IsOwnPerform}
+use Rattle.statement_builders.specs.arms.Choosing.{IsOwnPerform}
 use Rattle.statement_builders.specs.arms.Written.{IsWritten}
 use Rattle.body_rendering.proofs.own_statements_lemmas.OwnRows.{perform_row}
 use Rattle.body_rendering.proofs.own_statements_lemmas.Results.{if_ok}

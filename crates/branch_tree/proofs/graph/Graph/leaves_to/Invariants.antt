@@ -1,6 +1,6 @@
 use Rattle.std.proofs.Common.{◌≡◌, ◌+◌, ◌-◌, ◌^◌, ◌<◌, min, drop}
 use Rattle.control_flow_theory.specs.graph_rules.Reduced.{all_leaves_to}
-use Rattle.branch_tree.specs.Graphs.{seen_nodes}
+use Rattle.branch_tree.specs.Graph.{seen_nodes}
 use Rattle.branch_tree.proofs.graph.Graph.leaves_to.Given as goal
 
 abbrev pub invariant-loop-node : goal.invariant-loop-node

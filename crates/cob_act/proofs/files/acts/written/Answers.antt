@@ -7,7 +7,7 @@ use Rattle.meanings.specs.statements.Filing.{file_of, from_by, written}
 use Rattle.file_model.specs.contracts.operations.watched.BoxDynDeviceWatched.TheImpl.{seen-value}
 use Rattle.cob_act.proofs.files_lemmas.EffectLemmas.{put_did, tried_at}
 use Rattle.std.proofs.lemmas.Result.{err_from_is_err_and}
-use Rattle.cob_act.specs.declared.files.fault.Fault.TheVariants as faults
+use Rattle.cob_act.specs.declared.files.fault.FileFault.TheVariants as faults
 use Rattle.cob_act.proofs.files_lemmas.BenchLemmas.{wanted_memory}
 use Rattle.cob_act.proofs.files_lemmas.DeskLemmas.{over_left, stays_listed}
 use Rattle.cob_act.proofs.files_lemmas.ReadLemmas.{nothing_done}

@@ -1,5 +1,5 @@
 use Rattle.std.proofs.Common.{◌≡◌, ◌≤◌, ◌++◌, drop}
-use Rattle.cobol_print.specs.Stream.{rest_bytes}
+use Rattle.cobol_print.specs.Layout.{rest_bytes}
 use Rattle.cobol_print.proofs.layout.Layout.add_rest.Given as goal
 
 abbrev pub invariant-loop-token : goal.invariant-loop-token

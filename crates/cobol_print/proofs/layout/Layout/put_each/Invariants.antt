@@ -1,6 +1,6 @@
 use Rattle.std.proofs.Common.{◌≡◌, ◌≤◌, ◌++◌, drop, false}
 use Rattle.cobol_print.specs.Line.{column_behind}
-use Rattle.cobol_print.specs.Stream.{spread}
+use Rattle.cobol_print.specs.Layout.{spread}
 use Rattle.cobol_print.proofs.layout.Layout.put_each.Given as goal
 
 abbrev pub invariant-loop-byte : goal.invariant-loop-byte

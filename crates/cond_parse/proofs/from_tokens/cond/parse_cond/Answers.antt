@@ -21,23 +21,23 @@ returns-in-Err-Stop-clause-fault c = inr (
 )
 
 -- what is answered, as the function that reads gives it
-next : (c : goal.After-noted_fault-fault) → c.saturating_sub-next.result ≡ c.whole_cond.new.cursor.taken - unread c.in-Ok.not_read
+next : (c : goal.After-noted_fault-fault) → c.saturating_sub-next.result ≡ c.whole_cond.new.cursor.taken - unread c.in-Ok.pending_not
 next c =
     c.saturating_sub-next.ensures ∙ ap (λ index. index - c.unread.result) c.index.ensures
     ∙ ap (λ behind. c.whole_cond.new.cursor.taken - behind) c.unread.ensures
 
 pub returns-in-Ok-clause-found : goal.returns-in-Ok-clause-found
 returns-in-Ok-clause-found c = (
-  (c.in-Ok.cond, c.in-Ok.not_read),
+  (c.in-Ok.cond, c.in-Ok.pending_not),
   c.whole_cond.new.cursor,
-  spelled (conditions.whole_cond c.args.names.now) (laws.whole_cond c.args.names.now).lawful (start_at c.args.from c.args.tokens.now) (c.in-Ok.cond, c.in-Ok.not_read) c.whole_cond.new.cursor _ c.from_index-cursor.ensures c.in-Ok.ensures,
+  spelled (conditions.whole_cond c.args.names.now) (laws.whole_cond c.args.names.now).lawful (start_at c.args.from c.args.tokens.now) (c.in-Ok.cond, c.in-Ok.pending_not) c.whole_cond.new.cursor _ c.from_index-cursor.ensures c.in-Ok.ensures,
   (refl, next c, c.noted_fault-fault.ensures ∙ ap noted_fault c.fault.ensures),
 )
 
 pub returns-in-Ok-clause-only : goal.returns-in-Ok-clause-only
 returns-in-Ok-clause-only c = λ part behind s.
-    let same = the_only (conditions.whole_cond c.args.names.now) (laws.whole_cond c.args.names.now).lawful (start_at c.args.from c.args.tokens.now) (c.in-Ok.cond, c.in-Ok.not_read) part c.whole_cond.new.cursor behind _ c.from_index-cursor.ensures c.in-Ok.ensures s in (
+    let same = the_only (conditions.whole_cond c.args.names.now) (laws.whole_cond c.args.names.now).lawful (start_at c.args.from c.args.tokens.now) (c.in-Ok.cond, c.in-Ok.pending_not) part c.whole_cond.new.cursor behind _ c.from_index-cursor.ensures c.in-Ok.ensures s in (
       ap (λ a. a.0) same.0,
-      next c ∙ ap (λ q. q.taken - unread c.in-Ok.not_read) same.1 ∙ ap (λ a. behind.taken - unread a.1) same.0,
+      next c ∙ ap (λ q. q.taken - unread c.in-Ok.pending_not) same.1 ∙ ap (λ a. behind.taken - unread a.1) same.0,
       c.noted_fault-fault.ensures ∙ ap noted_fault c.fault.ensures ∙ ap (λ q. noted_fault q.fault) same.1,
     )

@@ -1,6 +1,6 @@
 use Rattle.std.proofs.Common.{◌≡◌, ◌+◌, ◌-◌, ◌^◌, min, sum_by, ap, sym, ◌∙◌, arith}
 use Rattle.control_flow_theory.specs.lowering.Completes.{sizes}
-use Rattle.branch_tree.specs.Trees.{seen_end}
+use Rattle.branch_tree.specs.Tree.{seen_end}
 use Rattle.branch_tree.specs.Within.{end_within}
 use Rattle.flow_graph.specs.graph_sizes.Parts.{arm_size, piece_size, within_size}
 use Rattle.flow_graph.proofs.graph_sizes_lemmas.SizeRows.{own_size, chosen_size, pick_within}

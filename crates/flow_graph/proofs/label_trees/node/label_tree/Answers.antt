@@ -1,8 +1,8 @@
 use Rattle.std.proofs.Common.{◌≡◌, ◌/◌, ◌<◌, length, true, false, ap, sym, ◌∙◌, arith, subst}
 use Rattle.control_flow_theory.specs.lowering.Lower as lower
-use Rattle.lowering_labels.specs.points.Fall.{seen_range}
-use Rattle.statement_lowering.specs.continuations.Spots.{Fits, IsRest}
-use Rattle.flow_graph.specs.label_trees.Nodes.{node_in}
+use Rattle.lowering_labels.specs.points.FallThrough.{seen_range}
+use Rattle.statement_lowering.specs.continuations.Statements.{Fits, IsRest}
+use Rattle.flow_graph.specs.label_trees.Node.{node_in}
 use Rattle.flow_graph.proofs.label_trees_lemmas.NodeSteps.{fit_at, goes_same, graph_in, here_is, rest_at_index}
 use Rattle.flow_graph.proofs.label_trees.node.label_tree.Goals as goal
 
@@ -43,7 +43,7 @@ returns-then-part-eq1-clause-alike c =
     let place = c.args.label / 3 in
     let spot = c.index-spots-place.result in
     let lt : place < length spots = omega (arith, c.requires.there) in
-    let e : lower.head (c.args.label / 3) ≡ c.args.label = omega (arith, c.if-part-eq1.true) in
+    let e : lower.loop_head_label (c.args.label / 3) ≡ c.args.label = omega (arith, c.if-part-eq1.true) in
     λ other alike program table.
     let same = alike.alike place spot alike.here (here_is spots place spot lt c.index-spots-place.is) in
     let g = graph_in telling other program table.placed in
@@ -62,7 +62,7 @@ returns-clause-alike c =
     let place = c.args.label / 3 in
     let spot = c.index-spots-place.result in
     let lt : place < length spots = omega (arith, c.requires.there) in
-    let e : lower.third (c.args.label / 3) ≡ c.args.label = omega (arith, c.if-part-eq0.false, c.if-part-eq1.false) in
+    let e : lower.loop_step_label (c.args.label / 3) ≡ c.args.label = omega (arith, c.if-part-eq0.false, c.if-part-eq1.false) in
     λ other alike program table.
     let same = alike.alike place spot alike.here (here_is spots place spot lt c.index-spots-place.is) in
     let g = graph_in telling other program table.placed in

@@ -1,7 +1,7 @@
 use Rattle.std.proofs.Common.{ap, ◌∙◌}
 use Rattle.control_flow_theory.specs.language.Control.{control_in, seen, seen_both}
 use Rattle.control_flow_theory.proofs.language_lemmas.Rows.{seen_arith, seen_move, seen_perform}
-use Rattle.flow_graph.specs.label_trees.Nodes.{is_no_loop}
+use Rattle.flow_graph.specs.label_trees.Node.{is_no_loop}
 use Rattle.flow_graph.proofs.label_trees_lemmas.NodeSteps.{arith_no_loop, perform_no_loop}
 use Rattle.flow_graph.proofs.label_trees.node.loop_parts.Goals as goal
 

@@ -1,13 +1,13 @@
 use Rattle.std.proofs.Common.{◌+◌, Some, refl, ap, sym, ◌∙◌, arith, subst}
 use Rattle.control_flow_theory.specs.semantics.Graph as graph
 use Rattle.control_flow_theory.specs.lowering.Lower as lower
-use Rattle.branch_tree.specs.Trees.{seen_body}
-use Rattle.lowering_labels.specs.points.Fall.{seen_range}
+use Rattle.branch_tree.specs.Tree.{seen_body}
+use Rattle.lowering_labels.specs.points.FallThrough.{seen_range}
 use Rattle.statement_lowering.proofs.Bodies.{before_nothing}
 use Rattle.lowering_labels.specs.loop_nodes.Loops.{before}
-use Rattle.statement_lowering.specs.continuations.Onward.{after_by, GoesLater, tree_behind}
-use Rattle.statement_lowering.specs.continuations.Spots.{Fits, IsRest}
-use Rattle.flow_graph.specs.label_trees.Nodes.{node_in}
+use Rattle.statement_lowering.specs.continuations.Successors.{after_by, GoesLater, tree_behind}
+use Rattle.statement_lowering.specs.continuations.Statements.{Fits, IsRest}
+use Rattle.flow_graph.specs.label_trees.Node.{node_in}
 use Rattle.flow_graph.proofs.label_trees_lemmas.NodeSteps.{before_only, fit_at, goes_alike, graph_in, here_is, leaves_alike, rest_at_index, run_ends, run_goes}
 use Rattle.flow_graph.proofs.label_trees.node.point_tree.Goals as goal
 
@@ -23,8 +23,8 @@ loop-turn-init c = (
   ),
 )
 
-pub run_on-requires-clause-own : goal.run_on-requires-clause-own
-run_on-requires-clause-own c =
+pub lower_rest-requires-clause-own : goal.lower_rest-requires-clause-own
+lower_rest-requires-clause-own c =
     let telling = c.args.telling.now in
     let layout = telling.layout.now in
     let spots = c.args.spots.now in
@@ -35,8 +35,8 @@ run_on-requires-clause-own c =
     let fit : Fits layout.end (0 + here) spot = fit_at layout.end 0 spots here spot inv.0 c.index-spots-here.is whole.fit in
     fit.own
 
-pub run_on-requires-clause-fits : goal.run_on-requires-clause-fits
-run_on-requires-clause-fits c =
+pub lower_rest-requires-clause-fits : goal.lower_rest-requires-clause-fits
+lower_rest-requires-clause-fits c =
     let telling = c.args.telling.now in
     let layout = telling.layout.now in
     let spots = c.args.spots.now in
@@ -58,7 +58,7 @@ loop-turn-preserved c =
     let whole = c.requires.whole in
     let fit : Fits layout.end (0 + here) spot = fit_at layout.end 0 spots here spot inv.0 c.index-spots-here.is whole.fit in
     let bodies = c.loop-turn.body.items in
-    let news = c.run_on.new.body.items in
+    let news = c.lower_rest.new.body.items in
     let leaving = c.leaving_of-leaving.result in
     let after = c.after_of-after.result in
     let next = c.in-Some-behind.next in
@@ -92,7 +92,7 @@ returns-in-Some c =
     let whole = c.requires.whole in
     let fit : Fits layout.end (0 + here) spot = fit_at layout.end 0 spots here spot inv.0 c.index-spots-here.is whole.fit in
     let bodies = c.loop-turn.body.items in
-    let news = c.run_on.new.body.items in
+    let news = c.lower_rest.new.body.items in
     let leaving = c.leaving_of-leaving.result in
     let after = c.after_of-after.result in
     λ other alike.
@@ -103,7 +103,7 @@ returns-in-Some c =
     λ program table.
     let g = graph_in telling other program table.placed in
     let rest : IsRest layout g here spot = subst (λ n. IsRest layout g n spot) (omega arith) (rest_at_index layout g 0 spots here spot inv.0 c.index-spots-here.is (table.rests.rests (seen_range other) table.placed)) in
-    c.ended.ensures
+    c.body_with_end.ensures
     ∙ sym (run_ends telling other program table.placed here spot leaving after rest leaves goes (seen_body bodies) bodies news _ refl c.in_ok-end.ensures c.in-Some.end c.in-Some.is)
     ∙ so.1 program table
 
@@ -118,7 +118,7 @@ returns-in-None-behind c =
     let whole = c.requires.whole in
     let fit : Fits layout.end (0 + here) spot = fit_at layout.end 0 spots here spot inv.0 c.index-spots-here.is whole.fit in
     let bodies = c.loop-turn.body.items in
-    let news = c.run_on.new.body.items in
+    let news = c.lower_rest.new.body.items in
     let leaving = c.leaving_of-leaving.result in
     let after = c.after_of-after.result in
     λ other alike.
@@ -130,7 +130,7 @@ returns-in-None-behind c =
     let g = graph_in telling other program table.placed in
     let rest : IsRest layout g here spot = subst (λ n. IsRest layout g n spot) (omega arith) (rest_at_index layout g 0 spots here spot inv.0 c.index-spots-here.is (table.rests.rests (seen_range other) table.placed)) in
     let end = after_by layout g spot.onward in
-    c.ended-in-None-behind.ensures ∙ ap (graph.tree (seen_body news)) (c.end_at.ensures ∙ goes program table.placed) ∙ sym (before_only (seen_body news) end)
+    c.body_with_end-in-None-behind.ensures ∙ ap (graph.tree (seen_body news)) (c.end_at.ensures ∙ goes program table.placed) ∙ sym (before_only (seen_body news) end)
     ∙ ap (before (seen_body news)) (sym (ap (λ b. tree_behind layout g b end) c.in-None-behind.is))
     ∙ sym (run_goes telling other program table.placed here spot leaving after rest leaves goes (seen_body bodies) bodies news _ refl c.in_ok-end.ensures c.in-None.is)
     ∙ so.1 program table

@@ -2,9 +2,9 @@ use Rattle.std.proofs.Common.{◌≡◌, ◌+◌, ◌≤◌, ◌<◌, true, leng
 use Rattle.cob_tree.specs.declared.program.Program.{Program}
 use Rattle.cob_tree.specs.declared.program.Range.{Range}
 use Rattle.control_flow_theory.specs.lowering.Lower as lower
-use Rattle.branch_tree.specs.Trees.{seen_body}
+use Rattle.branch_tree.specs.Tree.{seen_body}
 use Rattle.lowering_labels.specs.loop_nodes.Loops.{before}
-use Rattle.flow_graph.specs.label_trees.Nodes.{GoAlikeFrom, IsTableOf, node_in}
+use Rattle.flow_graph.specs.label_trees.Node.{GoAlikeFrom, IsTableOf, node_in}
 use Rattle.flow_graph.proofs.label_trees.node.point_tree.Given as goal
 
 abbrev pub invariant-loop-turn : goal.invariant-loop-turn

@@ -8,12 +8,12 @@ use Rattle.control_flow_theory.specs.lowering.Lower as lower
 use Rattle.control_flow_theory.specs.lowering.Lowered.{place_in}
 use Rattle.branch_tree.proofs.TreeRows.{seen_dead}
 use Rattle.lowering_labels.proofs.points_lemmas.SizeLemmas.{size-seen}
-use Rattle.lowering_labels.specs.points.Leaf.{seen_leaf}
-use Rattle.statement_lowering.specs.Along.{told_by}
-use Rattle.statement_lowering.specs.Turns.{loop_at}
+use Rattle.lowering_labels.specs.points.JumpTarget.{seen_target}
+use Rattle.statement_lowering.specs.LowerList.{flow_facts_by}
+use Rattle.statement_lowering.specs.LoopParts.{loop_at}
 use Rattle.statement_lowering.proofs.PartRows.{loop_own, loop_places}
-use Rattle.statement_lowering.specs.continuations.Onward.{after_by, leaving_by}
-use Rattle.statement_lowering.specs.continuations.Spots.{turn_by}
+use Rattle.statement_lowering.specs.continuations.Successors.{after_by, leaving_by}
+use Rattle.statement_lowering.specs.continuations.Statements.{turn_by}
 use Rattle.flow_graph.proofs.label_trees_lemmas.NodeSteps.{first_fits, first_left, goes_alike, graph_in, leaves_alike, no_turn, setting, turn_of_loop}
 use Rattle.flow_graph.proofs.label_trees.node.turn_tree.Goals as goal
 
@@ -30,10 +30,10 @@ returns-in-None c =
     let g = graph_in telling other program placed in
     let leaving = leaving_by telling.layout.now g spot.onward in
     let after = after_by telling.layout.now g spot.onward in
-    let told = told_by telling in
+    let told = flow_facts_by telling in
     let place_of = place_in (control_of program) in
     let last = spot.onward.last in
-    c.only-in-None.ensures ∙ ap lower.only seen_dead
+    c.end_alone-in-None.ensures ∙ ap lower.end_alone seen_dead
     ∙ sym (ap (λ l. turn_by told place_of c.args.is_head (seen_stmts last l) c.args.place leaving after) cons
     ∙ no_turn told place_of c.args.is_head (seen last stmt) (seen_stmts last (drop 1 stmts)) c.args.place leaving after (c.in-None.ensures last))
 
@@ -61,8 +61,8 @@ overflow_add-next c =
     let exact : c.stmt_size.result ≡ stmt_places stmt = omega (arith, c.stmt_size.ensures, first.1, c.requires.small) in
     omega (arith, exact, first.1, c.requires.small)
 
-pub leaf_of-after-requires : goal.leaf_of-after-requires
-leaf_of-after-requires c =
+pub jump_target_of-after-requires : goal.jump_target_of-after-requires
+jump_target_of-after-requires c =
     let telling = c.args.telling.now in
     let spot = c.args.spot.now in
     let stmts = spot.stmts.now in
@@ -121,16 +121,16 @@ returns-in_ok-tree-in-Some c =
     let g = graph_in telling other program placed in
     let leaving = leaving_by telling.layout.now g spot.onward in
     let after = after_by telling.layout.now g spot.onward in
-    let told = told_by telling in
+    let told = flow_facts_by telling in
     let place_of = place_in (control_of program) in
     let last = spot.onward.last in
     let rest = drop 1 stmts in
     let far : c.args.place + c.stmt_size.result ≡ c.args.place + size (seen last (Loop control turns)) =
     ap (λ n. c.args.place + n) (exact ∙ sym (size-seen last stmt) ∙ ap (λ s. size (seen last s)) is) in
-    let there : seen_leaf c.leaf_of-after.result ≡ lower.leaf told place_of (seen_stmts last rest) (c.args.place + size (seen last (Loop control turns))) after =
-    c.leaf_of-after.ensures telling.files.now telling.returning.now last place_of placed.places_in
-    ∙ ap (λ l. lower.leaf told place_of (seen_stmts last l) (c.args.place + c.stmt_size.result) (seen_leaf c.after_of-behind.result)) c.rest_at.ensures
-    ∙ ap (λ n. lower.leaf told place_of (seen_stmts last rest) n (seen_leaf c.after_of-behind.result)) far
+    let there : seen_target c.jump_target_of-after.result ≡ lower.leaf told place_of (seen_stmts last rest) (c.args.place + size (seen last (Loop control turns))) after =
+    c.jump_target_of-after.ensures telling.files.now telling.returning.now last place_of placed.places_in
+    ∙ ap (λ l. lower.leaf told place_of (seen_stmts last l) (c.args.place + c.stmt_size.result) (seen_target c.after_of-behind.result)) c.rest_at.ensures
+    ∙ ap (λ n. lower.leaf told place_of (seen_stmts last rest) n (seen_target c.after_of-behind.result)) far
     ∙ ap (lower.leaf told place_of (seen_stmts last rest) (c.args.place + size (seen last (Loop control turns)))) (goes_alike telling c.args.range other spot.onward c.after_of-behind.result alike c.after_of-behind.ensures program placed) in
     c.in_ok-tree-in-Some.ensures (setting telling other program placed spot.onward c.leaving_of-leaving.result
     (leaves_alike telling c.args.range other spot.onward c.leaving_of-leaving.result alike c.leaving_of-leaving.ensures))

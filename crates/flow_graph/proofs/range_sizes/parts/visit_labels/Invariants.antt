@@ -1,5 +1,5 @@
 use Rattle.std.proofs.Common.{◌≡◌, length}
-use Rattle.pending_returns.specs.levels.Reaching.{IsMarked}
+use Rattle.pending_returns.specs.levels.Reach.{IsMarked}
 use Rattle.flow_graph.proofs.range_sizes_lemmas.PartRows.{SomeAdded}
 use Rattle.flow_graph.proofs.range_sizes.parts.visit_labels.Given as goal
 

@@ -1,7 +1,7 @@
 use Rattle.std.proofs.Common.{take}
 use Rattle.flow_graph.specs.Counts.{CountsTo}
 use Rattle.flow_graph.proofs.Reached.{ReachSoFar}
-use Rattle.flow_graph.specs.range_sizes.Known.{IsKnown}
+use Rattle.flow_graph.specs.range_sizes.Cache.{IsKnown}
 use Rattle.flow_graph.proofs.range_sizes.sizing.size_from.Given as goal
 
 abbrev pub invariant-loop-at : goal.invariant-loop-at

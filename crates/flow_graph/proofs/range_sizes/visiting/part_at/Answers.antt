@@ -1,7 +1,7 @@
 use Rattle.std.proofs.Common.{◌≡◌, ◌*◌, ◌/◌, length, arith, subst}
 use Rattle.control_flow_theory.specs.lowering.Lower.{point}
 use Rattle.flow_graph.specs.Reaching.{NodeJumpsBelow}
-use Rattle.flow_graph.specs.range_sizes.Known.{IsPartAt}
+use Rattle.flow_graph.specs.range_sizes.Cache.{IsPartAt}
 use Rattle.flow_graph.proofs.range_sizes.visiting.part_at.Goals as goal
 
 pub point_part-requires-clause-below : goal.point_part-requires-clause-below

@@ -1,6 +1,6 @@
 use Rattle.std.proofs.Common.{◌*◌, length, sym, subst}
-use Rattle.branch_tree.specs.Trees.{seen_tree}
-use Rattle.flow_graph.specs.range_sizes.Known.{IsPartAt}
+use Rattle.branch_tree.specs.Tree.{seen_tree}
+use Rattle.flow_graph.specs.range_sizes.Cache.{IsPartAt}
 use Rattle.flow_graph.proofs.range_sizes_lemmas.StretchRows.{label-whole}
 use Rattle.flow_graph.proofs.range_sizes_lemmas.KeptRows.{kept-part, known-counted, known-kept, part-counted}
 use Rattle.flow_graph.proofs.range_sizes_lemmas.PartRows.{tree-below}

@@ -1,8 +1,8 @@
 use Rattle.std.proofs.Common.{◌-◌, ◌^◌, length, min, refl, ap, ◌∙◌, subst}
 use Rattle.control_flow_theory.specs.semantics.Graph as graph
-use Rattle.branch_tree.specs.Trees.{seen_tree}
+use Rattle.branch_tree.specs.Tree.{seen_tree}
 use Rattle.flow_graph.specs.Jumps.{AddsJumps}
-use Rattle.flow_graph.specs.graph_sizes.Sizes.{tree_size}
+use Rattle.flow_graph.specs.graph_sizes.Sizing.{tree_size}
 use Rattle.flow_graph.proofs.range_sizes_lemmas.PartRows.{tree-below}
 use Rattle.flow_graph.proofs.range_sizes.visiting.visit_alone.Goals as goal
 

@@ -1,7 +1,7 @@
 use Rattle.std.proofs.Common.{◌/◌, length, sym, subst, arith}
 use Rattle.flow_graph.specs.Jumps.{AddsThose}
 use Rattle.flow_graph.specs.Reaching.{NodeJumpsBelow}
-use Rattle.pending_returns.specs.levels.Reaching.{AllPlaces, Holds}
+use Rattle.pending_returns.specs.levels.Reach.{AllPlaces, Holds}
 use Rattle.flow_graph.proofs.range_sizes_lemmas.Alike.{goes-read}
 use Rattle.flow_graph.proofs.range_sizes_lemmas.KeptRows.{own-part}
 use Rattle.flow_graph.proofs.range_sizes_lemmas.PartRows.{part-adds, part-below, part-size}

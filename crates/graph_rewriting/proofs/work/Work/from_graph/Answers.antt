@@ -1,6 +1,6 @@
 use Rattle.std.proofs.Common.{List, refl, ap}
 use Rattle.control_flow_theory.specs.graph_rules.Reduced.{Node, Graph}
-use Rattle.branch_tree.specs.Graphs.{seen_graph}
+use Rattle.branch_tree.specs.Graph.{seen_graph}
 use Rattle.graph_rewriting.specs.declared.work.Work.TheInside.{Inside}
 use Rattle.graph_rewriting.proofs.StoredRows.{made_stored}
 use Rattle.graph_rewriting.proofs.work.Work.from_graph.Goals as goal

@@ -1,7 +1,7 @@
 use Rattle.std.proofs.Common.{◌≡◌, sym, ◌∙◌}
 use Rattle.std.specs.Map.{keys_of}
-use Rattle.control_flow_theory.specs.closing.Dispatches.{labels_of}
-use Rattle.branch_tree.specs.Graphs.{seen_nodes}
+use Rattle.control_flow_theory.specs.structuring.Dispatches.{labels_of}
+use Rattle.branch_tree.specs.Graph.{seen_nodes}
 use Rattle.graph_rewriting.proofs.FindRows.{if_ok, labels_seen}
 use Rattle.graph_rewriting.proofs.work.Work.labels.Goals as goal
 

@@ -1,9 +1,9 @@
 use Rattle.std.proofs.Common.{◌≡◌, refl, ap, sym, ◌∙◌, subst}
 use Rattle.std.specs.Option.{option_copied}
 use Rattle.control_flow_theory.specs.graph_rules.Reduced.{has_node, tree_in, with_tree}
-use Rattle.branch_tree.specs.Trees.{seen_tree}
+use Rattle.branch_tree.specs.Tree.{seen_tree}
 use Rattle.graph_rewriting.specs.Helds.{seen_work}
-use Rattle.graph_rewriting.specs.Sounds.{bare, Fits}
+use Rattle.graph_rewriting.specs.Rewriting.{bare, Fits}
 use Rattle.graph_rewriting.proofs.WorkRows.{no_key}
 use Rattle.graph_rewriting.proofs.StoredRows.{with_slots, put_stored, seen_change}
 use Rattle.graph_rewriting.proofs.work.Work.put.Goals as goal

@@ -1,7 +1,7 @@
 use Rattle.std.proofs.Common.{◌≡◌, ◌≢◌, refl, ap, sym, ◌∙◌, subst}
 use Rattle.control_flow_theory.specs.graph_rules.Reduced.{has_node, tree_in, without, all_leaves_to}
 use Rattle.graph_rewriting.specs.Helds.{seen_work}
-use Rattle.graph_rewriting.specs.Sounds.{bare}
+use Rattle.graph_rewriting.specs.Rewriting.{bare}
 use Rattle.graph_rewriting.proofs.WorkRows.{no_key, no_slot}
 use Rattle.graph_rewriting.proofs.StoredRows.{with_keys, removed_stored, seen_change}
 use Rattle.graph_rewriting.proofs.work.Work.remove.Goals as goal

@@ -2,7 +2,7 @@ use Rattle.std.proofs.Common.{refl, ap, sym, ◌∙◌}
 use Rattle.std.specs.Option.{option_copied}
 use Rattle.control_flow_theory.specs.graph_rules.Reduced.{has_node, tree_in, with_tree}
 use Rattle.graph_rewriting.specs.Helds.{seen_work}
-use Rattle.graph_rewriting.specs.Sounds.{bare}
+use Rattle.graph_rewriting.specs.Rewriting.{bare}
 use Rattle.graph_rewriting.proofs.WorkRows.{no_key, some_key, no_slot}
 use Rattle.graph_rewriting.proofs.StoredRows.{with_slots, had_tree, taken_stored, seen_change}
 use Rattle.graph_rewriting.proofs.work.Work.take.Goals as goal

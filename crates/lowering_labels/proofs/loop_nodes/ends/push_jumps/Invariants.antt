@@ -1,6 +1,6 @@
 use Rattle.std.proofs.Common.{◌≡◌, ◌++◌, map, take}
-use Rattle.branch_tree.specs.Trees.{seen_tree}
-use Rattle.lowering_labels.specs.loop_nodes.Arms.{jump_to}
+use Rattle.branch_tree.specs.Tree.{seen_tree}
+use Rattle.lowering_labels.specs.loop_nodes.Ends.{jump_to}
 use Rattle.lowering_labels.proofs.loop_nodes.ends.push_jumps.Given as goal
 
 abbrev pub invariant-loop-number : goal.invariant-loop-number

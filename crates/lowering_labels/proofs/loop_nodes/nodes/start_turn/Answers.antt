@@ -2,7 +2,7 @@ use Rattle.std.proofs.Common.{ap, sym, ◌∙◌}
 use Rattle.control_flow_theory.specs.language.Control.{control_in}
 use Rattle.control_flow_theory.specs.language.Language.{Do, Lower}
 use Rattle.control_flow_theory.specs.graph_rules.Shapes.{followed}
-use Rattle.branch_tree.specs.Trees.{seen_body}
+use Rattle.branch_tree.specs.Tree.{seen_body}
 use Rattle.branch_tree.specs.declared.tree.Piece.TheVariants as piece
 use Rattle.lowering_labels.specs.loop_nodes.Loops.{turn_start}
 use Rattle.lowering_labels.proofs.loop_nodes_lemmas.StartRows.{body_pushed, seen_lower, followed_none}

@@ -1,6 +1,6 @@
 use Rattle.std.proofs.Common.{◌≡◌, ℕ, List, ◌++◌, Some, slice_get, subst, sym, ap, ◌∙◌}
-use Rattle.pending_returns.specs.levels.Reaching.{Holds}
-use Rattle.overlap_trail.specs.finding.Chains.{Along, IsWay}
+use Rattle.pending_returns.specs.levels.Reach.{Holds}
+use Rattle.overlap_trail.specs.finding.Chain.{Along, IsWay}
 use Rattle.overlap_trail.proofs.finding_lemmas.Chaining.{along-append, along-known, is-way}
 use Rattle.overlap_trail.proofs.finding.chain.chain_of.Goals as goal
 

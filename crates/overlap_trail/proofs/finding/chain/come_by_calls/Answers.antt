@@ -1,14 +1,14 @@
 use Rattle.std.proofs.Common.{◌≡◌, ◌≤◌, length, None, refl, sym, subst, arith}
-use Rattle.overlap_trail.specs.declared.finding.route.Came.{Came}
-use Rattle.overlap_trail.specs.finding.Routes.{Tracks}
-use Rattle.overlap_trail.specs.finding.Chains.{ByCall}
+use Rattle.overlap_trail.specs.declared.finding.search.Predecessor.{Predecessor}
+use Rattle.overlap_trail.specs.finding.Search.{Tracks}
+use Rattle.overlap_trail.specs.finding.Chain.{ByCall}
 use Rattle.overlap_trail.proofs.finding_lemmas.Getting.{kept-length}
 use Rattle.overlap_trail.proofs.finding_lemmas.Calling.{Told, told-none, told-all}
 use Rattle.overlap_trail.proofs.finding.chain.come_by_calls.Goals as goal
 
 pub loop-init : goal.loop-init
 loop-init c =
-    let how : Came = record { before = c.args.before; moved = None } in
+    let how : Predecessor = record { before = c.args.before; moved = None } in
     let came = c.args.route.now.came.items in
     let before = c.args.route.now.reach.places.items in
     let after = c.visit_calls.new.reach.places.items in
@@ -22,7 +22,7 @@ loop-init c =
 
 pub returns-clause-tracks : goal.returns-clause-tracks
 returns-clause-tracks c =
-    let how : Came = record { before = c.args.before; moved = None } in
+    let how : Predecessor = record { before = c.args.before; moved = None } in
     let came = c.args.route.now.came.items in
     let before = c.args.route.now.reach.places.items in
     let after = c.visit_calls.new.reach.places.items in

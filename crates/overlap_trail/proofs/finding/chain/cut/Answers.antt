@@ -1,7 +1,7 @@
 use Rattle.std.proofs.Common.{List, get_or, subst, sym, arith}
 use Rattle.std.proofs.lemmas.Option.{slice_get-get_or}
 use Rattle.cob_tree.specs.declared.program.Range.{Range}
-use Rattle.overlap_trail.specs.finding.Chains.{EndsAmong}
+use Rattle.overlap_trail.specs.finding.Chain.{EndsAmong}
 use Rattle.overlap_trail.proofs.finding_lemmas.Chaining.{cut-none, cut-more, cut-ended, cut-whole}
 use Rattle.overlap_trail.proofs.finding.chain.cut.Goals as goal
 

@@ -1,10 +1,10 @@
 use Rattle.std.proofs.Common.{◌≡◌, ◌<◌, ◌≤◌, ℕ, List, get_or, length, None, true, refl, subst, ◌∙◌, arith}
 use Rattle.std.proofs.lemmas.Option.{slice_get-get_or, slice_get_within, slice_get_read}
-use Rattle.pending_returns.specs.levels.Reaching.{Holds}
+use Rattle.pending_returns.specs.levels.Reach.{Holds}
 use Rattle.pending_returns.proofs.levels_lemmas.Searching.{few}
 use Rattle.pending_returns.specs.Tabled.{AddsCalls}
 use Rattle.pending_returns.proofs.faults_lemmas.Led.{kept-calls, led-begins, led-more, led-all}
-use Rattle.overlap_trail.specs.finding.Chains.{ByCall, CallsTo}
+use Rattle.overlap_trail.specs.finding.Chain.{ByCall, CallsTo}
 use Rattle.overlap_trail.proofs.finding_lemmas.Tracing.{traces-first, traces-more}
 use Rattle.overlap_trail.proofs.finding.chain.led_from.Goals as goal
 

@@ -1,5 +1,5 @@
 use Rattle.pending_returns.proofs.faults_lemmas.Led.{LedSoFar}
-use Rattle.overlap_trail.specs.finding.Chains.{TracesCalls}
+use Rattle.overlap_trail.specs.finding.Chain.{TracesCalls}
 use Rattle.overlap_trail.proofs.finding.chain.led_from.Given as goal
 
 abbrev pub invariant-loop-at : goal.invariant-loop-at

@@ -1,6 +1,6 @@
 use Rattle.std.proofs.Common.{◌≡◌, ◌<◌, length, get_or, Some, None, slice_get, arith}
 use Rattle.std.proofs.lemmas.Option.{slice_get-get_or}
-use Rattle.overlap_trail.specs.declared.finding.route.Came.{Came}
+use Rattle.overlap_trail.specs.declared.finding.search.Predecessor.{Predecessor}
 use Rattle.overlap_trail.proofs.finding_lemmas.Taking.{went-none, went-more, went-all}
 use Rattle.overlap_trail.proofs.finding.chain.way_to.Goals as goal
 use Rattle.overlap_trail.proofs.finding.chain.way_to.Goals.{else-loop-test, then-loop-test+then-here-eq0}
@@ -13,7 +13,7 @@ loop-init c = record {
 
 pub loop-preserved : goal.loop-preserved
 loop-preserved c =
-    let none : Came = record { before = 0; moved = None } in
+    let none : Predecessor = record { before = 0; moved = None } in
     let came = c.args.came.now in
     let places = c.args.places.now in
     let here = c.loop.here in

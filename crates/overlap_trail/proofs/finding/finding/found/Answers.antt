@@ -1,14 +1,14 @@
 use Rattle.std.proofs.Common.{◌≡◌, ℕ, List, Option, Some, slice_get, subst, sym, ap, ◌∙◌}
 use Rattle.control_flow_theory.specs.language.Control.{control_of}
 use Rattle.program_points.specs.paths.Flow.{main_range}
-use Rattle.program_points.specs.numbering.Kinds.{never_first_of}
+use Rattle.program_points.specs.numbering.Kind.{never_first_of}
 use Rattle.pending_returns.specs.declared.facts.RangeFacts.{RangeFacts}
-use Rattle.pending_returns.specs.faults.Clashing.{LeadsFrom}
-use Rattle.overlap_trail.specs.finding.Routes.{flags_of}
-use Rattle.overlap_trail.specs.finding.Aims.{IsMetSomewhere}
-use Rattle.overlap_trail.specs.finding.Knowing.{RangesOnce}
-use Rattle.overlap_trail.specs.finding.Chains.{IsChain}
-use Rattle.overlap_trail.specs.finding.Hopping.{aim_at, HopsCome}
+use Rattle.pending_returns.specs.faults.Clash.{LeadsFrom}
+use Rattle.overlap_trail.specs.finding.Search.{flags_of}
+use Rattle.overlap_trail.specs.finding.Goal.{IsMetSomewhere}
+use Rattle.overlap_trail.specs.finding.ReturnLemmas.{RangesOnce}
+use Rattle.overlap_trail.specs.finding.Chain.{IsChain}
+use Rattle.overlap_trail.specs.finding.Hops.{aim_at, HopsCome}
 use Rattle.overlap_trail.proofs.finding_lemmas.Trailing.{rising-once, is-levels, leads-base, all-come, is-found}
 use Rattle.overlap_trail.proofs.finding.finding.found.Goals as goal
 

@@ -1,9 +1,9 @@
 use Rattle.std.proofs.Common.{List, subst}
 use Rattle.control_flow_theory.specs.language.Control.{control_of}
 use Rattle.program_points.specs.paths.Flow.{IsFaulty}
-use Rattle.program_points.specs.numbering.Kinds.{never_first_of}
+use Rattle.program_points.specs.numbering.Kind.{never_first_of}
 use Rattle.pending_returns.specs.declared.facts.RangeFacts.{RangeFacts}
-use Rattle.pending_returns.specs.faults.Clashing.{HasClash, NoClash}
+use Rattle.pending_returns.specs.faults.Clash.{HasClash, NoClash}
 use Rattle.pending_returns.proofs.faults_lemmas.Clashes.{clash-faulty, no-clash, calls-below, on-found}
 use Rattle.pending_returns.proofs.faults.clash.clash_in.Goals as goal
 

@@ -1,6 +1,6 @@
 use Rattle.std.proofs.Common.{ℕ, Option, MatchOption, subst, arith}
 use Rattle.pending_returns.specs.declared.faults.clash.Clash.{Clash}
-use Rattle.pending_returns.specs.faults.Clashing.{HasClash, NoneFrom}
+use Rattle.pending_returns.specs.faults.Clash.{HasClash, NoneFrom}
 use Rattle.pending_returns.proofs.faults_lemmas.Standing.{clear-more, clear-all}
 use Rattle.pending_returns.proofs.faults.clash.clash_of.Goals as goal
 

@@ -1,5 +1,5 @@
 use Rattle.std.proofs.Common.{◌≡◌, length}
-use Rattle.pending_returns.specs.levels.Reaching.{IsMarked}
+use Rattle.pending_returns.specs.levels.Reach.{IsMarked}
 use Rattle.pending_returns.proofs.faults_lemmas.Standing.{ClearUpTo}
 use Rattle.pending_returns.proofs.faults.clash.clash_of.Given as goal
 

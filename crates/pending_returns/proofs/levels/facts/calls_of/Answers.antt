@@ -1,8 +1,8 @@
 use Rattle.std.proofs.Common.{◌+◌, length, get_or, Some, subst, sym, ap, ◌∙◌, arith}
 use Rattle.std.proofs.lemmas.Option.{slice_get-get_or}
-use Rattle.program_points.specs.declared.point_table.table.Place.{Place}
+use Rattle.program_points.specs.declared.point_table.table.ProgramPoint.{ProgramPoint}
 use Rattle.program_points.specs.point_table.Table.{IsTidyPlace}
-use Rattle.pending_returns.specs.levels.Reaching.{IsMarked, GathersCalls}
+use Rattle.pending_returns.specs.levels.Reach.{IsMarked, GathersCalls}
 use Rattle.pending_returns.proofs.levels_lemmas.Searching.{at-place}
 use Rattle.pending_returns.proofs.levels_lemmas.Telling.{calls-none, calls-more, calls-skip, calls-all}
 use Rattle.pending_returns.proofs.levels.facts.calls_of.Goals as goal
@@ -52,7 +52,7 @@ loop-number-preserved c =
         marked = subst (λ r. IsMarked r.places.items r.marks.items) (sym w.calls-is) w.in_ok-visit-in-Calls.ensures.marked;
         size = ap (λ r. length r.marks.items) w.calls-is ∙ w.in_ok-visit-in-Calls.ensures.size ∙ inv.size;
         calls = subst (λ r. GathersCalls table places r.places.items (i + 1)) (sym w.calls-is)
-            (calls-more table places calls.places.items w.visit.new.self.places.items i n w.in-Calls.range w.in-Calls.after inv.calls here (place ∙ ap (λ (p : Place). Some p) w.in-Calls.is) w.in_ok-visit-in-Calls.ensures.adds);
+            (calls-more table places calls.places.items w.visit.new.self.places.items i n w.in-Calls.range w.in-Calls.after inv.calls here (place ∙ ap (λ (p : ProgramPoint). Some p) w.in-Calls.is) w.in_ok-visit-in-Calls.ensures.adds);
       }
       | in_default w ↦ record {
         marked = subst (λ r. IsMarked r.places.items r.marks.items) (sym w.calls-is) inv.marked;

@@ -1,5 +1,5 @@
 use Rattle.std.proofs.Common.{◌≡◌, length}
-use Rattle.pending_returns.specs.levels.Reaching.{IsMarked, GathersCalls}
+use Rattle.pending_returns.specs.levels.Reach.{IsMarked, GathersCalls}
 use Rattle.pending_returns.proofs.levels.facts.calls_of.Given as goal
 
 abbrev pub invariant-loop-number : goal.invariant-loop-number

@@ -1,10 +1,10 @@
 use Rattle.std.proofs.Common.{◌≡◌, ◌+◌, ℕ, length, get_or, Some, true, false, subst, sym, ap, ◌∙◌, arith}
 use Rattle.std.proofs.lemmas.Option.{slice_get-get_or}
 use Rattle.program_points.specs.paths.Flow.{is_exit}
-use Rattle.program_points.specs.declared.point_table.table.Place.{Place}
-use Rattle.program_points.specs.declared.point_table.table.Place.TheVariants.{Ends}
+use Rattle.program_points.specs.declared.point_table.table.ProgramPoint.{ProgramPoint}
+use Rattle.program_points.specs.declared.point_table.table.ProgramPoint.TheVariants.{Ends}
 use Rattle.program_points.specs.point_table.Table.{IsTidyPlace}
-use Rattle.pending_returns.specs.levels.Reaching.{IsMarked, GathersEnds}
+use Rattle.pending_returns.specs.levels.Reach.{IsMarked, GathersEnds}
 use Rattle.pending_returns.proofs.levels_lemmas.Searching.{at-place}
 use Rattle.pending_returns.proofs.levels_lemmas.Telling.{ends-none, ends-more, ends-skip, ends-all}
 use Rattle.pending_returns.proofs.levels.facts.ends_of.Goals as goal
@@ -55,7 +55,7 @@ loop-number-preserved c =
         marked = subst (λ r. IsMarked r.places.items r.marks.items) (sym w.ends-is) w.in_ok-visit-in-Ends.ensures.marked;
         size = ap (λ r. length r.marks.items) w.ends-is ∙ w.in_ok-visit-in-Ends.ensures.size ∙ inv.size;
         ends = subst (λ r. GathersEnds table range places r.places.items (i + 1)) (sym w.ends-is)
-            (ends-more table range places ends w.visit.new.self.places.items i n w.in-Ends.paragraph inv.ends here (place ∙ ap (λ (p : Place). Some p) w.in-Ends.is) (sym w.if-not-ends_at.ensures) w.in_ok-visit-in-Ends.ensures.adds);
+            (ends-more table range places ends w.visit.new.self.places.items i n w.in-Ends.paragraph inv.ends here (place ∙ ap (λ (p : ProgramPoint). Some p) w.in-Ends.is) (sym w.if-not-ends_at.ensures) w.in_ok-visit-in-Ends.ensures.adds);
       }
       | in-Ends+else-not-ends_at w ↦ record {
         marked = subst (λ r. IsMarked r.places.items r.marks.items) (sym w.ends-is) inv.marked;

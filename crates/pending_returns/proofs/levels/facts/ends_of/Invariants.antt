@@ -1,5 +1,5 @@
 use Rattle.std.proofs.Common.{◌≡◌, length}
-use Rattle.pending_returns.specs.levels.Reaching.{IsMarked, GathersEnds}
+use Rattle.pending_returns.specs.levels.Reach.{IsMarked, GathersEnds}
 use Rattle.pending_returns.proofs.levels.facts.ends_of.Given as goal
 
 abbrev pub invariant-loop-number : goal.invariant-loop-number

@@ -1,6 +1,6 @@
 use Rattle.std.proofs.Common.{◌<◌, ◌≤◌, length, true, refl, subst, sym, ap, ◌∙◌, arith}
 use Rattle.std.proofs.lemmas.Option.{slice_get_within, slice_get_read}
-use Rattle.pending_returns.specs.levels.Reaching.{IsSoFar}
+use Rattle.pending_returns.specs.levels.Reach.{IsSoFar}
 use Rattle.pending_returns.proofs.levels_lemmas.Searching.{begin-none, begin-some, go-on, all-reached, few, at-place}
 use Rattle.pending_returns.proofs.levels.reach.reached.Goals as goal
 use Rattle.pending_returns.proofs.levels.reach.reached.Goals.{in-Some+in_ok-visit-in-Some, in-None}

@@ -1,4 +1,4 @@
-use Rattle.pending_returns.specs.levels.Reaching.{IsSoFar}
+use Rattle.pending_returns.specs.levels.Reach.{IsSoFar}
 use Rattle.pending_returns.proofs.levels.reach.reached.Given as goal
 
 abbrev pub invariant-loop-at : goal.invariant-loop-at

@@ -1,7 +1,7 @@
 use Rattle.std.proofs.Common.{◌≡◌, ◌<◌, inl, inr, ℕ, length, get_or, Some, true, false, refl, sym, ap, ◌∙◌, arith, slice_get}
 use Rattle.std.proofs.lemmas.Option.{slice_get_within, slice_get-get_or}
-use Rattle.program_points.specs.declared.point_table.table.Place.{Place}
-use Rattle.program_points.specs.declared.point_table.table.Place.TheVariants.{Ends}
+use Rattle.program_points.specs.declared.point_table.table.ProgramPoint.{ProgramPoint}
+use Rattle.program_points.specs.declared.point_table.table.ProgramPoint.TheVariants.{Ends}
 use Rattle.program_points.specs.paths.Flow.{is_exit}
 use Rattle.pending_returns.proofs.levels_lemmas.Searching.{at-place, at-or-behind}
 use Rattle.pending_returns.proofs.levels.settling.has_end.Goals as goal
@@ -18,7 +18,7 @@ returns-then-ends_at c =
     let here = slice_get-get_or c.args.places.now c.loop-number.number-index 0 c.loop-number-test.true in
     let lt = c.requires n (c.loop-number.number-index, here) in
     let place = at-place c.as_slice.result.now c.args.table.now.places n c.index-as_slice-number.result c.as_slice.ensures (omega (arith, lt, ap (λ xs. length xs) c.as_slice.ensures)) c.index-as_slice-number.is in
-    ((λ h. (n, c.in-Ends.paragraph, (c.loop-number.number-index, here), place ∙ ap (λ (p : Place). Some p) c.in-Ends.is, sym c.if-ends_at.ensures)), (λ h. refl))
+    ((λ h. (n, c.in-Ends.paragraph, (c.loop-number.number-index, here), place ∙ ap (λ (p : ProgramPoint). Some p) c.in-Ends.is, sym c.if-ends_at.ensures)), (λ h. refl))
 
 pub loop-number-preserved : goal.loop-number-preserved
 loop-number-preserved c = λ h.

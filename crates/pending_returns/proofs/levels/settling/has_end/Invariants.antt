@@ -1,4 +1,4 @@
-use Rattle.pending_returns.specs.levels.Reaching.{HasEnd, HasEndFrom}
+use Rattle.pending_returns.specs.levels.Reach.{HasEnd, HasEndFrom}
 use Rattle.pending_returns.proofs.levels.settling.has_end.Given as goal
 
 abbrev pub invariant-loop-number : goal.invariant-loop-number

@@ -18,12 +18,12 @@ use Rattle.procedure_parse.proofs.statements.held.+stmt.Goals as goal
 simple_turn : {Side Known : Type 0} (parts : Parts Side Known) (level : Level) (scope : Scope) (found : Found) (p : Input) → found.1 ≡ false → is_next begins_simple p ≡ true → (all.stmts_turn parts level scope found).reads p ≡ (steps.simple parts scope found.0).reads p
 unfolding all.stmts_turn all.stmt
 simple_turn parts level scope found p goes_on simple =
-    ap (λ (not_read : Bool). (chosen not_read (refuse Syntax) (all.stmt parts level scope found.0)).reads p) goes_on
+    ap (λ (pending_not : Bool). (chosen pending_not (refuse Syntax) (all.stmt parts level scope found.0)).reads p) goes_on
     ∙ ap (λ (is_simple : Bool). (chosen is_simple (steps.simple parts scope found.0) (all.held_stmts parts level scope found.0)).reads p) simple
 
 pub stmts_turn-returns-then-at_simple : goal.stmts_turn-returns-then-at_simple
 stmts_turn-returns-then-at_simple g t c =
-    subst (λ o. Reads o c.simple.result c.simple.new.cursor) (sym (simple_turn (g.P.Parts.parts c.args.parts.now) (all.level (g.P.Parts.parts c.args.parts.now) c.args.context.levels) c.args.context.scope c.args.found c.args.cursor.now c.if-not_read.false (sym c.at_simple.ensures ∙ c.if-at_simple.true))) c.simple.ensures
+    subst (λ o. Reads o c.simple.result c.simple.new.cursor) (sym (simple_turn (g.P.Parts.parts c.args.parts.now) (all.level (g.P.Parts.parts c.args.parts.now) c.args.context.levels) c.args.context.scope c.args.found c.args.cursor.now c.if-pending_not.false (sym c.at_simple.ensures ∙ c.if-at_simple.true))) c.simple.ensures
 
 pub whens_from-returns-in_err-state : goal.whens_from-returns-in_err-state
 whens_from-returns-in_err-state g t c =

@@ -1,7 +1,7 @@
 use Rattle.std.proofs.Common.{◌∙◌, ℕ, List, ap₂, map, refl}
 use Rattle.cob_tree.specs.declared.program.Paragraph.{Paragraph}
 use Rattle.control_flow_theory.specs.language.Control.{control_of}
-use Rattle.program_points.specs.numbering.Kinds.{never_first_of}
+use Rattle.program_points.specs.numbering.Kind.{never_first_of}
 use Rattle.out_names.specs.Naming.{paragraph_label}
 use Rattle.procedure_split.proofs.report.report.report_of.Goals as goal
 

@@ -4,9 +4,9 @@ use Rattle.procedure_split.proofs.shaped_ranges.graphing.counted_on.Goals as goa
 
 pub loop-range-init : goal.loop-range-init
 loop-range-init c = record {
-  so = counted-none c.args.telling.now c.args.spots.now c.args.ranges.now c.args.others
+  so = counted-none c.args.context.now c.args.spots.now c.args.ranges.now c.args.others
       c.ranges.others.fits;
-  known = c.in_ok-known.ensures c.args.telling.now;
+  known = c.in_ok-known.ensures c.args.context.now;
   marked = c.requires.marked;
   size = c.requires.size;
 }
@@ -24,7 +24,7 @@ range_size-requires-clause-range c =
 
 pub loop-range-preserved : goal.loop-range-preserved
 loop-range-preserved c = record {
-  so = counted-more c.args.telling.now c.args.spots.now c.args.ranges.now c.loop-range.range-index
+  so = counted-more c.args.context.now c.args.spots.now c.args.ranges.now c.loop-range.range-index
       c.args.others c.loop-range.count c.in_ok-size.size c.saturating_add-count.result _
       c.loop-range.invariant.so
       (at-index c.args.ranges.now c.loop-range.range-index _ c.loop-range-test.true)
@@ -36,5 +36,5 @@ loop-range-preserved c = record {
 
 pub returns : goal.returns
 returns c =
-    counted-all c.args.telling.now c.args.spots.now c.args.ranges.now c.loop-range.range-index
+    counted-all c.args.context.now c.args.spots.now c.args.ranges.now c.loop-range.range-index
     c.args.others c.loop-range.count c.loop-range.invariant.so c.loop-range-test.false

@@ -5,23 +5,23 @@ use Rattle.procedure_split.proofs.shaped_ranges.graphing.graph_of.Goals as goal
 
 pub returns-in-Ok-clause-graph : goal.returns-in-Ok-clause-graph
 returns-in-Ok-clause-graph c =
-    let telling = c.args.telling.now in
+    let context = c.args.context.now in
     let spots = c.args.spots.now in
     let range = c.args.range in
     let new = c.number_counters.new.graph in
-    let within = subst (IsLoweredWithin telling spots range c.args.most) c.in-Some.is
+    let within = subst (IsLoweredWithin context spots range c.args.most) c.in-Some.is
     c.in_ok-lower_within.ensures.graph in (
-      numbered-graph telling spots range c.in-Some.graph new within.0 c.in-Ok.ensures.placed,
-      numbered-few telling spots range c.in-Some.graph new c.args.most c.requires.range within.0
+      numbered-graph context spots range c.in-Some.graph new within.0 c.in-Ok.ensures.placed,
+      numbered-few context spots range c.in-Some.graph new c.args.most c.requires.range within.0
           within.1 c.in-Ok.ensures.placed,
     )
 
 pub returns-in-Ok-clause-closed : goal.returns-in-Ok-clause-closed
 returns-in-Ok-clause-closed c =
-    let telling = c.args.telling.now in
+    let context = c.args.context.now in
     let spots = c.args.spots.now in
     let range = c.args.range in
-    let within = subst (IsLoweredWithin telling spots range c.args.most) c.in-Some.is
+    let within = subst (IsLoweredWithin context spots range c.args.most) c.in-Some.is
     c.in_ok-lower_within.ensures.graph in
-    closed-graph telling spots range c.in-Some.graph c.number_counters.new.graph c.requires.range
+    closed-graph context spots range c.in-Some.graph c.number_counters.new.graph c.requires.range
     within.0 c.in-Ok.ensures.closed

@@ -5,7 +5,7 @@ use Rattle.std.specs.Prelude.{slice_get, is_some}
 use Rattle.cob_tree.specs.declared.stmt.Arms.{out-Arms}
 use Rattle.control_flow_theory.specs.language.Language.{done}
 use Rattle.control_flow_theory.specs.language.Control.{seen, seen_stmts, seen_when, arm_before, else_of, branches_before, control_in}
-use Rattle.program_facts.specs.completion.Told.{told_of, status_missing}
+use Rattle.program_facts.specs.completion.FlowFacts.{flow_facts_of, status_missing}
 use Rattle.program_facts.specs.completion.Facts.{facts_of, facts_of_all, facts_of_arms, behind, beside, missing_arm}
 use Rattle.program_facts.specs.completion.Seen.{loop_facts}
 use Rattle.program_facts.proofs.completion_lemmas.FactLemmas.{behind_assoc, behind_nothing, behind_shut, beside_assoc, beside_none}
@@ -15,7 +15,7 @@ use Rattle.program_facts.proofs.completion.facts.+facts.Goals.{both_facts-in-Non
 
 pub both_facts-returns-in-None-first : goal.both_facts-returns-in-None-first
 both_facts-returns-in-None-first t c = λ last.
-    let told = told_of c.args.files.now c.args.returning.now in
+    let told = flow_facts_of c.args.files.now c.args.returning.now in
     let second : c.match-arms.second ≡ arm_facts told last false (out-Arms c.args.arms.now).second = elim c.match-arms.branch [
       | both_facts-in-None w ↦ w.second-is ∙ w.missing_arm-second.ensures ∙ ap (missing_arm false) w.no_arms.ensures ∙ arm_none told last false ∙ ap (arm_facts told last false) (sym w.in-None.is)
       | both_facts-in-Some w ↦ w.second-is ∙ w.stmts_facts-second.ensures last ∙ ap (λ ss. facts_of_all told (seen_stmts last ss)) w.as_slice.ensures ∙ arm_some told last false w.in-Some.stmts ∙ ap (arm_facts told last false) (sym w.in-Some.is)
@@ -24,7 +24,7 @@ both_facts-returns-in-None-first t c = λ last.
 
 pub both_facts-returns-in-Some-first : goal.both_facts-returns-in-Some-first
 both_facts-returns-in-Some-first t c = λ last.
-    let told = told_of c.args.files.now c.args.returning.now in
+    let told = flow_facts_of c.args.files.now c.args.returning.now in
     let second : c.match-arms.second ≡ arm_facts told last false (out-Arms c.args.arms.now).second = elim c.match-arms.branch [
       | both_facts-in-None w ↦ w.second-is ∙ w.missing_arm-second.ensures ∙ ap (missing_arm false) w.no_arms.ensures ∙ arm_none told last false ∙ ap (arm_facts told last false) (sym w.in-None.is)
       | both_facts-in-Some w ↦ w.second-is ∙ w.stmts_facts-second.ensures last ∙ ap (λ ss. facts_of_all told (seen_stmts last ss)) w.as_slice.ensures ∙ arm_some told last false w.in-Some.stmts ∙ ap (arm_facts told last false) (sym w.in-Some.is)
@@ -34,12 +34,12 @@ both_facts-returns-in-Some-first t c = λ last.
 
 pub else_facts-returns : goal.else_facts-returns
 else_facts-returns t c = λ last.
-    c.stmts_facts.ensures last ∙ else_some (told_of c.args.files.now c.args.returning.now) last c.args.stmts.now (omega (arith, c.if-stmts-eq0.false))
+    c.stmts_facts.ensures last ∙ else_some (flow_facts_of c.args.files.now c.args.returning.now) last c.args.stmts.now (omega (arith, c.if-stmts-eq0.false))
 
 pub stmt_facts-returns-in-Arith : goal.stmt_facts-returns-in-Arith
 stmt_facts-returns-in-Arith t c = λ last.
     c.both_facts.ensures last ∙ arith_row c.args.files.now c.args.returning.now last c.in-Arith.calc c.in-Arith.into c.in-Arith.arms
-    ∙ ap (λ s. facts_of (told_of c.args.files.now c.args.returning.now) (seen last s)) (sym c.in-Arith.is)
+    ∙ ap (λ s. facts_of (flow_facts_of c.args.files.now c.args.returning.now) (seen last s)) (sym c.in-Arith.is)
 
 pub stmt_facts-returns-after-is_none : goal.stmt_facts-returns-after-is_none
 stmt_facts-returns-after-is_none t c = λ last.
@@ -48,11 +48,11 @@ stmt_facts-returns-after-is_none t c = λ last.
       | stmt_facts-else-is_none w ↦ w.is_dead-is ∙ w.if-is_none.false ∙ sym (ap (λ b. if b then false else status_missing (slice_get c.args.files.now c.in-Read.file)) (c.is_none.ensures ∙ ap not w.if-is_none.false))
     ] in
     c.both_facts-in-Read.ensures last ∙ read_row c.args.files.now c.args.returning.now last c.in-Read.file c.in-Read.into c.in-Read.arms c.if-is_none.is_dead dead
-    ∙ ap (λ s. facts_of (told_of c.args.files.now c.args.returning.now) (seen last s)) (sym c.in-Read.is)
+    ∙ ap (λ s. facts_of (flow_facts_of c.args.files.now c.args.returning.now) (seen last s)) (sym c.in-Read.is)
 
 pub stmt_facts-returns-in-If : goal.stmt_facts-returns-in-If
 stmt_facts-returns-in-If t c = λ last.
-    let told = told_of c.args.files.now c.args.returning.now in
+    let told = flow_facts_of c.args.files.now c.args.returning.now in
     let met = c.stmts_facts-met.ensures last ∙ ap (λ ss. facts_of_all told (seen_stmts last ss)) c.as_slice.ensures in
     let unmet = c.else_facts-unmet.ensures last ∙ ap (λ ss. facts_of_arms told false (arm_before (else_of (map (seen last) ss)) done)) c.as_slice-in-If.ensures in
     c.beside.ensures ∙ ap (λ f. beside f c.else_facts-unmet.result) met ∙ ap (beside (facts_of_all told (seen_stmts last c.in-If.yes))) unmet
@@ -60,7 +60,7 @@ stmt_facts-returns-in-If t c = λ last.
 
 pub stmt_facts-returns-after-other : goal.stmt_facts-returns-after-other
 stmt_facts-returns-after-other t c = λ last.
-    let told = told_of c.args.files.now c.args.returning.now in
+    let told = flow_facts_of c.args.files.now c.args.returning.now in
     let branches = c.whens_facts-branches.ensures last ∙ ap (λ ws. facts_of_arms told false (branches_before (map (seen_when last) ws) done)) c.as_slice-in-Evaluate.ensures in
     let other : c.match-other.other ≡ arm_facts told last false c.in-Evaluate.other = elim c.match-other.branch [
       | stmt_facts-in-None w ↦ w.other-is ∙ w.missing_arm-other.ensures ∙ ap (missing_arm false) w.no_arms.ensures ∙ arm_none told last false ∙ ap (arm_facts told last false) (sym w.in-None.is)
@@ -73,14 +73,14 @@ stmt_facts-returns-after-other t c = λ last.
 
 pub stmt_facts-returns-in-Loop : goal.stmt_facts-returns-in-Loop
 stmt_facts-returns-in-Loop t c = λ last.
-    let told = told_of c.args.files.now c.args.returning.now in
+    let told = flow_facts_of c.args.files.now c.args.returning.now in
     let body = c.stmts_facts-body.ensures last ∙ ap (λ ss. facts_of_all told (seen_stmts last ss)) c.as_slice-in-Loop.ensures in
     c.loop_facts.ensures ∙ ap (loop_facts (control_in c.in-Loop.control)) body ∙ loop_row told last c.in-Loop.control c.in-Loop.body
     ∙ ap (λ s. facts_of told (seen last s)) (sym c.in-Loop.is)
 
 pub stmts_facts-loop-stmt-preserved : goal.stmts_facts-loop-stmt-preserved
 stmts_facts-loop-stmt-preserved t c = λ last.
-    let told = told_of c.args.files.now c.args.returning.now in
+    let told = flow_facts_of c.args.files.now c.args.returning.now in
     let i = c.loop-stmt.stmt-index in
     let later = facts_of_all told (seen_stmts last (drop (i + 1) c.args.stmts.now)) in
     let step = stmts_step told last c.args.stmts.now i c.stmt-item.result c.stmt_facts.result c.loop-stmt-test.true c.stmt-item.is (c.stmt_facts.ensures last) in
@@ -91,7 +91,7 @@ stmts_facts-loop-stmt-preserved t c = λ last.
 
 pub stmts_facts-returns-then-not-facts : goal.stmts_facts-returns-then-not-facts
 stmts_facts-returns-then-not-facts t c = λ last.
-    let told = told_of c.args.files.now c.args.returning.now in
+    let told = flow_facts_of c.args.files.now c.args.returning.now in
     let i = c.loop-stmt.stmt-index in
     let later = facts_of_all told (seen_stmts last (drop (i + 1) c.args.stmts.now)) in
     let step = stmts_step told last c.args.stmts.now i c.stmt-item.result c.stmt_facts.result c.loop-stmt-test.true c.stmt-item.is (c.stmt_facts.ensures last) in
@@ -103,7 +103,7 @@ stmts_facts-returns-then-not-facts t c = λ last.
 
 pub stmts_facts-returns : goal.stmts_facts-returns
 stmts_facts-returns t c = λ last.
-    let told = told_of c.args.files.now c.args.returning.now in
+    let told = flow_facts_of c.args.files.now c.args.returning.now in
     let i = c.loop-stmt.stmt-index in
     let over : length c.args.stmts.now ≤ i = omega (arith, c.loop-stmt-test.false) in
     sym (behind_nothing c.loop-stmt.facts)
@@ -112,7 +112,7 @@ stmts_facts-returns t c = λ last.
 
 pub whens_facts-loop-when-preserved : goal.whens_facts-loop-when-preserved
 whens_facts-loop-when-preserved t c = λ last.
-    let told = told_of c.args.files.now c.args.returning.now in
+    let told = flow_facts_of c.args.files.now c.args.returning.now in
     let i = c.loop-when.when-index in
     let later = facts_of_arms told false (branches_before (map (seen_when last) (drop (i + 1) c.args.whens.now)) done) in
     let one = c.stmts_facts.ensures last ∙ ap (λ ss. facts_of_all told (seen_stmts last ss)) c.as_slice.ensures in
@@ -124,7 +124,7 @@ whens_facts-loop-when-preserved t c = λ last.
 
 pub whens_facts-returns : goal.whens_facts-returns
 whens_facts-returns t c = λ last.
-    let told = told_of c.args.files.now c.args.returning.now in
+    let told = flow_facts_of c.args.files.now c.args.returning.now in
     let i = c.loop-when.when-index in
     let over : length c.args.whens.now ≤ i = omega (arith, c.loop-when-test.false) in
     sym (beside_none c.loop-when.facts)

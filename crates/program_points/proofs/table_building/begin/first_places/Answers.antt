@@ -1,5 +1,5 @@
 use Rattle.std.proofs.Common.{◌≡◌, length, refl, arith}
-use Rattle.program_points.specs.declared.point_table.table.Place.TheVariants.{Stops, Ends}
+use Rattle.program_points.specs.declared.point_table.table.ProgramPoint.TheVariants.{Stops, Ends}
 use Rattle.program_points.proofs.table_building_lemmas.Beginning.{holding-none, holding-more, one-more}
 use Rattle.program_points.proofs.table_building.begin.first_places.Goals as goal
 

@@ -1,5 +1,5 @@
 use Rattle.std.proofs.Common.{◌≡◌, ◌+◌, length}
-use Rattle.program_points.specs.declared.point_table.table.Place.TheVariants.{Ends}
+use Rattle.program_points.specs.declared.point_table.table.ProgramPoint.TheVariants.{Ends}
 use Rattle.program_points.proofs.table_building_lemmas.Beginning.{Holding}
 use Rattle.program_points.proofs.table_building.begin.first_places.Given as goal
 

@@ -1,7 +1,7 @@
 use Rattle.std.proofs.Common.{◌≡◌, ◌<◌, ◌-◌, ◌∙◌, ℕ, suc, get_or, length, refl, subst, arith}
 use Rattle.std.proofs.lemmas.Option.{slice_get-get_or}
 use Rattle.control_flow_theory.specs.language.Control.{seen_paragraph, seen_paragraphs}
-use Rattle.program_points.specs.numbering.Kinds.{never_first_of}
+use Rattle.program_points.specs.numbering.Kind.{never_first_of}
 use Rattle.program_points.proofs.table_building_lemmas.Paragraphs.{NumbersFrom, from-none, from-more}
 use Rattle.program_points.proofs.table_building_lemmas.Sections.{paragraph-at}
 use Rattle.program_points.proofs.table_building.number.build_paragraphs.Goals as goal

@@ -1,6 +1,6 @@
 use Rattle.std.proofs.Common.{◌≡◌, ◌<◌, suc, drop, length}
 use Rattle.control_flow_theory.specs.language.Control.{section_last, seen_paragraphs}
-use Rattle.program_points.specs.numbering.Kinds.{never_first_of}
+use Rattle.program_points.specs.numbering.Kind.{never_first_of}
 use Rattle.program_points.proofs.table_building_lemmas.Paragraphs.{NumbersFrom}
 use Rattle.program_points.proofs.table_building.number.build_paragraphs.Given as goal
 

@@ -1,6 +1,6 @@
 use Rattle.std.proofs.Common.{◌≤◌, map, length, ap, ◌∙◌, arith}
 use Rattle.std.proofs.lemmas.Grind.{common_steps}
-use Rattle.branch_tree.specs.Trees.{seen_tree, seen_trees, trees_of}
+use Rattle.branch_tree.specs.Tree.{seen_tree, seen_trees, trees_of}
 use Rattle.region_rewrite.proofs.exit_rule_lemmas.ExitRows.{bare_done}
 use Rattle.region_rewrite.proofs.exit_rule.exits.bare.Goals as goal
 

@@ -1,6 +1,6 @@
 use Rattle.std.proofs.Common.{◌≡◌, ◌+◌, ◌≤◌, ◌++◌, map, drop, length}
 use Rattle.std.specs.Vec.{vec_len, vec_capacity}
-use Rattle.branch_tree.specs.Trees.{seen_tree}
+use Rattle.branch_tree.specs.Tree.{seen_tree}
 use Rattle.region_rewrite.specs.exit_rule.Exits.{jump_trees}
 use Rattle.region_rewrite.proofs.exit_rule.exits.bare.Given as goal
 

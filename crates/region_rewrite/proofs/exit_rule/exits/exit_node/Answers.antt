@@ -1,10 +1,10 @@
 use Rattle.std.proofs.Common.{◌≡◌, ◌≤◌, ◌∷◌, [], length, rules, ap, sym, ◌∙◌, subst}
 use Rattle.control_flow_theory.specs.graph_rules.Shapes.{leaves_to}
 use Rattle.control_flow_theory.specs.graph_rules.Reduced.{count}
-use Rattle.control_flow_theory.specs.closing.Closes.{exits_graph}
+use Rattle.control_flow_theory.specs.structuring.Closes.{exits_graph}
 use Rattle.branch_tree.specs.declared.graph.Added.TheVariants as added
 use Rattle.graph_rewriting.specs.Helds.{seen_work}
-use Rattle.branch_tree.specs.Trees.{seen_tree}
+use Rattle.branch_tree.specs.Tree.{seen_tree}
 use Rattle.loop_rules.proofs.NodeRows.{count_is}
 use Rattle.loop_rules.proofs.TakenRows.{has_taken, bare_taken, fits_taken, put_again, put_with}
 use Rattle.region_rewrite.proofs.exit_rule_lemmas.ExitRows.{exit_row}

@@ -1,9 +1,9 @@
 use Rattle.std.proofs.Common.{◌++◌, ◌∷◌, [], ap, ◌∙◌, refl}
-use Rattle.control_flow_theory.specs.closing.Dispatches.{bare}
+use Rattle.control_flow_theory.specs.structuring.Dispatches.{bare}
 use Rattle.branch_tree.specs.declared.chooser.Picker.TheVariants as picker
 use Rattle.branch_tree.specs.declared.tree.End.TheVariants as end
 use Rattle.branch_tree.specs.declared.tree.Piece.TheVariants as piece
-use Rattle.branch_tree.specs.Trees.{seen_tree, seen_end}
+use Rattle.branch_tree.specs.Tree.{seen_tree, seen_end}
 use Rattle.region_rewrite.proofs.exit_rule_lemmas.ExitRows.{exits_row}
 use Rattle.region_rewrite.proofs.exit_rule.exits.exit_tree.Goals as goal
 

@@ -2,7 +2,7 @@ use Rattle.std.proofs.Common.{◌++◌, ◌∷◌, [], map, refl, ap, sym, ◌�
 use Rattle.std.proofs.lemmas.List.{map-append}
 use Rattle.branch_tree.specs.declared.tree.End.TheVariants as end
 use Rattle.branch_tree.specs.declared.tree.Tree.{Tree}
-use Rattle.branch_tree.specs.Trees.{seen_tree}
+use Rattle.branch_tree.specs.Tree.{seen_tree}
 use Rattle.region_rewrite.specs.exit_rule.Exits.{return_trees}
 use Rattle.region_rewrite.proofs.exit_rule_lemmas.ExitRows.{bare_return}
 use Rattle.region_rewrite.proofs.exit_rule.exits.push_return.Goals as goal

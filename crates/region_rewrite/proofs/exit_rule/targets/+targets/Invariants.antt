@@ -1,6 +1,6 @@
 use Rattle.std.proofs.Common.{◌≡◌, drop}
-use Rattle.control_flow_theory.specs.closing.Targets.{trees_targets}
-use Rattle.branch_tree.specs.Trees.{seen_trees}
+use Rattle.control_flow_theory.specs.structuring.Targets.{trees_targets}
+use Rattle.branch_tree.specs.Tree.{seen_trees}
 use Rattle.region_rewrite.proofs.exit_rule.targets.+targets.Given as goal
 
 abbrev pub invariant-add_arms-loop-arm : goal.invariant-add_arms-loop-arm

@@ -1,7 +1,7 @@
 use Rattle.std.proofs.Common.{◌≡◌, ◌≤◌, ◌-◌, ◌^◌, ◌==◌, min, max, drop, length}
 use Rattle.control_flow_theory.specs.graph_rules.Shapes.{arms_stmts}
 use Rattle.branch_tree.specs.Choosers.{seen_picker}
-use Rattle.branch_tree.specs.Trees.{seen_body, seen_trees}
+use Rattle.branch_tree.specs.Tree.{seen_body, seen_trees}
 use Rattle.region_rewrite.specs.written_nesting.Nesting.{nesting, arms_nesting}
 use Rattle.branch_tree.specs.Within.{arms_within}
 use Rattle.region_rewrite.proofs.written_nesting.nesting.+nesting.Given as goal

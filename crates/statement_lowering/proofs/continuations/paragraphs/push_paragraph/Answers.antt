@@ -4,12 +4,12 @@ use Rattle.control_flow_theory.specs.language.Control.{seen_stmts}
 use Rattle.control_flow_theory.specs.language.OwnItems.{stmts_own}
 use Rattle.control_flow_theory.specs.lowering.Completes.{cuts, leave_sentence}
 use Rattle.program_facts.specs.declared.completion.facts.Facts.{Facts}
-use Rattle.statement_lowering.specs.Along.{told_by}
-use Rattle.statement_lowering.specs.declared.continuations.spot.Onward.{Onward}
-use Rattle.statement_lowering.specs.continuations.Onward.{GoesLater}
+use Rattle.statement_lowering.specs.LowerList.{flow_facts_by}
+use Rattle.statement_lowering.specs.declared.continuations.continuation.Successors.{Successors}
+use Rattle.statement_lowering.specs.continuations.Successors.{GoesLater}
 use Rattle.statement_lowering.specs.continuations.Paragraphs.{inside}
-use Rattle.statement_lowering.specs.continuations.Spots.{AddsRests}
-use Rattle.statement_lowering.proofs.continuations_lemmas.ParagraphSpots.{sentences_more, sentences_over, sentences_start, sentence_fits}
+use Rattle.statement_lowering.specs.continuations.Statements.{AddsRests}
+use Rattle.statement_lowering.proofs.continuations_lemmas.ParagraphContinuations.{sentences_more, sentences_over, sentences_start, sentence_fits}
 use Rattle.statement_lowering.proofs.continuations.paragraphs.push_paragraph.Goals as goal
 
 pub loop-sentence-init : goal.loop-sentence-init
@@ -70,7 +70,7 @@ push_stmts-requires-clause-later c =
     let old = c.args.spots.now.items in
     let now = c.loop-sentence.spots.items in
     let fit = sentence_fits telling paragraph c.args.number c.args.last i sentence lt at old now c.loop-sentence.begins.items c.loop-sentence.invariant left taken leaves c.taken-next.ensures (omega (arith, c.requires.place, c.requires.fits)) in
-    subst (λ (o : Onward). GoesLater (length now + sum_by stmt_places c.as_slice-stmts.result.now) telling.layout.now.end o.behind) (sym onward)
+    subst (λ (o : Successors). GoesLater (length now + sum_by stmt_places c.as_slice-stmts.result.now) telling.layout.now.end o.behind) (sym onward)
     (subst (λ l. GoesLater (length now + sum_by stmt_places l) telling.layout.now.end (inside taken leaves c.args.number c.args.last).behind) (sym c.as_slice-stmts.ensures) fit.2)
 
 pub loop-sentence-preserved : goal.loop-sentence-preserved
@@ -89,7 +89,7 @@ loop-sentence-preserved c =
     let old = c.args.spots.now.items in
     let now = c.loop-sentence.spots.items in
     sentences_more telling paragraph c.args.number c.args.last i sentence lt at old now c.loop-sentence.begins.items c.loop-sentence.invariant left taken leaves c.push_stmts.new.spots.items c.taken-next.ensures
-    (ap (λ (f : Facts). f.leaves_sentence) (c.stmts_facts-facts.ensures c.args.last) ∙ ap (λ l. leave_sentence (cuts (told_by telling) (seen_stmts c.args.last l))) c.as_slice-stmts.ensures)
+    (ap (λ (f : Facts). f.leaves_sentence) (c.stmts_facts-facts.ensures c.args.last) ∙ ap (λ l. leave_sentence (cuts (flow_facts_by telling) (seen_stmts c.args.last l))) c.as_slice-stmts.ensures)
     (subst (λ o. AddsRests telling.layout.now sentence.stmts o now c.push_stmts.new.spots.items) onward
     (subst (λ l. AddsRests telling.layout.now l c.in_sentence-onward.result now c.push_stmts.new.spots.items) c.as_slice-stmts.ensures c.in_ok-push_stmts.ensures))
 

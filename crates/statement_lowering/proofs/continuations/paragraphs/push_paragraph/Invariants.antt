@@ -1,4 +1,4 @@
-use Rattle.statement_lowering.proofs.continuations_lemmas.ParagraphSpots.{Sentences}
+use Rattle.statement_lowering.proofs.continuations_lemmas.ParagraphContinuations.{Sentences}
 use Rattle.statement_lowering.proofs.continuations.paragraphs.push_paragraph.Given as goal
 
 abbrev pub invariant-loop-sentence : goal.invariant-loop-sentence

@@ -1,5 +1,5 @@
 use Rattle.std.proofs.Common.{arith}
-use Rattle.statement_lowering.proofs.continuations_lemmas.ProgramSpots.{section_on}
+use Rattle.statement_lowering.proofs.continuations_lemmas.ProgramContinuations.{section_on}
 use Rattle.statement_lowering.proofs.continuations.paragraphs.section_end.Goals as goal
 
 pub returns-then-number-last : goal.returns-then-number-last

@@ -7,13 +7,13 @@ use Rattle.cob_tree.specs.declared.stmt.Stmt.TheOpen.{Stmt-F}
 use Rattle.cob_tree.specs.declared.stmt.Stmt.TheVariants as form
 use Rattle.control_flow_theory.specs.language.OwnItems.{stmts_own}
 use Rattle.statement_lowering.proofs.PartRows.{stmt_in_places, stmts_left, when_in_own, when_in_places, whens_left}
-use Rattle.statement_lowering.proofs.continuations_lemmas.ArmSpots.{arith_within, evaluate_within, if_within, once_within, phrase_none, phrase_some, phrases_rests, read_within, when_more, within_none, arms_count, arms_none, loop_within, none_of, some_of, whens_split}
-use Rattle.statement_lowering.proofs.continuations_lemmas.LoopSpots.{turns_added}
+use Rattle.statement_lowering.proofs.continuations_lemmas.ArmContinuations.{arith_within, evaluate_within, if_within, once_within, phrase_none, phrase_some, phrases_rests, read_within, when_more, within_none, arms_count, arms_none, loop_within, none_of, some_of, whens_split}
+use Rattle.statement_lowering.proofs.continuations_lemmas.LoopContinuations.{turns_added}
 use Rattle.statement_lowering.proofs.continuations_lemmas.Steps.{along_none, along_over, along_more, along_place, inner_fits, later_less, spot_counts}
 use Rattle.control_flow_theory.specs.language.Control.{control_in}
 use Rattle.lowering_labels.proofs.points_lemmas.SizeLemmas.{stmt_above}
-use Rattle.statement_lowering.specs.continuations.Onward.{GoesLater, IsBefore}
-use Rattle.statement_lowering.specs.continuations.Spots.{AddsArms, AddsRests, AddsSpot, branch_arms, inner_places}
+use Rattle.statement_lowering.specs.continuations.Successors.{GoesLater, IsBefore}
+use Rattle.statement_lowering.specs.continuations.Statements.{AddsArms, AddsRests, AddsContinuation, branch_arms, inner_places}
 use Rattle.statement_lowering.proofs.continuations.statements.+spots.Goals as goal
 
 pub push_stmts-loop-stmt-init : goal.push_stmts-loop-stmt-init
@@ -105,8 +105,8 @@ push_stmts-push_within-requires t c =
     let inner = c.before_rest-inner.result in
     let before : IsBefore layout (drop (i + 1) stmts) next onward inner = subst (λ l. IsBefore layout l next onward inner) behind c.before_rest-inner.ensures in
     let mid = c.push_spot.new.spots.items in
-    let one : AddsSpot (drop i stmts) onward now mid =
-    subst (λ l. AddsSpot l onward now mid) (c.rest_at.ensures ∙ ap (λ n. drop n stmts) c.loop-stmt.invariant.0) c.in_ok-push_spot.ensures in
+    let one : AddsContinuation (drop i stmts) onward now mid =
+    subst (λ l. AddsContinuation l onward now mid) (c.rest_at.ensures ∙ ap (λ n. drop n stmts) c.loop-stmt.invariant.0) c.in_ok-push_spot.ensures in
     let fit = inner_fits layout stmts onward i stmt c.loop-stmt-test.true c.stmt-item.is old now c.len-place.result here c.requires.fits c.requires.later a next inner far before in
     let longer = spot_counts layout stmts onward i stmt c.loop-stmt-test.true c.stmt-item.is old now c.len-place.result here c.requires.fits c.requires.later a mid one in (
       search (rules, sums, stmts_left i stmts),
@@ -142,8 +142,8 @@ push_stmts-loop-stmt-preserved t c =
     let inner = c.before_rest-inner.result in
     let before : IsBefore layout (drop (i + 1) stmts) next onward inner = subst (λ l. IsBefore layout l next onward inner) behind c.before_rest-inner.ensures in
     let mid = c.push_spot.new.spots.items in
-    let one : AddsSpot (drop i stmts) onward now mid =
-    subst (λ l. AddsSpot l onward now mid) (c.rest_at.ensures ∙ ap (λ n. drop n stmts) c.loop-stmt.invariant.0) c.in_ok-push_spot.ensures in (
+    let one : AddsContinuation (drop i stmts) onward now mid =
+    subst (λ l. AddsContinuation l onward now mid) (c.rest_at.ensures ∙ ap (λ n. drop n stmts) c.loop-stmt.invariant.0) c.in_ok-push_spot.ensures in (
       omega (arith, c.loop-stmt.invariant.0),
       along_more layout stmts onward i stmt c.loop-stmt-test.true c.stmt-item.is old now c.len-place.result here c.requires.fits c.requires.later a mid c.push_within.new.spots.items next inner one far before c.in_ok-push_within.ensures,
     )

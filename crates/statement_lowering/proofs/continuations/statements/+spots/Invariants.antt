@@ -3,7 +3,7 @@ use Rattle.cob_tree.specs.Places.{arms_places, stmt_places, when_places}
 use Rattle.control_flow_theory.specs.language.All.{all}
 use Rattle.control_flow_theory.specs.language.OwnItems.{when_own}
 use Rattle.statement_lowering.specs.Arms.{phrase_places}
-use Rattle.statement_lowering.specs.continuations.Spots.{AddsArms, branch_arms}
+use Rattle.statement_lowering.specs.continuations.Statements.{AddsArms, branch_arms}
 use Rattle.statement_lowering.proofs.continuations_lemmas.Steps.{Along}
 use Rattle.statement_lowering.proofs.continuations.statements.+spots.Given as goal
 

@@ -1,5 +1,5 @@
 use Rattle.std.proofs.Common.{ℕ, List, subst}
-use Rattle.pending_returns.specs.levels.Reaching.{Holds, GathersAllCalls, GathersAllEnds}
+use Rattle.pending_returns.specs.levels.Reach.{Holds, GathersAllCalls, GathersAllEnds}
 use Rattle.pending_returns.proofs.levels_lemmas.Marking.{on-ok, ok-any}
 use Rattle.pending_returns.proofs.levels_lemmas.Searching.{comes-below}
 use Rattle.pending_returns.proofs.levels.level.Level.take.Goals as goal

@@ -1,5 +1,5 @@
 use Rattle.std.proofs.Common.{set, subst, sym, true, ap, ◌∙◌, Some}
-use Rattle.pending_returns.specs.levels.Reaching.{IsMarked, Adds}
+use Rattle.pending_returns.specs.levels.Reach.{IsMarked, Adds}
 use Rattle.pending_returns.proofs.levels_lemmas.Marking.{pushed-marks, pushed-adds, same-adds, mark-at}
 use Rattle.pending_returns.proofs.levels.reach.Reach.visit.Goals as goal
 

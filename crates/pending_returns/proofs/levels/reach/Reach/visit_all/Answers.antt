@@ -1,5 +1,5 @@
 use Rattle.std.proofs.Common.{◌<◌, ◌+◌, length, Some, None, subst, sym, ap, ◌∙◌, arith}
-use Rattle.pending_returns.specs.levels.Reaching.{IsMarked, AddsSome}
+use Rattle.pending_returns.specs.levels.Reach.{IsMarked, AddsSome}
 use Rattle.pending_returns.proofs.levels_lemmas.Marking.{below-at, way-is, some-skip, some-more, some-all}
 use Rattle.pending_returns.proofs.levels.reach.Reach.visit_all.Goals as goal
 use Rattle.pending_returns.proofs.levels.reach.Reach.visit_all.Goals.{in-Some+in_ok-visit-in-Some, in-None}

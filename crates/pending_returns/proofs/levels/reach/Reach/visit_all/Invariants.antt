@@ -1,5 +1,5 @@
 use Rattle.std.proofs.Common.{◌≡◌, length}
-use Rattle.pending_returns.specs.levels.Reaching.{IsMarked, AddsSome}
+use Rattle.pending_returns.specs.levels.Reach.{IsMarked, AddsSome}
 use Rattle.pending_returns.proofs.levels.reach.Reach.visit_all.Given as goal
 
 abbrev pub invariant-loop-way : goal.invariant-loop-way

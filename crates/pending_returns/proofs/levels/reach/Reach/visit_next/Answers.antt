@@ -1,7 +1,7 @@
 use Rattle.std.proofs.Common.{◌≡◌, ℕ, suc, true, false, Some, refl, subst, sym, ap, ◌∙◌, arith, add-one, slice_get}
-use Rattle.program_points.specs.declared.point_table.table.Place.TheVariants.{Goes, Calls, Ends}
+use Rattle.program_points.specs.declared.point_table.table.ProgramPoint.TheVariants.{Goes, Calls, Ends}
 use Rattle.program_points.specs.point_table.Table.{IsTidyPlace}
-use Rattle.pending_returns.specs.levels.Reaching.{Adds, AddsNext, AddsAll}
+use Rattle.pending_returns.specs.levels.Reach.{Adds, AddsNext, AddsAll}
 use Rattle.pending_returns.proofs.levels_lemmas.Marking.{on-ok, one-next, none-next, all-next, flag-is}
 use Rattle.pending_returns.proofs.levels.reach.Reach.visit_next.Goals as goal
 

@@ -6,10 +6,10 @@ use Rattle.control_flow_theory.specs.language.Language as language
 use Rattle.control_flow_theory.specs.language.Control.{control_in, loop_of, perform_of, always, move_of, arith_stmt, Both, both_arms, seen, seen_stmts}
 use Rattle.control_flow_theory.proofs.language_lemmas.Rows.{seen_if_any, seen_both_is, seen_arith, seen_read, seen_if, seen_evaluate, seen_loop, seen_perform, seen_go, seen_go_depending, seen_next_sentence, seen_stop_run, seen_exit_paragraph, seen_exit_section, seen_exit_perform, seen_display, seen_move, seen_set_true, seen_opens, seen_closes, seen_write, seen_rewrite, seen_exit, seen_continue}
 use Rattle.cob_tree.specs.declared.stmt.Stmt.TheVariants as tree
-use Rattle.program_points.specs.declared.point_table.table.Place.TheVariants.{Goes, Stops}
+use Rattle.program_points.specs.declared.point_table.table.ProgramPoint.TheVariants.{Goes, Stops}
 use Rattle.program_points.specs.declared.numbering.build.Exits.{Exits}
-use Rattle.program_points.specs.numbering.Kinds.{never_first_of}
-use Rattle.program_points.specs.numbering.Building.{Builds, BuildsBranches, BuildsChoice, BuildsBoth, IsClosed, after_at, seen_branches, seen_maybe}
+use Rattle.program_points.specs.numbering.Kind.{never_first_of}
+use Rattle.program_points.specs.numbering.Build.{Builds, BuildsBranches, BuildsChoice, BuildsBoth, IsClosed, after_at, seen_branches, seen_maybe}
 use Rattle.program_points.proofs.numbering_lemmas.Growing.{build-none, build-also, branches-none, branches-more, if-added, if-ok}
 use Rattle.program_points.proofs.numbering_lemmas.Steps.{build-leave, build-stop, build-exit-loop}
 use Rattle.program_points.proofs.numbering_lemmas.Looping.{loop-built, loop-none, loop-some}

@@ -1,7 +1,7 @@
 use Rattle.std.proofs.Common.{◌≡◌, ◌≤◌, drop, take, length}
 use Rattle.control_flow_theory.specs.language.Control.{seen_stmts}
-use Rattle.program_points.specs.numbering.Kinds.{never_first_of}
-use Rattle.program_points.specs.numbering.Building.{Builds, BuildsBranches, seen_branches}
+use Rattle.program_points.specs.numbering.Kind.{never_first_of}
+use Rattle.program_points.specs.numbering.Build.{Builds, BuildsBranches, seen_branches}
 use Rattle.program_points.proofs.numbering.build.Builder.+build.Given as goal
 
 abbrev pub invariant-build_stmts-loop-at : goal.invariant-build_stmts-loop-at

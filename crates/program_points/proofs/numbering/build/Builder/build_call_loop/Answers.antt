@@ -1,8 +1,8 @@
 use Rattle.std.proofs.Common.{◌≡◌, Bool, subst}
 use Rattle.control_flow_theory.specs.language.Language.{Chooser, Control, also, none, Perform, Performed, Loop}
 use Rattle.program_points.specs.declared.numbering.build.Exits.{Exits}
-use Rattle.program_points.specs.numbering.Kinds.{kind_in}
-use Rattle.program_points.specs.numbering.Building.{Builds, IsClosed}
+use Rattle.program_points.specs.numbering.Kind.{kind_in}
+use Rattle.program_points.specs.numbering.Build.{Builds, IsClosed}
 use Rattle.program_points.proofs.numbering_lemmas.Growing.{if-ok}
 use Rattle.program_points.proofs.numbering_lemmas.Looping.{loop-built}
 use Rattle.program_points.proofs.numbering.build.Builder.build_call_loop.Goals as goal

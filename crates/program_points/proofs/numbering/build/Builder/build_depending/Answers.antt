@@ -1,8 +1,8 @@
 use Rattle.std.proofs.Common.{◌≡◌, ◌∙◌, ◌++◌, ◌∷◌, [], List, Bool, ℕ, Option, Some, map, get_or, ap, sym, subst, length}
 use Rattle.control_flow_theory.specs.language.Language.{Chooser, also, none, GoDepending}
-use Rattle.program_points.specs.declared.point_table.table.Place.TheVariants.{Chooses}
+use Rattle.program_points.specs.declared.point_table.table.ProgramPoint.TheVariants.{Chooses}
 use Rattle.program_points.specs.point_table.Table.{AllBelow}
-use Rattle.program_points.specs.numbering.Building.{Builds}
+use Rattle.program_points.specs.numbering.Build.{Builds}
 use Rattle.program_points.proofs.numbering_lemmas.Growing.{if-added, names-taken, names-all, one-below}
 use Rattle.program_points.proofs.numbering_lemmas.Steps.{build-depending}
 use Rattle.program_points.proofs.numbering.build.Builder.build_depending.Goals as goal

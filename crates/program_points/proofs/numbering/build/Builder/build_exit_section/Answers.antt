@@ -1,7 +1,7 @@
 use Rattle.std.proofs.Common.{Bool}
 use Rattle.control_flow_theory.specs.language.Language.{Chooser, also, none, ExitSection}
-use Rattle.program_points.specs.declared.point_table.table.Place.TheVariants.{Goes}
-use Rattle.program_points.specs.numbering.Building.{Builds}
+use Rattle.program_points.specs.declared.point_table.table.ProgramPoint.TheVariants.{Goes}
+use Rattle.program_points.specs.numbering.Build.{Builds}
 use Rattle.program_points.proofs.numbering_lemmas.Growing.{if-added}
 use Rattle.program_points.proofs.numbering_lemmas.Steps.{build-exit-section}
 use Rattle.program_points.proofs.numbering.build.Builder.build_exit_section.Goals as goal

@@ -1,7 +1,7 @@
 use Rattle.std.proofs.Common.{Bool, subst, sym}
 use Rattle.control_flow_theory.specs.language.Language.{Chooser, Stmt, also, none, Perform}
 use Rattle.control_flow_theory.specs.language.Control.{control_in, perform_of}
-use Rattle.program_points.specs.numbering.Building.{Builds}
+use Rattle.program_points.specs.numbering.Build.{Builds}
 use Rattle.program_points.proofs.numbering_lemmas.Growing.{if-ok}
 use Rattle.program_points.proofs.numbering_lemmas.Looping.{perform-once, perform-loop}
 use Rattle.program_points.proofs.numbering.build.Builder.build_perform.Goals as goal

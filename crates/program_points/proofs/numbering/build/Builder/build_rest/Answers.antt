@@ -3,8 +3,8 @@ use Rattle.cob_tree.specs.declared.program.Sentence.{Sentence}
 use Rattle.control_flow_theory.specs.language.Language.{Paragraph}
 use Rattle.control_flow_theory.specs.language.Control.{seen_stmts, seen_sentence}
 use Rattle.program_points.specs.declared.numbering.build.Exits.{Exits}
-use Rattle.program_points.specs.numbering.Kinds.{never_first_of}
-use Rattle.program_points.specs.numbering.Building.{Builds, BuildsRest}
+use Rattle.program_points.specs.numbering.Kind.{never_first_of}
+use Rattle.program_points.specs.numbering.Build.{Builds, BuildsRest}
 use Rattle.program_points.proofs.numbering_lemmas.Sentences.{rest-none, rest-also, sentences-past, sentences-down, sentences-whole}
 use Rattle.program_points.proofs.numbering.build.Builder.build_rest.Goals as goal
 

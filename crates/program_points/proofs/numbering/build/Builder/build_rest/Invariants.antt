@@ -1,7 +1,7 @@
 use Rattle.std.proofs.Common.{◌≡◌, ◌≤◌, drop, length, map}
 use Rattle.control_flow_theory.specs.language.Control.{seen_sentence}
-use Rattle.program_points.specs.numbering.Kinds.{never_first_of}
-use Rattle.program_points.specs.numbering.Building.{BuildsRest}
+use Rattle.program_points.specs.numbering.Kind.{never_first_of}
+use Rattle.program_points.specs.numbering.Build.{BuildsRest}
 use Rattle.program_points.proofs.numbering.build.Builder.build_rest.Given as goal
 
 abbrev pub invariant-loop-at : goal.invariant-loop-at

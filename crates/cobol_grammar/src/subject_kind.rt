@@ -1,0 +1,13 @@
+//! What is kept of a subject of EVALUATE.
+
+use crate::expr_forms::{ExprContent, ValueKind};
+use parser_combinators::Position;
+
+/// What is known of a subject of EVALUATE, to hold others against it.
+#[derive(Clone, Copy, Debug, PartialEq, Eq)]
+pub struct SubjectKind {
+    pub kind: ValueKind,
+    pub make: ExprContent,
+    /// Where it begins.
+    pub position: Position,
+}

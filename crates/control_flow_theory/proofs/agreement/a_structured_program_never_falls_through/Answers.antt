@@ -1,5 +1,0 @@
-use Rattle.control_flow_theory.proofs.agreement_lemmas.NoFallThrough.{never-falls}
-use Rattle.control_flow_theory.proofs.agreement.a_structured_program_never_falls_through.Goals as goal
-
-pub returns : goal.returns
-returns g c = never-falls

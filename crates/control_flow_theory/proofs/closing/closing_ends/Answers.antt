@@ -1,8 +1,0 @@
-use Rattle.control_flow_theory.proofs.closing_lemmas.closing.ClosedEnding.{closed-ends, rules-end}
-use Rattle.control_flow_theory.proofs.closing.closing_ends.Goals as goal
-
-pub returns-clause-one : goal.returns-clause-one
-returns-clause-one c = closed-ends
-
-pub returns-clause-none : goal.returns-clause-none
-returns-clause-none c = rules-end

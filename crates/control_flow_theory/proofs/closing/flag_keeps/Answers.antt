@@ -1,5 +1,0 @@
-use Rattle.control_flow_theory.proofs.closing_lemmas.gathering.Kept.{flag-keeps}
-use Rattle.control_flow_theory.proofs.closing.flag_keeps.Goals as goal
-
-pub returns : goal.returns
-returns g c = flag-keeps

@@ -1,5 +1,0 @@
-use Rattle.control_flow_theory.proofs.headline_lemmas.SomeResult.{some-result-behaves}
-use Rattle.control_flow_theory.proofs.headline.some_result_behaves.Goals as goal
-
-pub returns : goal.returns
-returns g c = some-result-behaves

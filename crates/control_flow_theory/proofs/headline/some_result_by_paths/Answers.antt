@@ -1,5 +1,0 @@
-use Rattle.control_flow_theory.proofs.headline_lemmas.calls.CalledEarlier.{some-result-by-paths}
-use Rattle.control_flow_theory.proofs.headline.some_result_by_paths.Goals as goal
-
-pub returns : goal.returns
-returns g c = some-result-by-paths

@@ -1,5 +1,0 @@
-use Rattle.control_flow_theory.proofs.served_graphs_lemmas.Graphs.{served-graphs}
-use Rattle.control_flow_theory.proofs.served_graphs.served_sources_have_served_graphs.Goals as goal
-
-pub returns : goal.returns
-returns c = served-graphs

@@ -1,9 +1,0 @@
-use Rattle.std.proofs.Common.{◌≡◌, ◌<◌, ℕ, true, Some, slice_get}
-use Rattle.statement_lowering.specs.declared.continuations.spot.Spot.{Spot}
-use Rattle.flow_graph.specs.range_sizes.Going.{goes_within}
-use Rattle.flow_graph.proofs.range_sizes.going.all_go_within.Given as goal
-
-abbrev pub invariant-loop-spot : goal.invariant-loop-spot
-invariant-loop-spot l = (at next : ℕ) (spot : Spot) → at < l.spot-index →
-    slice_get l.spots at ≡ Some spot → spot.onward.behind ≡ Some next →
-    goes_within l.spots spot.onward next ≡ true

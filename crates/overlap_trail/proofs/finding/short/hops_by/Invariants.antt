@@ -1,5 +1,0 @@
-use Rattle.overlap_trail.proofs.finding_lemmas.Needing.{HopsBySoFar}
-use Rattle.overlap_trail.proofs.finding.short.hops_by.Given as goal
-
-abbrev pub invariant-loop-number : goal.invariant-loop-number
-invariant-loop-number l = HopsBySoFar l.ranks l.hops l.made l.number

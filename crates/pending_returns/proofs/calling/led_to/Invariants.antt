@@ -1,5 +1,0 @@
-use Rattle.pending_returns.proofs.Leveling.{LedSoFar}
-use Rattle.pending_returns.proofs.calling.led_to.Given as goal
-
-abbrev pub invariant-loop-at : goal.invariant-loop-at
-invariant-loop-at l = LedSoFar l.levels l.reach.places.items l.reach.marks.items l.at

@@ -1,6 +1,0 @@
-use Rattle.std.proofs.Common.{◌≡◌}
-use Rattle.statement_lowering.proofs.continuations_lemmas.ProgramSpots.{Paragraphs}
-use Rattle.statement_lowering.proofs.continuations.paragraphs.spots_of.Given as goal
-
-abbrev pub invariant-loop-paragraph : goal.invariant-loop-paragraph
-invariant-loop-paragraph l = (l.number ≡ l.paragraph-index) × Paragraphs l.telling l.program l.paragraph-index l.last l.spots.items

@@ -1,9 +1,0 @@
-use Rattle.std.proofs.Common.{ap, ◌∙◌}
-use Rattle.control_flow_theory.specs.language.Control.{control_in}
-use Rattle.lowering_labels.specs.points.Leaf.{seen_leaf}
-use Rattle.lowering_labels.specs.loop_nodes.Loops.{chosen_by}
-use Rattle.statement_lowering.proofs.turns.head_tree.Goals as goal
-
-pub returns : goal.returns
-returns c = λ s.
-    c.in_ok-tree.ensures ∙ ap (λ turn. chosen_by (control_in c.args.control.now) c.args.place turn (seen_leaf c.args.context.after.now)) (c.in_ok-turn.ensures s)
