@@ -40,7 +40,7 @@ use Rattle.procedure_split.specs.Splitting.{IsSplit, IsSplitFault}
 use Rattle.procedure_split.specs.plan.Planned.{IsPlanOf}
 use Rattle.procedure_split.specs.shaped_ranges.Graphs.{HaveGraphs, total_size}
 use Rattle.procedure_split.specs.shaped_ranges.Laws.{HasFlow}
-use Rattle.procedure_split.specs.shaped_ranges.Limit.{node_limit}
+use Rattle.cob_base.specs.Limit.{max_nodes}
 use Rattle.procedure_split.specs.split_behaviour.Alike.{IsWellMade}
 use Rattle.pending_returns.specs.FaultFree.{IsFaultFree}
 use Rattle.procedure_split.specs.written_depth.Levels.{levels, stmt_levels, body_levels, arms_levels, least_levels, paragraph_levels, program_levels}
@@ -338,17 +338,17 @@ module _ (program made : Program) (summary other : Summary) (well : IsWellMade p
         (through (result_nesting (closed_graph (graphs_by h.planned.plan (control_of made) (seen_range range)))) (program_levels (control_of made)) max_nesting
         (nests-at h.planned at (seen_range range) (at-order at range here)) depth)
 
-  tokens-within : length (all_tokens (program_units made)) ≤ node_limit → parts_of (control_of made).paragraphs ≤ node_limit
+  tokens-within : length (all_tokens (program_units made)) ≤ max_nodes → parts_of (control_of made).paragraphs ≤ max_nodes
   tokens-within few =
-      through (parts_of (control_of made).paragraphs) (length (all_tokens (program_units made))) node_limit
+      through (parts_of (control_of made).paragraphs) (length (all_tokens (program_units made))) max_nodes
       (each-part made (λ k d lt. (have-names program made summary split k d lt).0)) few
 
-  passes-none : (limit : Limit) → length (all_tokens (program_units made)) ≤ node_limit → IsSplitFault made other (fault.Limit limit) → ⊥
+  passes-none : (limit : Limit) → length (all_tokens (program_units made)) ≤ max_nodes → IsSplitFault made other (fault.Limit limit) → ⊥
   passes-none limit few (inl large) =
       let have = large.past.have in
       let h = having large.plan.returning large.plan.order large.past.graphs large.plan.is have in
       let le = size-within large.plan.order large.past.graphs h (have-many (flow_facts_of made.files large.plan.returning) large.plan.order large.past.graphs have) in
-      clash (total_size large.past.graphs) (parts_of (control_of made).paragraphs) node_limit le (tokens-within few) large.past.past
+      clash (total_size large.past.graphs) (parts_of (control_of made).paragraphs) max_nodes le (tokens-within few) large.past.past
   passes-none limit few (inr deep) =
       let have = have-seen (flow_facts_of made.files deep.plan.returning) (control_of made) deep.plan.order deep.graphs deep.lowered.are in
       let h = having deep.plan.returning deep.plan.order (map seen_graph deep.graphs) deep.plan.is have in

@@ -10,7 +10,7 @@ use Rattle.program_points.specs.numbering.Kind.{never_first_of}
 use Rattle.pending_returns.specs.Summary.{IsSummary}
 use Rattle.pending_returns.specs.declared.facts.Summary.{Summary}
 use Rattle.procedure_split.specs.Splitting.{IsSplit, IsSplitFault}
-use Rattle.procedure_split.specs.shaped_ranges.Limit.{node_limit}
+use Rattle.cob_base.specs.Limit.{max_nodes}
 use Rattle.procedure_split.specs.split_behaviour.Alike.{IsWellMade}
 use Rattle.pending_returns.specs.FaultFree.{IsFaultFree}
 
@@ -21,5 +21,5 @@ SplitsPassNoLimit =
     (program made : Program) (summary other : Summary) (limit : Limit) → IsWellMade program →
     IsFaultFree program summary → IsSplit program summary made → IsWellMade made →
     IsSummary (never_first_of made.files) (control_of made) other →
-    length (all_tokens (program_units made)) ≤ node_limit →
+    length (all_tokens (program_units made)) ≤ max_nodes →
     IsSplitFault made other (fault.Limit limit) → ⊥

@@ -1,7 +1,7 @@
 //! Conditions and expressions, from their tokens to what is printed of them.
 
 use cob_base::{Items, NoMemory, Text};
-use cob_tree::{Cond, Expr, NameFault, ParseFault, Program};
+use cob_tree::{Cond, Expr, NameFault, ParseError, Program};
 use cobol_grammar::part_readers::{drop_condition, drop_expr};
 use cobol_lex::{Token, TokenKind, tokens};
 use cobol_print::{PrintUnit, print_units};
@@ -67,9 +67,13 @@ fn fault_line(alloc: Global, next: usize, fault: NameFault) -> Result<Text, NoMe
     Ok(text)
 }
 
-fn stop_line(alloc: Global, fault: ParseFault) -> Result<Text, NoMemory> {
+fn stop_line(alloc: Global, error: ParseError) -> Result<Text, NoMemory> {
     let mut text = Text::new(alloc);
-    text.add(format!(in alloc; "{fault:?}\n")?.as_bytes())?;
+    match error {
+        ParseError::Fault(fault) => text.add(format!(in alloc; "{fault:?}\n")?.as_bytes())?,
+        ParseError::Limit(limit) => text.add(format!(in alloc; "{limit}\n")?.as_bytes())?,
+        ParseError::NoMemory => return Err(NoMemory),
+    }
     Ok(text)
 }
 

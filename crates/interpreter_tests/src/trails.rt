@@ -3,7 +3,6 @@
 use cob_base::Items;
 use cob_tree::Program;
 use overlap_trail::check;
-use overlap_trail::finding::accepted;
 use program_points::paths::{Hop, Trail};
 use restructure_core::{Refused, restructure};
 use std::alloc::Global;
@@ -60,10 +59,9 @@ fn shortened(trail: Trail) -> Trail {
     }
 }
 
-// Whether a trail is accepted, by both tests of trails, and whether it is with one move less.
-fn judged(alloc: Global, program: Program, trail: Trail) -> (bool, bool) {
-    let found = matches!(accepted(alloc, &program, &trail), Ok(true));
-    let whole = found && check(&program, &trail);
+// Whether a trail is accepted, and whether it is with one move less.
+fn judged(program: Program, trail: Trail) -> (bool, bool) {
+    let whole = check(&program, &trail);
     let trail = shortened(trail);
     let short = check(&program, &trail);
     drop(trail);
@@ -74,7 +72,7 @@ fn judged(alloc: Global, program: Program, trail: Trail) -> (bool, bool) {
 // The same of the trail of a source; none where it has none.
 fn judged_source(alloc: Global, bytes: &[u8]) -> Option<(bool, bool)> {
     match restructure(alloc, bytes) {
-        Err(Refused::Flow(program, trail)) => Some(judged(alloc, program, trail)),
+        Err(Refused::Flow(program, trail)) => Some(judged(program, trail)),
         Err(Refused::NotSubset(refusal)) => {
             drop(refusal);
             None

@@ -358,11 +358,8 @@ fn a_failed_call_leaves_what_was_done(rt: HostRuntime) -> Result<(), Fail> {
         let mut bench = Bench::new(devices);
         let (head, tail) = LISTING;
         let source = format!(in alloc; "{head}OUT:LIST.DAT{tail}")?;
-        let source = Text {
-            bytes: source.into_bytes(),
-        };
         let wanted = (Status::DeviceFault, shown, "DEVICE FAULT OUT\n");
-        check(&rt, alloc, source, &mut bench, wanted)?;
+        check(&rt, alloc, source.as_bytes(), &mut bench, wanted)?;
         assert_eq!(rt; bench.left, 2);
         assert!(rt; bench.devices.len() > 2);
         let held = &mut bench.devices[2];
